@@ -1,0 +1,245 @@
+ghost use Rattle.std.specs.Prelude.{◌≤◌, length, IfOk};
+
+use crate::command_line::{answer, program};
+use crate::fault::{HekFault, report};
+use std::alloc::{AllocError, Global};
+use std::env::{Env, FillError};
+use std::test::Fail;
+
+// The status, what is printed, and the faults of a command line.
+fn ran(alloc: Global, words: &[&str]) -> Result<(u8, String, String), AllocError> {
+    ran_on(alloc, words, b"")
+}
+
+// The same, over an input.
+fn ran_on(alloc: Global, words: &[&str], input: &[u8]) -> Result<(u8, String, String), AllocError> {
+    let mut out = Vec::new(alloc);
+    let mut faults = Vec::new(alloc);
+    let status = answer(alloc, words, input, &mut out, &mut faults);
+    let out = String::from_utf8_lossy(alloc, out.as_slice())?;
+    let faults = String::from_utf8_lossy(alloc, faults.as_slice())?;
+    Ok((status, out, faults))
+}
+
+#[test]
+fn releases(rt: HostRuntime) -> Result<(), Fail> {
+    let rows = [
+        ("8040000000000002", "1", 0, "C000000000000002 0\n", ""),
+        ("8080000000000002", "1", 0, "8040000000000002 1\n", ""),
+        ("80BFFFFFFFFFFFFF", "0", 0, "807FFFFFFFFFFFFF 0\n", ""),
+        ("807FFFFFFFFFFFFF", "0", 0, "7FFFFFFFFFFFFFFF 0\n", ""),
+        ("807fffffffffffff", "0", 0, "7FFFFFFFFFFFFFFF 0\n", ""),
+        (
+            "8040000000000002",
+            "00000000000000000001",
+            0,
+            "C000000000000002 0\n",
+            "",
+        ),
+        ("803FFFFFFFFFFFFF", "0", 1, "", "hek: not a word\n"),
+        ("FFFFFFFFFFFFFFFF", "0", 1, "", "hek: not a word\n"),
+        ("8040000000000000", "0", 1, "", "hek: not a word\n"),
+        ("8000000000000002", "0", 1, "", "hek: no reader\n"),
+        ("7FFFFFFFFFFFFFFF", "0", 1, "", "hek: no reader\n"),
+        ("8040000000000002", "0", 1, "", "hek: bad waits\n"),
+        ("804000000000002", "0", 2, "", "hek: bad argument\n"),
+        ("80400000000000020", "0", 2, "", "hek: bad argument\n"),
+        ("+040000000000002", "0", 2, "", "hek: bad argument\n"),
+        ("804000000000000G", "0", 2, "", "hek: bad argument\n"),
+        ("8040000000000002", "", 2, "", "hek: bad argument\n"),
+        ("8040000000000002", "+1", 2, "", "hek: bad argument\n"),
+        ("8040000000000002", "1 ", 2, "", "hek: bad argument\n"),
+        (
+            "8040000000000002",
+            "18446744073709551616",
+            2,
+            "",
+            "hek: bad argument\n",
+        ),
+    ];
+    for (word, waits, status, out, faults) in rows {
+        let (status_is, out_is, faults_is) = ran(rt.alloc(), &["hek", "release", word, waits])?;
+        assert_eq!(rt; status_is, status, "status of {word} {waits}");
+        assert_eq!(rt; out_is.as_str(), out, "output of {word} {waits}");
+        assert_eq!(rt; faults_is.as_str(), faults, "faults of {word} {waits}");
+    }
+    Ok(())
+}
+
+#[test]
+fn refuses_command_lines(rt: HostRuntime) -> Result<(), Fail> {
+    let rows = [
+        (
+            vec![in rt.alloc(); "hek", "release", "8040000000000002"]?,
+            "error: the following required arguments were not provided:\n  <WAITS>\n\nUsage: hek release <WORD> <WAITS>\n\nFor more information, try '--help'.\n",
+        ),
+        (
+            vec![in rt.alloc(); "hek", "release", "8040000000000002", "1", "2"]?,
+            "error: unexpected argument '2' found\n\nUsage: hek release <WORD> <WAITS>\n\nFor more information, try '--help'.\n",
+        ),
+        (
+            vec![in rt.alloc(); "hek", "reelase", "8040000000000002", "1"]?,
+            "error: unrecognized subcommand 'reelase'\n\n  tip: a similar subcommand exists: 'release'\n\nUsage: hek <COMMAND>\n\nFor more information, try '--help'.\n",
+        ),
+        (
+            vec![in rt.alloc(); "hek", "--loud"]?,
+            "error: unexpected argument '--loud' found\n\nUsage: hek <COMMAND>\n\nFor more information, try '--help'.\n",
+        ),
+    ];
+    for (words, want) in rows {
+        let (status, out, faults) = ran(rt.alloc(), words.as_slice())?;
+        assert_eq!(rt; status, 2);
+        assert_eq!(rt; out.as_str(), "");
+        assert_eq!(rt; faults.as_str(), want);
+    }
+    Ok(())
+}
+
+#[test]
+fn helps(rt: HostRuntime) -> Result<(), Fail> {
+    let (status, out, faults) = ran(rt.alloc(), &["hek", "--help"])?;
+    assert_eq!(rt; status, 0);
+    assert_eq!(rt; faults.as_str(), "");
+    assert!(rt; out.as_str().contains("hek release 8040000000000002 1"));
+    let (status, out, _) = ran(rt.alloc(), &["hek", "release", "--help"])?;
+    assert_eq!(rt; status, 0);
+    assert!(rt; out.as_str().contains("hek release 8040000000000002 1"));
+    let (status, out, faults) = ran(rt.alloc(), &["hek"])?;
+    assert_eq!(rt; status, 2);
+    assert_eq!(rt; out.as_str(), "");
+    assert!(rt; faults.as_str().contains("Usage: hek <COMMAND>"));
+    Ok(())
+}
+
+#[test]
+fn tells_of_an_output_that_fails(rt: HostRuntime) -> Result<(), Fail> {
+    let mut room = [0u8; 5];
+    let mut out: &mut [u8] = &mut room;
+    let mut faults = Vec::new(rt.alloc());
+    let words = ["hek", "release", "8040000000000002", "1"];
+    let status = answer(
+        rt.alloc(),
+        words.as_slice(),
+        b"".as_slice(),
+        &mut out,
+        &mut faults,
+    );
+    assert_eq!(rt; status, 1);
+    assert_eq!(rt; faults.as_slice(), b"hek: cannot write\n".as_slice());
+    Ok(())
+}
+
+// A system whose only argument, after the program's name, isn't UTF-8.
+#[derive(Drop)]
+struct OddArguments {
+    alloc: Global,
+}
+
+impl Alloc for OddArguments {
+    type A = Global;
+
+    fn alloc(&self) -> Global {
+        self.alloc
+    }
+}
+
+fn fill(buf: &mut [u8], bytes: &[u8]) -> Result<usize, FillError>
+    ensures { IfOk result (λ n. n ≤ length buf.new) }
+{
+    if bytes.len() > buf.len() {
+        return Err(FillError::TooLong);
+    }
+    for (to, from) in buf.iter_mut().zip(bytes) {
+        *to = *from;
+    }
+    Ok(bytes.len())
+}
+
+impl Env for OddArguments {
+    fn arg(&self, i: usize, buf: &mut [u8]) -> Result<usize, FillError> {
+        match i {
+            0 => fill(buf, b"hek"),
+            1 => fill(buf, b"\xFF"),
+            _ => Err(FillError::NotPresent),
+        }
+    }
+
+    fn var(&self, _name: &str, _buf: &mut [u8]) -> Result<usize, FillError> {
+        Err(FillError::NotPresent)
+    }
+
+    fn var_at(&self, _i: usize, _buf: &mut [u8]) -> Result<usize, FillError> {
+        Err(FillError::NotPresent)
+    }
+}
+
+#[test]
+fn refuses_arguments_that_are_no_text(rt: HostRuntime) -> Result<(), Fail> {
+    let system = OddArguments { alloc: rt.alloc() };
+    let mut out = Vec::new(rt.alloc());
+    let mut faults = Vec::new(rt.alloc());
+    let status = program(&system, b"".as_slice(), &mut out, &mut faults);
+    assert_eq!(rt; status, 2);
+    assert_eq!(rt; out.as_slice(), b"".as_slice());
+    assert_eq!(rt; faults.as_slice(), b"hek: bad argument\n".as_slice());
+    Ok(())
+}
+
+#[test]
+fn tells_of_each_fault(rt: HostRuntime) -> Result<(), Fail> {
+    let rows = [
+        (HekFault::BadArgument, 2, "hek: bad argument\n"),
+        (HekFault::NotAWord, 1, "hek: not a word\n"),
+        (HekFault::NoReader, 1, "hek: no reader\n"),
+        (HekFault::BadWaits, 1, "hek: bad waits\n"),
+        (HekFault::NotText, 1, "hek: not text\n"),
+        (HekFault::CannotRead("x.hek"), 1, "hek: cannot read x.hek\n"),
+        (HekFault::CannotWrite, 1, "hek: cannot write\n"),
+        (HekFault::NoMemory, 1, "hek: no memory\n"),
+    ];
+    for (fault, status, line) in rows {
+        let mut faults = Vec::new(rt.alloc());
+        assert_eq!(rt; report(fault, &mut faults), status);
+        assert_eq!(rt; faults.as_slice(), line.as_bytes());
+    }
+    Ok(())
+}
+
+#[test]
+fn decodes_words(rt: HostRuntime) -> Result<(), Fail> {
+    let words = [
+        "hek",
+        "word",
+        "8040000000000002",
+        "0000000000000007",
+        "7fffffffffffffff",
+        "8000000000000002",
+        "-",
+        "C000000000000002",
+    ];
+    let input = b"807FFFFFFFFFFFFF\r\n\n  0000000000000000\n0\n";
+    let (status, out, faults) = ran_on(rt.alloc(), words.as_slice(), input)?;
+    assert_eq!(rt; status, 1);
+    assert_eq!(rt; faults.as_str(), "");
+    assert_eq!(rt;
+        out.as_str(),
+        "end lock readers 1 writer 2 no-more-reads clear\nbegin time 7; end time 7\nbegin infinity; end infinity\nbegin transaction 2; end lock readers 0 writer 2 no-more-reads clear\nend lock readers 1 writer none no-more-reads clear\nbegin time 0; end time 0\nnot a word\nend lock readers 0 writer 2 no-more-reads set\n"
+    );
+    let (status, out, _) = ran(rt.alloc(), &["hek", "word", "8040000000000002"])?;
+    assert_eq!(rt; status, 0);
+    assert_eq!(rt;
+        out.as_str(),
+        "end lock readers 1 writer 2 no-more-reads clear\n"
+    );
+    let (status, out, _) = ran(rt.alloc(), &["hek", "word", "FFFFFFFFFFFFFFFF"])?;
+    assert_eq!(rt; status, 1);
+    assert_eq!(rt; out.as_str(), "not a word\n");
+    let (status, out, faults) = ran(rt.alloc(), &["hek", "word", "0000000000000007", "7"])?;
+    assert_eq!(rt; status, 2);
+    assert_eq!(rt; out.as_str(), "");
+    assert_eq!(rt; faults.as_str(), "hek: bad argument\n");
+    let (status, _, faults) = ran_on(rt.alloc(), &["hek", "word", "-"], b"\xFF\n")?;
+    assert_eq!(rt; status, 1);
+    assert_eq!(rt; faults.as_str(), "hek: not text\n");
+    Ok(())
+}

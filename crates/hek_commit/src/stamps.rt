@@ -1,0 +1,89 @@
+//! Stamps (section 2 of the paper: postprocessing): a transaction that is committed or aborted takes its ID out of the
+//! words that it wrote, one entry of its write set at a time.
+ghost use Rattle.std.specs.Prelude.{◌≡◌, ◌<◌, ◌≤◌, length, slice_get};
+ghost use Rattle.hek_rules.specs.Words.{IsTime};
+ghost use Rattle.hek_rules.specs.World.{txn_in};
+ghost use Rattle.hek_store.specs.Stored.{version_at};
+ghost use Rattle.hek_txn.specs.TxnTable.{Declared, write_set_of, with_write_set};
+ghost use Rattle.hek_locks.specs.Locked.{CanFree};
+ghost use Rattle.hek_commit.specs.Stamped.{CanStamp, is_written_by as written_by, stamped_committed, committed_reply, stamped_aborted, freed_aborted, aborted_reply, stamped_store, stamped_txns, stamp_reply, rest_of, version_of};
+
+use hek_locks::clear_write;
+use hek_rules::{Reply, State, Time, TxnId, WriteEntry};
+use hek_store::Store;
+use hek_txn::Txns;
+use hek_word::{BeginWord, EndWord};
+
+/// Whether t is the writer of the word.
+fn is_written_by(t: TxnId, word: EndWord) -> bool
+    ensures { result ≡ written_by t word }
+{
+    word.writer() == Some(t)
+}
+
+/// The end time of a committed transaction replaces it in the word.
+fn stamp_committed(store: &mut Store, end: Time, entry: WriteEntry) -> Reply
+    requires time { IsTime end }
+    requires version { version_of entry < length store.old.versions }
+    ensures store { store.new ≡ stamped_committed store.old end entry }
+    ensures reply { result ≡ committed_reply entry }
+{
+    match entry {
+        WriteEntry::BeginOf(v) => {
+            store.set_begin(v, BeginWord::at(end));
+            Reply::StampedBegin(v)
+        }
+        WriteEntry::EndOf(v) => {
+            store.set_end(v, EndWord::stamped(end));
+            Reply::StampedEnd(v)
+        }
+    }
+}
+
+/// A version of an aborted transaction never begins. Where it is still the writer, it is so no more.
+fn stamp_aborted(store: &mut Store, txns: &mut Txns, t: TxnId, entry: WriteEntry) -> Reply
+    requires version { version_of entry < length store.old.versions }
+    requires counted { CanFree txns.old (version_at store.old (version_of entry)).end }
+    ensures store { store.new ≡ stamped_aborted store.old t entry }
+    ensures txns { txns.new ≡ freed_aborted store.old txns.old t entry }
+    ensures reply { result ≡ aborted_reply store.old t entry }
+{
+    match entry {
+        WriteEntry::BeginOf(v) => {
+            store.set_begin(v, BeginWord::infinity());
+            Reply::StampedBegin(v)
+        }
+        WriteEntry::EndOf(v) => {
+            if is_written_by(t, store.end_of(v)) {
+                clear_write(store, txns, v);
+                Reply::StampedEnd(v)
+            } else {
+                Reply::Left(v)
+            }
+        }
+    }
+}
+
+/// Stamps the first entry of the write set of t, which is committed or aborted, and takes it out of the set. The answer
+/// is Nothing where the set is empty, and Left where another transaction has taken the word over since t was aborted.
+pub fn stamp_next(store: &mut Store, txns: &mut Txns, t: TxnId) -> Reply
+    requires txn { Declared txns.old t }
+    requires end { IsTime (txn_in txns.old.cores t).end }
+    requires entry { CanStamp store.old txns.old (slice_get (write_set_of txns.old t).items 0) }
+    ensures store { store.new ≡ stamped_store store.old txns.old.cores t (slice_get (write_set_of txns.old t).items 0) }
+    ensures txns { txns.new ≡ with_write_set (stamped_txns store.old txns.old t (slice_get (write_set_of txns.old t).items 0)) t (write_set_of txns.new t) }
+    ensures writes { (write_set_of txns.new t).items ≡ rest_of (write_set_of txns.old t).items }
+    ensures room { (write_set_of txns.old t).room ≤ (write_set_of txns.new t).room }
+    ensures reply { result ≡ stamp_reply store.old txns.old.cores t (slice_get (write_set_of txns.old t).items 0) }
+{
+    let Some(entry) = txns.first_write(t) else {
+        return Reply::Nothing;
+    };
+    let stamped = entry;
+    txns.remove_write(t, stamped);
+    if txns.state(t) == State::Committed {
+        stamp_committed(store, txns.end_time(t), entry)
+    } else {
+        stamp_aborted(store, txns, t, entry)
+    }
+}

@@ -1,0 +1,6 @@
+-- Each event is one of the rows of the table, and each row changes the world in one of a few ways.
+pub mod SetTxns
+pub mod Unchanged
+pub mod Cases
+pub mod Changes
+pub mod WorldSteps

@@ -1,0 +1,150 @@
+-- What the lock calls refuse and change, over words and transactions.
+-- (Section 4 of the paper: record locks, wait-for dependencies.)
+use Rattle.std.specs.Prelude.{ℕ, ◌+◌, ◌-◌, ◌^◌, ◌<◌, ◌==◌, ◌&&◌, ◌||◌, not, nat_lt, nat_eq, Bool, true, false, if◌then◌else◌, List, Option, Some, None, Result, Ok, Err}
+use Rattle.hek_txn.specs.Entries.{joined}
+use Rattle.hek_rules.specs.declared.word.EndRecord.{EndRecord}
+use Rattle.hek_rules.specs.declared.word.EndRecord.TheVariants.{Until, Lock}
+use Rattle.hek_rules.specs.declared.word.Dropped.{Dropped}
+use Rattle.hek_rules.specs.declared.word.Dropped.TheVariants.{More, Free, Last}
+use Rattle.hek_rules.specs.declared.event.Cause.{Cause}
+use Rattle.hek_rules.specs.declared.event.Cause.TheVariants.{Conflict, NoMoreReads, ReadersFull, NoMoreWaits}
+use Rattle.hek_rules.specs.Words.{infinity, without_reader, with_reader, with_writer, without_writer, readers_of}
+use Rattle.hek_rules.specs.World.{Txn, txn_in, is_made_by, is_aborted}
+use Rattle.hek_rules.specs.Listing.{is_among}
+use Rattle.hek_store.specs.Stored.{Stored, version_at, with_end}
+use Rattle.hek_txn.specs.TxnTable.{TxnTable, Declared, waits_of, with_waits, read_set_of}
+
+-- the writer of a word, if it has one, is declared
+abbrev pub KnowsWriter : TxnTable → EndRecord → Type 0
+KnowsWriter ts (Until time) = Unit {0}
+KnowsWriter ts (Lock readers None no_more) = Unit {0}
+KnowsWriter ts (Lock readers (Some u) no_more) = Declared ts u
+
+-- ---- wait counters
+
+abbrev pub fewer_waits : TxnTable → ℕ → TxnTable
+fewer_waits ts u = with_waits ts u (waits_of ts u - 1)
+
+abbrev pub more_waits : TxnTable → ℕ → TxnTable
+more_waits ts u = with_waits ts u (waits_of ts u + 1)
+
+-- the writer of a word waits for one version less: where it has readers
+abbrev pub writer_freed : TxnTable → EndRecord → TxnTable
+writer_freed ts (Until time) = ts
+writer_freed ts (Lock readers None no_more) = ts
+writer_freed ts (Lock readers (Some u) no_more) = if nat_lt 0 readers then fewer_waits ts u else ts
+
+-- and it can: its counter shows that
+abbrev pub CanFree : TxnTable → EndRecord → Type 0
+CanFree ts (Until time) = Unit {0}
+CanFree ts (Lock readers None no_more) = Unit {0}
+CanFree ts (Lock readers (Some u) no_more) = Declared ts u × (0 < readers → 0 < waits_of ts u)
+
+-- ---- Clear: an aborted writer is gone
+
+abbrev pub is_stale : List Txn → EndRecord → Bool
+is_stale ts (Until time) = false
+is_stale ts (Lock readers None no_more) = false
+is_stale ts (Lock readers (Some u) no_more) = is_aborted (txn_in ts u).state
+
+abbrev pub cleared_word : List Txn → EndRecord → EndRecord
+cleared_word ts e = if is_stale ts e then without_writer e else e
+
+abbrev pub cleared_waits : TxnTable → EndRecord → TxnTable
+cleared_waits ts e = if is_stale ts.cores e then writer_freed ts e else ts
+
+-- ---- read locks
+
+-- t made the version, or read-locks it already
+abbrev pub reads_freely : Stored → TxnTable → ℕ → ℕ → Bool
+reads_freely s ts t v = is_made_by t (version_at s v).begin || is_among (read_set_of ts t).items v
+
+-- what keeps a reader out, in this order
+abbrev pub refusal : List Txn → EndRecord → Option Cause
+refusal ts (Until time) = None
+refusal ts (Lock readers writer true) = Some NoMoreReads
+refusal ts (Lock readers None false) = if nat_lt readers 255 then None else Some ReadersFull
+refusal ts (Lock readers (Some u) false) =
+    if not (nat_lt readers 255) then Some ReadersFull
+    else if readers == 0 && (txn_in ts u).finished then Some NoMoreWaits
+    else None
+
+abbrev pub read_refused : Stored → TxnTable → ℕ → ℕ → Option Cause
+read_refused s ts t v =
+    if reads_freely s ts t v then None else refusal ts.cores (cleared_word ts.cores (version_at s v).end)
+
+-- a writer waits for the first reader that comes
+abbrev pub writer_waits : TxnTable → EndRecord → TxnTable
+writer_waits ts (Until time) = ts
+writer_waits ts (Lock readers None no_more) = ts
+writer_waits ts (Lock readers (Some u) no_more) = if readers == 0 then more_waits ts u else ts
+
+-- and its counter has room for that
+abbrev pub CanWait : TxnTable → EndRecord → Type 0
+CanWait ts (Until time) = Unit {0}
+CanWait ts (Lock readers None no_more) = Unit {0}
+CanWait ts (Lock readers (Some u) no_more) = Declared ts u × (waits_of ts u + 1 < 2 ^ 64)
+
+abbrev pub read_locked : Stored → TxnTable → ℕ → ℕ → Stored
+read_locked s ts t v =
+    if reads_freely s ts t v then s else with_end s v (with_reader (cleared_word ts.cores (version_at s v).end))
+
+abbrev pub read_lock_waits : Stored → TxnTable → ℕ → ℕ → TxnTable
+read_lock_waits s ts t v =
+    if reads_freely s ts t v then ts
+    else writer_waits (cleared_waits ts (version_at s v).end) (cleared_word ts.cores (version_at s v).end)
+
+abbrev pub read_lock_reads : Stored → TxnTable → ℕ → ℕ → List ℕ
+read_lock_reads s ts t v =
+    if reads_freely s ts t v then (read_set_of ts t).items else joined nat_eq (read_set_of ts t).items v
+
+-- ---- write locks
+
+abbrev pub write_refusal : EndRecord → Option Cause
+write_refusal (Until time) = if time == infinity then None else Some Conflict
+write_refusal (Lock readers None no_more) = None
+write_refusal (Lock readers (Some u) no_more) = Some Conflict
+
+abbrev pub write_refused : Stored → TxnTable → ℕ → Option Cause
+write_refused s ts v = write_refusal (cleared_word ts.cores (version_at s v).end)
+
+-- the word without t's own read lock
+abbrev pub given_up : TxnTable → ℕ → ℕ → EndRecord → EndRecord
+given_up ts t v e = if is_among (read_set_of ts t).items v then without_reader e else e
+
+-- the word before t takes it
+abbrev pub to_write : Stored → TxnTable → ℕ → ℕ → EndRecord
+to_write s ts t v = given_up ts t v (cleared_word ts.cores (version_at s v).end)
+
+abbrev pub write_locked : Stored → TxnTable → ℕ → ℕ → Stored
+write_locked s ts t v = with_end s v (with_writer (to_write s ts t v) t)
+
+-- t waits for the readers that are left
+abbrev pub write_lock_waits : Stored → TxnTable → ℕ → ℕ → TxnTable
+write_lock_waits s ts t v =
+    let freed = cleared_waits ts (version_at s v).end in
+    if nat_lt 0 (readers_of (to_write s ts t v)) then more_waits freed t else freed
+
+-- ---- release
+
+-- the writer that the last reader leaves alone waits for one version less
+abbrev pub after_drop : Dropped → TxnTable → TxnTable
+after_drop More ts = ts
+after_drop Free ts = ts
+after_drop (Last u) ts = fewer_waits ts u
+
+-- and is told
+abbrev pub told_of : Dropped → Option ℕ
+told_of More = None
+told_of Free = None
+told_of (Last u) = Some u
+
+abbrev pub CanTell : TxnTable → Dropped → Type 0
+CanTell ts More = Unit {0}
+CanTell ts Free = Unit {0}
+CanTell ts (Last u) = Declared ts u × (0 < waits_of ts u)
+
+-- what is refused, as an error
+abbrev pub answer_of : Option Cause → Result (Unit {0}) Cause
+answer_of None = Ok tt
+answer_of (Some cause) = Err cause

@@ -1,0 +1,13 @@
+//! Read locks and write locks of versions, with their writers' wait counters. No call takes memory: room in a
+//! transaction's lists is reserved before.
+#![tactic(auto)]
+
+mod clear;
+mod read;
+mod release;
+mod write;
+
+pub use clear::clear_write;
+pub use read::{can_read_lock, read_lock};
+pub use release::release_read;
+pub use write::{can_write_lock, write_lock};

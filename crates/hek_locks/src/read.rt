@@ -1,0 +1,88 @@
+//! Read locks (section 4 of the paper: record locks).
+ghost use Rattle.std.specs.Prelude.{◌≡◌, ◌+◌, ◌<◌, ◌≤◌, false, length};
+ghost use Rattle.hek_rules.specs.Words.{CanAdd};
+ghost use Rattle.hek_store.specs.Stored.{version_at};
+ghost use Rattle.hek_txn.specs.TxnTable.{Declared, read_set_of, with_read_set};
+ghost use Rattle.hek_locks.specs.Locked.{KnowsWriter, CanFree, CanWait, writer_waits, cleared_word, cleared_waits, reads_freely as freely, read_refused, answer_of, read_locked, read_lock_waits, read_lock_reads};
+
+use crate::clear::{cleared, free_stale};
+use hek_rules::{Cause, EndRecord, TxnId, VersionId};
+use hek_store::Store;
+use hek_txn::Txns;
+use hek_word::EndWord;
+
+fn reads_freely(store: &Store, txns: &Txns, t: TxnId, v: VersionId) -> bool
+    requires version { v < length store.now.versions }
+    requires txn { Declared txns.now t }
+    ensures { result ≡ freely store.now txns.now t v }
+{
+    store.begin_of(v).txn() == Some(t) || txns.reads(t, v)
+}
+
+/// Whether t may read-lock v, or why not. It may where it made v or read-locks it already.
+pub fn can_read_lock(store: &Store, txns: &Txns, t: TxnId, v: VersionId) -> Result<(), Cause>
+    requires version { v < length store.now.versions }
+    requires txn { Declared txns.now t }
+    requires writer { KnowsWriter txns.now (version_at store.now v).end }
+    ensures { result ≡ answer_of (read_refused store.now txns.now t v) }
+{
+    if reads_freely(store, txns, t, v) {
+        return Ok(());
+    }
+    match cleared(txns, store.end_of(v)).content() {
+        EndRecord::Until(_) => Ok(()),
+        EndRecord::Lock { no_more: true, .. } => Err(Cause::NoMoreReads),
+        EndRecord::Lock { readers: 255, .. } => Err(Cause::ReadersFull),
+        EndRecord::Lock {
+            readers: 0,
+            writer: Some(u),
+            ..
+        } => {
+            if txns.no_more_wait_fors(u) {
+                Err(Cause::NoMoreWaits)
+            } else {
+                Ok(())
+            }
+        }
+        EndRecord::Lock { .. } => Ok(()),
+    }
+}
+
+/// The writer of a word waits for the first reader that comes.
+fn count_first(txns: &mut Txns, word: EndWord)
+    requires { CanWait txns.old word }
+    ensures { txns.new ≡ writer_waits txns.old word }
+{
+    if let Some(u) = word.writer() {
+        if word.readers() == 0 {
+            let waits = txns.waits(u);
+            txns.set_waits(u, waits + 1);
+        }
+    }
+}
+
+/// t read-locks v, unless it made v or read-locks it already. An aborted writer of v is cleared; another one waits for
+/// its first reader.
+pub fn read_lock(store: &mut Store, txns: &mut Txns, t: TxnId, v: VersionId)
+    requires version { v < length store.old.versions }
+    requires txn { Declared txns.old t }
+    requires writer { KnowsWriter txns.old (version_at store.old v).end }
+    requires room { 0 < (read_set_of txns.old t).room }
+    requires allowed { freely store.old txns.old t v ≡ false → CanAdd (cleared_word txns.old.cores (version_at store.old v).end) }
+    requires freed { CanFree txns.old (version_at store.old v).end }
+    requires counted { freely store.old txns.old t v ≡ false → CanWait (cleared_waits txns.old (version_at store.old v).end) (cleared_word txns.old.cores (version_at store.old v).end) }
+    ensures store { store.new ≡ read_locked store.old txns.old t v }
+    ensures txns { txns.new ≡ with_read_set (read_lock_waits store.old txns.old t v) t (read_set_of txns.new t) }
+    ensures reads { (read_set_of txns.new t).items ≡ read_lock_reads store.old txns.old t v }
+    ensures room { (read_set_of txns.old t).room ≤ (read_set_of txns.new t).room + 1 }
+{
+    if reads_freely(store, txns, t, v) {
+        return;
+    }
+    let word = store.end_of(v);
+    let held = cleared(txns, word);
+    free_stale(txns, word);
+    count_first(txns, held);
+    store.set_end(v, held.add_reader());
+    txns.push_read(t, v);
+}

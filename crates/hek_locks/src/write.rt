@@ -1,0 +1,84 @@
+//! Write locks (section 4 of the paper: record locks).
+ghost use Rattle.std.specs.Prelude.{◌≡◌, ◌+◌, ◌<◌, ◌≤◌, ◌^◌, true, nat_eq, nat_lt, if◌then◌else◌, length};
+ghost use Rattle.std.specs.Set.{remove_key};
+ghost use Rattle.hek_rules.specs.Words.{IsTxn, CanTakeWriter, readers_of};
+ghost use Rattle.hek_rules.specs.declared.event.WriteEntry.TheVariants.{EndOf};
+ghost use Rattle.hek_rules.specs.Listing.{is_among};
+ghost use Rattle.hek_store.specs.Stored.{version_at};
+ghost use Rattle.hek_txn.specs.Entries.{joined, same_entry};
+ghost use Rattle.hek_txn.specs.TxnTable.{Declared, waits_of, read_set_of, write_set_of, with_read_set, with_write_set};
+ghost use Rattle.hek_locks.specs.Locked.{KnowsWriter, CanFree, cleared_word, cleared_waits, given_up as without_own, more_waits, write_refused, answer_of, to_write, write_locked, write_lock_waits};
+
+use crate::clear::{cleared, free_stale};
+use hek_rules::{Cause, EndRecord, TxnId, VersionId, WriteEntry};
+use hek_store::Store;
+use hek_txn::Txns;
+use hek_word::EndWord;
+
+/// Whether v may be write-locked, or why not: it has ended, or a writer that hasn't aborted.
+pub fn can_write_lock(store: &Store, txns: &Txns, v: VersionId) -> Result<(), Cause>
+    requires version { v < length store.now.versions }
+    requires writer { KnowsWriter txns.now (version_at store.now v).end }
+    ensures { result ≡ answer_of (write_refused store.now txns.now v) }
+{
+    if cleared(txns, store.end_of(v)).can_take_writer() {
+        Ok(())
+    } else {
+        Err(Cause::Conflict)
+    }
+}
+
+/// The word without t's own read lock, where t has one.
+fn given_up(txns: &Txns, t: TxnId, v: VersionId, word: EndWord) -> EndWord
+    requires txn { Declared txns.now t }
+    requires reader { is_among (read_set_of txns.now t).items v ≡ true → 0 < readers_of word }
+    ensures { result ≡ without_own txns.now t v word }
+{
+    if txns.reads(t, v) {
+        let (left, _) = word.drop_reader();
+        left
+    } else {
+        word
+    }
+}
+
+/// t waits for the readers of a word, if it has any.
+fn count_readers(txns: &mut Txns, t: TxnId, word: EndWord)
+    requires txn { Declared txns.old t }
+    requires counted { waits_of txns.old t + 1 < 2 ^ 64 }
+    ensures { txns.new ≡ (if nat_lt 0 (readers_of word) then more_waits txns.old t else txns.old) }
+{
+    if word.readers() > 0 {
+        let waits = txns.waits(t);
+        txns.set_waits(t, waits + 1);
+    }
+}
+
+/// t write-locks v: an aborted writer of v is cleared, t's own read lock is given up, and t waits for the readers that are
+/// left, once for the version.
+pub fn write_lock(store: &mut Store, txns: &mut Txns, t: TxnId, v: VersionId)
+    requires version { v < length store.old.versions }
+    requires txn { Declared txns.old t }
+    requires named { IsTxn t }
+    requires writer { KnowsWriter txns.old (version_at store.old v).end }
+    requires reader { is_among (read_set_of txns.old t).items v ≡ true → 0 < readers_of (cleared_word txns.old.cores (version_at store.old v).end) }
+    requires room { 0 < (write_set_of txns.old t).room }
+    requires free { CanTakeWriter (to_write store.old txns.old t v) }
+    requires freed { CanFree txns.old (version_at store.old v).end }
+    requires counted { waits_of (cleared_waits txns.old (version_at store.old v).end) t + 1 < 2 ^ 64 }
+    ensures store { store.new ≡ write_locked store.old txns.old t v }
+    ensures txns { txns.new ≡ with_write_set (with_read_set (write_lock_waits store.old txns.old t v) t (read_set_of txns.new t)) t (write_set_of txns.new t) }
+    ensures reads { (read_set_of txns.new t).items ≡ remove_key (nat_eq v) (read_set_of txns.old t).items }
+    ensures writes { (write_set_of txns.new t).items ≡ joined same_entry (write_set_of txns.old t).items (EndOf v) }
+    ensures read_room { (read_set_of txns.old t).room ≤ (read_set_of txns.new t).room }
+    ensures write_room { (write_set_of txns.old t).room ≤ (write_set_of txns.new t).room + 1 }
+{
+    let word = store.end_of(v);
+    let held = cleared(txns, word);
+    let free = given_up(txns, t, v, held);
+    free_stale(txns, word);
+    count_readers(txns, t, free);
+    store.set_end(v, free.take_writer(t));
+    txns.remove_read(t, v);
+    txns.push_write(t, WriteEntry::EndOf(v));
+}

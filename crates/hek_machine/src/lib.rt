@@ -1,0 +1,6 @@
+//! The machine: each event is one row of the rule table.
+#![tactic(auto)]
+
+mod checks;
+mod parts;
+mod phases;

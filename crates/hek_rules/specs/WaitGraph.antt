@@ -1,0 +1,25 @@
+-- Deadlock: who waits for whom among the transactions that have finished and wait, and the victim.
+-- (Section 4 of the paper: deadlock detection.)
+use Rattle.std.specs.Prelude.{ℕ, ◌+◌, Bool, not, ◌&&◌, ◌||◌, ◌==◌, nat_lt, List, Option, length}
+use Rattle.std.specs.List.{list_any}
+use Rattle.hek_rules.specs.Listing.{has}
+use Rattle.hek_rules.specs.World.{World, txn_in, version_in, is_held_by, is_active}
+use Rattle.hek_rules.specs.Waits.{waits}
+use Rattle.hek_rules.specs.Victim.{victim_of}
+
+-- active, finished, and waiting
+abbrev pub is_node : World → ℕ → Bool
+is_node w u = is_active (txn_in w.txns u).state && (txn_in w.txns u).finished && nat_lt 0 (waits w u)
+
+-- u waits for t by a version: t read-locks one that u writes
+abbrev pub waits_by_version : World → ℕ → ℕ → Bool
+waits_by_version w u t =
+    list_any (λ (p : ℕ × ℕ). p.0 == t && is_held_by u (version_in w.versions p.1).ender) w.read_locks
+
+-- one node waits for another: by a version, or in its waiting list
+abbrev pub is_edge : World → ℕ → ℕ → Bool
+is_edge w u t = is_node w u && is_node w t && not (u == t) && (waits_by_version w u t || has w.waiters t u)
+
+-- the victim, with its cycle
+abbrev pub victim : World → Option (ℕ × List ℕ)
+victim w = victim_of (is_edge w) (length w.txns + 1)

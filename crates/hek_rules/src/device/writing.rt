@@ -1,0 +1,27 @@
+//! Writing to a sink.
+ghost use Rattle.std.specs.Prelude.{◌≡◌, ◌++◌, false, IsTrue, OnOk, is_err};
+
+use super::Sink;
+
+/// Why not all bytes went to a sink: it has failed.
+#[derive(Clone, Copy, Debug, PartialEq, Eq)]
+pub enum WriteFault {
+    Write,
+}
+
+/// Writes all the bytes. After a fault nothing is known of how many went out.
+pub fn put_all<S: Sink>(sink: &mut S, bytes: &[u8]) -> Result<(), WriteFault>
+    requires { S.failed sink.old ≡ false }
+    ensures ok { OnOk result (IsTrue (S.tells sink.old) → S.holds sink.new ≡ S.holds sink.old ++ bytes.now) }
+    ensures tells { IsTrue (S.tells sink.old) → IsTrue (S.tells sink.new) }
+    ensures fails { S.failed sink.new ≡ is_err result }
+{
+    let mut rest = bytes;
+    while !rest.is_empty() {
+        match sink.put(rest) {
+            Some(count) => rest = rest.split_at(count).1,
+            None => return Err(WriteFault::Write),
+        }
+    }
+    Ok(())
+}

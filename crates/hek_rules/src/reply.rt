@@ -1,0 +1,123 @@
+//! What an event is answered with.
+ghost use Rattle.std.specs.Prelude.{◌≡◌, ◌↔◌, IfOk, IsTrue};
+
+use crate::event::Cause;
+use crate::id::{Time, TxnId, VersionId};
+use crate::lists::{Members, Pairs};
+use crate::memory::NoMemory;
+
+/// Why an event was refused. A refused event changes nothing.
+#[derive(Clone, Copy, Debug, PartialEq, Eq)]
+pub enum Refusal {
+    UnknownTxn,
+    NotBegun,
+    BegunTwice,
+    Ended,
+    WrongPhase,
+    ClockFull,
+}
+
+/// The answer to an event.
+#[derive(Debug, Drop)]
+pub enum Reply {
+    /// The begin time that was drawn.
+    Began(Time),
+    /// The value of the key.
+    Found(u64),
+    Absent,
+    /// The pairs of the bucket, by key.
+    Rows(Pairs),
+    Done,
+    Exists,
+    Ready,
+    /// How much the transaction still waits for: its WaitForCounter.
+    Waiting(u64),
+    /// The end time that was drawn.
+    Precommitted(Time),
+    /// A read lock was given up; the writer that waited for it, if this was the last.
+    ReleasedRead(VersionId, Option<TxnId>),
+    ReleasedBucket(u64),
+    ReleasedWaiter(TxnId),
+    Nothing,
+    Committed,
+    /// On how many transactions the commit still depends: its CommitDepCounter.
+    WaitingCommits(u64),
+    Failed,
+    StampedBegin(VersionId),
+    StampedEnd(VersionId),
+    /// The End word no longer names the transaction, and stays.
+    Left(VersionId),
+    Over,
+    NoCycle,
+    /// The victim of a deadlock, with its cycle.
+    Victim(TxnId, Members),
+    Aborted(Cause),
+    Refused(Refusal),
+}
+
+impl Reply {
+    /// An equal reply, or NoMemory, which comes only where there is a list to copy.
+    pub fn copy(&self) -> Result<Reply, NoMemory>
+        ensures { IfOk result (λ reply. reply ≡ self.now) }
+    {
+        Ok(match self {
+            Reply::Began(time) => Reply::Began(*time),
+            Reply::Found(value) => Reply::Found(*value),
+            Reply::Absent => Reply::Absent,
+            Reply::Rows(pairs) => Reply::Rows(pairs.copy()?),
+            Reply::Done => Reply::Done,
+            Reply::Exists => Reply::Exists,
+            Reply::Ready => Reply::Ready,
+            Reply::Waiting(count) => Reply::Waiting(*count),
+            Reply::Precommitted(time) => Reply::Precommitted(*time),
+            Reply::ReleasedRead(version, writer) => Reply::ReleasedRead(*version, *writer),
+            Reply::ReleasedBucket(bucket) => Reply::ReleasedBucket(*bucket),
+            Reply::ReleasedWaiter(txn) => Reply::ReleasedWaiter(*txn),
+            Reply::Nothing => Reply::Nothing,
+            Reply::Committed => Reply::Committed,
+            Reply::WaitingCommits(count) => Reply::WaitingCommits(*count),
+            Reply::Failed => Reply::Failed,
+            Reply::StampedBegin(version) => Reply::StampedBegin(*version),
+            Reply::StampedEnd(version) => Reply::StampedEnd(*version),
+            Reply::Left(version) => Reply::Left(*version),
+            Reply::Over => Reply::Over,
+            Reply::NoCycle => Reply::NoCycle,
+            Reply::Victim(txn, members) => Reply::Victim(*txn, members.copy()?),
+            Reply::Aborted(cause) => Reply::Aborted(*cause),
+            Reply::Refused(refusal) => Reply::Refused(*refusal),
+        })
+    }
+
+    /// Whether the replies are equal.
+    pub fn same(&self, other: &Reply) -> bool
+        ensures { IsTrue result ↔ (self.now ≡ other.now) }
+    {
+        match (self, other) {
+            (Reply::Began(a), Reply::Began(b)) => a == b,
+            (Reply::Found(a), Reply::Found(b)) => a == b,
+            (Reply::Absent, Reply::Absent) => true,
+            (Reply::Rows(a), Reply::Rows(b)) => a.same(b),
+            (Reply::Done, Reply::Done) => true,
+            (Reply::Exists, Reply::Exists) => true,
+            (Reply::Ready, Reply::Ready) => true,
+            (Reply::Waiting(a), Reply::Waiting(b)) => a == b,
+            (Reply::Precommitted(a), Reply::Precommitted(b)) => a == b,
+            (Reply::ReleasedRead(a, u), Reply::ReleasedRead(b, w)) => a == b && u == w,
+            (Reply::ReleasedBucket(a), Reply::ReleasedBucket(b)) => a == b,
+            (Reply::ReleasedWaiter(a), Reply::ReleasedWaiter(b)) => a == b,
+            (Reply::Nothing, Reply::Nothing) => true,
+            (Reply::Committed, Reply::Committed) => true,
+            (Reply::WaitingCommits(a), Reply::WaitingCommits(b)) => a == b,
+            (Reply::Failed, Reply::Failed) => true,
+            (Reply::StampedBegin(a), Reply::StampedBegin(b)) => a == b,
+            (Reply::StampedEnd(a), Reply::StampedEnd(b)) => a == b,
+            (Reply::Left(a), Reply::Left(b)) => a == b,
+            (Reply::Over, Reply::Over) => true,
+            (Reply::NoCycle, Reply::NoCycle) => true,
+            (Reply::Victim(a, c), Reply::Victim(b, d)) => a == b && c.same(d),
+            (Reply::Aborted(a), Reply::Aborted(b)) => a == b,
+            (Reply::Refused(a), Reply::Refused(b)) => a == b,
+            _ => false,
+        }
+    }
+}

@@ -1,0 +1,13 @@
+pub mod Pairs
+pub mod Entries
+pub mod Raised
+pub mod Counts
+pub mod Loads
+pub mod Copies
+pub mod Stores
+pub mod Cores
+pub mod Rooms
+pub mod Changes
+pub mod Known
+pub mod Dependents
+pub mod ReadReleases

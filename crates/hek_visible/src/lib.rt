@@ -1,0 +1,7 @@
+//! What a reader sees of a version.
+#![tactic(auto)]
+
+mod visibility;
+
+pub use hek_rules::Sight;
+pub use visibility::see;
