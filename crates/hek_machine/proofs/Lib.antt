@@ -1,3 +1,4 @@
 pub mod Loads
 pub mod PhaseRows
 pub mod CheckRows
+pub mod ReleaseRows

@@ -4,3 +4,4 @@
 mod checks;
 mod parts;
 mod phases;
+mod releases;

@@ -11,3 +11,6 @@ pub mod Changes
 pub mod Known
 pub mod Dependents
 pub mod ReadReleases
+pub mod Leaves
+pub mod Frees
+pub mod Stamps
