@@ -2,3 +2,4 @@ pub mod Loads
 pub mod PhaseRows
 pub mod CheckRows
 pub mod ReleaseRows
+pub mod StampRows

@@ -1,6 +1,6 @@
-//! Begin, finish, precommit, commit, fail and end (section 2 of the paper: the phases of a transaction).
+//! Begin, finish, precommit, commit, fail, stamp and end (section 2 of the paper: the phases of a transaction).
 ghost use Rattle.std.specs.Prelude.{◌-◌, ◌<◌, ◌^◌};
-ghost use Rattle.hek_rules.specs.Table.{aborted, begin_row, finish_row, precommit_row, commit_row, fail_row, end_row};
+ghost use Rattle.hek_rules.specs.Table.{aborted, begin_row, finish_row, precommit_row, commit_row, fail_row, stamp_row, end_row};
 ghost use Rattle.hek_txn.specs.TxnTable.{Declared};
 ghost use Rattle.hek_machine.specs.Stands.{IsOrdered, IsRow};
 
@@ -71,6 +71,16 @@ impl Parts {
     {
         hek_commit::abort(&mut self.txns, t, Cause::Asked);
         Reply::Failed
+    }
+
+    /// The first entry of the write set is stamped.
+    #[tactic(auto, using(crate::proofs::StampRows::stamp_time, crate::proofs::StampRows::can_stamp))]
+    pub(crate) fn stamp(&mut self, t: TxnId) -> Reply
+        requires known { Declared self.old.txns t }
+        requires ordered { IsOrdered self.old }
+        ensures { IsRow (λ w. stamp_row w t) self.old self.new result }
+    {
+        hek_commit::stamp_next(&mut self.store, &mut self.txns, t)
     }
 
     pub(crate) fn end(&mut self, t: TxnId) -> Reply
