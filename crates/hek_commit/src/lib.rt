@@ -9,4 +9,3 @@ mod stamps;
 pub use dependents::depend;
 pub use phases::{abort, commit, end, precommit};
 pub use stamps::stamp_next;
-

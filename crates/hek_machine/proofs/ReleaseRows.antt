@@ -42,6 +42,7 @@ first_bucket w t b (x ∷ bs) h = ap (λ (n : ℕ). one n) (some x b h)
   where
     one : ℕ → Outcome
     one n = record { reply = reply.ReleasedBucket n; world = record w { bucket_locks = leave w.bucket_locks t n } }
+
     some : (a b : ℕ) → Some a ≡ Some b → a ≡ b
     some a b e = cc
 
@@ -52,6 +53,7 @@ first_waiter w t u (x ∷ us) h = ap (λ (n : ℕ). one n) (some x u h)
   where
     one : ℕ → Outcome
     one n = record { reply = reply.ReleasedWaiter n; world = record w { waiters = leave w.waiters t n } }
+
     some : (a b : ℕ) → Some a ≡ Some b → a ≡ b
     some a b e = cc
 
@@ -162,4 +164,4 @@ pub row_of_release_nothing : (m : Parts) (t : ℕ) → slice_get (read_set_of m.
 row_of_release_nothing m t none free alone =
     row-is m m (λ w. release_row w t) (λ w. record { reply = reply.Nothing; world = w }) reply.Nothing
     (λ w s. no_buckets m w t s none free ∙ ap (release_waiter w t) (sym (s.shows.txns.waiting_lists t) ∙ no_first (waiting_list_of m.txns t).items alone))
-    (record { reply = λ w s. refl; shows = λ w s. s.shows; })
+    (record { reply = λ w s. refl; shows = λ w s. s.shows })

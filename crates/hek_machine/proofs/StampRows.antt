@@ -63,21 +63,25 @@ committed-stamp : (m : Parts) (w : World) (t : ℕ) (x : TxnTable) (e : WriteEnt
     is_committed (txn_in w.txns t).state ≡ true → (write_set_of x t).items ≡ rest_of (write_set_of m.txns t).items →
     Gives m (stamped_committed m.store (txn_in w.txns t).end e) (with_write_set m.txns t (write_set_of x t)) (committed_reply e) (stamp_committed w t (e ∷ es))
 committed-stamp m w t x (BeginOf v) es s d i done items =
-    let h = s.shows in let l = (reachable-sound w s.reachable).made_there t v i in
-    (refl, record {
-      clock = h.clock;
-      store = shows-begun_store m.store w v (At (txn_in w.txns t).end) l h.store;
-      txns = shows-begun_txns m.txns w t v (At (txn_in w.txns t).end) (write_set_of x t) d l items h.txns;
-      buckets = h.buckets;
-    })
+    let h = s.shows in let l = (reachable-sound w s.reachable).made_there t v i in (
+      refl,
+      record {
+        clock = h.clock;
+        store = shows-begun_store m.store w v (At (txn_in w.txns t).end) l h.store;
+        txns = shows-begun_txns m.txns w t v (At (txn_in w.txns t).end) (write_set_of x t) d l items h.txns;
+        buckets = h.buckets;
+      },
+    )
 committed-stamp m w t x (EndOf v) es s d i done items =
-    let h = s.shows in let o = reachable-sound w s.reachable in let l = o.ended_there t v i in
-    (refl, record {
-      clock = h.clock;
-      store = shows-ended_store m.store w v (txn_in w.txns t).end l h.store;
-      txns = shows-ended_txns m.txns w t v (write_set_of x t) d o l (committed-holds w t v o i done) done items h.txns;
-      buckets = h.buckets;
-    })
+    let h = s.shows in let o = reachable-sound w s.reachable in let l = o.ended_there t v i in (
+      refl,
+      record {
+        clock = h.clock;
+        store = shows-ended_store m.store w v (txn_in w.txns t).end l h.store;
+        txns = shows-ended_txns m.txns w t v (write_set_of x t) d o l (committed-holds w t v o i done) done items h.txns;
+        buckets = h.buckets;
+      },
+    )
 
 held-same : (m : Parts) (w : World) (t v : ℕ) → StandsFor m w → is_written_by t (version_at m.store v).end ≡ is_held_by t (version_in w.versions v).ender
 held-same m w t v s =
@@ -87,33 +91,43 @@ aborted-stamp : (m : Parts) (w : World) (t : ℕ) (x : TxnTable) (e : WriteEntry
     (write_set_of x t).items ≡ rest_of (write_set_of m.txns t).items →
     Gives m (stamped_aborted m.store t e) (with_write_set (freed_aborted m.store m.txns t e) t (write_set_of x t)) (aborted_reply m.store t e) (stamp_aborted w t (e ∷ es))
 aborted-stamp m w t x (BeginOf v) es s d i items =
-    let h = s.shows in let l = (reachable-sound w s.reachable).made_there t v i in
-    (refl, record {
-      clock = h.clock;
-      store = shows-begun_store m.store w v (At infinity) l h.store;
-      txns = shows-begun_txns m.txns w t v (At infinity) (write_set_of x t) d l items h.txns;
-      buckets = h.buckets;
-    })
+    let h = s.shows in let l = (reachable-sound w s.reachable).made_there t v i in (
+      refl,
+      record {
+        clock = h.clock;
+        store = shows-begun_store m.store w v (At infinity) l h.store;
+        txns = shows-begun_txns m.txns w t v (At infinity) (write_set_of x t) d l items h.txns;
+        buckets = h.buckets;
+      },
+    )
 aborted-stamp m w t x (EndOf v) es s d i items =
     ⊎_elim
-    (λ mine. rw same (rw mine (refl, record {
-      clock = h.clock;
-      store = shows-back_store m.store w t v l mine h.store;
-      txns = shows-back_txns m.store m.txns w t v (write_set_of x t) d l mine items h.store h.txns;
-      buckets = h.buckets;
-    })))
-    (λ other. rw same (rw other (rw (left-as_is w t v l other) (refl, record {
-      clock = h.clock;
-      store = h.store;
-      txns = shows-unwritten m.txns w t (write_set_of x t) d items h.txns;
-      buckets = h.buckets;
-    }))))
+    (λ mine. rw same (rw mine (
+      refl,
+      record {
+        clock = h.clock;
+        store = shows-back_store m.store w t v l mine h.store;
+        txns = shows-back_txns m.store m.txns w t v (write_set_of x t) d l mine items h.store h.txns;
+        buckets = h.buckets;
+      },
+    )))
+    (λ other. rw same (rw other (rw (left-as_is w t v l other) (
+      refl,
+      record {
+        clock = h.clock;
+        store = h.store;
+        txns = shows-unwritten m.txns w t (write_set_of x t) d items h.txns;
+        buckets = h.buckets;
+      },
+    ))))
     (cases_Bool (is_held_by t (version_in w.versions v).ender))
   where
     h : Shows m w
     h = s.shows
+
     l : v < length w.versions
     l = (reachable-sound w s.reachable).ended_there t v i
+
     same : is_written_by t (version_at m.store v).end ≡ is_held_by t (version_in w.versions v).ender
     same = held-same m w t v s
 
@@ -129,6 +143,7 @@ rest m w t store x r s d k [] here shown c phase =
   where
     same : (write_set_of x t).items ≡ (write_set_of m.txns t).items
     same = k.writes ∙ ap rest_of here ∙ sym here
+
     shows : Shows (record m { store = store; txns = x }) w
     shows = record {
       clock = s.shows.clock;
@@ -136,8 +151,10 @@ rest m w t store x r s d k [] here shown c phase =
       txns = rw (k.txns_is ∙ ap (λ o. with_write_set (stamped_txns m.store m.txns t o) t (write_set_of x t)) (ap (λ xs. slice_get xs 0) here)) (room-write_set m.txns w t (write_set_of x t) d same s.shows.txns);
       buckets = s.shows.buckets;
     }
+
     told : r ≡ reply.Nothing
     told = k.reply_is ∙ ap (stamp_reply m.store m.txns.cores t) (ap (λ xs. slice_get xs 0) here)
+
     nothing : (c : Bool) → Gives m store x r (if c then stamp_committed w t [] else stamp_aborted w t [])
     nothing true = (told, shows)
     nothing false = (told, shows)
@@ -149,6 +166,7 @@ rest m w t store x r s d k (e ∷ es) here shown true phase =
   where
     first : slice_get (write_set_of m.txns t).items 0 ≡ Some e
     first = ap (λ xs. slice_get xs 0) here
+
     done : is_committed (txn_in m.txns.cores t).state ≡ true
     done = ap (λ ts. is_committed (txn_in ts t).state) s.shows.txns.cores ∙ phase
 rest m w t store x r s d k (e ∷ es) here shown false phase =
@@ -159,6 +177,7 @@ rest m w t store x r s d k (e ∷ es) here shown false phase =
   where
     first : slice_get (write_set_of m.txns t).items 0 ≡ Some e
     first = ap (λ xs. slice_get xs 0) here
+
     undone : is_committed (txn_in m.txns.cores t).state ≡ false
     undone = ap (λ ts. is_committed (txn_in ts t).state) s.shows.txns.cores ∙ phase
 

@@ -86,9 +86,11 @@ can_free : (x : TxnTable) (w : World) (count : ℕ) (e : Ender) → ShowsTxns x 
 can_free x w count (EndedAt time) q k h = tt
 can_free x w zero (Held None no_more) q k h = tt
 can_free x w (suc n) (Held None no_more) q k h = tt
-can_free x w count (Held (Some u) no_more) q k h =
-    (present-known x w u q k, λ some.
-    let mine : ((u == u) && nat_lt 0 count) ≡ true = grind (arith, nat_tests, some) in let b = ap bit mine in let l = h u in omega (arith, b, l))
+can_free x w count (Held (Some u) no_more) q k h = (
+  present-known x w u q k,
+  λ some.
+      let mine : ((u == u) && nat_lt 0 count) ≡ true = grind (arith, nat_tests, some) in let b = ap bit mine in let l = h u in omega (arith, b, l),
+)
 
 -- the counter of the writer shows that it waits for the readers
 pub may-free : (s : Stored) (x : TxnTable) (w : World) (v : ℕ) → Sound w → v < length w.versions → ShowsStore s w.buckets w.versions w.read_locks → ShowsTxns x w →

@@ -14,3 +14,4 @@ pub mod ReadReleases
 pub mod Leaves
 pub mod Frees
 pub mod Stamps
+pub mod Joins
