@@ -9,7 +9,7 @@ use Rattle.hek_laws.proofs.Sound.WaitCounts.{version_in-set}
 use Rattle.hek_laws.proofs.Sound.Grounded.{there}
 use Rattle.hek_squares.proofs.Pairs.{bit}
 
-step : (test : ℕ → Version → Bool) (i : ℕ) (x : Version) (xs : List Version) → length (places test i (x ∷ xs)) ≡ bit (test i x) + length (places test (i + 1) xs)
+pub step : (test : ℕ → Version → Bool) (i : ℕ) (x : Version) (xs : List Version) → length (places test i (x ∷ xs)) ≡ bit (test i x) + length (places test (i + 1) xs)
 step test i x xs =
     ⊎_elim
     (λ h. let e = ap length (cond-true (test i x) (i ∷ places test (i + 1) xs) (places test (i + 1) xs) h) in let b = ap bit h in omega (arith, e, b))

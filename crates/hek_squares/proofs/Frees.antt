@@ -75,7 +75,7 @@ word-freed (suc n) u no_more = cond-false (suc n == 0) (Until infinity) (Lock (s
 -- ---- what the calls ask
 
 -- a version that it writes and others read counts
-waits-some : (R : List (ℕ × ℕ)) (vs : List Version) (v u : ℕ) → v < length vs → bit (is_waited_for R u v (version_in vs v)) ≤ version_waits R vs u
+pub waits-some : (R : List (ℕ × ℕ)) (vs : List Version) (v u : ℕ) → v < length vs → bit (is_waited_for R u v (version_in vs v)) ≤ version_waits R vs u
 waits-some R vs v u l =
     let gone : is_waited_for R u v (version_in (set_ender vs v (EndedAt 0)) v) ≡ false =
     ap (λ (x : Version). is_waited_for R u v x) (set_ender-same vs v (EndedAt 0) l) in

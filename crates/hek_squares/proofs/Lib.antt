@@ -15,3 +15,7 @@ pub mod Leaves
 pub mod Frees
 pub mod Stamps
 pub mod Joins
+pub mod Clears
+pub mod ReadLocks
+pub mod WriteLocks
+pub mod Inserts
