@@ -3,3 +3,4 @@ pub mod PhaseRows
 pub mod CheckRows
 pub mod ReleaseRows
 pub mod StampRows
+pub mod WalkRows

@@ -5,3 +5,4 @@ mod checks;
 mod parts;
 mod phases;
 mod releases;
+mod walks;

@@ -18,6 +18,7 @@ pub(crate) struct Parts {
     pub(crate) txns: Txns,
     pub(crate) buckets: Buckets,
     pub(crate) clock: Time,
+    pub(crate) alloc: Global,
 }
 
 impl Parts {
@@ -31,6 +32,7 @@ impl Parts {
             txns: Txns::load(alloc, schedule)?,
             buckets: Buckets::load(alloc, schedule)?,
             clock,
+            alloc,
         })
     }
 
@@ -43,6 +45,7 @@ impl Parts {
             txns: self.txns.copy()?,
             buckets: self.buckets.copy()?,
             clock: self.clock,
+            alloc: self.alloc,
         })
     }
 }

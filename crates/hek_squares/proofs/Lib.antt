@@ -19,3 +19,4 @@ pub mod Clears
 pub mod ReadLocks
 pub mod WriteLocks
 pub mod Inserts
+pub mod Sights

@@ -45,7 +45,7 @@ free_ender (EndedAt time) n f h = cc
 free_ender (Held None no_more) n f h = ap (Held None) f
 free_ender (Held (Some u) no_more) n f h = cc
 
-cleared-flag : (ts : List Txn) (n : ℕ) (e : Ender) → IsSoundFlag n e → IsSoundFlag n (cleared ts e)
+pub cleared-flag : (ts : List Txn) (n : ℕ) (e : Ender) → IsSoundFlag n e → IsSoundFlag n (cleared ts e)
 cleared-flag ts n (EndedAt time) f = tt
 cleared-flag ts n (Held None no_more) f = f
 cleared-flag ts n (Held (Some u) no_more) f = either (is_aborted (txn_in ts u).state)
