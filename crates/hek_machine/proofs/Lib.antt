@@ -4,3 +4,5 @@ pub mod CheckRows
 pub mod ReleaseRows
 pub mod StampRows
 pub mod WalkRows
+pub mod EffectRows
+pub mod EffectShows

@@ -1,3 +1,5 @@
 pub mod Stands
 pub mod Checks
 pub mod Judged
+pub mod Room
+pub mod Applied

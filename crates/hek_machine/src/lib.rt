@@ -2,6 +2,7 @@
 #![tactic(auto)]
 
 mod checks;
+mod effects;
 mod parts;
 mod phases;
 mod releases;

@@ -21,17 +21,17 @@ use Rattle.hek_squares.proofs.Leaves.{shows-holders}
 
 -- ---- lists of pairs
 
-join-there : (ps : List (ℕ × ℕ)) (a b : ℕ) → has ps a b ≡ true → join ps a b ≡ ps
+pub join-there : (ps : List (ℕ × ℕ)) (a b : ℕ) → has ps a b ≡ true → join ps a b ≡ ps
 join-there ps a b h = cond-true (has ps a b) ps (ps ++ (a, b) ∷ []) h
 
 join-new : (ps : List (ℕ × ℕ)) (a b : ℕ) → has ps a b ≡ false → join ps a b ≡ ps ++ (a, b) ∷ []
 join-new ps a b h = cond-false (has ps a b) ps (ps ++ (a, b) ∷ []) h
 
 -- a list joins a member as pairs do
-joined-there : (xs : List ℕ) (x : ℕ) → is_among xs x ≡ true → joined nat_eq xs x ≡ xs
+pub joined-there : (xs : List ℕ) (x : ℕ) → is_among xs x ≡ true → joined nat_eq xs x ≡ xs
 joined-there xs x h = cond-true _ xs (xs ++ x ∷ []) (among_flipped xs x ∙ h)
 
-joined-new : (xs : List ℕ) (x : ℕ) → is_among xs x ≡ false → joined nat_eq xs x ≡ xs ++ x ∷ []
+pub joined-new : (xs : List ℕ) (x : ℕ) → is_among xs x ≡ false → joined nat_eq xs x ≡ xs ++ x ∷ []
 joined-new xs x h = cond-false _ xs (xs ++ x ∷ []) (among_flipped xs x ∙ h)
 
 pub firsts-join_same : (ps : List (ℕ × ℕ)) (a b : ℕ) → firsts_of (join ps a b) b ≡ joined nat_eq (firsts_of ps b) a

@@ -20,3 +20,4 @@ pub mod ReadLocks
 pub mod WriteLocks
 pub mod Inserts
 pub mod Sights
+pub mod OnlyWaits

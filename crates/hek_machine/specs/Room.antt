@@ -1,0 +1,62 @@
+-- Room for the effects of a walk, reserved before the first of them is done.
+use Rattle.std.specs.Prelude.{◌≡◌, ℕ, ◌+◌, ◌<◌, ◌≤◌, false, List, [], ◌∷◌, length}
+use Rattle.hek_rules.specs.declared.event.Effect.{Effect}
+use Rattle.hek_rules.specs.declared.event.Effect.TheVariants.{LockBucket, DependOn, MakeWait, ReadLock, WriteLock}
+use Rattle.hek_rules.specs.Listing.{is_among}
+use Rattle.hek_laws.specs.Lists.{In}
+use Rattle.hek_txn.specs.TxnTable.{Declared, read_set_of, write_set_of, bucket_set_of, waiting_list_of, dependents_of}
+use Rattle.hek_buckets.specs.Held.{holders_of}
+use Rattle.hek_machine.specs.declared.parts.Parts.{Parts}
+
+-- how many of the effects add to the read set, the write set, the waiting list and the bucket set
+abbrev pub reads_in : List Effect → ℕ
+reads_in [] = 0
+reads_in (ReadLock v ∷ es) = reads_in es + 1
+reads_in (e ∷ es) = reads_in es
+
+abbrev pub writes_in : List Effect → ℕ
+writes_in [] = 0
+writes_in (WriteLock v ∷ es) = writes_in es + 1
+writes_in (e ∷ es) = writes_in es
+
+abbrev pub waits_in : List Effect → ℕ
+waits_in [] = 0
+waits_in (MakeWait u ∷ es) = waits_in es + 1
+waits_in (e ∷ es) = waits_in es
+
+abbrev pub buckets_in : List Effect → ℕ
+buckets_in [] = 0
+buckets_in (LockBucket b ∷ es) = buckets_in es + 1
+buckets_in (e ∷ es) = buckets_in es
+
+-- the bucket or the transaction whose list an effect adds t to is there
+abbrev pub IsThere : Parts → Effect → Type 0
+IsThere m (LockBucket b) = b < length m.buckets
+IsThere m (DependOn u) = Declared m.txns u
+IsThere m (MakeWait u) = Unit {0}
+IsThere m (ReadLock v) = Unit {0}
+IsThere m (WriteLock v) = Unit {0}
+
+-- and has room for t, unless t stands in the list
+abbrev pub IsReady : Parts → ℕ → Effect → Type 0
+IsReady m t (LockBucket b) = is_among (holders_of m.buckets b).items t ≡ false → 0 < (holders_of m.buckets b).room
+IsReady m t (DependOn u) = is_among (dependents_of m.txns u).items t ≡ false → 0 < (dependents_of m.txns u).room
+IsReady m t (MakeWait u) = Unit {0}
+IsReady m t (ReadLock v) = Unit {0}
+IsReady m t (WriteLock v) = Unit {0}
+
+-- room for all these effects, and for one entry more in the write set: that of a version that is made after them
+pub record HasRoom (m : Parts) (t : ℕ) (effects : List Effect) : Type 0 where
+  pub reads : reads_in effects ≤ (read_set_of m.txns t).room
+  pub writes : writes_in effects + 1 ≤ (write_set_of m.txns t).room
+  pub waits : waits_in effects ≤ (waiting_list_of m.txns t).room
+  pub buckets : buckets_in effects ≤ (bucket_set_of m.txns t).room
+  pub others : (e : Effect) → In e effects → IsReady m t e
+
+-- an effect takes no more room than its own
+pub record KeepsRoom (old new : Parts) (t : ℕ) (effect : Effect) : Type 0 where
+  pub reads : (read_set_of old.txns t).room ≤ (read_set_of new.txns t).room + reads_in (effect ∷ [])
+  pub writes : (write_set_of old.txns t).room ≤ (write_set_of new.txns t).room + writes_in (effect ∷ [])
+  pub waits : (waiting_list_of old.txns t).room ≤ (waiting_list_of new.txns t).room + waits_in (effect ∷ [])
+  pub buckets : (bucket_set_of old.txns t).room ≤ (bucket_set_of new.txns t).room + buckets_in (effect ∷ [])
+  pub others : (e : Effect) → IsReady old t e → IsReady new t e

@@ -1,0 +1,65 @@
+//! The effects of a walk, done one after another. Room for them is there.
+ghost use Rattle.std.specs.Prelude.{◌≡◌, ◌<◌, length};
+ghost use Rattle.hek_rules.specs.declared.event.Effect.TheVariants.{LockBucket, DependOn, MakeWait, ReadLock, WriteLock};
+ghost use Rattle.hek_txn.specs.TxnTable.{read_set_of, write_set_of, bucket_set_of, waiting_list_of};
+ghost use Rattle.hek_machine.specs.Room.{IsReady, KeepsRoom};
+ghost use Rattle.hek_machine.specs.Applied.{IsAble, Applies};
+
+use crate::parts::Parts;
+use hek_buckets::impose_wait;
+use hek_commit::depend;
+use hek_locks::{read_lock, write_lock};
+use hek_rules::{Effect, TxnId, VersionId};
+
+impl Parts {
+    fn lock_bucket(&mut self, t: TxnId, bucket: u64)
+        requires able { IsAble self.old t (LockBucket bucket) }
+        requires ready { IsReady self.old t (LockBucket bucket) }
+        requires free { 0 < (bucket_set_of self.old.txns t).room }
+        ensures shows { Applies self.old self.new t (LockBucket bucket) }
+        ensures room { KeepsRoom self.old self.new t (LockBucket bucket) }
+    {
+        if !self.txns.locks_bucket(t, bucket) {
+            self.buckets.lock(bucket, t);
+            self.txns.push_bucket(t, bucket);
+        }
+    }
+
+    fn depend_on(&mut self, t: TxnId, u: TxnId)
+        requires able { IsAble self.old t (DependOn u) }
+        requires ready { IsReady self.old t (DependOn u) }
+        ensures shows { Applies self.old self.new t (DependOn u) }
+        ensures room { KeepsRoom self.old self.new t (DependOn u) }
+    {
+        if !self.txns.has_dependent(u, t) {
+            depend(&mut self.txns, t, u);
+        }
+    }
+
+    fn make_wait(&mut self, t: TxnId, u: TxnId)
+        requires able { IsAble self.old t (MakeWait u) }
+        requires ready { 0 < (waiting_list_of self.old.txns t).room }
+        ensures shows { Applies self.old self.new t (MakeWait u) }
+        ensures room { KeepsRoom self.old self.new t (MakeWait u) }
+    {
+        impose_wait(&mut self.txns, t, u);
+    }
+
+    fn read_lock(&mut self, t: TxnId, v: VersionId)
+        requires able { IsAble self.old t (ReadLock v) }
+        requires ready { 0 < (read_set_of self.old.txns t).room }
+        ensures shows { Applies self.old self.new t (ReadLock v) }
+        ensures room { KeepsRoom self.old self.new t (ReadLock v) }
+    {
+        read_lock(&mut self.store, &mut self.txns, t, v);
+    }
+
+    fn write_lock(&mut self, t: TxnId, v: VersionId)
+        requires able { IsAble self.old t (WriteLock v) }
+        requires ready { 0 < (write_set_of self.old.txns t).room }
+        ensures shows { Applies self.old self.new t (WriteLock v) }
+        ensures room { KeepsRoom self.old self.new t (WriteLock v) }
+    {
+        write_lock(&mut self.store, &mut self.txns, t, v);
+    }
+}
