@@ -6,3 +6,5 @@ pub mod StampRows
 pub mod WalkRows
 pub mod EffectRows
 pub mod EffectShows
+pub mod Needs
+pub mod Reserves

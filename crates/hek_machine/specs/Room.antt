@@ -4,7 +4,8 @@ use Rattle.hek_rules.specs.declared.event.Effect.{Effect}
 use Rattle.hek_rules.specs.declared.event.Effect.TheVariants.{LockBucket, DependOn, MakeWait, ReadLock, WriteLock}
 use Rattle.hek_rules.specs.Listing.{is_among}
 use Rattle.hek_laws.specs.Lists.{In}
-use Rattle.hek_txn.specs.TxnTable.{Declared, read_set_of, write_set_of, bucket_set_of, waiting_list_of, dependents_of}
+use Rattle.hek_txn.specs.Entries.{AreCopies}
+use Rattle.hek_txn.specs.TxnTable.{IsCopy, Declared, read_set_of, write_set_of, bucket_set_of, waiting_list_of, dependents_of}
 use Rattle.hek_buckets.specs.Held.{holders_of}
 use Rattle.hek_machine.specs.declared.parts.Parts.{Parts}
 
@@ -60,3 +61,21 @@ pub record KeepsRoom (old new : Parts) (t : ℕ) (effect : Effect) : Type 0 wher
   pub waits : (waiting_list_of old.txns t).room ≤ (waiting_list_of new.txns t).room + waits_in (effect ∷ [])
   pub buckets : (bucket_set_of old.txns t).room ≤ (bucket_set_of new.txns t).room + buckets_in (effect ∷ [])
   pub others : (e : Effect) → IsReady old t e → IsReady new t e
+
+-- the same but for room, of which no list has less
+pub record Reserved (old new : Parts) : Type 0 where
+  pub clock : new.clock ≡ old.clock
+  pub store_buckets : new.store.buckets ≡ old.store.buckets
+  pub versions : new.store.versions ≡ old.store.versions
+  pub txns : IsCopy old.txns new.txns
+  pub holders : AreCopies old.buckets new.buckets
+  pub more_reads : (t : ℕ) → (read_set_of old.txns t).room ≤ (read_set_of new.txns t).room
+  pub more_writes : (t : ℕ) → (write_set_of old.txns t).room ≤ (write_set_of new.txns t).room
+  pub more_buckets : (t : ℕ) → (bucket_set_of old.txns t).room ≤ (bucket_set_of new.txns t).room
+  pub more_waiters : (t : ℕ) → (waiting_list_of old.txns t).room ≤ (waiting_list_of new.txns t).room
+  pub more_dependents : (t : ℕ) → (dependents_of old.txns t).room ≤ (dependents_of new.txns t).room
+  pub more_holders : (b : ℕ) → (holders_of old.buckets b).room ≤ (holders_of new.buckets b).room
+  pub more_versions : old.store.room ≤ new.store.room
+
+abbrev pub AreReady : Parts → ℕ → List Effect → Type 0
+AreReady m t effects = (e : Effect) → In e effects → IsReady m t e

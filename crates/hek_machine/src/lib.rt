@@ -6,4 +6,5 @@ mod effects;
 mod parts;
 mod phases;
 mod releases;
+mod room;
 mod walks;
