@@ -1,0 +1,5 @@
+pub mod Marks
+pub mod Ready
+pub mod Cycle
+pub mod GraphRows
+pub mod Shown
