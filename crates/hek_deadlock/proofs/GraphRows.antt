@@ -20,13 +20,22 @@ first_of : (a b c d : Bool) → (a && b && c && d) ≡ true → a ≡ true
 first_of true b c d e = refl
 first_of false b c d e = cc
 
+second_of : (a b c d : Bool) → (a && b && c && d) ≡ true → b ≡ true
+second_of true true c d e = refl
+second_of true false c d e = cc
+second_of false b c d e = cc
+
 edge_of_other : (s : Stored) (x : TxnTable) (u t : ℕ) → is_node x t ≡ false → is_edge s x u t ≡ false
 unfolding is_edge
 edge_of_other s x u t node = no_edge (is_node x u) (is_node x t) _ _ node
 
-edge_from : (s : Stored) (x : TxnTable) (u t : ℕ) → is_edge s x u t ≡ true → is_node x u ≡ true
+pub edge_from : (s : Stored) (x : TxnTable) (u t : ℕ) → is_edge s x u t ≡ true → is_node x u ≡ true
 unfolding is_edge
 edge_from s x u t e = first_of (is_node x u) (is_node x t) _ _ e
+
+pub edge_to : (s : Stored) (x : TxnTable) (u t : ℕ) → is_edge s x u t ≡ true → is_node x t ≡ true
+unfolding is_edge
+edge_to s x u t e = second_of (is_node x u) (is_node x t) _ _ e
 
 -- no waiter is past the last transaction
 past_is_none : (ts : List Txn) (i : ℕ) → slice_get ts i ≡ None → is_active (txn_in ts (suc i)).state ≡ false

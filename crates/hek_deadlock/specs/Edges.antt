@@ -1,13 +1,14 @@
 -- Who waits for whom, by what a store and a table of transactions say; and the victim.
 -- (Section 4 of the paper: deadlock detection.)
-use Rattle.std.specs.Prelude.{ℕ, ◌+◌, Bool, false, not, ◌&&◌, ◌||◌, ◌==◌, nat_lt, List, Option, Some, None, length}
+use Rattle.std.specs.Prelude.{ℕ, ◌≡◌, ◌+◌, ◌<◌, Bool, true, false, not, ◌&&◌, ◌||◌, ◌==◌, nat_lt, List, Option, Some, None, length}
 use Rattle.std.specs.List.{list_any}
 use Rattle.hek_rules.specs.Listing.{is_among}
 use Rattle.hek_rules.specs.Victim.{victim_of}
 use Rattle.hek_rules.specs.Words.{writer_of}
+use Rattle.hek_rules.specs.declared.event.State.TheVariants.{Active}
 use Rattle.hek_rules.specs.World.{txn_in, is_active}
 use Rattle.hek_store.specs.Stored.{Stored, version_at}
-use Rattle.hek_txn.specs.TxnTable.{TxnTable, waits_of, read_set_of, waiting_list_of}
+use Rattle.hek_txn.specs.TxnTable.{TxnTable, Declared, waits_of, read_set_of, waiting_list_of}
 
 -- active, finished, and waiting
 abbrev pub is_node : TxnTable → ℕ → Bool
@@ -33,3 +34,10 @@ victim_in s x = victim_of (is_edge s x) (length x.cores + 1)
 -- a node other than t
 abbrev pub is_other_node : TxnTable → ℕ → ℕ → Bool
 is_other_node x t u = is_node x u && not (u == t)
+
+-- the same of a declared transaction, in words
+pub record IsWaiting (x : TxnTable) (t : ℕ) : Type 0 where
+  pub declared : Declared x t
+  pub active : (txn_in x.cores t).state ≡ Active
+  pub finished : (txn_in x.cores t).finished ≡ true
+  pub waits : 0 < waits_of x t

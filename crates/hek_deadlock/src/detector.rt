@@ -1,6 +1,6 @@
 //! The victim among transactions that wait for one another.
-ghost use Rattle.std.specs.Prelude.{◌≡◌, IfOk};
-ghost use Rattle.hek_deadlock.specs.Edges.{victim_in};
+ghost use Rattle.std.specs.Prelude.{◌≡◌, IfOk, IfSome};
+ghost use Rattle.hek_deadlock.specs.Edges.{victim_in, IsWaiting};
 
 use crate::graph::wait_graph;
 use crate::search::find_victim;
@@ -17,7 +17,8 @@ pub fn detect(
     store: &Store,
     txns: &Txns,
 ) -> Result<Option<(TxnId, Members)>, NoMemory>
-    ensures { IfOk result (λ answer. answer ≡ victim_in store.now txns.now) }
+    ensures victim { IfOk result (λ answer. answer ≡ victim_in store.now txns.now) }
+    ensures waiting { IfOk result (λ answer. IfSome answer (λ a. IsWaiting txns.now a.0)) }
 {
     let rows = wait_graph(alloc, store, txns)?;
     find_victim(alloc, &rows)
