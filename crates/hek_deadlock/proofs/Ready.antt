@@ -5,7 +5,7 @@ use Rattle.std.proofs.lemmas.Bool.{both_ways, and_parts, and_from, or_cases, or_
 use Rattle.std.specs.Option.{option_or}
 use Rattle.hek_rules.specs.Victim.{least, leads, fewest}
 use Rattle.hek_rules.specs.Listing.{is_among}
-use Rattle.hek_deadlock.specs.Rows.{waits, reaches, level_at, marked, is_unmarked}
+use Rattle.hek_deadlock.specs.Rows.{waits, reaches, marked, is_unmarked}
 use Rattle.std.proofs.lemmas.List.Elements.{All-nil}
 use Rattle.hek_deadlock.proofs.Marks.{none_reached, marked_by_none}
 use Rattle.hek_rules.proofs.Least.{IsLeast, IsLeast-least, least_none}

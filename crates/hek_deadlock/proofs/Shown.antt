@@ -1,9 +1,9 @@
 -- Where a store and a table of transactions show a world's waits, their victim is the world's.
-use Rattle.std.proofs.Common.{ℕ, zero, suc, ◌≡◌, ◌+◌, Bool, true, false, ◌&&◌, ◌||◌, not, eqb, List, [], ◌∷◌, length, Option, Some, None, refl, sym, ap, ◌∙◌, inl, inr}
+use Rattle.std.proofs.Common.{ℕ, zero, suc, ◌≡◌, ◌+◌, Bool, ◌&&◌, ◌||◌, not, eqb, List, [], ◌∷◌, length, Some, None, refl, ap, ◌∙◌, inl, inr}
 use Rattle.std.specs.Prelude.{nat_lt}
 use Rattle.std.specs.List.{list_any}
 use Rattle.std.proofs.lemmas.Bool.{cases_Bool}
-use Rattle.hek_rules.specs.Image.{end_word, end_word_by}
+use Rattle.hek_rules.specs.Image.{end_word_by}
 use Rattle.hek_rules.specs.Listing.{is_among, seconds_of, has}
 use Rattle.hek_rules.specs.Victim.{victim_of}
 use Rattle.hek_rules.specs.WaitGraph.{is_edge as is_world_edge, is_node as is_world_node, waits_by_version, victim}

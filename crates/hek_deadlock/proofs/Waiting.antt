@@ -1,14 +1,14 @@
 -- The victim is a declared transaction that has finished and waits.
-use Rattle.std.proofs.Common.{ℕ, zero, suc, ◌≡◌, ◌+◌, ◌<◌, Bool, true, List, [], ◌∷◌, length, Option, Some, None, IsTrue, refl, sym, ◌∙◌, subst, arith}
+use Rattle.std.proofs.Common.{ℕ, zero, suc, ◌≡◌, ◌+◌, ◌<◌, true, List, [], ◌∷◌, length, Option, Some, None, refl, sym, subst, arith}
 use Rattle.std.specs.Option.{IfSome}
 use Rattle.std.proofs.lemmas.Bool.{and_parts, ltb-true}
 use Rattle.hek_rules.specs.declared.event.State.{State}
 use Rattle.hek_rules.specs.declared.event.State.TheVariants.{NotBegun, Active, Preparing, Committed, Aborted, Terminated}
-use Rattle.hek_rules.specs.Walks.{IsClosedWalk, IsVictim, JoinsBelow}
+use Rattle.hek_rules.specs.Walks.{IsClosedWalk, JoinsBelow}
 use Rattle.hek_rules.specs.World.{txn_in, is_active}
 use Rattle.hek_rules.proofs.VictimLaw.{victim_found}
 use Rattle.hek_store.specs.Stored.{Stored}
-use Rattle.hek_txn.specs.TxnTable.{TxnTable, Declared, waits_of}
+use Rattle.hek_txn.specs.TxnTable.{TxnTable, waits_of}
 use Rattle.hek_deadlock.specs.Edges.{is_node, is_edge, victim_in, IsWaiting}
 use Rattle.hek_deadlock.proofs.GraphRows.{node_below, edge_from, edge_to}
 

@@ -1,5 +1,5 @@
 -- A wait graph kept as a list for each number: who waits for it.
-use Rattle.std.specs.Prelude.{ℕ, zero, suc, ◌≡◌, ◌<◌, Bool, true, false, ◌==◌, if◌then◌else◌, List, [], ◌∷◌, Option, Some, None, Vec, length, slice_get, slice_index_or}
+use Rattle.std.specs.Prelude.{ℕ, ◌≡◌, ◌<◌, Bool, true, false, ◌==◌, if◌then◌else◌, List, [], Option, Some, None, Vec, length, slice_get, slice_index_or}
 use Rattle.std.specs.List.{list_any, All}
 use Rattle.hek_rules.specs.Listing.{is_among}
 use Rattle.std.specs.declared.alloc.Global.{Global}

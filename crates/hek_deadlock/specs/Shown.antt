@@ -1,5 +1,5 @@
 -- When a store and a table of transactions show who waits for whom in a world, and that their victim is then the world's.
-use Rattle.std.specs.Prelude.{ℕ, ◌≡◌, List}
+use Rattle.std.specs.Prelude.{ℕ, ◌≡◌}
 use Rattle.hek_rules.specs.Image.{end_word, read_set, waiting_list, wait_for_counter}
 use Rattle.hek_rules.specs.WaitGraph.{victim}
 use Rattle.hek_rules.specs.World.{World}
