@@ -1,0 +1,6 @@
+pub mod Marks
+pub mod Ready
+pub mod Cycle
+pub mod GraphRows
+pub mod Waiting
+pub mod Shown

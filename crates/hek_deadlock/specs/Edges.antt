@@ -1,0 +1,43 @@
+-- Who waits for whom, by what a store and a table of transactions say; and the victim.
+-- (Section 4 of the paper: deadlock detection.)
+use Rattle.std.specs.Prelude.{ℕ, ◌≡◌, ◌+◌, ◌<◌, Bool, true, false, not, ◌&&◌, ◌||◌, ◌==◌, nat_lt, List, Option, Some, None, length}
+use Rattle.std.specs.List.{list_any}
+use Rattle.hek_rules.specs.Listing.{is_among}
+use Rattle.hek_rules.specs.Victim.{victim_of}
+use Rattle.hek_rules.specs.Words.{writer_of}
+use Rattle.hek_rules.specs.declared.event.State.TheVariants.{Active}
+use Rattle.hek_rules.specs.World.{txn_in, is_active}
+use Rattle.hek_store.specs.Stored.{Stored, version_at}
+use Rattle.hek_txn.specs.TxnTable.{TxnTable, Declared, waits_of, read_set_of, waiting_list_of}
+
+-- active, finished, and waiting
+abbrev pub is_node : TxnTable → ℕ → Bool
+is_node x u = is_active (txn_in x.cores u).state && (txn_in x.cores u).finished && nat_lt 0 (waits_of x u)
+
+abbrev pub is_named : Option ℕ → ℕ → Bool
+is_named None u = false
+is_named (Some t) u = t == u
+
+-- u is the writer of one of these versions
+unfoldable pub writes_one : Stored → List ℕ → ℕ → Bool
+writes_one s versions u = list_any (λ (v : ℕ). is_named (writer_of (version_at s v).end) u) versions
+
+-- one node waits for another: it writes a version that the other read-locks, or stands in the other's waiting list
+unfoldable pub is_edge : Stored → TxnTable → ℕ → ℕ → Bool
+is_edge s x u t =
+    is_node x u && is_node x t && not (u == t) && (writes_one s (read_set_of x t).items u || is_among (waiting_list_of x t).items u)
+
+-- the victim, with its cycle
+abbrev pub victim_in : Stored → TxnTable → Option (ℕ × List ℕ)
+victim_in s x = victim_of (is_edge s x) (length x.cores + 1)
+
+-- a node other than t
+abbrev pub is_other_node : TxnTable → ℕ → ℕ → Bool
+is_other_node x t u = is_node x u && not (u == t)
+
+-- the same of a declared transaction, in words
+pub record IsWaiting (x : TxnTable) (t : ℕ) : Type 0 where
+  pub declared : Declared x t
+  pub active : (txn_in x.cores t).state ≡ Active
+  pub finished : (txn_in x.cores t).finished ≡ true
+  pub waits : 0 < waits_of x t

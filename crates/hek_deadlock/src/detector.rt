@@ -1,0 +1,25 @@
+//! The victim among transactions that wait for one another.
+ghost use Rattle.std.specs.Prelude.{◌≡◌, IfOk, IfSome};
+ghost use Rattle.hek_deadlock.specs.Edges.{victim_in, IsWaiting};
+
+use crate::graph::wait_graph;
+use crate::search::find_victim;
+use hek_rules::{Members, NoMemory, TxnId};
+use hek_store::Store;
+use hek_txn::Txns;
+use std::alloc::Global;
+
+/// The victim among the transactions that have finished and wait, and its cycle: the greatest on any cycle, with the
+/// shortest cycle through it, from it, the least member next at each place (section 4 of the paper: deadlock detection).
+/// The graph takes time linear in the read sets and waiting lists, and the search at most transactions times waits.
+pub fn detect(
+    alloc: Global,
+    store: &Store,
+    txns: &Txns,
+) -> Result<Option<(TxnId, Members)>, NoMemory>
+    ensures victim { IfOk result (λ answer. answer ≡ victim_in store.now txns.now) }
+    ensures waiting { IfOk result (λ answer. IfSome answer (λ a. IsWaiting txns.now a.0)) }
+{
+    let rows = wait_graph(alloc, store, txns)?;
+    find_victim(alloc, &rows)
+}

@@ -1,0 +1,13 @@
+//! Deadlock detection: who waits for whom, the victim on a cycle of waits, and that cycle.
+#![tactic(auto)]
+
+mod detector;
+mod graph;
+mod laws;
+mod levels;
+mod search;
+#[cfg(test)]
+mod tests;
+
+pub use detector::detect;
+pub use laws::victim_is_that_of_the_world;
