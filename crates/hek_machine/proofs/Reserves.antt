@@ -1,15 +1,14 @@
 -- Room is reserved, and nothing else changes.
-use Rattle.std.proofs.Common.{◌≡◌, ℕ, zero, suc, ◌+◌, ◌<◌, ◌≤◌, Bool, true, false, List, [], ◌∷◌, ◌++◌, refl, ◌∙◌, ap, sym, subst, arith, inl, inr, ⊎_elim, length, nat_eq, take, get_or, take_all}
+use Rattle.std.proofs.Common.{◌≡◌, ℕ, zero, suc, ◌+◌, ◌<◌, ◌≤◌, List, [], ◌∷◌, refl, ◌∙◌, ap, sym, subst, arith, inl, inr, ⊎_elim, length, take, get_or}
 use Rattle.std.proofs.lemmas.List.{take_more}
-use Rattle.std.specs.Prelude.{slice_index_or, slice_set, ◌⊎◌}
-use Rattle.hek_rules.specs.declared.event.WriteEntry.{WriteEntry}
+use Rattle.std.specs.Prelude.{slice_index_or, slice_set}
 use Rattle.hek_rules.specs.declared.event.Effect.{Effect}
 use Rattle.hek_rules.specs.declared.event.Effect.TheVariants.{LockBucket, DependOn, MakeWait, ReadLock, WriteLock}
 use Rattle.hek_rules.specs.Listing.{is_among}
 use Rattle.hek_laws.specs.Lists.{In}
 use Rattle.hek_laws.proofs.Walks.Judged.{In-split}
 use Rattle.hek_txn.specs.Entries.{Entries, no_entries, items_of, AreCopies}
-use Rattle.hek_txn.specs.TxnTable.{TxnTable, IsCopy, Declared, entry_at, set_at, read_set_of, with_read_set, write_set_of, with_write_set, bucket_set_of, with_bucket_set, waiting_list_of, with_waiting_list, dependents_of, with_dependents}
+use Rattle.hek_txn.specs.TxnTable.{TxnTable, entry_at, set_at, read_set_of, with_read_set, write_set_of, with_write_set, bucket_set_of, with_bucket_set, waiting_list_of, with_waiting_list, dependents_of, with_dependents}
 use Rattle.hek_txn.proofs.EntryLemmas.{set_at-same, items-entry, items-set}
 use Rattle.hek_buckets.specs.Held.{holders_of, with_holders}
 use Rattle.hek_machine.specs.declared.parts.Parts.{Parts}
@@ -55,20 +54,34 @@ module _ {T : Type 0} where
 
 pub reserved_none : (m : Parts) → Reserved m m
 reserved_none m = record {
-  clock = refl; store_buckets = refl; versions = refl;
+  clock = refl;
+  store_buckets = refl;
+  versions = refl;
   txns = record { cores = refl; waits = refl; deps = refl; read_sets = refl; write_sets = refl; bucket_sets = refl; waiting_lists = refl; dependents = refl };
   holders = refl;
-  more_reads = λ t. omega arith; more_writes = λ t. omega arith; more_buckets = λ t. omega arith; more_waiters = λ t. omega arith;
-  more_dependents = λ t. omega arith; more_holders = λ b. omega arith; more_versions = omega arith;
+  more_reads = λ t. omega arith;
+  more_writes = λ t. omega arith;
+  more_buckets = λ t. omega arith;
+  more_waiters = λ t. omega arith;
+  more_dependents = λ t. omega arith;
+  more_holders = λ b. omega arith;
+  more_versions = omega arith;
 }
 
 pub reserved_more : (a b c : Parts) → Reserved a b → Reserved b c → Reserved a c
 reserved_more a b c p q = let x = p.txns in let y = q.txns in record {
-  clock = q.clock ∙ p.clock; store_buckets = q.store_buckets ∙ p.store_buckets; versions = q.versions ∙ p.versions;
+  clock = q.clock ∙ p.clock;
+  store_buckets = q.store_buckets ∙ p.store_buckets;
+  versions = q.versions ∙ p.versions;
   txns = record {
-    cores = y.cores ∙ x.cores; waits = y.waits ∙ x.waits; deps = y.deps ∙ x.deps;
-    read_sets = y.read_sets ∙ x.read_sets; write_sets = y.write_sets ∙ x.write_sets; bucket_sets = y.bucket_sets ∙ x.bucket_sets;
-    waiting_lists = y.waiting_lists ∙ x.waiting_lists; dependents = y.dependents ∙ x.dependents;
+    cores = y.cores ∙ x.cores;
+    waits = y.waits ∙ x.waits;
+    deps = y.deps ∙ x.deps;
+    read_sets = y.read_sets ∙ x.read_sets;
+    write_sets = y.write_sets ∙ x.write_sets;
+    bucket_sets = y.bucket_sets ∙ x.bucket_sets;
+    waiting_lists = y.waiting_lists ∙ x.waiting_lists;
+    dependents = y.dependents ∙ x.dependents;
   };
   holders = q.holders ∙ p.holders;
   more_reads = λ t. let k = p.more_reads t in let l = q.more_reads t in omega (arith, k, l);
@@ -88,61 +101,103 @@ reserved-shows m n r = copied-shows m n (record { clock = r.clock; store_buckets
 pub reserved_reads : (m : Parts) (t : ℕ) (x : TxnTable) → x ≡ with_read_set m.txns t (read_set_of x t) → (read_set_of x t).items ≡ (read_set_of m.txns t).items →
     (read_set_of m.txns t).room ≤ (read_set_of x t).room → Reserved m (record m { txns = x })
 reserved_reads m t x is items more = subst (λ (z : TxnTable). Reserved m (record m { txns = z })) (sym is) (record {
-  clock = refl; store_buckets = refl; versions = refl;
+  clock = refl;
+  store_buckets = refl;
+  versions = refl;
   txns = record { cores = refl; waits = refl; deps = refl; read_sets = copy-set m.txns.read_sets t (read_set_of x t) items; write_sets = refl; bucket_sets = refl; waiting_lists = refl; dependents = refl };
   holders = refl;
-  more_reads = λ u. grown m.txns.read_sets t u (read_set_of x t) more; more_writes = λ u. omega arith; more_buckets = λ u. omega arith; more_waiters = λ u. omega arith;
-  more_dependents = λ u. omega arith; more_holders = λ b. omega arith; more_versions = omega arith;
+  more_reads = λ u. grown m.txns.read_sets t u (read_set_of x t) more;
+  more_writes = λ u. omega arith;
+  more_buckets = λ u. omega arith;
+  more_waiters = λ u. omega arith;
+  more_dependents = λ u. omega arith;
+  more_holders = λ b. omega arith;
+  more_versions = omega arith;
 })
 
 pub reserved_writes : (m : Parts) (t : ℕ) (x : TxnTable) → x ≡ with_write_set m.txns t (write_set_of x t) → (write_set_of x t).items ≡ (write_set_of m.txns t).items →
     (write_set_of m.txns t).room ≤ (write_set_of x t).room → Reserved m (record m { txns = x })
 reserved_writes m t x is items more = subst (λ (z : TxnTable). Reserved m (record m { txns = z })) (sym is) (record {
-  clock = refl; store_buckets = refl; versions = refl;
+  clock = refl;
+  store_buckets = refl;
+  versions = refl;
   txns = record { cores = refl; waits = refl; deps = refl; read_sets = refl; write_sets = copy-set m.txns.write_sets t (write_set_of x t) items; bucket_sets = refl; waiting_lists = refl; dependents = refl };
   holders = refl;
-  more_reads = λ u. omega arith; more_writes = λ u. grown m.txns.write_sets t u (write_set_of x t) more; more_buckets = λ u. omega arith; more_waiters = λ u. omega arith;
-  more_dependents = λ u. omega arith; more_holders = λ b. omega arith; more_versions = omega arith;
+  more_reads = λ u. omega arith;
+  more_writes = λ u. grown m.txns.write_sets t u (write_set_of x t) more;
+  more_buckets = λ u. omega arith;
+  more_waiters = λ u. omega arith;
+  more_dependents = λ u. omega arith;
+  more_holders = λ b. omega arith;
+  more_versions = omega arith;
 })
 
 pub reserved_buckets : (m : Parts) (t : ℕ) (x : TxnTable) → x ≡ with_bucket_set m.txns t (bucket_set_of x t) → (bucket_set_of x t).items ≡ (bucket_set_of m.txns t).items →
     (bucket_set_of m.txns t).room ≤ (bucket_set_of x t).room → Reserved m (record m { txns = x })
 reserved_buckets m t x is items more = subst (λ (z : TxnTable). Reserved m (record m { txns = z })) (sym is) (record {
-  clock = refl; store_buckets = refl; versions = refl;
+  clock = refl;
+  store_buckets = refl;
+  versions = refl;
   txns = record { cores = refl; waits = refl; deps = refl; read_sets = refl; write_sets = refl; bucket_sets = copy-set m.txns.bucket_sets t (bucket_set_of x t) items; waiting_lists = refl; dependents = refl };
   holders = refl;
-  more_reads = λ u. omega arith; more_writes = λ u. omega arith; more_buckets = λ u. grown m.txns.bucket_sets t u (bucket_set_of x t) more; more_waiters = λ u. omega arith;
-  more_dependents = λ u. omega arith; more_holders = λ b. omega arith; more_versions = omega arith;
+  more_reads = λ u. omega arith;
+  more_writes = λ u. omega arith;
+  more_buckets = λ u. grown m.txns.bucket_sets t u (bucket_set_of x t) more;
+  more_waiters = λ u. omega arith;
+  more_dependents = λ u. omega arith;
+  more_holders = λ b. omega arith;
+  more_versions = omega arith;
 })
 
 pub reserved_waiters : (m : Parts) (t : ℕ) (x : TxnTable) → x ≡ with_waiting_list m.txns t (waiting_list_of x t) → (waiting_list_of x t).items ≡ (waiting_list_of m.txns t).items →
     (waiting_list_of m.txns t).room ≤ (waiting_list_of x t).room → Reserved m (record m { txns = x })
 reserved_waiters m t x is items more = subst (λ (z : TxnTable). Reserved m (record m { txns = z })) (sym is) (record {
-  clock = refl; store_buckets = refl; versions = refl;
+  clock = refl;
+  store_buckets = refl;
+  versions = refl;
   txns = record { cores = refl; waits = refl; deps = refl; read_sets = refl; write_sets = refl; bucket_sets = refl; waiting_lists = copy-set m.txns.waiting_lists t (waiting_list_of x t) items; dependents = refl };
   holders = refl;
-  more_reads = λ u. omega arith; more_writes = λ u. omega arith; more_buckets = λ u. omega arith; more_waiters = λ u. grown m.txns.waiting_lists t u (waiting_list_of x t) more;
-  more_dependents = λ u. omega arith; more_holders = λ b. omega arith; more_versions = omega arith;
+  more_reads = λ u. omega arith;
+  more_writes = λ u. omega arith;
+  more_buckets = λ u. omega arith;
+  more_waiters = λ u. grown m.txns.waiting_lists t u (waiting_list_of x t) more;
+  more_dependents = λ u. omega arith;
+  more_holders = λ b. omega arith;
+  more_versions = omega arith;
 })
 
 pub reserved_dependents : (m : Parts) (t : ℕ) (x : TxnTable) → x ≡ with_dependents m.txns t (dependents_of x t) → (dependents_of x t).items ≡ (dependents_of m.txns t).items →
     (dependents_of m.txns t).room ≤ (dependents_of x t).room → Reserved m (record m { txns = x })
 reserved_dependents m t x is items more = subst (λ (z : TxnTable). Reserved m (record m { txns = z })) (sym is) (record {
-  clock = refl; store_buckets = refl; versions = refl;
+  clock = refl;
+  store_buckets = refl;
+  versions = refl;
   txns = record { cores = refl; waits = refl; deps = refl; read_sets = refl; write_sets = refl; bucket_sets = refl; waiting_lists = refl; dependents = copy-set m.txns.dependents t (dependents_of x t) items };
   holders = refl;
-  more_reads = λ u. omega arith; more_writes = λ u. omega arith; more_buckets = λ u. omega arith; more_waiters = λ u. omega arith;
-  more_dependents = λ u. grown m.txns.dependents t u (dependents_of x t) more; more_holders = λ b. omega arith; more_versions = omega arith;
+  more_reads = λ u. omega arith;
+  more_writes = λ u. omega arith;
+  more_buckets = λ u. omega arith;
+  more_waiters = λ u. omega arith;
+  more_dependents = λ u. grown m.txns.dependents t u (dependents_of x t) more;
+  more_holders = λ b. omega arith;
+  more_versions = omega arith;
 })
 
 pub reserved_holders : (m : Parts) (b : ℕ) (lists : List (Entries ℕ)) → lists ≡ with_holders m.buckets b (holders_of lists b) → (holders_of lists b).items ≡ (holders_of m.buckets b).items →
     (holders_of m.buckets b).room ≤ (holders_of lists b).room → Reserved m (record m { buckets = lists })
 reserved_holders m b lists is items more = subst (λ (z : List (Entries ℕ)). Reserved m (record m { buckets = z })) (sym is) (record {
-  clock = refl; store_buckets = refl; versions = refl;
+  clock = refl;
+  store_buckets = refl;
+  versions = refl;
   txns = record { cores = refl; waits = refl; deps = refl; read_sets = refl; write_sets = refl; bucket_sets = refl; waiting_lists = refl; dependents = refl };
   holders = copy-place m.buckets b (holders_of lists b) items;
-  more_reads = λ u. omega arith; more_writes = λ u. omega arith; more_buckets = λ u. omega arith; more_waiters = λ u. omega arith;
-  more_dependents = λ u. omega arith; more_holders = λ c. grown_place m.buckets b c (holders_of lists b) more; more_versions = omega arith;
+  more_reads = λ u. omega arith;
+  more_writes = λ u. omega arith;
+  more_buckets = λ u. omega arith;
+  more_waiters = λ u. omega arith;
+  more_dependents = λ u. omega arith;
+  more_holders = λ c. grown_place m.buckets b c (holders_of lists b) more;
+  more_versions = omega arith;
 })
 
 -- ---- what was ready stays so

@@ -40,12 +40,12 @@ impl Needs {
     }
 }
 
-
 fn needs_of(effects: &[Effect]) -> Needs
     ensures reads { result.reads ≡ reads_in effects.now }
     ensures writes { result.writes ≡ writes_in effects.now }
     ensures waits { result.waits ≡ waits_in effects.now }
     ensures buckets { result.buckets ≡ buckets_in effects.now }
+    ensures small { length effects.now < 2 ^ 63 }
 {
     let mut needs = Needs {
         reads: 0,
