@@ -8,3 +8,6 @@ pub mod EffectRows
 pub mod EffectShows
 pub mod Needs
 pub mod Reserves
+pub mod EffectTurns
+pub mod KeyPlaces
+pub mod RowWalks

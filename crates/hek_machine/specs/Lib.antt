@@ -3,3 +3,4 @@ pub mod Checks
 pub mod Judged
 pub mod Room
 pub mod Applied
+pub mod Walked

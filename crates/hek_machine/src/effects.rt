@@ -1,9 +1,11 @@
 //! The effects of a walk, done one after another. Room for them is there.
-ghost use Rattle.std.specs.Prelude.{◌≡◌, ◌<◌, length};
+ghost use Rattle.std.specs.Prelude.{◌≡◌, ◌<◌, ◌≤◌, ◌^◌, ◌∷◌, [], length};
+ghost use Rattle.hek_rules.specs.Walk.{apply_all as all_applied};
 ghost use Rattle.hek_rules.specs.declared.event.Effect.TheVariants.{LockBucket, DependOn, MakeWait, ReadLock, WriteLock};
 ghost use Rattle.hek_txn.specs.TxnTable.{read_set_of, write_set_of, bucket_set_of, waiting_list_of};
-ghost use Rattle.hek_machine.specs.Room.{IsReady, KeepsRoom};
-ghost use Rattle.hek_machine.specs.Applied.{IsAble, Applies};
+ghost use Rattle.hek_machine.specs.Room.{IsReady, KeepsRoom, HasRoom, reads_in, writes_in, waits_in, buckets_in};
+ghost use Rattle.hek_machine.specs.Applied.{IsAble, Applies, Allowed};
+ghost use Rattle.hek_machine.specs.Stands.{Shows, StandsFor, IsOrdered};
 
 use crate::parts::Parts;
 use hek_buckets::impose_wait;
@@ -61,5 +63,38 @@ impl Parts {
         ensures room { KeepsRoom self.old self.new t (WriteLock v) }
     {
         write_lock(&mut self.store, &mut self.txns, t, v);
+    }
+
+    fn apply(&mut self, t: TxnId, effect: Effect)
+        requires able { IsAble self.old t effect }
+        requires ready { IsReady self.old t effect }
+        requires reads { reads_in (effect ∷ []) ≤ (read_set_of self.old.txns t).room }
+        requires writes { writes_in (effect ∷ []) ≤ (write_set_of self.old.txns t).room }
+        requires waits { waits_in (effect ∷ []) ≤ (waiting_list_of self.old.txns t).room }
+        requires buckets { buckets_in (effect ∷ []) ≤ (bucket_set_of self.old.txns t).room }
+        ensures shows { Applies self.old self.new t effect }
+        ensures room { KeepsRoom self.old self.new t effect }
+    {
+        match effect {
+            Effect::LockBucket(bucket) => self.lock_bucket(t, bucket),
+            Effect::DependOn(u) => self.depend_on(t, u),
+            Effect::MakeWait(u) => self.make_wait(t, u),
+            Effect::ReadLock(v) => self.read_lock(t, v),
+            Effect::WriteLock(v) => self.write_lock(t, v),
+        }
+    }
+
+    /// The effects of a walk that is allowed, in their order.
+    pub(crate) fn apply_all(&mut self, t: TxnId, effects: &[Effect])
+        requires ordered { IsOrdered self.old }
+        requires allowed { (w : _) → StandsFor self.old w → Allowed w t effects.now }
+        requires room { HasRoom self.old t effects.now }
+        requires small { length self.old.store.versions < 2 ^ 58 }
+        ensures shows { (w : _) → StandsFor self.old w → Shows self.new (all_applied t w effects.now) }
+        ensures room { HasRoom self.new t [] }
+    {
+        for &effect in effects {
+            self.apply(t, effect);
+        }
     }
 }

@@ -7,4 +7,5 @@ mod parts;
 mod phases;
 mod releases;
 mod room;
+mod rows;
 mod walks;

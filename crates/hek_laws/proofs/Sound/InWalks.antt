@@ -57,7 +57,7 @@ module _ (w : World) (k : Grounded w) (t : ℕ) (p : Purpose) (bucket : ℕ) (te
       was : (u : ℕ) → is_prepared (txn_in L.txns u).state ≡ true → is_prepared (txn_in w.txns u).state ≡ true
       was u d = ap (λ ts. is_prepared (txn_in ts u).state) (sym same) ∙ d
 
-is-walking : (w : World) (t : ℕ) (p : Purpose) (bucket : ℕ) (test : ℕ → Version → Bool) (es : List Effect) → IsWalk w t p bucket test es → Walking w t p bucket test es
+pub is-walking : (w : World) (t : ℕ) (p : Purpose) (bucket : ℕ) (test : ℕ → Version → Bool) (es : List Effect) → IsWalk w t p bucket test es → Walking w t p bucket test es
 is-walking w t p bucket test es k =
     let parts = and_parts _ _ k.walker in walking w t p bucket test es (active-is _ parts.0) (not-true _ parts.1) k.allowed k.there
 

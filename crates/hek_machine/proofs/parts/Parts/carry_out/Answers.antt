@@ -1,0 +1,18 @@
+use Rattle.hek_machine.proofs.Reserves.{reserved-shows}
+use Rattle.hek_machine.proofs.RowWalks.{effects_there, reserved-ordered, reserved-back, reserved-stands, on_err}
+use Rattle.hek_machine.proofs.parts.Parts.carry_out.Goals as goal
+
+pub reserve-requires-clause-there : goal.reserve-requires-clause-there
+reserve-requires-clause-there c = effects_there c.args.self.now c.args.t c.args.effects.now c.requires.ordered c.requires.allowed
+
+pub apply_all-requires-clause-ordered : goal.apply_all-requires-clause-ordered
+apply_all-requires-clause-ordered c = reserved-ordered c.args.self.now c.reserve.new.self c.in_ok-reserve.ensures.reserved c.requires.ordered
+
+pub apply_all-requires-clause-allowed : goal.apply_all-requires-clause-allowed
+apply_all-requires-clause-allowed c = λ w s. c.requires.allowed w (reserved-back c.args.self.now c.reserve.new.self c.in_ok-reserve.ensures.reserved w s)
+
+pub returns-in_err-reserve-clause-still : goal.returns-in_err-reserve-clause-still
+returns-in_err-reserve-clause-still c = on_err _ _ (reserved-shows c.args.self.now c.reserve.new.self c.reserve.ensures.reserved)
+
+pub returns-clause-done : goal.returns-clause-done
+returns-clause-done c = λ w s. c.apply_all.ensures.shows w (reserved-stands c.args.self.now c.reserve.new.self c.in_ok-reserve.ensures.reserved w s)

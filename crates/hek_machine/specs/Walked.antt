@@ -1,0 +1,21 @@
+-- A walk that is done, or refused.
+use Rattle.std.specs.Prelude.{◌≡◌, ℕ, ◌<◌, Bool, List, Option, Some, None}
+use Rattle.hek_rules.specs.declared.event.Cause.{Cause}
+use Rattle.hek_rules.specs.World.{World, Version, places}
+use Rattle.hek_rules.specs.Walk.{Judgement, Refuse, Allow, apply_all}
+use Rattle.hek_rules.specs.Table.{abort}
+use Rattle.hek_machine.specs.declared.parts.Parts.{Parts}
+use Rattle.hek_machine.specs.Stands.{Shows, StandsFor}
+
+-- the versions of one bucket that pass a test of theirs
+pub record ArePlaces (m : Parts) (bucket : ℕ) (vs : List ℕ) : Type 0 where
+  pub test : ℕ → Version → Bool
+  pub same : (w : World) → StandsFor m w → places test 0 w.versions ≡ vs
+  pub there : (w : World) → StandsFor m w → bucket < w.buckets
+
+-- after a judgement: its effects are done, or t has aborted
+abbrev pub After : Parts → ℕ → World → Judgement → Option Cause → Type 0
+After m t w (Allow effects) None = Shows m (apply_all t w effects)
+After m t w (Allow effects) (Some cause) = ⊥
+After m t w (Refuse cause) None = ⊥
+After m t w (Refuse cause) (Some other) = (cause ≡ other) × Shows m (abort w t cause)

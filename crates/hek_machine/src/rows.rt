@@ -1,0 +1,117 @@
+//! Reads and writes of rows: each walks over the versions of a key or a bucket (section 4 of the paper: reads and
+//! updates).
+ghost use Rattle.std.specs.Prelude.{◌≡◌, ◌<◌, ◌%◌, true, None, [], length, IfOk, OnOk, OnErr, MatchResult};
+ghost use Rattle.std.specs.List.{All};
+ghost use Rattle.hek_rules.specs.World.{txn_in, bucket_of};
+ghost use Rattle.hek_rules.specs.Walk.{walk as walk_of, last, apply_all};
+ghost use Rattle.hek_rules.specs.Table.{is_open, found as found_row, read_row};
+ghost use Rattle.hek_store.specs.Stored.{of_key, of_bucket};
+ghost use Rattle.hek_txn.specs.TxnTable.{Declared};
+ghost use Rattle.hek_machine.specs.Judged.{IsShown, IsAimed, purpose_of, seen_among};
+ghost use Rattle.hek_machine.specs.Applied.{Allowed};
+ghost use Rattle.hek_machine.specs.Room.{HasRoom};
+ghost use Rattle.hek_machine.specs.Stands.{Shows, StandsFor, IsOrdered, IsRow, StillShows};
+ghost use Rattle.hek_machine.specs.Walked.{ArePlaces, After};
+
+use crate::parts::Parts;
+use crate::walks::Aim;
+use hek_rules::{Cause, Effect, NoMemory, Reply, TxnId, VersionId};
+
+/// The last of these.
+#[tactic(auto, using(crate::proofs::KeyPlaces::last_get))]
+fn last_of(vs: &[VersionId]) -> Option<VersionId>
+    ensures { result ≡ last vs.now }
+{
+    vs.last().copied()
+}
+
+impl Parts {
+    /// The versions of a key, in order of creation.
+    fn versions_of(&self, key: u64) -> Result<Vec<VersionId>, NoMemory>
+        ensures { IfOk result (λ vs. vs.items ≡ of_key self.now.store.versions key) }
+    {
+        Ok(self.store.versions_of(key).collect(self.alloc)?)
+    }
+
+    /// The effects of a walk that is allowed are done, if there is memory for them.
+    fn carry_out(&mut self, t: TxnId, effects: &[Effect]) -> Result<(), NoMemory>
+        requires known { Declared self.old.txns t }
+        requires ordered { IsOrdered self.old }
+        requires allowed { (w : _) → StandsFor self.old w → Allowed w t effects.now }
+        ensures done { IfOk result (λ _. (w : _) → StandsFor self.old w → Shows self.new (apply_all t w effects.now)) }
+        ensures room { IfOk result (λ _. HasRoom self.new t []) }
+        ensures still { OnErr result (StillShows self.old self.new) }
+    {
+        let _ = self.store.len();
+        self.reserve(t, effects)?;
+        self.apply_all(t, effects);
+        Ok(())
+    }
+
+    /// A walk over these versions: its effects are done, or, where it is refused, the transaction aborts, and the cause
+    /// is the answer.
+    fn walk_over(
+        &mut self,
+        t: TxnId,
+        aim: &Aim,
+        bucket: u64,
+        vs: &[VersionId],
+    ) -> Result<Option<Cause>, NoMemory>
+        requires known { Declared self.old.txns t }
+        requires ordered { IsOrdered self.old }
+        requires walker { is_open (txn_in self.old.txns.cores t) ≡ true }
+        requires versions { All (λ v. v < length self.old.store.versions) vs.now }
+        requires places { ArePlaces self.old bucket vs.now }
+        requires aimed { IsAimed self.old t vs.now aim.now }
+        ensures after { IfOk result (λ r. (w : _) → StandsFor self.old w → After self.new t w (walk_of w t (purpose_of aim.now) bucket vs.now) r) }
+        ensures room { IfOk result (λ r. r ≡ None → HasRoom self.new t []) }
+        ensures still { OnErr result (StillShows self.old self.new) }
+    {
+        let walked = self.walk(t, aim, bucket, vs)?;
+        match walked.refused {
+            Some(cause) => {
+                let _ = self.abort(t, cause);
+                Ok(Some(cause))
+            }
+            None => {
+                self.carry_out(t, &walked.effects)?;
+                Ok(None)
+            }
+        }
+    }
+
+    /// The value of the last version seen.
+    fn found(&self, seen: &[VersionId]) -> Reply
+        requires { All (λ v. v < length self.now.store.versions) seen.now }
+        ensures { IsShown self.now (λ w. found_row w (last seen.now)) result }
+    {
+        match last_of(seen) {
+            Some(v) => Reply::Found(self.store.value_of(v)),
+            None => Reply::Absent,
+        }
+    }
+
+    fn bucket_of(&self, key: u64) -> u64
+        ensures { result ≡ key % self.now.store.buckets }
+    {
+        key % self.store.buckets()
+    }
+
+    /// The read of a key.
+    pub(crate) fn read(&mut self, t: TxnId, key: u64) -> Result<Reply, NoMemory>
+        requires known { Declared self.old.txns t }
+        requires ordered { IsOrdered self.old }
+        requires walker { is_open (txn_in self.old.txns.cores t) ≡ true }
+        ensures row { IfOk result (IsRow (λ w. read_row w t key) self.old self.new) }
+        ensures still { OnErr result (StillShows self.old self.new) }
+    {
+        let vs = self.versions_of(key)?;
+        let seen = self.seen_of(t, &vs)?;
+        let reply = self.found(&seen);
+        let bucket = self.bucket_of(key);
+        match self.walk_over(t, &Aim::ToRead, bucket, &vs)? {
+            None => Ok(reply),
+            Some(cause) => Ok(Reply::Aborted(cause)),
+        }
+    }
+}
