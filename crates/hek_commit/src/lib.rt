@@ -5,8 +5,9 @@
 mod dependents;
 mod phases;
 mod stamps;
+#[cfg(test)]
+mod tests;
 
 pub use dependents::depend;
 pub use phases::{abort, commit, end, precommit};
 pub use stamps::stamp_next;
-
