@@ -78,10 +78,10 @@ fn assert_same(rt: &impl Abort, buckets: &Buckets, other: &Buckets) {
 fn locks(rt: &impl Abort, buckets: &mut Buckets, place: u64, number: u64) {
     let b = bucket(rt, buckets, place);
     if buckets.reserve(b).is_err() {
-        let b = bucket(rt, buckets, place);
+        assert!(rt; b < buckets.len());
         assert!(rt; buckets.reserve(b).is_ok());
     }
-    let b = bucket(rt, buckets, place);
+    assert!(rt; b < buckets.len());
     buckets.lock(b, id(number));
 }
 
