@@ -2,6 +2,8 @@
 #![tactic(auto)]
 
 mod buckets;
+#[cfg(test)]
+mod tests;
 mod waits;
 
 pub use buckets::Buckets;

@@ -5,6 +5,8 @@
 mod dependents;
 mod phases;
 mod stamps;
+#[cfg(test)]
+mod tests;
 
 pub use dependents::depend;
 pub use phases::{abort, commit, end, precommit};

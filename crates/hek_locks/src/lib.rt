@@ -5,6 +5,8 @@
 mod clear;
 mod read;
 mod release;
+#[cfg(test)]
+mod tests;
 mod write;
 
 pub use clear::clear_write;

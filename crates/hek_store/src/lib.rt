@@ -3,6 +3,8 @@
 
 mod places;
 mod store;
+#[cfg(test)]
+mod tests;
 mod version;
 
 pub use places::{VersionsIn, VersionsOf};

@@ -73,7 +73,7 @@ impl<'a> Iterator for VersionsIn<'a> {
 
 impl Store {
     ghost use Rattle.std.specs.Prelude.{◌≡◌};
-    ghost use Rattle.hek_store.specs.Stored.{of_key, of_bucket};
+    ghost use Rattle.hek_store.specs.Stored.{of_bucket, of_key};
     ghost use Rattle.hek_store.specs.Places.{of_key_left, of_bucket_left};
 
     /// The versions of a key, in order of creation. Each takes time linear in those that are passed over.

@@ -33,6 +33,7 @@ fn reads_begin_words(rt: HostRuntime) -> Result<(), Fail> {
     assert_eq!(rt; by.time(), None);
     assert_eq!(rt; by, BeginWord::by(TxnId::new(1)));
     assert_eq!(rt; BeginWord::at(Time::new(3)).bits(), 3);
+    assert_eq!(rt; BeginWord::infinity().bits(), 0x7FFF_FFFF_FFFF_FFFF);
     Ok(())
 }
 
