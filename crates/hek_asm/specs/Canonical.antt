@@ -31,6 +31,11 @@ abbrev pub name_words : Plan → Option ℕ → List (List ℕ)
 name_words p None = []
 name_words p (Some t) = name_at p t ∷ []
 
+-- its name as it stands at the front, with the space behind it
+abbrev pub name_front : Plan → Option ℕ → List ℕ
+name_front p None = []
+name_front p (Some t) = name_at p t ++ 32 ∷ []
+
 -- so many of two operands
 abbrev pub operand_words : ℕ → ℕ → ℕ → List (List ℕ)
 operand_words zero a b = []

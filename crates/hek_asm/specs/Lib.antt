@@ -1,3 +1,5 @@
 pub mod Lines
 pub mod Canonical
 pub mod Trace
+pub mod Text
+pub mod Gives
