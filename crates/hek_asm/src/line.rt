@@ -7,7 +7,8 @@ ghost use Rattle.hek_asm.specs.Gives.{LineFails, LineGives};
 
 use crate::fault::{AsmKind, LineFault};
 use hek_rules::{
-    Event, EventKind, Level, MAX_BUCKETS, MAX_STEPS, MAX_TXNS, Schedule, name_text, next_word, number,
+    Event, EventKind, Level, MAX_BUCKETS, MAX_STEPS, MAX_TXNS, Schedule, name_text, next_word,
+    number,
 };
 use std::alloc::{AllocError, Global};
 
@@ -254,7 +255,11 @@ pub(crate) fn head_line(alloc: Global, line: &[u8]) -> Result<Option<Schedule>, 
 
 /// A line after the first with words.
 #[tactic(auto, unfolding(crate::specs::Text::line_after, crate::specs::Text::words_after))]
-pub(crate) fn body_line(alloc: Global, schedule: &mut Schedule, line: &[u8]) -> Result<(), LineFault>
+pub(crate) fn body_line(
+    alloc: Global,
+    schedule: &mut Schedule,
+    line: &[u8],
+) -> Result<(), LineFault>
     ensures { LineGives (λ _. Some schedule.new) result (line_after (Some schedule.old) line.now) }
 {
     if has_foreign(line) {

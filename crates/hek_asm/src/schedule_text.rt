@@ -115,6 +115,7 @@ fn add_steps(out: &mut String, schedule: &Schedule) -> Result<(), NoMemory>
 }
 
 /// The canonical text of a schedule, or NoMemory.
+#[tactic(auto, using(crate::proofs::RowLemmas::all_declared))]
 pub fn canonical(alloc: Global, schedule: &Schedule) -> Result<String, NoMemory>
     ensures { IfOk result (λ text. string_bytes text ≡ canonical_text schedule.now) }
 {
