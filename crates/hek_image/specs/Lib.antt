@@ -1,0 +1,4 @@
+pub mod Schedules
+pub mod Loading
+pub mod Gives
+pub mod Places
