@@ -1,3 +1,6 @@
 pub mod LineLemmas
 pub mod LinesAfter
 pub mod RowLemmas
+pub mod Joined
+pub mod Again
+pub mod RoundTrip

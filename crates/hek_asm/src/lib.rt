@@ -12,5 +12,5 @@ mod trace;
 pub use assemble::assemble_text;
 pub use fault::{AsmFault, AsmKind};
 pub use reply::write_reply;
-pub use schedule_text::canonical;
+pub use schedule_text::{canonical, canonical_is_read_again};
 pub use trace::{write_line, write_trace};
