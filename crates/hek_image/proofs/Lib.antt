@@ -3,3 +3,9 @@ pub mod StepLemmas
 pub mod Parts
 pub mod Steady
 pub mod Whole
+pub mod Wide
+pub mod Readers
+pub mod Distinct
+pub mod ImageAgain
+pub mod Taken
+pub mod ImageBack

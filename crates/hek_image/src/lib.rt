@@ -5,10 +5,12 @@ mod fault;
 mod fields;
 mod gather;
 mod items;
+mod laws;
 mod loading;
 mod place;
 mod writing;
 
 pub use fault::LoadFault;
+pub use laws::images_are_exact;
 pub use loading::load_image;
 pub use writing::write_image;
