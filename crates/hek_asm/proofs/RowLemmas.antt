@@ -5,7 +5,7 @@ use Rattle.std.specs.Map.{keys_of}
 use Rattle.std.proofs.lemmas.Option.{get_or_from_slice_get, slice_get_within}
 use Rattle.hek_rules.specs.declared.event.Event.{Event}
 use Rattle.hek_rules.specs.declared.event.Event.TheVariants as event
-use Rattle.hek_rules.specs.Plan.{IsStep}
+use Rattle.hek_rules.specs.Plan.{Plan, IsPlan, IsStep}
 use Rattle.hek_asm.specs.Lines.{line_text}
 use Rattle.hek_asm.specs.Trace.{NamesDeclared}
 
@@ -53,3 +53,7 @@ step_declared b n event.Detect h = tt
 pub all_declared : (buckets txns : ℕ) (es : List Event) → AllByRecursion (IsStep buckets txns) es → AllByRecursion (NamesDeclared txns) es
 all_declared b n [] h = tt
 all_declared b n (e ∷ es) h = (step_declared b n e h.0, all_declared b n es h.1)
+
+-- the steps of a schedule, as a slice gives them
+pub steps_declared : (p : Plan) (es : List Event) → IsPlan p → es ≡ p.steps → AllByRecursion (NamesDeclared (length p.txns)) es
+steps_declared p es is same = subst (AllByRecursion (NamesDeclared (length p.txns))) (sym same) (all_declared p.buckets (length p.txns) p.steps is.steps)

@@ -14,3 +14,6 @@ pub use fault::{AsmFault, AsmKind};
 pub use reply::write_reply;
 pub use schedule_text::{canonical, canonical_is_read_again};
 pub use trace::{write_line, write_trace};
+
+#[cfg(test)]
+mod tests;
