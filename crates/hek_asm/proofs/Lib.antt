@@ -4,3 +4,4 @@ pub mod RowLemmas
 pub mod Joined
 pub mod Again
 pub mod RoundTrip
+pub mod TextOnly

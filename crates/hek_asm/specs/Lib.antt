@@ -3,3 +3,4 @@ pub mod Canonical
 pub mod Trace
 pub mod Text
 pub mod Gives
+pub mod Laws

@@ -3,6 +3,7 @@
 
 mod assemble;
 mod fault;
+mod laws;
 mod line;
 mod putting;
 mod reply;
@@ -11,8 +12,9 @@ mod trace;
 
 pub use assemble::assemble_text;
 pub use fault::{AsmFault, AsmKind};
+pub use laws::canonical_text_is_exact;
 pub use reply::write_reply;
-pub use schedule_text::{canonical, canonical_is_read_again};
+pub use schedule_text::canonical;
 pub use trace::{write_line, write_trace};
 
 #[cfg(test)]

@@ -1,11 +1,10 @@
 //! The canonical text of a schedule.
-ghost use Rattle.std.specs.Prelude.{◌≡◌, ◌++◌, ◌∷◌, [], length, map, Ok, OnOk, IfOk, IfSome};
+ghost use Rattle.std.specs.Prelude.{◌≡◌, ◌++◌, ◌∷◌, [], length, map, OnOk, IfOk, IfSome};
 ghost use Rattle.std.specs.String.{string_bytes};
 ghost use Rattle.std.specs.List.{AllByRecursion, flat_map};
-ghost use Rattle.hek_rules.specs.Plan.{Plan, IsPlan, IsDeclared};
+ghost use Rattle.hek_rules.specs.Plan.{IsDeclared};
 ghost use Rattle.hek_asm.specs.Lines.{spaced, line_text};
 ghost use Rattle.hek_asm.specs.Canonical.{buckets_words, row_words, txn_words, level_word, name_front, operand_words, step_words, canonical_text};
-ghost use Rattle.hek_asm.specs.Text.{schedule_of};
 ghost use Rattle.hek_asm.specs.Trace.{NamesDeclared};
 
 use hek_rules::{Event, Level, NoMemory, Schedule, TxnId};
@@ -127,8 +126,3 @@ pub fn canonical(alloc: Global, schedule: &Schedule) -> Result<String, NoMemory>
     add_steps(&mut out, schedule)?;
     Ok(out)
 }
-
-/// The canonical text of a schedule is a text of that schedule.
-pub fn canonical_is_read_again()
-    ensures { (p : Plan) → IsPlan p → schedule_of (canonical_text p) ≡ Ok p }
-{}

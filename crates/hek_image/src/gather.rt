@@ -1,5 +1,5 @@
 //! All bytes of a source.
-ghost use Rattle.std.specs.Prelude.{◌≡◌, ◌<◌, ◌≤◌, ◌++◌, [], false, length, IsTrue, IfOk};
+ghost use Rattle.std.specs.Prelude.{◌≡◌, ◌<◌, ◌≤◌, ◌+◌, ◌++◌, [], false, length, IsTrue, IfOk};
 
 use hek_rules::{NoMemory, Source};
 use std::alloc::Global;
@@ -19,6 +19,7 @@ pub(crate) fn gather<S: Source>(
 ) -> Result<Gathered, NoMemory>
     requires { S.failed source.old ≡ false }
     ensures bytes { IfOk result (λ g. IsTrue (S.tells source.old) → S.left source.old ≡ g.bytes.items ++ S.left source.new) }
+    ensures taken { IsTrue (S.tells source.old) → length (S.left source.old) ≤ limit + length (S.left source.new) }
     ensures failed { IfOk result (λ g. S.failed source.new ≡ g.failed) }
     ensures within { IfOk result (λ g. length g.bytes.items ≤ limit) }
     ensures end { IfOk result (λ g. IsTrue (S.tells source.old) → g.failed ≡ false → length g.bytes.items < limit → S.left source.new ≡ []) }

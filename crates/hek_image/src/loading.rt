@@ -104,6 +104,7 @@ fn settled(judged: Result<Schedule, LoadFault>, failed: bool) -> Result<Schedule
 pub fn load_image<S: Source>(alloc: Global, source: &mut S) -> Result<Schedule, LoadFault>
     requires { S.failed source.old ≡ false }
     ensures gives { IsTrue (S.tells source.old) → LoadGives (λ s. s) result (loading (S.left source.old)) }
+    ensures taken { IsTrue (S.tells source.old) → length (S.left source.old) ≤ 22083415 + length (S.left source.new) }
     ensures fits { AnswerFits result (S.failed source.new) }
 {
     let gathered = gather(alloc, source, LIMIT)?;
