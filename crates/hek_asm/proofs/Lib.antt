@@ -1,0 +1,7 @@
+pub mod LineLemmas
+pub mod LinesAfter
+pub mod RowLemmas
+pub mod Joined
+pub mod Again
+pub mod RoundTrip
+pub mod TextOnly

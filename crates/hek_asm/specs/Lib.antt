@@ -1,0 +1,6 @@
+pub mod Lines
+pub mod Canonical
+pub mod Trace
+pub mod Text
+pub mod Gives
+pub mod Laws

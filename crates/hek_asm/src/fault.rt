@@ -1,0 +1,76 @@
+//! What is wrong with a text.
+ghost use Rattle.std.specs.Prelude.{◌≡◌};
+ghost use Rattle.hek_asm.specs.declared.fault.LineFault.TheVariants as line;
+
+use hek_rules::NoMemory;
+use std::alloc::{AllocError, AllocFailed};
+use thiserror::Error;
+
+/// What is wrong with a line. Its text is its number and name.
+#[derive(Clone, Copy, Debug, PartialEq, Eq, Error)]
+pub enum AsmKind {
+    /// The first line with words doesn't begin with `buckets`, or no line has words.
+    #[error("1 NoBuckets")]
+    NoBuckets,
+    /// A line that is none of the format's, or stands out of order.
+    #[error("2 BadWord")]
+    BadWord,
+    #[error("3 BadNumber")]
+    BadNumber,
+    /// A step's transaction isn't declared.
+    #[error("4 UnknownName")]
+    UnknownName,
+    #[error("5 NameTwice")]
+    NameTwice,
+    #[error("6 KeyTwice")]
+    KeyTwice,
+    /// A limit is passed.
+    #[error("7 TooMany")]
+    TooMany,
+    /// A scan's bucket isn't below the number of buckets.
+    #[error("8 BadBucket")]
+    BadBucket,
+    /// A character past ASCII stands outside the comment.
+    #[error("9 NotAscii")]
+    NotAscii,
+}
+
+/// Why a text isn't assembled: its first fault, or want of memory.
+#[derive(Clone, Copy, Debug, PartialEq, Eq, Error)]
+pub enum AsmFault {
+    #[error("line {line}: {kind}")]
+    At { line: u64, kind: AsmKind },
+    #[error("no memory")]
+    NoMemory,
+}
+
+/// Why a line isn't taken.
+#[derive(Clone, Copy, Debug, PartialEq, Eq)]
+pub(crate) enum LineFault {
+    Fault(AsmKind),
+    NoMemory,
+}
+
+impl From<NoMemory> for LineFault {
+    ghost from_gives = { λ _ e. e ≡ line.NoMemory };
+
+    fn from(_error: NoMemory) -> LineFault {
+        LineFault::NoMemory
+    }
+}
+
+impl From<AllocError> for LineFault {
+    ghost from_gives = { λ _ e. e ≡ line.NoMemory };
+
+    fn from(_error: AllocError) -> LineFault {
+        LineFault::NoMemory
+    }
+}
+
+impl<T: Drop> From<AllocFailed<T>> for LineFault {
+    ghost from_gives = { λ _ e. e ≡ line.NoMemory };
+
+    fn from(_error: AllocFailed<T>) -> LineFault {
+        LineFault::NoMemory
+    }
+}

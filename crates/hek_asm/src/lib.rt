@@ -1,0 +1,21 @@
+//! Schedules and traces as texts.
+#![tactic(auto)]
+
+mod assemble;
+mod fault;
+mod laws;
+mod line;
+mod putting;
+mod reply;
+mod schedule_text;
+mod trace;
+
+pub use assemble::assemble_text;
+pub use fault::{AsmFault, AsmKind};
+pub use laws::canonical_text_is_exact;
+pub use reply::write_reply;
+pub use schedule_text::canonical;
+pub use trace::{write_line, write_trace};
+
+#[cfg(test)]
+mod tests;

@@ -1,0 +1,11 @@
+pub mod Times
+pub mod StepLemmas
+pub mod Parts
+pub mod Steady
+pub mod Whole
+pub mod Wide
+pub mod Readers
+pub mod Distinct
+pub mod ImageAgain
+pub mod Taken
+pub mod ImageBack

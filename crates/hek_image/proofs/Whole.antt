@@ -1,0 +1,124 @@
+-- An image is of at most 22,083,414 bytes, and more bytes behind change only Short.
+use Rattle.std.proofs.Common.{◌≡◌, ℕ, zero, suc, ◌+◌, ◌*◌, ◌<◌, ◌≤◌, Bool, true, false, List, [], ◌++◌, length, Result, Ok, Err, refl, sym, ap, subst, ◌∙◌, arith, inl, inr, length-append, IsTrue}
+use Rattle.std.specs.Prelude.{◌==◌}
+use Rattle.std.specs.Int.{w8, w16, w32, w64, byte_len}
+use Rattle.std.proofs.lemmas.Bool.{cases_Bool, eqb-true, ne_eqb}
+use Rattle.std.proofs.lemmas.List.{append-nil}
+use Rattle.hek_rules.specs.Plan.{Plan}
+use Rattle.hek_image.specs.declared.fault.LoadFault.{LoadFault}
+use Rattle.hek_image.specs.declared.fault.LoadFault.TheVariants as load
+use Rattle.hek_image.specs.Loading.{Place, Reader, Counts, both, required, checked, bytes_at, number_at, number_within, row_at, txn_at, kind_at, step_at, times, magic_at, version_at, header_at, plan_at, ended, loading}
+use Rattle.hek_image.specs.Gives.{FieldFails, FieldGives, LoadFails, LoadGives, AnswerFits, settled}
+use Rattle.hek_image.proofs.Steady.{IsSteady, Agrees, FaultAgrees, Any, longer, wider, bytes_steady, value_steady, both_steady, checked_steady, required_steady, times_steady, number_steady, within_steady}
+
+row_steady : (plan : Plan) → IsSteady Any 16 (row_at plan)
+unfolding row_at
+row_steady plan = both_steady Any Any 8 8 _ _ (checked_steady Any Any 8 _ _ (λ k any e. tt) (number_steady w64)) (λ key any. both_steady Any Any 8 0 _ _ (number_steady w64) (λ v any2. value_steady Any _ tt))
+
+txn_steady : (plan : Plan) → IsSteady Any 34 (txn_at plan)
+unfolding txn_at
+txn_steady plan = both_steady (λ n. n ≤ 2) Any 1 33 _ _ (within_steady 1 2 w8) (λ level low.
+    both_steady (λ n. n ≤ 32) Any 1 32 _ _ (within_steady 1 32 w8) (λ len high.
+    both_steady Any Any 32 0 _ _ (checked_steady Any Any 32 _ _ (λ w any e. tt) (wider Any len 32 _ high (bytes_steady len))) (λ name any. value_steady Any _ tt)))
+
+kind_steady : IsSteady Any 1 kind_at
+unfolding kind_at
+kind_steady = both_steady Any Any 1 0 _ _ (checked_steady Any Any 1 _ _ (λ k any e. tt) (number_steady w8)) (λ n any. value_steady Any _ tt)
+
+step_steady : (plan : Plan) → IsSteady Any 21 (step_at plan)
+unfolding step_at
+step_steady plan = both_steady Any Any 1 20 _ _ kind_steady (λ k any.
+    both_steady Any Any 4 16 _ _ (checked_steady Any Any 4 _ _ (λ x any e. tt) (number_steady w32)) (λ t any2.
+    both_steady Any Any 8 8 _ _ (checked_steady Any Any 8 _ _ (λ x any e. tt) (number_steady w64)) (λ a any3.
+    both_steady Any Any 8 0 _ _ (checked_steady Any Any 8 _ _ (λ x any e. tt) (number_steady w64)) (λ b any4. value_steady Any _ tt))))
+
+magic_steady : IsSteady Any 4 magic_at
+unfolding magic_at
+magic_steady = required_steady Any Any 4 _ _ load.BadMagic (λ C D d. d) (λ x any e. tt) (bytes_steady 4)
+
+version_steady : IsSteady Any 2 version_at
+unfolding version_at
+version_steady = required_steady Any Any 2 _ _ load.BadVersion (λ C D d. d) (λ x any e. tt) (number_steady w16)
+
+record AreFew (head : Plan × Counts) : Type 0 where
+  pub rows : head.1.rows ≤ 65536
+  pub txns : head.1.txns ≤ 1024
+  pub steps : head.1.steps ≤ 1000000
+
+header_steady : IsSteady AreFew 22 header_at
+unfolding header_at
+header_steady = both_steady Any AreFew 4 18 _ _ magic_steady (λ m any.
+    both_steady Any AreFew 2 16 _ _ version_steady (λ v any2.
+    both_steady (λ n. n ≤ 1024) AreFew 4 12 _ _ (within_steady 1 1024 w32) (λ buckets b.
+    both_steady (λ n. n ≤ 65536) AreFew 4 8 _ _ (within_steady 0 65536 w32) (λ rows r.
+    both_steady (λ n. n ≤ 1024) AreFew 4 4 _ _ (within_steady 0 1024 w32) (λ txns t.
+    both_steady (λ n. n ≤ 1000000) AreFew 4 0 _ _ (within_steady 0 1000000 w32) (λ steps s. value_steady AreFew _ (record { rows = r; txns = t; steps = s })))))))
+
+abbrev longest : ℕ
+longest = 22083414
+
+plan_steady : IsSteady Any longest plan_at
+unfolding plan_at
+plan_steady = both_steady AreFew Any 22 22083392 _ _ header_steady (λ head few.
+    both_steady Any Any 1048576 21034816 _ _ (times_steady 16 head.1.rows 65536 row_at head.0 few.rows row_steady) (λ plan any.
+    both_steady Any Any 34816 21000000 _ _ (times_steady 34 head.1.txns 1024 txn_at plan few.txns txn_steady) (λ full any2.
+    times_steady 21 head.1.steps 1000000 step_at full few.steps step_steady)))
+
+-- what bytes give, and what they give with more behind them
+abbrev LoadAgrees : List ℕ → Result Plan LoadFault → Result Plan LoadFault → Type 0
+LoadAgrees bytes (Ok p) s = length bytes ≤ longest
+LoadAgrees bytes (Err e) s = FaultAgrees e (length bytes < longest) (s ≡ Err e)
+
+some_left : (n : ℕ) → (n == 0) ≡ false → 0 < n
+some_left zero e = absurd cc
+some_left (suc n) e = omega arith
+
+ended_agrees : (bytes more : List ℕ) (r s : Result (Plan × Place) LoadFault) → Agrees Any (record { at = 0; rest = bytes }) more longest r s → LoadAgrees bytes (ended r) (ended s)
+ended_agrees bytes more (Ok x) s g = elim (cases_Bool (length x.1.rest == 0)) [
+  | inl e ↦ let none : length x.1.rest ≡ 0 = eqb-true (length x.1.rest) 0 e in rw e (omega (arith, g.1))
+  | inr e ↦
+      let some : (length (x.1.rest ++ more) == 0) ≡ false = ne_eqb (length (x.1.rest ++ more)) 0 (λ h. absurd (omega (arith, some_left (length x.1.rest) e, length-append x.1.rest more))) in
+      rw (e, g.0, some) refl
+]
+ended_agrees bytes more (Err load.Short) s g = g
+ended_agrees bytes more (Err load.BadMagic) s g = rw g refl
+ended_agrees bytes more (Err load.BadVersion) s g = rw g refl
+ended_agrees bytes more (Err (load.BadField n)) s g = rw g refl
+ended_agrees bytes more (Err load.Trailing) s g = rw g refl
+ended_agrees bytes more (Err load.Read) s g = rw g refl
+ended_agrees bytes more (Err load.NoMemory) s g = rw g refl
+
+loading_agrees : (bytes more : List ℕ) → LoadAgrees bytes (loading bytes) (loading (bytes ++ more))
+unfolding loading
+loading_agrees bytes more = ended_agrees bytes more _ _ (plan_steady.agrees (record { at = 0; rest = bytes }) more)
+
+-- ---- what a source gave, and then the whole
+whole_is : (whole bytes more : List ℕ) → whole ≡ bytes ++ more → more ≡ [] → loading whole ≡ loading bytes
+whole_is whole bytes more e none = ap loading (e ∙ ap (λ (l : List ℕ). bytes ++ l) none ∙ append-nil bytes)
+
+-- a fault of the front is the fault of the whole
+whole_fault : (e : LoadFault) (whole bytes more : List ℕ) → whole ≡ bytes ++ more → loading bytes ≡ Err e → FaultAgrees e (length bytes < longest) (loading whole ≡ Err e)
+whole_fault e whole bytes more parts h =
+    let agrees : LoadAgrees bytes (Err e) (loading (bytes ++ more)) = subst (λ (r : Result Plan LoadFault). LoadAgrees bytes r (loading (bytes ++ more))) h (loading_agrees bytes more) in
+    subst (λ (w : List ℕ). FaultAgrees e (length bytes < longest) (loading w ≡ Err e)) (sym parts) agrees
+
+whole_plan : (p : Plan) (bytes more : List ℕ) → loading bytes ≡ Ok p → length bytes ≤ longest
+whole_plan p bytes more h = subst (λ (r : Result Plan LoadFault). LoadAgrees bytes r (loading (bytes ++ more))) h (loading_agrees bytes more)
+
+pub answered : (whole bytes more : List ℕ) (failed : Bool) (judged : Result Plan LoadFault) → whole ≡ bytes ++ more → (failed ≡ false → length bytes < 22083415 → more ≡ []) → FieldGives (λ s. s) judged (loading bytes) → LoadGives (λ s. s) (settled judged failed) (loading whole)
+answered whole bytes more true (Ok p) parts ends h = tt
+answered whole bytes more true (Err load.Short) parts ends h = tt
+answered whole bytes more true (Err load.Read) parts ends h = tt
+answered whole bytes more true (Err load.NoMemory) parts ends h = tt
+answered whole bytes more true (Err load.BadMagic) parts ends h = whole_fault load.BadMagic whole bytes more parts h
+answered whole bytes more true (Err load.BadVersion) parts ends h = whole_fault load.BadVersion whole bytes more parts h
+answered whole bytes more true (Err (load.BadField n)) parts ends h = whole_fault (load.BadField n) whole bytes more parts h
+answered whole bytes more true (Err load.Trailing) parts ends h = whole_fault load.Trailing whole bytes more parts h
+answered whole bytes more false (Ok p) parts ends h = whole_is whole bytes more parts (ends refl (omega (arith, whole_plan p bytes more h))) ∙ h
+answered whole bytes more false (Err load.Short) parts ends h = whole_is whole bytes more parts (ends refl (omega (arith, whole_fault load.Short whole bytes more parts h))) ∙ h
+answered whole bytes more false (Err load.Read) parts ends h = tt
+answered whole bytes more false (Err load.NoMemory) parts ends h = tt
+answered whole bytes more false (Err load.BadMagic) parts ends h = whole_fault load.BadMagic whole bytes more parts h
+answered whole bytes more false (Err load.BadVersion) parts ends h = whole_fault load.BadVersion whole bytes more parts h
+answered whole bytes more false (Err (load.BadField n)) parts ends h = whole_fault (load.BadField n) whole bytes more parts h
+answered whole bytes more false (Err load.Trailing) parts ends h = whole_fault load.Trailing whole bytes more parts h

@@ -1,0 +1,52 @@
+-- Numbers as bytes, and back.
+use Rattle.std.proofs.Common.{◌≡◌, ℕ, zero, suc, ◌+◌, ◌^◌, ◌<◌, ◌≤◌, List, [], ◌∷◌, ◌++◌, length, get_or, take, drop, refl, sym, ap, subst, ◌∙◌, arith, inl, inr}
+use Rattle.std.specs.Int.{Width, w8, w16, w32, w64, byte_len, from_be_bytes, to_be_bytes}
+use Rattle.std.proofs.lemmas.Bool.{cases_lt}
+use Rattle.std.proofs.lemmas.List.{length-append, length-take, get_or-drop, get_or-take, get_or_past}
+use Rattle.std.proofs.lemmas.Nat.{be_bytes_2, be_bytes_4, be_bytes_8, from_be_bytes-to_be_bytes_2, from_be_bytes-to_be_bytes_4, from_be_bytes-to_be_bytes_8}
+use Rattle.hek_image.specs.Laws.{IsBytes}
+
+pub IsBytes-drop : (n : ℕ) (bytes : List ℕ) → IsBytes bytes → IsBytes (drop n bytes)
+IsBytes-drop n bytes h i = rw get_or-drop (h (n + i))
+
+pub IsBytes-take : (n : ℕ) (bytes : List ℕ) → IsBytes bytes → IsBytes (take n bytes)
+IsBytes-take n bytes h i =
+    elim (cases_lt i n) [
+      | inl lt ↦ rw (get_or-take n bytes i 0 lt) (h i)
+      | inr le ↦ rw (get_or_past (take n bytes) i 0 (omega (arith, length-take n bytes))) (omega arith)
+    ]
+
+pub record IsWide (w : Width) (limit : ℕ) : Type 0 where
+  pub len : (n : ℕ) → length (to_be_bytes w n) ≡ byte_len w
+  pub back : (bytes : List ℕ) → length bytes ≡ byte_len w → IsBytes bytes → to_be_bytes w (from_be_bytes w bytes) ≡ bytes
+  pub again : (n : ℕ) → n < limit → from_be_bytes w (to_be_bytes w n) ≡ n
+
+pub wide16 : IsWide w16 (2 ^ 16)
+wide16 = record {
+  len = λ n. refl;
+  back = λ bytes len fits. be_bytes_2 bytes _ len fits refl;
+  again = λ n lt. from_be_bytes-to_be_bytes_2 n lt;
+}
+
+pub wide32 : IsWide w32 (2 ^ 32)
+wide32 = record {
+  len = λ n. refl;
+  back = λ bytes len fits. be_bytes_4 bytes _ len fits refl;
+  again = λ n lt. from_be_bytes-to_be_bytes_4 n lt;
+}
+
+pub wide64 : IsWide w64 (2 ^ 64)
+wide64 = record {
+  len = λ n. refl;
+  back = λ bytes len fits. be_bytes_8 bytes _ len fits refl;
+  again = λ n lt. from_be_bytes-to_be_bytes_8 n lt;
+}
+
+-- a single byte
+pub byte_again : (n : ℕ) → from_be_bytes w8 (n ∷ []) ≡ n
+byte_again n = omega arith
+
+pub byte_back : (bytes : List ℕ) → length bytes ≡ 1 → from_be_bytes w8 bytes ∷ [] ≡ bytes
+byte_back [] e = absurd (omega arith)
+byte_back (b ∷ []) e = ap (λ (n : ℕ). n ∷ []) (byte_again b)
+byte_back (b ∷ c ∷ bs) e = absurd (omega arith)

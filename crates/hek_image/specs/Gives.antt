@@ -1,0 +1,51 @@
+-- What a function answered is what the definition gives, unless memory ran out or the source failed.
+use Rattle.std.specs.Prelude.{◌≡◌, Bool, true, false, Result, Ok, Err}
+use Rattle.hek_image.specs.declared.fault.LoadFault.{LoadFault}
+use Rattle.hek_image.specs.declared.fault.LoadFault.TheVariants as load
+
+-- a fault of bytes that are there, which no failed source gives
+abbrev pub FieldFails : {Y : Type 0} → LoadFault → Result Y LoadFault → Type 0
+FieldFails load.NoMemory given = Unit {0}
+FieldFails load.Read given = ⊥
+FieldFails load.BadMagic given = given ≡ Err load.BadMagic
+FieldFails load.BadVersion given = given ≡ Err load.BadVersion
+FieldFails load.Short given = given ≡ Err load.Short
+FieldFails (load.BadField n) given = given ≡ Err (load.BadField n)
+FieldFails load.Trailing given = given ≡ Err load.Trailing
+
+-- an answer over bytes that are there, where x is what it made
+abbrev pub FieldGives : {X Y : Type 0} → (X → Y) → Result X LoadFault → Result Y LoadFault → Type 0
+FieldGives view (Ok x) given = given ≡ Ok (view x)
+FieldGives view (Err e) given = FieldFails e given
+
+abbrev pub LoadFails : {Y : Type 0} → LoadFault → Result Y LoadFault → Type 0
+LoadFails load.NoMemory given = Unit {0}
+LoadFails load.Read given = Unit {0}
+LoadFails load.BadMagic given = given ≡ Err load.BadMagic
+LoadFails load.BadVersion given = given ≡ Err load.BadVersion
+LoadFails load.Short given = given ≡ Err load.Short
+LoadFails (load.BadField n) given = given ≡ Err (load.BadField n)
+LoadFails load.Trailing given = given ≡ Err load.Trailing
+
+-- an answer over the bytes of a source
+abbrev pub LoadGives : {X Y : Type 0} → (X → Y) → Result X LoadFault → Result Y LoadFault → Type 0
+LoadGives view (Ok x) given = given ≡ Ok (view x)
+LoadGives view (Err e) given = LoadFails e given
+
+-- a judgement of bytes after which the source may have failed: only a fault that stands before their end is known
+abbrev pub settled : {X : Type 0} → Result X LoadFault → Bool → Result X LoadFault
+settled judged false = judged
+settled (Ok x) true = Err load.Read
+settled (Err load.Short) true = Err load.Read
+settled (Err e) true = Err e
+
+-- Read only where the source has failed, Short only where it has not
+abbrev pub FaultFits : LoadFault → Bool → Type 0
+FaultFits load.Read failed = failed ≡ true
+FaultFits load.Short failed = failed ≡ false
+FaultFits other failed = Unit {0}
+
+-- a schedule only where the source has not failed
+abbrev pub AnswerFits : {X : Type 0} → Result X LoadFault → Bool → Type 0
+AnswerFits (Ok x) failed = failed ≡ false
+AnswerFits (Err e) failed = FaultFits e failed

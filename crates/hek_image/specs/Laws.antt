@@ -1,0 +1,13 @@
+-- What images come to.
+use Rattle.std.specs.Prelude.{◌≡◌, ℕ, ◌<◌, List, get_or, Ok}
+use Rattle.hek_rules.specs.Plan.{Plan, IsPlan}
+use Rattle.hek_image.specs.Schedules.{image}
+use Rattle.hek_image.specs.Loading.{loading}
+
+abbrev pub IsBytes : List ℕ → Type 0
+IsBytes bytes = (i : ℕ) → get_or bytes i 0 < 256
+
+-- a schedule is loaded from its image, and what loads is the image of what it gives
+pub record ImagesAreExact : Type 0 where
+  pub again : (p : Plan) → IsPlan p → loading (image p) ≡ Ok p
+  pub only : (bytes : List ℕ) (p : Plan) → IsBytes bytes → loading bytes ≡ Ok p → bytes ≡ image p

@@ -1,0 +1,153 @@
+-- What bytes say, read front to back, or the first fault.
+use Rattle.std.specs.Prelude.{ℕ, zero, suc, ◌+◌, Bool, true, false, ◌&&◌, ◌||◌, not, ◌==◌, nat_lt, nat_le, List, [], ◌∷◌, ◌++◌, length, take, drop, Option, Some, None, is_some, unwrap_or, Result, Ok, Err, if◌then◌else◌}
+use Rattle.std.specs.Int.{Width, w8, w16, w32, w64, byte_len, from_be_bytes}
+use Rattle.std.specs.Str.{bytes_eq}
+use Rattle.hek_rules.specs.declared.event.Level.{Level}
+use Rattle.hek_rules.specs.declared.event.Level.TheVariants.{Serializable, Repeatable}
+use Rattle.hek_rules.specs.declared.kind.EventKind.{EventKind}
+use Rattle.hek_rules.specs.declared.kind.EventKind.TheVariants as kind
+use Rattle.hek_rules.specs.Name.{is_name}
+use Rattle.hek_rules.specs.Events.{kind_coded, operand_count, event_of}
+use Rattle.hek_rules.specs.Plan.{Plan, has_key, has_name}
+use Rattle.hek_image.specs.declared.fault.LoadFault.{LoadFault}
+use Rattle.hek_image.specs.declared.fault.LoadFault.TheVariants.{BadMagic, BadVersion, Short, BadField, Trailing}
+use Rattle.hek_image.specs.Schedules.{magic}
+
+-- where a field begins, and the bytes from there on
+pub record Place : Type 0 where
+  pub at : ℕ
+  pub rest : List ℕ
+
+-- a value, and where the next field begins
+abbrev pub Reader : Type 0 → Type 0
+Reader A = Place → Result (A × Place) LoadFault
+
+abbrev pub then_read : {A B : Type 0} → Result (A × Place) LoadFault → (A → Reader B) → Result (B × Place) LoadFault
+then_read (Ok x) f = f x.0 x.1
+then_read (Err e) f = Err e
+
+-- r, and then what follows its value
+unfoldable pub both : {A B : Type 0} → Reader A → (A → Reader B) → Reader B
+both r f p = then_read (r p) f
+
+-- a field that is judged at once
+abbrev pub checked_from : {A : Type 0} → Result (A × Place) LoadFault → (A → Bool) → LoadFault → Result (A × Place) LoadFault
+checked_from (Ok x) test fault = if test x.0 then Ok x else Err fault
+checked_from (Err e) test fault = Err e
+
+-- a field that passes a test, else this fault
+unfoldable pub required : {A : Type 0} → Reader A → (A → Bool) → LoadFault → Reader A
+required r test fault p = checked_from (r p) test fault
+
+-- a field that passes a test, else the fault of the place where it begins
+unfoldable pub checked : {A : Type 0} → Reader A → (A → Bool) → Reader A
+checked r test p = checked_from (r p) test (BadField p.at)
+
+-- n bytes
+unfoldable pub bytes_at : ℕ → Reader (List ℕ)
+bytes_at n p = if nat_lt (length p.rest) n then Err Short else Ok (take n p.rest, record { at = p.at + n; rest = drop n p.rest })
+
+abbrev pub value : {A : Type 0} → A → Reader A
+value x p = Ok (x, p)
+
+unfoldable pub number_at : Width → Reader ℕ
+number_at w = both (bytes_at (byte_len w)) (λ bytes. value (from_be_bytes w bytes))
+
+-- a number in a range
+abbrev pub is_within : ℕ → ℕ → ℕ → Bool
+is_within low high n = nat_le low n && nat_le n high
+
+unfoldable pub number_within : ℕ → ℕ → Width → Reader ℕ
+number_within low high w = checked (number_at w) (is_within low high)
+
+-- ---- rows, transactions and steps, each added to the plan
+unfoldable pub row_at : Plan → Reader Plan
+row_at plan = both (checked (number_at w64) (λ k. not (has_key plan k))) (λ key.
+    both (number_at w64) (λ v.
+    value (record plan { rows = plan.rows ++ (key, v) ∷ [] })))
+
+abbrev pub level_coded : ℕ → Level
+level_coded n = if n == 1 then Serializable else Repeatable
+
+-- a name that is new
+abbrev pub is_new_name : Plan → List ℕ → Bool
+is_new_name plan w = is_name w && not (has_name plan w)
+
+unfoldable pub txn_at : Plan → Reader Plan
+txn_at plan = both (number_within 1 2 w8) (λ level.
+    both (number_within 1 32 w8) (λ len.
+    both (checked (bytes_at len) (is_new_name plan)) (λ name.
+    value (record plan { txns = plan.txns ++ (name, level_coded level) ∷ [] }))))
+
+abbrev pub is_opcode : ℕ → Bool
+is_opcode n = is_some (kind_coded n)
+
+unfoldable pub kind_at : Reader EventKind
+kind_at = both (checked (number_at w8) is_opcode) (λ n. value (unwrap_or (kind_coded n) kind.Detect))
+
+abbrev pub is_detect : EventKind → Bool
+is_detect kind.Detect = true
+is_detect other = false
+
+abbrev pub is_scan : EventKind → Bool
+is_scan kind.Scan = true
+is_scan other = false
+
+-- a declared transaction, or 0 for `detect`
+abbrev pub txn_fits : Plan → EventKind → ℕ → Bool
+txn_fits plan k t = if is_detect k then t == 0 else (nat_lt 0 t && nat_le t (length plan.txns))
+
+-- 0 where there is no operand, and a bucket that exists
+abbrev pub first_fits : Plan → EventKind → ℕ → Bool
+first_fits plan k a = if operand_count k == 0 then a == 0 else (not (is_scan k) || nat_lt a plan.buckets)
+
+abbrev pub second_fits : EventKind → ℕ → Bool
+second_fits k b = operand_count k == 2 || b == 0
+
+unfoldable pub step_at : Plan → Reader Plan
+step_at plan = both kind_at (λ k.
+    both (checked (number_at w32) (txn_fits plan k)) (λ t.
+    both (checked (number_at w64) (first_fits plan k)) (λ a.
+    both (checked (number_at w64) (second_fits k)) (λ b.
+    value (record plan { steps = plan.steps ++ event_of k t a b ∷ [] })))))
+
+-- n items, one after another
+unfoldable pub times : ℕ → (Plan → Reader Plan) → Plan → Reader Plan
+times zero item plan p = Ok (plan, p)
+times (suc n) item plan p = then_read (item plan p) (times n item)
+
+-- ---- the whole
+-- how many rows, transactions and steps there are
+pub record Counts : Type 0 where
+  pub rows : ℕ
+  pub txns : ℕ
+  pub steps : ℕ
+
+unfoldable pub magic_at : Reader (List ℕ)
+magic_at = required (bytes_at 4) (λ m. bytes_eq m magic) BadMagic
+
+unfoldable pub version_at : Reader ℕ
+version_at = required (number_at w16) (λ n. n == 1) BadVersion
+
+unfoldable pub header_at : Reader (Plan × Counts)
+header_at = both magic_at (λ m.
+    both version_at (λ version.
+    both (number_within 1 1024 w32) (λ buckets.
+    both (number_within 0 65536 w32) (λ rows.
+    both (number_within 0 1024 w32) (λ txns.
+    both (number_within 0 1000000 w32) (λ steps.
+    value (record { buckets = buckets; rows = []; txns = []; steps = [] }, record { rows = rows; txns = txns; steps = steps })))))))
+
+-- all but the end
+unfoldable pub plan_at : Reader Plan
+plan_at = both header_at (λ head.
+    both (times head.1.rows row_at head.0) (λ plan.
+    both (times head.1.txns txn_at plan) (λ full.
+    times head.1.steps step_at full)))
+
+abbrev pub ended : Result (Plan × Place) LoadFault → Result Plan LoadFault
+ended (Ok x) = if length x.1.rest == 0 then Ok x.0 else Err Trailing
+ended (Err e) = Err e
+
+unfoldable pub loading : List ℕ → Result Plan LoadFault
+loading bytes = ended (plan_at (record { at = 0; rest = bytes }))

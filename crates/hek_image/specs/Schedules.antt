@@ -1,0 +1,38 @@
+-- The one image of a schedule. All numbers are big-endian.
+use Rattle.std.specs.Prelude.{ℕ, List, [], ◌∷◌, ◌++◌, length, unwrap_or}
+use Rattle.std.specs.List.{flat_map}
+use Rattle.std.specs.Int.{w16, w32, w64, to_be_bytes}
+use Rattle.hek_rules.specs.declared.event.Level.{Level}
+use Rattle.hek_rules.specs.declared.event.Level.TheVariants.{Serializable, Repeatable}
+use Rattle.hek_rules.specs.declared.event.Event.{Event}
+use Rattle.hek_rules.specs.Events.{opcode_of, kind_of, txn_of, first_of, second_of}
+use Rattle.hek_rules.specs.Plan.{Plan}
+
+-- HKSC
+abbrev pub magic : List ℕ
+magic = 0x48 ∷ 0x4B ∷ 0x53 ∷ 0x43 ∷ []
+
+-- magic, version, and how many buckets there are
+abbrev pub front_bytes : ℕ → List ℕ
+front_bytes buckets = magic ++ to_be_bytes w16 1 ++ to_be_bytes w32 buckets
+
+-- how many rows, transactions and steps there are
+abbrev pub count_bytes : Plan → List ℕ
+count_bytes p = to_be_bytes w32 (length p.rows) ++ to_be_bytes w32 (length p.txns) ++ to_be_bytes w32 (length p.steps)
+
+abbrev pub row_bytes : ℕ × ℕ → List ℕ
+row_bytes r = to_be_bytes w64 r.0 ++ to_be_bytes w64 r.1
+
+abbrev pub level_byte : Level → ℕ
+level_byte Serializable = 1
+level_byte Repeatable = 2
+
+abbrev pub txn_bytes : List ℕ × Level → List ℕ
+txn_bytes t = level_byte t.1 ∷ length t.0 ∷ t.0
+
+-- opcode, transaction, and two operands, each 0 where there is none
+abbrev pub step_bytes : Event → List ℕ
+step_bytes e = opcode_of (kind_of e) ∷ to_be_bytes w32 (unwrap_or (txn_of e) 0) ++ to_be_bytes w64 (first_of e) ++ to_be_bytes w64 (second_of e)
+
+abbrev pub image : Plan → List ℕ
+image p = front_bytes p.buckets ++ (count_bytes p ++ (flat_map row_bytes p.rows ++ (flat_map txn_bytes p.txns ++ flat_map step_bytes p.steps)))

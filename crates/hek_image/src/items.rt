@@ -1,0 +1,223 @@
+//! Rows, transactions and steps of an image, each added to a schedule.
+ghost use Rattle.std.specs.Prelude.{◌≡◌, ◌+◌, ◌<◌, ◌≤◌, length, OnOk, IfOk, IsTrue};
+ghost use Rattle.hek_image.specs.Loading.{row_at, txn_at, step_at, kind_at, times, level_coded, is_detect, is_scan, txn_fits, first_fits, second_fits, checked, number_at};
+ghost use Rattle.std.specs.Int.{w32, w64};
+ghost use Rattle.hek_image.specs.Gives.{FieldFails, FieldGives};
+ghost use Rattle.hek_image.specs.Places.{place_of};
+
+use crate::fault::LoadFault;
+use crate::fields::{bytes_at, u8_at, u8_within, u32_at, u64_at};
+use crate::place::Place;
+use hek_rules::{EventKind, Level, Schedule, TxnId, name_text};
+
+// A row, which is added.
+#[tactic(auto, unfolding(crate::specs::Loading::row_at, crate::specs::Loading::checked, crate::specs::Loading::both))]
+fn row_at<'a>(schedule: &mut Schedule, place: Place<'a>) -> Result<Place<'a>, LoadFault>
+    requires { length schedule.old.rows < 65536 }
+    ensures gives { FieldGives (λ p. (schedule.new, place_of p)) result (row_at schedule.old (place_of place.entry)) }
+    ensures len { OnOk result (length schedule.new.rows ≡ length schedule.old.rows + 1) }
+    ensures txns { OnOk result (schedule.new.txns ≡ schedule.old.txns) }
+    ensures steps { OnOk result (schedule.new.steps ≡ schedule.old.steps) }
+{
+    let (key, after) = u64_at(place)?;
+    if !schedule.row_fits(key) {
+        return Err(LoadFault::BadField(place.at));
+    }
+    let (value, after) = u64_at(after)?;
+    schedule.add_row(key, value)?;
+    Ok(after)
+}
+
+fn level_coded(byte: u8) -> Level
+    ensures { result ≡ level_coded byte }
+{
+    if byte == 1 {
+        Level::Serializable
+    } else {
+        Level::Repeatable
+    }
+}
+
+// A transaction, which is added.
+#[tactic(auto, unfolding(crate::specs::Loading::txn_at, crate::specs::Loading::checked, crate::specs::Loading::both))]
+fn txn_at<'a>(schedule: &mut Schedule, place: Place<'a>) -> Result<Place<'a>, LoadFault>
+    requires { length schedule.old.txns < 1024 }
+    ensures gives { FieldGives (λ p. (schedule.new, place_of p)) result (txn_at schedule.old (place_of place.entry)) }
+    ensures len { OnOk result (length schedule.new.txns ≡ length schedule.old.txns + 1) }
+    ensures steps { OnOk result (schedule.new.steps ≡ schedule.old.steps) }
+{
+    let (level, after) = u8_within(1, 2, place)?;
+    let (len, name_place) = u8_within(1, 32, after)?;
+    let (name, after) = bytes_at(len as usize, name_place)?;
+    let Some(name) = name_text(name) else {
+        return Err(LoadFault::BadField(name_place.at));
+    };
+    if !schedule.txn_fits(name) {
+        return Err(LoadFault::BadField(name_place.at));
+    }
+    schedule.add_txn(name, level_coded(level))?;
+    Ok(after)
+}
+
+#[tactic(auto, unfolding(crate::specs::Loading::kind_at, crate::specs::Loading::checked, crate::specs::Loading::both))]
+fn kind_at(place: Place<'_>) -> Result<(EventKind, Place<'_>), LoadFault>
+    ensures { FieldGives (λ x. (x.0, place_of x.1)) result (kind_at (place_of place.entry)) }
+{
+    let (opcode, after) = u8_at(place)?;
+    match EventKind::coded(opcode) {
+        Some(kind) => Ok((kind, after)),
+        None => Err(LoadFault::BadField(place.at)),
+    }
+}
+
+fn is_detect(kind: EventKind) -> bool
+    ensures { result ≡ is_detect kind }
+{
+    matches!(kind, EventKind::Detect)
+}
+
+fn is_scan(kind: EventKind) -> bool
+    ensures { result ≡ is_scan kind }
+{
+    matches!(kind, EventKind::Scan)
+}
+
+fn txn_fits(schedule: &Schedule, kind: EventKind, txn: u32) -> bool
+    ensures { result ≡ txn_fits schedule.now kind txn }
+{
+    if is_detect(kind) {
+        return txn == 0;
+    }
+    txn > 0 && txn as usize <= schedule.txn_count()
+}
+
+fn first_fits(schedule: &Schedule, kind: EventKind, first: u64) -> bool
+    ensures { result ≡ first_fits schedule.now kind first }
+{
+    if kind.operand_count() == 0 {
+        return first == 0;
+    }
+    !is_scan(kind) || first < schedule.buckets()
+}
+
+fn second_fits(kind: EventKind, second: u64) -> bool
+    ensures { result ≡ second_fits kind second }
+{
+    kind.operand_count() == 2 || second == 0
+}
+
+#[tactic(auto, unfolding(crate::specs::Loading::checked))]
+fn txn_number_at<'a>(
+    schedule: &Schedule,
+    kind: EventKind,
+    place: Place<'a>,
+) -> Result<(u32, Place<'a>), LoadFault>
+    ensures gives { FieldGives (λ x. (x.0, place_of x.1)) result (checked (number_at w32) (txn_fits schedule.now kind) (place_of place.entry)) }
+    ensures fits { IfOk result (λ x. IsTrue (txn_fits schedule.now kind x.0)) }
+{
+    let (txn, after) = u32_at(place)?;
+    if !txn_fits(schedule, kind, txn) {
+        return Err(LoadFault::BadField(place.at));
+    }
+    Ok((txn, after))
+}
+
+#[tactic(auto, unfolding(crate::specs::Loading::checked))]
+fn first_at<'a>(
+    schedule: &Schedule,
+    kind: EventKind,
+    place: Place<'a>,
+) -> Result<(u64, Place<'a>), LoadFault>
+    ensures gives { FieldGives (λ x. (x.0, place_of x.1)) result (checked (number_at w64) (first_fits schedule.now kind) (place_of place.entry)) }
+    ensures fits { IfOk result (λ x. IsTrue (first_fits schedule.now kind x.0)) }
+{
+    let (first, after) = u64_at(place)?;
+    if !first_fits(schedule, kind, first) {
+        return Err(LoadFault::BadField(place.at));
+    }
+    Ok((first, after))
+}
+
+#[tactic(auto, unfolding(crate::specs::Loading::checked))]
+fn second_at(kind: EventKind, place: Place<'_>) -> Result<(u64, Place<'_>), LoadFault>
+    ensures { FieldGives (λ x. (x.0, place_of x.1)) result (checked (number_at w64) (second_fits kind) (place_of place.entry)) }
+{
+    let (second, after) = u64_at(place)?;
+    if !second_fits(kind, second) {
+        return Err(LoadFault::BadField(place.at));
+    }
+    Ok((second, after))
+}
+
+// A step, which is added.
+#[tactic(auto, unfolding(crate::specs::Loading::step_at, crate::specs::Loading::both), using(crate::proofs::StepLemmas::coded_step))]
+fn step_at<'a>(schedule: &mut Schedule, place: Place<'a>) -> Result<Place<'a>, LoadFault>
+    requires { length schedule.old.steps < 1000000 }
+    ensures gives { FieldGives (λ p. (schedule.new, place_of p)) result (step_at schedule.old (place_of place.entry)) }
+    ensures len { OnOk result (length schedule.new.steps ≡ length schedule.old.steps + 1) }
+{
+    let (kind, after) = kind_at(place)?;
+    let (txn, after) = txn_number_at(schedule, kind, after)?;
+    let (first, after) = first_at(schedule, kind, after)?;
+    let (second, after) = second_at(kind, after)?;
+    let txn = TxnId::new(u64::from(txn));
+    schedule.add_step(kind.event(txn, first, second))?;
+    Ok(after)
+}
+
+pub(crate) fn rows_at<'a>(
+    schedule: &mut Schedule,
+    count: u32,
+    place: Place<'a>,
+) -> Result<Place<'a>, LoadFault>
+    requires { length schedule.old.rows + count ≤ 65536 }
+    ensures gives { FieldGives (λ p. (schedule.new, place_of p)) result (times count row_at schedule.old (place_of place.entry)) }
+    ensures txns { OnOk result (schedule.new.txns ≡ schedule.old.txns) }
+    ensures steps { OnOk result (schedule.new.steps ≡ schedule.old.steps) }
+{
+    let mut place = place;
+    for _ in 0..count {
+        match row_at(schedule, place) {
+            Ok(after) => place = after,
+            Err(fault) => return Err(fault),
+        }
+    }
+    Ok(place)
+}
+
+pub(crate) fn txns_at<'a>(
+    schedule: &mut Schedule,
+    count: u32,
+    place: Place<'a>,
+) -> Result<Place<'a>, LoadFault>
+    requires { length schedule.old.txns + count ≤ 1024 }
+    ensures gives { FieldGives (λ p. (schedule.new, place_of p)) result (times count txn_at schedule.old (place_of place.entry)) }
+    ensures steps { OnOk result (schedule.new.steps ≡ schedule.old.steps) }
+{
+    let mut place = place;
+    for _ in 0..count {
+        match txn_at(schedule, place) {
+            Ok(after) => place = after,
+            Err(fault) => return Err(fault),
+        }
+    }
+    Ok(place)
+}
+
+pub(crate) fn steps_at<'a>(
+    schedule: &mut Schedule,
+    count: u32,
+    place: Place<'a>,
+) -> Result<Place<'a>, LoadFault>
+    requires { length schedule.old.steps + count ≤ 1000000 }
+    ensures { FieldGives (λ p. (schedule.new, place_of p)) result (times count step_at schedule.old (place_of place.entry)) }
+{
+    let mut place = place;
+    for _ in 0..count {
+        match step_at(schedule, place) {
+            Ok(after) => place = after,
+            Err(fault) => return Err(fault),
+        }
+    }
+    Ok(place)
+}

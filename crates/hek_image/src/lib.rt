@@ -1,0 +1,19 @@
+//! Schedules as images, byte by byte.
+#![tactic(auto)]
+
+mod fault;
+mod fields;
+mod gather;
+mod items;
+mod laws;
+mod loading;
+mod place;
+mod writing;
+
+pub use fault::LoadFault;
+pub use laws::images_are_exact;
+pub use loading::load_image;
+pub use writing::write_image;
+
+#[cfg(test)]
+mod tests;
