@@ -7,28 +7,6 @@ ghost use Rattle.hek_rules.specs.Faults.{level_of as level_in, is_declared as de
 
 use hek_rules::{Event, Level, Reply, Time, TxnId, Write};
 
-/// The transaction of an event.
-pub fn txn_of(event: Event) -> Option<TxnId>
-    ensures { result ≡ txn_in event }
-{
-    match event {
-        Event::Begin(t)
-        | Event::Read(t, _)
-        | Event::Scan(t, _)
-        | Event::Insert(t, _, _)
-        | Event::Update(t, _, _)
-        | Event::Delete(t, _)
-        | Event::Finish(t)
-        | Event::Precommit(t)
-        | Event::Release(t)
-        | Event::Commit(t)
-        | Event::Fail(t)
-        | Event::Stamp(t)
-        | Event::End(t) => Some(t),
-        Event::Detect => None,
-    }
-}
-
 /// What an event of t wrote, by its reply.
 pub fn written(t: TxnId, event: Event, reply: &Reply) -> Option<Write>
     ensures { MatchOption result (write_of t event reply.now ≡ []) (λ w. write_of t event reply.now ≡ w ∷ []) }
@@ -85,7 +63,7 @@ pub fn drawn(t: TxnId, event: Event, reply: &Reply) -> Option<Time>
 pub fn is_of(t: TxnId, event: Event) -> bool
     ensures { result ≡ of_txn t event }
 {
-    match txn_of(event) {
+    match event.txn() {
         Some(x) => x == t,
         None => false,
     }
@@ -105,7 +83,7 @@ pub fn level_of(levels: &[Level], t: TxnId) -> Option<Level>
 pub fn is_declared(levels: &[Level], event: Event) -> bool
     ensures { result ≡ declared_in levels.now (txn_in event) }
 {
-    match txn_of(event) {
+    match event.txn() {
         Some(t) => level_of(levels, t).is_some(),
         None => true,
     }

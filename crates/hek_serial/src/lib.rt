@@ -1,14 +1,14 @@
-//! A check of transcripts, of any origin: do the committed transactions' replies fit one serial order?
+//! The checker of transcripts, of any origin: are the replies to the committed transactions those that they get where
+//! these run one after another, by end time?
 #![tactic(auto)]
 
-pub mod faults;
-pub mod history;
-pub mod judge;
-pub mod order;
-pub mod replay;
-pub mod replies;
-pub mod rows;
-pub mod verdict;
+mod faults;
+mod history;
+mod judge;
+mod order;
+mod replay;
+mod replies;
+mod rows;
+mod verdict;
 
-pub use rows::Rows;
 pub use verdict::check;
