@@ -1,0 +1,14 @@
+//! The checker of transcripts, of any origin: are the replies to the committed transactions those that they get where
+//! these run one after another, by end time?
+#![tactic(auto)]
+
+mod faults;
+mod history;
+mod judge;
+mod order;
+mod replay;
+mod replies;
+mod rows;
+mod verdict;
+
+pub use verdict::check;
