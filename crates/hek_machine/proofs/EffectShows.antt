@@ -1,6 +1,7 @@
 -- What each effect of a walk leaves shows the world after it, and takes no more room than its own.
-use Rattle.std.proofs.Common.{◌≡◌, ℕ, ◌+◌, ◌<◌, ◌≤◌, true, false, List, refl, ◌∙◌, ap, sym, subst, arith, ⊎_elim, nat_eq, get_or-set_other}
-use Rattle.std.proofs.lemmas.Bool.{cond_both, cases_eq, false≢true}
+use Rattle.std.proofs.Common.{◌≡◌, ℕ, ◌+◌, ◌<◌, ◌≤◌, Bool, true, false, List, refl, ◌∙◌, ap, sym, subst, arith, ⊎_elim, nat_eq, get_or-set_other, inl, inr, ◌++◌, ◌∷◌, []}
+use Rattle.std.proofs.lemmas.Bool.{cond_both, cases_Bool, cases_eq, false≢true, eqb-true}
+use Rattle.std.specs.Prelude.{◌==◌, ◌||◌, ◌⊎◌}
 use Rattle.std.specs.Set.{remove_key}
 use Rattle.hek_rules.specs.declared.event.WriteEntry.TheVariants.{EndOf}
 use Rattle.hek_rules.specs.declared.event.Effect.{Effect}
@@ -16,15 +17,16 @@ use Rattle.hek_txn.proofs.EntryLemmas.{entry_at-other, among-appended}
 use Rattle.hek_buckets.specs.Held.{holders_of, with_holders}
 use Rattle.hek_buckets.specs.Waited.{imposed_waits}
 use Rattle.hek_commit.specs.Committed.{depended_deps}
-use Rattle.hek_locks.specs.Locked.{read_locked, read_lock_waits, read_lock_reads, write_locked, write_lock_waits}
+use Rattle.hek_locks.specs.Locked.{reads_freely as reads_free, read_locked, read_lock_waits, read_lock_reads, write_locked, write_lock_waits}
 use Rattle.hek_squares.proofs.Pairs.{among-seconds}
 use Rattle.hek_squares.proofs.Known.{begun-known}
-use Rattle.hek_squares.proofs.Joins.{join-there, joined-new, shows-locked, shows-locked_txns, shows-depended, shows-waited}
+use Rattle.hek_squares.proofs.Joins.{join-there, joined-there, joined-new, shows-locked, shows-locked_txns, shows-depended, shows-waited}
 use Rattle.hek_squares.proofs.ReadLocks.{shows-read_store, shows-read_txns}
 use Rattle.hek_squares.proofs.WriteLocks.{shows-write_store, shows-write_txns}
 use Rattle.hek_squares.proofs.OnlyWaits.{imposed-only, read-only, write-only, depended-only}
 use Rattle.hek_machine.specs.declared.parts.Parts.{Parts}
 use Rattle.hek_machine.specs.Room.{IsReady, KeepsRoom}
+use Rattle.hek_buckets.specs.Waited.{IsReady as CanWait}
 use Rattle.hek_machine.specs.Applied.{Applies}
 
 -- ---- shows
@@ -106,6 +108,24 @@ waited-table : (m : Parts) (t u : ℕ) (x : TxnTable) → x ≡ with_waiting_lis
     x ≡ with_waiting_list (record m.txns { waits = (imposed_waits m.txns t u).waits }) t (waiting_list_of x t)
 waited-table m t u x is = is ∙ ap (λ (y : TxnTable). with_waiting_list y t (waiting_list_of x t)) (imposed-only m.txns t u)
 
+still-joins : (m : Parts) (x : TxnTable) (t : ℕ) → x.waiting_lists ≡ m.txns.waiting_lists → (h : ℕ) → (h ≡ t → ⊥) → CanWait m.txns t h → CanWait x t h
+still-joins m x t same h ne r = record {
+  room = subst (λ (ls : List (Entries ℕ)). is_among (entry_at no_entries ls h).items t ≡ false → 0 < (entry_at no_entries ls h).room) (sym same) r.room;
+}
+
+among-joined : (xs : List ℕ) (n h : ℕ) → is_among (joined nat_eq xs n) h ≡ true → (is_among xs h ≡ true) ⊎ (h ≡ n)
+among-joined xs n h k =
+    ⊎_elim (λ there. inl (sym (ap (λ ys. is_among ys h) (joined-there xs n there)) ∙ k))
+    (λ new. appended xs (sym (ap (λ ys. is_among ys h) (joined-new xs n new)) ∙ k)) (cases_Bool (is_among xs n))
+  where
+    appended : (ys : List ℕ) → is_among (ys ++ n ∷ []) h ≡ true → (is_among ys h ≡ true) ⊎ (h ≡ n)
+    appended [] e = ⊎_elim (λ same. inr (sym (eqb-true n h same))) (λ other. absurd (false≢true (sym other ∙ alone (n == h) e))) (cases_Bool (n == h))
+      where
+        alone : (b : Bool) → (b || false) ≡ true → b ≡ true
+        alone true z = refl
+        alone false z = z
+    appended (y ∷ ys) e = ⊎_elim (λ here. inl (ap (λ b. b || is_among ys h) here)) (λ other. ⊎_elim (λ k. inl (ap (λ b. b || is_among ys h) other ∙ k)) (λ k. inr k) (appended ys (sym (ap (λ b. b || is_among (ys ++ n ∷ []) h) other) ∙ e))) (cases_Bool (y == h))
+
 pub keeps_wait : (m : Parts) (t u : ℕ) (x : TxnTable) → x ≡ with_waiting_list (imposed_waits m.txns t u) t (waiting_list_of x t) →
     (waiting_list_of m.txns t).room ≤ (waiting_list_of x t).room + 1 → KeepsRoom m (record m { txns = x }) t (MakeWait u)
 keeps_wait m t u x is room =
@@ -118,11 +138,22 @@ keeps_wait m t u x is room =
       waits = omega (arith, room);
       buckets = omega (arith, c);
       others = ready-same m m.store x t (ap (λ (y : TxnTable). y.dependents) e);
+      adding = record {
+        versions = omega arith;
+        joins = λ h ne r. record {
+          room = subst (λ (l : Entries ℕ). is_among l.items t ≡ false → 0 < l.room)
+              (sym (ap (λ (y : TxnTable). waiting_list_of y h) e ∙ entry_at-other no_entries m.txns.waiting_lists t h (waiting_list_of x t) ne)) r.room;
+        };
+        holders = λ b h k. inl k;
+      };
     }
 
-pub keeps_read : (m : Parts) (t v : ℕ) (s : Stored) (x : TxnTable) → x ≡ with_read_set (read_lock_waits m.store m.txns t v) t (read_set_of x t) →
+pub room_read : (s : Stored) (x : TxnTable) (t v : ℕ) → s.room ≤ (read_locked s x t v).room
+room_read s x t v = cond_both (reads_free s x t v) s _ (λ (z : Stored). s.room ≤ z.room) (λ _. omega arith) (λ _. omega arith)
+
+pub keeps_read : (m : Parts) (t v : ℕ) (s : Stored) (x : TxnTable) → m.store.room ≤ s.room → x ≡ with_read_set (read_lock_waits m.store m.txns t v) t (read_set_of x t) →
     (read_set_of m.txns t).room ≤ (read_set_of x t).room + 1 → KeepsRoom m (record m { store = s; txns = x }) t (ReadLock v)
-keeps_read m t v s x is room =
+keeps_read m t v s x stored is room =
     let e = is ∙ ap (λ (y : TxnTable). with_read_set y t (read_set_of x t)) (read-only m.store m.txns t v) in
     let a = ap (λ (y : TxnTable). (waiting_list_of y t).room) e in let b = ap (λ (y : TxnTable). (write_set_of y t).room) e in
     let c = ap (λ (y : TxnTable). (bucket_set_of y t).room) e in
@@ -132,12 +163,13 @@ keeps_read m t v s x is room =
       waits = omega (arith, a);
       buckets = omega (arith, c);
       others = ready-same m s x t (ap (λ (y : TxnTable). y.dependents) e);
+      adding = record { versions = stored; joins = still-joins m x t (ap (λ (y : TxnTable). y.waiting_lists) e); holders = λ b h k. inl k };
     }
 
-pub keeps_write : (m : Parts) (t v : ℕ) (s : Stored) (x : TxnTable) →
+pub keeps_write : (m : Parts) (t v : ℕ) (s : Stored) (x : TxnTable) → m.store.room ≤ s.room →
     x ≡ with_write_set (with_read_set (write_lock_waits m.store m.txns t v) t (read_set_of x t)) t (write_set_of x t) →
     (read_set_of m.txns t).room ≤ (read_set_of x t).room → (write_set_of m.txns t).room ≤ (write_set_of x t).room + 1 → KeepsRoom m (record m { store = s; txns = x }) t (WriteLock v)
-keeps_write m t v s x is reads writes =
+keeps_write m t v s x stored is reads writes =
     let e = is ∙ ap (λ (y : TxnTable). with_write_set (with_read_set y t (read_set_of x t)) t (write_set_of x t)) (write-only m.store m.txns t v) in
     let a = ap (λ (y : TxnTable). (waiting_list_of y t).room) e in
     let c = ap (λ (y : TxnTable). (bucket_set_of y t).room) e in
@@ -147,6 +179,7 @@ keeps_write m t v s x is reads writes =
       waits = omega (arith, a);
       buckets = omega (arith, c);
       others = ready-same m s x t (ap (λ (y : TxnTable). y.dependents) e);
+      adding = record { versions = stored; joins = still-joins m x t (ap (λ (y : TxnTable). y.waiting_lists) e); holders = λ b h k. inl k };
     }
 
 joined-among : (xs : List ℕ) (n : ℕ) → is_among xs n ≡ false → is_among (joined nat_eq xs n) n ≡ true
@@ -163,6 +196,7 @@ keeps_dependence m t u x d fresh is items =
       waits = omega (arith, a);
       buckets = omega (arith, c);
       others = others;
+      adding = record { versions = omega arith; joins = still-joins m x t (ap (λ (y : TxnTable). y.waiting_lists) whole); holders = λ b h k. inl k };
     }
   where
     whole : x ≡ with_dependents (record m.txns { deps = (depended_deps m.txns t u).deps }) u (dependents_of x u)
@@ -193,8 +227,18 @@ keeps_bucket m t b lists x fresh is members like room =
       waits = omega (arith, a);
       buckets = omega (arith, room);
       others = others;
+      adding = record { versions = omega arith; joins = still-joins m x t (ap (λ (y : TxnTable). y.waiting_lists) like); holders = holders };
     }
   where
+    holders : (c h : ℕ) → is_among (holders_of lists c).items h ≡ true → (is_among (holders_of m.buckets c).items h ≡ true) ⊎ (h ≡ t)
+    holders c h k =
+        ⊎_elim
+        (λ e. let old : is_among (joined nat_eq (holders_of m.buckets b).items t) h ≡ true = sym (ap (λ n. is_among (holders_of lists n).items h) e ∙ ap (λ xs. is_among xs h) members) ∙ k in
+        ⊎_elim (λ y. inl (ap (λ n. is_among (holders_of m.buckets n).items h) e ∙ y)) (λ y. inr y) (among-joined (holders_of m.buckets b).items t h old))
+        (λ ne. let same : holders_of lists c ≡ holders_of m.buckets c = ap (λ ls. holders_of ls c) is ∙ get_or-set_other m.buckets b c (holders_of lists b) no_entries ne in
+        inl (ap (λ (es : Entries ℕ). is_among es.items h) (sym same) ∙ k))
+        (cases_eq c b)
+
     others : (e : Effect) → IsReady m t e → IsReady (record m { buckets = lists; txns = x }) t e
     others (LockBucket y) r =
         ⊎_elim
@@ -209,4 +253,4 @@ keeps_bucket m t b lists x fresh is members like room =
     others (WriteLock v) r = tt
 
 pub keeps_all : (m : Parts) (t : ℕ) (e : Effect) → KeepsRoom m m t e
-keeps_all m t e = record { reads = omega arith; writes = omega arith; waits = omega arith; buckets = omega arith; others = λ x r. r }
+keeps_all m t e = record { reads = omega arith; writes = omega arith; waits = omega arith; buckets = omega arith; others = λ x r. r; adding = record { versions = omega arith; joins = λ h ne r. r; holders = λ b h k. inl k } }

@@ -21,7 +21,7 @@ use Rattle.hek_txn.specs.TxnTable.{read_set_of, write_set_of, waiting_list_of, b
 use Rattle.hek_squares.proofs.Known.{begun-known}
 use Rattle.hek_machine.specs.declared.parts.Parts.{Parts}
 use Rattle.hek_machine.specs.Stands.{Shows, StandsFor, IsOrdered}
-use Rattle.hek_machine.specs.Room.{HasRoom, KeepsRoom, IsReady, reads_in, writes_in, waits_in, buckets_in}
+use Rattle.hek_machine.specs.Room.{HasRoom, KeepsRoom, KeepsAdding, IsReady, reads_in, writes_in, waits_in, buckets_in}
 use Rattle.hek_machine.specs.Applied.{May, CanApply, IsAble, Applies, Allowed}
 use Rattle.hek_machine.proofs.Needs.{reads-first, writes-first, waits-first, buckets-first}
 
@@ -101,6 +101,7 @@ may-turn w t before (WriteLock v) after a =
 pub record Done (m : Parts) (t : ℕ) (effects : List Effect) (i : ℕ) (cur : Parts) : Type 0 where
   pub shows : (w : World) → StandsFor m w → Shows cur (apply_all t w (take i effects))
   pub room : HasRoom cur t (drop i effects)
+  pub kept : KeepsAdding m cur t
 
 split : (es : List Effect) (i : ℕ) (e : Effect) → i < length es → e ≡ get_or es i e → es ≡ take i es ++ e ∷ drop (i + 1) es
 split es i e l at = sym (take-append-drop i es) ∙ ap (λ xs. take i es ++ xs) (drop_more es i e l ∙ ap (λ x. x ∷ drop (i + 1) es) (sym at))
@@ -170,6 +171,16 @@ left-room cur new t e es k r =
 
 -- ---- the turn done
 
+kept-more : (a b c : Parts) (t : ℕ) → KeepsAdding a b t → KeepsAdding b c t → KeepsAdding a c t
+kept-more a b c t p q = record {
+  versions = let k = p.versions in let l = q.versions in omega (arith, k, l);
+  joins = λ h ne r. q.joins h ne (p.joins h ne r);
+  holders = λ n h k. ⊎_elim (λ y. p.holders n h y) (λ y. inr y) (q.holders n h k);
+}
+
+pub kept-none : (a : Parts) (t : ℕ) → KeepsAdding a a t
+kept-none a t = record { versions = omega arith; joins = λ h ne r. r; holders = λ b h k. inl k }
+
 apply-more : (t : ℕ) (w : World) (xs : List Effect) (e : Effect) → apply_all t w (xs ++ e ∷ []) ≡ apply t (apply_all t w xs) e
 apply-more t w [] e = refl
 apply-more t w (x ∷ xs) e = apply-more t (apply t w x) xs e
@@ -180,4 +191,5 @@ done_more m cur new t i e es l at small a d does keeps = record {
   shows = λ w s. subst (Shows new) (sym (ap (apply_all t w) (take_more es i e l ∙ ap (λ x. take i es ++ x ∷ []) (sym at)) ∙ apply-more t w (take i es) e))
       (does (apply_all t w (take i es)) (can-turn m cur t i e es w l at small s (a w s) d));
   room = left-room cur new t e (drop (i + 1) es) keeps (subst (HasRoom cur t) (first-left es i e l at) d.room);
+  kept = kept-more m cur new t d.kept keeps.adding;
 }

@@ -1,5 +1,5 @@
 -- Room for the effects of a walk, reserved before the first of them is done.
-use Rattle.std.specs.Prelude.{◌≡◌, ℕ, ◌+◌, ◌<◌, ◌≤◌, false, List, [], ◌∷◌, length}
+use Rattle.std.specs.Prelude.{◌≡◌, ℕ, ◌+◌, ◌<◌, ◌≤◌, ◌⊎◌, true, false, List, [], ◌∷◌, length}
 use Rattle.hek_rules.specs.declared.event.Effect.{Effect}
 use Rattle.hek_rules.specs.declared.event.Effect.TheVariants.{LockBucket, DependOn, MakeWait, ReadLock, WriteLock}
 use Rattle.hek_rules.specs.Listing.{is_among}
@@ -7,6 +7,7 @@ use Rattle.hek_laws.specs.Lists.{In}
 use Rattle.hek_txn.specs.Entries.{AreCopies}
 use Rattle.hek_txn.specs.TxnTable.{IsCopy, Declared, read_set_of, write_set_of, bucket_set_of, waiting_list_of, dependents_of}
 use Rattle.hek_buckets.specs.Held.{holders_of}
+use Rattle.hek_buckets.specs.Waited.{IsReady as CanWait}
 use Rattle.hek_machine.specs.declared.parts.Parts.{Parts}
 
 -- how many of the effects add to the read set, the write set, the waiting list and the bucket set
@@ -46,13 +47,21 @@ IsReady m t (MakeWait u) = Unit {0}
 IsReady m t (ReadLock v) = Unit {0}
 IsReady m t (WriteLock v) = Unit {0}
 
--- room for all these effects, and for one entry more in the write set: that of a version that is made after them
+-- room for all these effects, and for one entry more in the write set and in the waiting list: those of a version that is
+-- made after them
 pub record HasRoom (m : Parts) (t : ℕ) (effects : List Effect) : Type 0 where
   pub reads : reads_in effects ≤ (read_set_of m.txns t).room
   pub writes : writes_in effects + 1 ≤ (write_set_of m.txns t).room
-  pub waits : waits_in effects ≤ (waiting_list_of m.txns t).room
+  pub waits : waits_in effects + 1 ≤ (waiting_list_of m.txns t).room
   pub buckets : buckets_in effects ≤ (bucket_set_of m.txns t).room
   pub others : (e : Effect) → In e effects → IsReady m t e
+
+-- what making a version counts on: the store has no less room, nor has t less in the lists of others, and none but t has come
+-- to lock a bucket
+pub record KeepsAdding (old new : Parts) (t : ℕ) : Type 0 where
+  pub versions : old.store.room ≤ new.store.room
+  pub joins : (h : ℕ) → (h ≡ t → ⊥) → CanWait old.txns t h → CanWait new.txns t h
+  pub holders : (b h : ℕ) → is_among (holders_of new.buckets b).items h ≡ true → (is_among (holders_of old.buckets b).items h ≡ true) ⊎ (h ≡ t)
 
 -- an effect takes no more room than its own
 pub record KeepsRoom (old new : Parts) (t : ℕ) (effect : Effect) : Type 0 where
@@ -61,6 +70,12 @@ pub record KeepsRoom (old new : Parts) (t : ℕ) (effect : Effect) : Type 0 wher
   pub waits : (waiting_list_of old.txns t).room ≤ (waiting_list_of new.txns t).room + waits_in (effect ∷ [])
   pub buckets : (bucket_set_of old.txns t).room ≤ (bucket_set_of new.txns t).room + buckets_in (effect ∷ [])
   pub others : (e : Effect) → IsReady old t e → IsReady new t e
+  pub adding : KeepsAdding old new t
+
+-- room for a version of a bucket: in the store, and for t in the lists of those who lock the bucket
+pub record CanMake (m : Parts) (t b : ℕ) : Type 0 where
+  pub version : 0 < m.store.room
+  pub joins : (h : ℕ) → (h ≡ t → ⊥) → is_among (holders_of m.buckets b).items h ≡ true → CanWait m.txns t h
 
 -- the same but for room, of which no list has less
 pub record Reserved (old new : Parts) : Type 0 where

@@ -3,7 +3,7 @@ ghost use Rattle.std.specs.Prelude.{◌≡◌, ◌<◌, ◌≤◌, ◌^◌, ◌�
 ghost use Rattle.hek_rules.specs.Walk.{apply_all as all_applied};
 ghost use Rattle.hek_rules.specs.declared.event.Effect.TheVariants.{LockBucket, DependOn, MakeWait, ReadLock, WriteLock};
 ghost use Rattle.hek_txn.specs.TxnTable.{read_set_of, write_set_of, bucket_set_of, waiting_list_of};
-ghost use Rattle.hek_machine.specs.Room.{IsReady, KeepsRoom, HasRoom, reads_in, writes_in, waits_in, buckets_in};
+ghost use Rattle.hek_machine.specs.Room.{IsReady, KeepsRoom, KeepsAdding, HasRoom, reads_in, writes_in, waits_in, buckets_in};
 ghost use Rattle.hek_machine.specs.Applied.{IsAble, Applies, Allowed};
 ghost use Rattle.hek_machine.specs.Stands.{Shows, StandsFor, IsOrdered};
 
@@ -92,6 +92,7 @@ impl Parts {
         requires small { length self.old.store.versions < 2 ^ 58 }
         ensures shows { (w : _) → StandsFor self.old w → Shows self.new (all_applied t w effects.now) }
         ensures room { HasRoom self.new t [] }
+        ensures kept { KeepsAdding self.old self.new t }
     {
         for &effect in effects {
             self.apply(t, effect);

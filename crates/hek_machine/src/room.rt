@@ -60,19 +60,20 @@ fn needs_of(effects: &[Effect]) -> Needs
 }
 
 impl Parts {
-    /// Room in the lists of the transaction itself, and for one entry more in its write set.
+    /// Room in the lists of the transaction itself, and for one entry more in its write set and in its waiting list.
     fn reserve_own(&mut self, t: TxnId, needs: Needs) -> Result<(), NoMemory>
         requires known { Declared self.old.txns t }
-        requires small { needs.writes + 1 < 2 ^ 64 }
+        requires few_writes { needs.writes + 1 < 2 ^ 64 }
+        requires few_waits { needs.waits + 1 < 2 ^ 64 }
         ensures reserved { Reserved self.old self.new }
         ensures reads { OnOk result (needs.reads ≤ (read_set_of self.new.txns t).room) }
         ensures writes { OnOk result (needs.writes + 1 ≤ (write_set_of self.new.txns t).room) }
-        ensures waits { OnOk result (needs.waits ≤ (waiting_list_of self.new.txns t).room) }
+        ensures waits { OnOk result (needs.waits + 1 ≤ (waiting_list_of self.new.txns t).room) }
         ensures buckets { OnOk result (needs.buckets ≤ (bucket_set_of self.new.txns t).room) }
     {
         self.txns.reserve_reads(t, needs.reads)?;
         self.txns.reserve_writes(t, needs.writes + 1)?;
-        self.txns.reserve_waiters(t, needs.waits)?;
+        self.txns.reserve_waiters(t, needs.waits + 1)?;
         self.txns.reserve_buckets(t, needs.buckets)
     }
 

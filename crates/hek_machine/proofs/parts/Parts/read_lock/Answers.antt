@@ -1,5 +1,5 @@
 use Rattle.hek_machine.proofs.EffectRows.{able_writer, able_version, able_freed, able_added, able_counted}
-use Rattle.hek_machine.proofs.EffectShows.{applies_read, keeps_read}
+use Rattle.hek_machine.proofs.EffectShows.{applies_read, keeps_read, room_read}
 use Rattle.hek_machine.proofs.parts.Parts.read_lock.Goals as goal
 
 pub read_lock-requires-clause-writer : goal.read_lock-requires-clause-writer
@@ -18,4 +18,4 @@ pub returns-clause-shows : goal.returns-clause-shows
 returns-clause-shows c = let e = c.read_lock.ensures in rw e.store (applies_read c.args.self.now c.args.t c.args.v c.read_lock.new.txns e.txns e.reads)
 
 pub returns-clause-room : goal.returns-clause-room
-returns-clause-room c = let e = c.read_lock.ensures in keeps_read c.args.self.now c.args.t c.args.v c.read_lock.new.store c.read_lock.new.txns e.txns e.room
+returns-clause-room c = let e = c.read_lock.ensures in keeps_read c.args.self.now c.args.t c.args.v c.read_lock.new.store c.read_lock.new.txns (rw e.store (room_read c.args.self.now.store c.args.self.now.txns c.args.t c.args.v)) e.txns e.room

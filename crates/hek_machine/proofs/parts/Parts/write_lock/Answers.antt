@@ -1,3 +1,4 @@
+use Rattle.std.proofs.Common.{arith}
 use Rattle.hek_machine.proofs.EffectRows.{able_writer, able_target, able_freed, able_own, able_taken, able_waiting}
 use Rattle.hek_machine.proofs.EffectShows.{applies_write, keeps_write}
 use Rattle.hek_machine.proofs.parts.Parts.write_lock.Goals as goal
@@ -21,4 +22,4 @@ pub returns-clause-shows : goal.returns-clause-shows
 returns-clause-shows c = let e = c.write_lock.ensures in rw e.store (applies_write c.args.self.now c.args.t c.args.v c.write_lock.new.txns e.txns e.reads e.writes)
 
 pub returns-clause-room : goal.returns-clause-room
-returns-clause-room c = let e = c.write_lock.ensures in keeps_write c.args.self.now c.args.t c.args.v c.write_lock.new.store c.write_lock.new.txns e.txns e.read_room e.write_room
+returns-clause-room c = let e = c.write_lock.ensures in keeps_write c.args.self.now c.args.t c.args.v c.write_lock.new.store c.write_lock.new.txns (rw e.store (omega arith)) e.txns e.read_room e.write_room
