@@ -1,9 +1,9 @@
 -- The lines and words of a text that is written line by line, with one space between words.
-use Rattle.std.proofs.Common.{◌≡◌, ◌≢◌, ℕ, zero, suc, ◌+◌, ◌<◌, ◌≤◌, Bool, true, false, ◌||◌, not, cond, eqb, leb, List, [], ◌∷◌, ◌++◌, length, Option, Some, None, Result, Ok, Err, refl, sym, ap, subst, ◌∙◌, arith, append_assoc}
+use Rattle.std.proofs.Common.{◌≡◌, ◌≢◌, ℕ, ◌+◌, ◌<◌, ◌≤◌, true, false, eqb, List, [], ◌∷◌, ◌++◌, length, Option, Result, Ok, refl, ap, ◌∙◌, arith, append_assoc}
 use Rattle.std.specs.List.{AllByRecursion, onto_first, flat_map}
 use Rattle.std.proofs.lemmas.Bool.{ne_eqb, lt-leb}
 use Rattle.hek_rules.specs.Plan.{Plan}
-use Rattle.hek_rules.specs.Text.{lines_of, words_of, is_line_end, is_blank, is_comment, ends_word, at_word}
+use Rattle.hek_rules.specs.Text.{lines_of, words_of, is_line_end, is_blank, is_comment, at_word}
 use Rattle.hek_asm.specs.declared.fault.AsmKind.{AsmKind}
 use Rattle.hek_asm.specs.Text.{has_foreign, line_after, lines_after, words_after, onward}
 use Rattle.hek_asm.specs.Lines.{spaced, joined, line_text}
