@@ -19,13 +19,13 @@ pub record IsWord (w : List ℕ) : Type 0 where
 apart : (b n : ℕ) → n < b → eqb b n ≡ false
 apart b n h = ne_eqb b n (λ e. absurd (omega arith))
 
-no_blank : (b : ℕ) → IsPlain b → is_blank b ≡ false
+pub no_blank : (b : ℕ) → IsPlain b → is_blank b ≡ false
 no_blank b h = rw (apart b 32 (omega (arith, h.0)), apart b 9 (omega (arith, h.0)), apart b 13 (omega (arith, h.0))) refl
 
-no_comment : (b : ℕ) → IsPlain b → is_comment b ≡ false
+pub no_comment : (b : ℕ) → IsPlain b → is_comment b ≡ false
 no_comment b h = ne_eqb b 35 h.2
 
-no_end : (b : ℕ) → IsPlain b → is_line_end b ≡ false
+pub no_end : (b : ℕ) → IsPlain b → is_line_end b ≡ false
 no_end b h = apart b 10 (omega (arith, h.0))
 
 grow : (b : ℕ) (tail : List ℕ) → is_blank b ≡ false → is_comment b ≡ false → at_word tail ≡ true → words_of (b ∷ tail) ≡ onto_first b (words_of tail)

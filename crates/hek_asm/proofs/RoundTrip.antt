@@ -76,7 +76,7 @@ id_again q t is h =
     let back : (t - 1) + 1 ≡ t = omega (arith, h.0) in
     ap (option_map (λ (i : ℕ). i + 1)) (own_place (names_of q) (t - 1) (place_of q t h) is.names) ∙ ap (λ (m : ℕ). Some m) back
 
-name_again : (q : Plan) (t : ℕ) → IsPlan q → IsDeclared (length q.txns) t → is_name (name_at q t) ≡ true
+pub name_again : (q : Plan) (t : ℕ) → IsPlan q → IsDeclared (length q.txns) t → is_name (name_at q t) ≡ true
 name_again q t is h = all_at (λ w. IsTrue (is_name w)) (names_of q) (t - 1) [] is.forms (place_of q t h)
 
 -- ---- steps
