@@ -1,9 +1,9 @@
 -- The lines and words of a text that is written line by line, with one space between words.
-use Rattle.std.proofs.Common.{◌≡◌, ◌≢◌, ℕ, zero, suc, ◌+◌, ◌<◌, ◌≤◌, Bool, true, false, ◌||◌, not, cond, eqb, leb, List, [], ◌∷◌, ◌++◌, length, Option, Some, None, Result, Ok, Err, refl, sym, ap, subst, ◌∙◌, arith, append_assoc}
+use Rattle.std.proofs.Common.{◌≡◌, ◌≢◌, ℕ, ◌+◌, ◌<◌, ◌≤◌, true, false, eqb, List, [], ◌∷◌, ◌++◌, length, Option, Result, Ok, refl, ap, ◌∙◌, arith, append_assoc}
 use Rattle.std.specs.List.{AllByRecursion, onto_first, flat_map}
 use Rattle.std.proofs.lemmas.Bool.{ne_eqb, lt-leb}
 use Rattle.hek_rules.specs.Plan.{Plan}
-use Rattle.hek_rules.specs.Text.{lines_of, words_of, is_line_end, is_blank, is_comment, ends_word, at_word}
+use Rattle.hek_rules.specs.Text.{lines_of, words_of, is_line_end, is_blank, is_comment, at_word}
 use Rattle.hek_asm.specs.declared.fault.AsmKind.{AsmKind}
 use Rattle.hek_asm.specs.Text.{has_foreign, line_after, lines_after, words_after, onward}
 use Rattle.hek_asm.specs.Lines.{spaced, joined, line_text}
@@ -19,13 +19,13 @@ pub record IsWord (w : List ℕ) : Type 0 where
 apart : (b n : ℕ) → n < b → eqb b n ≡ false
 apart b n h = ne_eqb b n (λ e. absurd (omega arith))
 
-no_blank : (b : ℕ) → IsPlain b → is_blank b ≡ false
+pub no_blank : (b : ℕ) → IsPlain b → is_blank b ≡ false
 no_blank b h = rw (apart b 32 (omega (arith, h.0)), apart b 9 (omega (arith, h.0)), apart b 13 (omega (arith, h.0))) refl
 
-no_comment : (b : ℕ) → IsPlain b → is_comment b ≡ false
+pub no_comment : (b : ℕ) → IsPlain b → is_comment b ≡ false
 no_comment b h = ne_eqb b 35 h.2
 
-no_end : (b : ℕ) → IsPlain b → is_line_end b ≡ false
+pub no_end : (b : ℕ) → IsPlain b → is_line_end b ≡ false
 no_end b h = apart b 10 (omega (arith, h.0))
 
 grow : (b : ℕ) (tail : List ℕ) → is_blank b ≡ false → is_comment b ≡ false → at_word tail ≡ true → words_of (b ∷ tail) ≡ onto_first b (words_of tail)

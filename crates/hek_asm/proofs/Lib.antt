@@ -5,3 +5,4 @@ pub mod Joined
 pub mod Again
 pub mod RoundTrip
 pub mod TextOnly
+pub mod CanonicalTidy

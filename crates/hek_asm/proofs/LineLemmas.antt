@@ -1,16 +1,13 @@
 -- A line of a trace, in the parts that are written.
-use Rattle.std.proofs.Common.{◌≡◌, ℕ, ◌+◌, ◌<◌, List, [], ◌∷◌, ◌++◌, length, map, drop, get_or, refl, sym, ap, ◌∙◌, append_assoc, codes, Some, None, arith}
+use Rattle.std.proofs.Common.{◌≡◌, ℕ, List, [], ◌∷◌, ◌++◌, refl, sym, ap, ◌∙◌, append_assoc, codes}
 use Rattle.std.specs.Fmt.{decimal}
-use Rattle.std.specs.List.{AllByRecursion}
 use Rattle.hek_rules.specs.declared.event.Event.{Event}
-use Rattle.hek_rules.specs.declared.reply.Refusal.{Refusal}
-use Rattle.hek_rules.specs.declared.reply.Refusal.TheVariants as refusal
 use Rattle.hek_rules.specs.declared.reply.Reply.{Reply}
 use Rattle.hek_rules.specs.declared.reply.Reply.TheVariants as reply
 use Rattle.hek_rules.specs.Plan.{Plan}
 use Rattle.hek_asm.specs.Lines.{spaced, joined}
 use Rattle.hek_asm.specs.Canonical.{step_words}
-use Rattle.hek_asm.specs.Trace.{reply_words, trace_line, trace_from, NamesDeclared}
+use Rattle.hek_asm.specs.Trace.{reply_words, trace_line}
 
 pub spaced_append : (vs ws : List (List ℕ)) → spaced (vs ++ ws) ≡ spaced vs ++ spaced ws
 spaced_append [] ws = refl

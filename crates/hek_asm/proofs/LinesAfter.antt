@@ -1,5 +1,5 @@
 -- One more line of a text.
-use Rattle.std.proofs.Common.{◌≡◌, ℕ, ◌+◌, List, [], ◌∷◌, Option, None, Some, Result, Ok, Err, refl, sym, ap, ◌∙◌}
+use Rattle.std.proofs.Common.{◌≡◌, ℕ, ◌+◌, List, [], ◌∷◌, Option, Ok, Err, refl}
 use Rattle.hek_rules.specs.Plan.{Plan}
 use Rattle.hek_asm.specs.declared.fault.AsmKind.{AsmKind}
 use Rattle.hek_asm.specs.declared.fault.LineFault.{LineFault}

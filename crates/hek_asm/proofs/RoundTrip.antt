@@ -1,5 +1,5 @@
 -- The canonical text of a schedule is the text of that schedule.
-use Rattle.std.proofs.Common.{◌≡◌, ℕ, zero, suc, ◌+◌, ◌-◌, ◌<◌, ◌≤◌, ◌^◌, Bool, true, false, ◌&&◌, ◌||◌, not, List, [], ◌∷◌, ◌++◌, length, get_or, map, Option, Some, None, Result, Ok, Err, refl, sym, ap, subst, ◌∙◌, arith, append_assoc, add-zero, length-append, nat_eq, codes, IsTrue}
+use Rattle.std.proofs.Common.{◌≡◌, ℕ, zero, suc, ◌+◌, ◌-◌, ◌<◌, ◌≤◌, ◌^◌, Bool, true, false, ◌&&◌, ◌||◌, not, List, [], ◌∷◌, ◌++◌, length, get_or, map, Some, None, Ok, refl, sym, ap, subst, ◌∙◌, arith, append_assoc, length-append, nat_eq, codes, IsTrue}
 use Rattle.std.specs.Prelude.{position, nat_le, nat_lt, ◌==◌}
 use Rattle.std.specs.List.{AllByRecursion, IsDistinct, list_all, position_or_len}
 use Rattle.std.specs.Option.{option_map}
@@ -18,8 +18,7 @@ use Rattle.hek_rules.specs.declared.kind.EventKind.{EventKind}
 use Rattle.hek_rules.specs.declared.kind.EventKind.TheVariants as kind
 use Rattle.hek_rules.specs.Name.{is_name, is_name_byte, is_reserved, begins_with_letter}
 use Rattle.hek_rules.specs.Events.{word_of, kind_named, operand_count, event_of}
-use Rattle.hek_rules.specs.Plan.{Plan, IsPlan, IsRow, IsStep, IsDeclared, has_key, names_of, id_of}
-use Rattle.hek_asm.specs.declared.fault.AsmKind.{AsmKind}
+use Rattle.hek_rules.specs.Plan.{Plan, IsPlan, IsRow, IsStep, IsDeclared, names_of, id_of}
 use Rattle.hek_asm.specs.Text.{is_detect, is_scan, words_after, first_words, buckets_line, later_words, step_line, event_line, operands_or_fault, with_step, detect_line, before_txns, schedule_of}
 use Rattle.hek_asm.specs.Canonical.{row_words, txn_words, name_at, step_words, lines_words, canonical_text}
 use Rattle.hek_asm.proofs.Joined.{IsWord, written_after, written_step}
@@ -77,7 +76,7 @@ id_again q t is h =
     let back : (t - 1) + 1 ≡ t = omega (arith, h.0) in
     ap (option_map (λ (i : ℕ). i + 1)) (own_place (names_of q) (t - 1) (place_of q t h) is.names) ∙ ap (λ (m : ℕ). Some m) back
 
-name_again : (q : Plan) (t : ℕ) → IsPlan q → IsDeclared (length q.txns) t → is_name (name_at q t) ≡ true
+pub name_again : (q : Plan) (t : ℕ) → IsPlan q → IsDeclared (length q.txns) t → is_name (name_at q t) ≡ true
 name_again q t is h = all_at (λ w. IsTrue (is_name w)) (names_of q) (t - 1) [] is.forms (place_of q t h)
 
 -- ---- steps

@@ -1,7 +1,7 @@
 -- No other tidy text than the canonical one is a text of a schedule.
-use Rattle.std.proofs.Common.{◌≡◌, ℕ, zero, suc, ◌+◌, ◌-◌, ◌<◌, ◌≤◌, ◌^◌, Bool, true, false, cond, ◌&&◌, ◌||◌, not, List, [], ◌∷◌, ◌++◌, length, get_or, map, Option, Some, None, Result, Ok, Err, refl, sym, ap, subst, ◌∙◌, append_assoc, arith, codes, inl, inr, ◌⊎◌}
+use Rattle.std.proofs.Common.{◌≡◌, ℕ, suc, ◌+◌, ◌-◌, ◌<◌, ◌≤◌, ◌^◌, Bool, true, false, cond, ◌&&◌, ◌||◌, not, List, [], ◌∷◌, ◌++◌, length, get_or, map, Option, Some, None, Result, Ok, Err, refl, sym, ap, subst, ◌∙◌, append_assoc, arith, codes, inl, inr, ◌⊎◌}
 use Rattle.std.specs.Prelude.{nat_le, nat_lt, ◌==◌, position}
-use Rattle.std.specs.List.{AllByRecursion, flat_map, onto_first, position_or_len, slice_index_or}
+use Rattle.std.specs.List.{AllByRecursion, flat_map, onto_first, position_or_len}
 use Rattle.std.specs.Option.{ok_or, option_map}
 use Rattle.std.specs.Fmt.{decimal}
 use Rattle.std.specs.Str.{all_ascii_digits, bytes_eq}
@@ -25,7 +25,7 @@ use Rattle.hek_asm.specs.declared.fault.AsmKind.{AsmKind}
 use Rattle.hek_asm.specs.declared.fault.AsmKind.TheVariants as fault
 use Rattle.hek_asm.specs.Lines.{spaced, joined, line_text}
 use Rattle.hek_asm.specs.Canonical.{buckets_words, row_words, txn_words, level_word, name_at, operand_words, step_words, lines_words, canonical_text}
-use Rattle.hek_asm.specs.Text.{◌>>=◌, need, number_or_fault, level_named, has_foreign, buckets_line, before_txns, row_line, txn_line, is_detect, is_scan, operands_or_fault, event_line, with_step, step_line, detect_line, first_words, later_words, words_after, line_after, onward, whole, lines_after, schedule_of}
+use Rattle.hek_asm.specs.Text.{◌>>=◌, need, level_named, has_foreign, buckets_line, before_txns, row_line, txn_line, is_detect, is_scan, operands_or_fault, event_line, with_step, step_line, detect_line, first_words, later_words, words_after, line_after, onward, lines_after, schedule_of}
 use Rattle.hek_asm.specs.Laws.{IsWordByte, IsTidyWord, IsTidyLine, IsTidy}
 
 -- ---- words and lines of a tidy text

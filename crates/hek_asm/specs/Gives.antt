@@ -1,6 +1,5 @@
 -- What a function answered is what the definition gives, unless memory ran out.
 use Rattle.std.specs.Prelude.{◌≡◌, ℕ, Result, Ok, Err}
-use Rattle.hek_rules.specs.Plan.{Plan}
 use Rattle.hek_asm.specs.declared.fault.AsmKind.{AsmKind}
 use Rattle.hek_asm.specs.declared.fault.LineFault.{LineFault}
 use Rattle.hek_asm.specs.declared.fault.LineFault.TheVariants as line

@@ -27,7 +27,8 @@ pub record IsTidy (text : List ℕ) : Type 0 where
   pub form : AllByRecursion IsTidyLine lines
   pub written : text ≡ flat_map line_text lines
 
--- the canonical text of a schedule is a text of it, and no other tidy text is
+-- the canonical text of a schedule is a text of it and tidy, and no other tidy text is
 pub record CanonicalIsExact : Type 0 where
   pub again : (p : Plan) → IsPlan p → schedule_of (canonical_text p) ≡ Ok p
+  pub tidy : (p : Plan) → IsPlan p → IsTidy (canonical_text p)
   pub only : (p : Plan) (text : List ℕ) → IsTidy text → schedule_of text ≡ Ok p → text ≡ canonical_text p

@@ -1,11 +1,11 @@
 -- A schedule is loaded from its image.
-use Rattle.std.proofs.Common.{◌≡◌, ℕ, zero, suc, ◌+◌, ◌<◌, ◌≤◌, ◌^◌, Bool, true, false, ◌&&◌, ◌||◌, not, List, [], ◌∷◌, ◌++◌, length, map, Option, Some, None, Result, Ok, Err, refl, sym, ap, subst, ◌∙◌, append_assoc, arith, length-append, nat_eq, IsTrue}
-use Rattle.std.specs.Prelude.{nat_le, nat_lt, ◌==◌, unwrap_or, is_some}
+use Rattle.std.proofs.Common.{◌≡◌, ℕ, ◌<◌, ◌≤◌, ◌^◌, true, false, ◌&&◌, not, List, [], ◌∷◌, ◌++◌, length, Some, Ok, refl, sym, ap, subst, ◌∙◌, append_assoc, arith, nat_eq, IsTrue}
+use Rattle.std.specs.Prelude.{nat_le, nat_lt, ◌==◌, unwrap_or}
 use Rattle.std.specs.Int.{w8, w16, w32, w64, to_be_bytes}
 use Rattle.std.specs.List.{AllByRecursion, IsDistinct, flat_map, list_all}
 use Rattle.std.specs.Map.{keys_of}
 use Rattle.std.specs.Str.{bytes_eq}
-use Rattle.std.proofs.lemmas.Bool.{and_parts, and_from, lt-ltb, le-leb, leb-true, not_from_false}
+use Rattle.std.proofs.lemmas.Bool.{and_parts, and_from, lt-ltb, le-leb}
 use Rattle.std.proofs.lemmas.List.{append-nil}
 use Rattle.hek_rules.specs.declared.event.Level.{Level}
 use Rattle.hek_rules.specs.declared.event.Level.TheVariants.{Serializable, Repeatable}
@@ -13,12 +13,12 @@ use Rattle.hek_rules.specs.declared.event.Event.{Event}
 use Rattle.hek_rules.specs.declared.event.Event.TheVariants as event
 use Rattle.hek_rules.specs.declared.kind.EventKind.{EventKind}
 use Rattle.hek_rules.specs.declared.kind.EventKind.TheVariants as kind
-use Rattle.hek_rules.specs.Name.{is_name, is_name_byte, is_letter, begins_with_letter, is_reserved}
-use Rattle.hek_rules.specs.Events.{event_of, kind_of, opcode_of, kind_coded, txn_of, first_of, second_of}
+use Rattle.hek_rules.specs.Name.{is_name, is_name_byte, begins_with_letter, is_reserved}
+use Rattle.hek_rules.specs.Events.{event_of, opcode_of, kind_coded}
 use Rattle.hek_rules.specs.Plan.{Plan, IsPlan, IsRow, IsStep, IsDeclared, names_of, has_key, has_name}
 use Rattle.hek_image.specs.declared.fault.LoadFault.TheVariants.{BadMagic, BadVersion}
 use Rattle.hek_image.specs.Schedules.{magic, front_bytes, count_bytes, row_bytes, txn_bytes, level_byte, step_bytes, image}
-use Rattle.hek_image.specs.Loading.{Place, Reader, Counts, both, checked, required, bytes_at, value, number_at, number_within, is_within, row_at, txn_at, is_new_name, level_coded, kind_at, is_opcode, step_at, txn_fits, first_fits, second_fits, times, magic_at, version_at, header_at, plan_at, ended, loading}
+use Rattle.hek_image.specs.Loading.{Counts, both, checked, bytes_at, value, number_at, number_within, is_within, row_at, txn_at, is_new_name, level_coded, kind_at, is_opcode, step_at, txn_fits, first_fits, second_fits, times, magic_at, version_at, header_at, plan_at, ended, loading}
 use Rattle.hek_image.proofs.Wide.{wide16, wide32, wide64}
 use Rattle.hek_image.proofs.Readers.{Reads, here, bytes_reads, both_reads, then_reads, checked_reads, required_reads, number_reads, byte_reads, within_reads, times_reads, AllGood, added}
 use Rattle.hek_image.proofs.Distinct.{fresh_before, nat_flips, bytes_flips, map_append}

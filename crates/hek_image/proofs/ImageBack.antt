@@ -1,14 +1,13 @@
 -- What loads is the image of the schedule that it gives.
-use Rattle.std.proofs.Common.{◌≡◌, ℕ, zero, suc, ◌+◌, ◌<◌, ◌≤◌, ◌^◌, Bool, true, false, cond, ◌&&◌, ◌||◌, not, List, [], ◌∷◌, ◌++◌, length, map, Option, Some, None, Result, Ok, Err, refl, sym, ap, subst, ◌∙◌, append_assoc, arith, inl, inr, ◌⊎◌, IsTrue}
-use Rattle.std.specs.Prelude.{nat_le, nat_lt, ◌==◌, unwrap_or, is_some}
+use Rattle.std.proofs.Common.{◌≡◌, ℕ, zero, suc, ◌≤◌, ◌^◌, Bool, true, false, cond, not, List, [], ◌∷◌, ◌++◌, length, Option, Some, None, Result, Ok, Err, refl, sym, ap, subst, ◌∙◌, append_assoc, arith, inl, inr, ◌⊎◌}
+use Rattle.std.specs.Prelude.{nat_le, ◌==◌, unwrap_or, is_some}
 use Rattle.std.specs.Int.{w8, w16, w32, w64, to_be_bytes}
 use Rattle.std.specs.List.{flat_map}
 use Rattle.std.specs.Str.{bytes_eq}
 use Rattle.std.proofs.lemmas.Bool.{and_parts, eqb-true, leb-true, cases_Bool}
-use Rattle.std.proofs.lemmas.List.{append-nil, length-append}
+use Rattle.std.proofs.lemmas.List.{append-nil}
 use Rattle.std.proofs.lemmas.Slice.Eq.{bytes_eq-Decides}
 use Rattle.hek_rules.specs.declared.event.Level.{Level}
-use Rattle.hek_rules.specs.declared.event.Level.TheVariants.{Serializable, Repeatable}
 use Rattle.hek_rules.specs.declared.event.Event.{Event}
 use Rattle.hek_rules.specs.declared.kind.EventKind.{EventKind}
 use Rattle.hek_rules.specs.declared.kind.EventKind.TheVariants as kind
@@ -18,9 +17,9 @@ use Rattle.hek_image.specs.declared.fault.LoadFault.{LoadFault}
 use Rattle.hek_image.specs.declared.fault.LoadFault.TheVariants.{BadMagic, BadVersion, Trailing}
 use Rattle.hek_image.specs.Laws.{IsBytes}
 use Rattle.hek_image.specs.Schedules.{magic, front_bytes, count_bytes, row_bytes, txn_bytes, level_byte, step_bytes, image}
-use Rattle.hek_image.specs.Loading.{Place, Reader, Counts, both, checked, required, bytes_at, value, number_at, number_within, is_within, row_at, txn_at, is_new_name, level_coded, kind_at, is_opcode, step_at, txn_fits, first_fits, second_fits, times, magic_at, version_at, header_at, plan_at, ended, loading}
+use Rattle.hek_image.specs.Loading.{Place, Counts, checked, bytes_at, number_at, number_within, is_within, row_at, txn_at, is_new_name, level_coded, kind_at, is_opcode, step_at, txn_fits, first_fits, second_fits, times, magic_at, version_at, header_at, plan_at, ended, loading}
 use Rattle.hek_image.proofs.Wide.{wide16, wide32, wide64}
-use Rattle.hek_image.proofs.Taken.{Took, took_then, took_none, gave, gave_is, both_ok, checked_ok, required_ok, bytes_ok, number_ok, byte_ok, within_ok, all_added, times_ok}
+use Rattle.hek_image.proofs.Taken.{Took, took_then, gave, gave_is, both_ok, checked_ok, required_ok, bytes_ok, number_ok, byte_ok, within_ok, all_added, times_ok}
 
 -- ---- rows
 abbrev with_row : Plan → ℕ × ℕ → Plan

@@ -1,5 +1,5 @@
 -- One more item of several.
-use Rattle.std.proofs.Common.{◌≡◌, ℕ, zero, suc, ◌+◌, ◌-◌, ◌<◌, ◌≤◌, Result, Ok, Err, refl, sym, ap, ◌∙◌, arith}
+use Rattle.std.proofs.Common.{◌≡◌, ℕ, suc, ◌+◌, ◌-◌, ◌<◌, ◌≤◌, Result, Ok, refl, arith}
 use Rattle.hek_rules.specs.Plan.{Plan}
 use Rattle.hek_image.specs.declared.fault.LoadFault.{LoadFault}
 use Rattle.hek_image.specs.declared.fault.LoadFault.TheVariants as load

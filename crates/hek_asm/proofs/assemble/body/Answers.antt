@@ -1,4 +1,4 @@
-use Rattle.std.proofs.Common.{◌≡◌, ℕ, ◌+◌, ◌∙◌, ◌∷◌, List, sym, ap, subst, arith, Some, Ok, Result}
+use Rattle.std.proofs.Common.{ℕ, ◌+◌, ◌∙◌, sym, ap, subst, arith, Some, Result}
 use Rattle.hek_asm.specs.declared.fault.AsmKind.{AsmKind}
 use Rattle.hek_asm.specs.declared.fault.AsmFault.{AsmFault}
 use Rattle.hek_rules.specs.Text.{lines_of}

@@ -1,4 +1,4 @@
-use Rattle.std.proofs.Common.{◌≡◌, ℕ, ◌<◌, List, [], ◌∷◌, length, map, Result, Err, refl, arith, Bor}
+use Rattle.std.proofs.Common.{◌≡◌, ℕ, ◌<◌, List, [], ◌∷◌, length, map, Err, refl, arith, Bor}
 use Rattle.hek_rules.specs.Plan.{Plan}
 use Rattle.hek_asm.specs.declared.fault.AsmKind.TheVariants.{BadWord}
 use Rattle.hek_asm.specs.Text.{txn_line}

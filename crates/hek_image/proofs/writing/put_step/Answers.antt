@@ -1,8 +1,6 @@
-use Rattle.std.proofs.Common.{◌≡◌, ◌∷◌, [], ◌++◌, ℕ, List, subst}
-use Rattle.std.specs.Prelude.{unwrap_or}
+use Rattle.std.proofs.Common.{◌∷◌, []}
 use Rattle.std.specs.Int.{w32, w64, to_be_bytes}
 use Rattle.std.proofs.lemmas.Result.{on_ok_weaker}
-use Rattle.hek_rules.specs.Events.{opcode_of, kind_of, txn_of, first_of, second_of}
 use Rattle.hek_image.proofs.Parts.{four_parts}
 use Rattle.hek_image.proofs.writing.put_step.Goals as goal
 

@@ -1,4 +1,4 @@
-use Rattle.std.proofs.Common.{◌≡◌, ◌<◌, List, length, get_or, arith, ap, ◌∙◌}
+use Rattle.std.proofs.Common.{◌<◌, List, length, get_or, arith, ap, ◌∙◌}
 use Rattle.hek_rules.specs.declared.event.Event.{Event}
 use Rattle.hek_image.specs.Schedules.{step_bytes}
 use Rattle.hek_image.proofs.Parts.{at_index, one_more}
