@@ -9,6 +9,8 @@ mod order;
 mod replay;
 mod replies;
 mod rows;
+#[cfg(test)]
+mod tests;
 mod verdict;
 
 pub use verdict::check;
