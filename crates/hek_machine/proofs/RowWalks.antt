@@ -12,7 +12,7 @@ use Rattle.hek_rules.specs.declared.reply.Reply.TheVariants as reply
 use Rattle.hek_rules.specs.World.{World, Txn, txn_in, bucket_of}
 use Rattle.hek_rules.specs.Walk.{Judgement, Refuse, Allow, walk, apply_all, last, seen_of}
 use Rattle.hek_rules.specs.Walk as walking
-use Rattle.hek_rules.specs.Table.{Outcome, aborted, is_open, after_read, read_row, found}
+use Rattle.hek_rules.specs.Table.{Outcome, aborted, is_open, after_read, read_row, found, after_delete, delete_row}
 use Rattle.hek_laws.specs.Lists.{In}
 use Rattle.hek_laws.proofs.Runs.Reachable.{reachable-sound}
 use Rattle.hek_laws.proofs.Sound.InWalks.{is-walking}
@@ -25,7 +25,7 @@ use Rattle.hek_machine.specs.Stands.{Shows, StandsFor, IsOrdered, IsRow}
 use Rattle.hek_machine.specs.Judged.{IsShown, purpose_of, verdict, seen_among}
 use Rattle.hek_machine.specs.Room.{Reserved, IsThere}
 use Rattle.hek_machine.specs.Applied.{Allowed}
-use Rattle.hek_machine.specs.Walked.{ArePlaces, After}
+use Rattle.hek_machine.specs.Walked.{ArePlaces, After, deleted_reply}
 use Rattle.hek_machine.proofs.Loads.{copied-shows}
 use Rattle.hek_machine.proofs.Reserves.{reserved-shows}
 use Rattle.hek_machine.proofs.WalkRows.{seen-same}
@@ -191,3 +191,30 @@ read_came m n t key bucket vs inner seen o r a b d e shown none came =
 pub read_gone : (m n : Parts) (t key bucket : ℕ) (vs : List ℕ) (o : Option Cause) (cause : Cause) → bucket ≡ key % m.store.buckets → vs ≡ of_key m.store.versions key →
     o ≡ Some cause → Came m n t walking.ToRead bucket vs o → IsRow (λ w. read_row w t key) m n (reply.Aborted cause)
 read_gone m n t key bucket vs o cause a b some came = read_refused_row m n t key cause (came-over m n t key bucket vs walking.ToRead o (Some cause) a b some came)
+
+-- ---- deletes
+
+delete-done : (w : World) (t : ℕ) (target : Option ℕ) (es : List Effect) → after_delete w t target (Allow es) ≡ record { reply = deleted_reply target; world = apply_all t w es }
+delete-done w t None es = refl
+delete-done w t (Some v) es = refl
+
+delete-refused : (w : World) (t : ℕ) (target : Option ℕ) (cause : Cause) → after_delete w t target (Refuse cause) ≡ aborted w t cause
+delete-refused w t None cause = refl
+delete-refused w t (Some v) cause = refl
+
+pub delete_came : (m n : Parts) (t key bucket : ℕ) (vs inner seen : List ℕ) (target : Option ℕ) (o : Option Cause) → bucket ≡ key % m.store.buckets → vs ≡ of_key m.store.versions key →
+    inner ≡ of_key m.store.versions key → seen ≡ seen_among m t inner → target ≡ last seen → o ≡ None → Came m n t walking.ToWrite bucket vs o → IsRow (λ w. delete_row w t key) m n (deleted_reply target)
+delete_came m n t key bucket vs inner seen target o a b d e f none came =
+    row_allowed m n t (λ w. delete_row w t key) (λ w. walk w t walking.ToWrite (key % m.store.buckets) (of_key m.store.versions key)) (deleted_reply target)
+    (λ w es s j. ap (after_delete w t (last (seen_of w t (walking.of_key w key)))) (sym (key-walk m w t key walking.ToWrite s) ∙ j)
+    ∙ ap (λ x. after_delete w t x (Allow es)) (sym (f ∙ ap last (e ∙ ap (seen_among m t) d) ∙ last-seen m w t key s))
+    ∙ delete-done w t target es)
+    (came-over m n t key bucket vs walking.ToWrite o None a b none came)
+
+pub delete_gone : (m n : Parts) (t key bucket : ℕ) (vs : List ℕ) (o : Option Cause) (cause : Cause) → bucket ≡ key % m.store.buckets → vs ≡ of_key m.store.versions key →
+    o ≡ Some cause → Came m n t walking.ToWrite bucket vs o → IsRow (λ w. delete_row w t key) m n (reply.Aborted cause)
+delete_gone m n t key bucket vs o cause a b some came =
+    row_refused m n t (λ w. delete_row w t key) (λ w. walk w t walking.ToWrite (key % m.store.buckets) (of_key m.store.versions key)) cause
+    (λ w c s j. ap (after_delete w t (last (seen_of w t (walking.of_key w key)))) (sym (key-walk m w t key walking.ToWrite s) ∙ j)
+    ∙ delete-refused w t (last (seen_of w t (walking.of_key w key))) c)
+    (came-over m n t key bucket vs walking.ToWrite o (Some cause) a b some came)

@@ -3,6 +3,8 @@ use Rattle.std.specs.Prelude.{◌≡◌, ℕ, ◌<◌, Bool, List, Option, Some,
 use Rattle.hek_rules.specs.declared.event.Cause.{Cause}
 use Rattle.hek_rules.specs.World.{World, Version, places}
 use Rattle.hek_rules.specs.Walk.{Judgement, Refuse, Allow, apply_all}
+use Rattle.hek_rules.specs.declared.reply.Reply.{Reply}
+use Rattle.hek_rules.specs.declared.reply.Reply.TheVariants as reply
 use Rattle.hek_rules.specs.Table.{abort}
 use Rattle.hek_machine.specs.declared.parts.Parts.{Parts}
 use Rattle.hek_machine.specs.Stands.{Shows, StandsFor}
@@ -19,3 +21,8 @@ After m t w (Allow effects) None = Shows m (apply_all t w effects)
 After m t w (Allow effects) (Some cause) = ⊥
 After m t w (Refuse cause) None = ⊥
 After m t w (Refuse cause) (Some other) = (cause ≡ other) × Shows m (abort w t cause)
+
+-- what a delete that is done is answered with, from its target
+abbrev pub deleted_reply : Option ℕ → Reply
+deleted_reply None = reply.Absent
+deleted_reply (Some v) = reply.Done

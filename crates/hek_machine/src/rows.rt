@@ -4,14 +4,14 @@ ghost use Rattle.std.specs.Prelude.{◌≡◌, ◌<◌, ◌%◌, true, None, [],
 ghost use Rattle.std.specs.List.{All};
 ghost use Rattle.hek_rules.specs.World.{txn_in, bucket_of};
 ghost use Rattle.hek_rules.specs.Walk.{walk as walk_of, last, apply_all};
-ghost use Rattle.hek_rules.specs.Table.{is_open, found as found_row, read_row};
+ghost use Rattle.hek_rules.specs.Table.{is_open, found as found_row, read_row, delete_row};
 ghost use Rattle.hek_store.specs.Stored.{of_key, of_bucket};
 ghost use Rattle.hek_txn.specs.TxnTable.{Declared};
 ghost use Rattle.hek_machine.specs.Judged.{IsShown, IsAimed, purpose_of, seen_among};
 ghost use Rattle.hek_machine.specs.Applied.{Allowed};
 ghost use Rattle.hek_machine.specs.Room.{HasRoom};
 ghost use Rattle.hek_machine.specs.Stands.{Shows, StandsFor, IsOrdered, IsRow, StillShows};
-ghost use Rattle.hek_machine.specs.Walked.{ArePlaces, After};
+ghost use Rattle.hek_machine.specs.Walked.{ArePlaces, After, deleted_reply};
 
 use crate::parts::Parts;
 use crate::walks::Aim;
@@ -23,6 +23,16 @@ fn last_of(vs: &[VersionId]) -> Option<VersionId>
     ensures { result ≡ last vs.now }
 {
     vs.last().copied()
+}
+
+/// What a delete is answered with, from what it saw.
+fn deleted(target: Option<VersionId>) -> Reply
+    ensures { result ≡ deleted_reply target }
+{
+    match target {
+        Some(_) => Reply::Done,
+        None => Reply::Absent,
+    }
 }
 
 impl Parts {
@@ -110,6 +120,25 @@ impl Parts {
         let reply = self.found(&seen);
         let bucket = self.bucket_of(key);
         match self.walk_over(t, &Aim::ToRead, bucket, &vs)? {
+            None => Ok(reply),
+            Some(cause) => Ok(Reply::Aborted(cause)),
+        }
+    }
+
+    /// The delete of a key: the last version seen is write-locked.
+    pub(crate) fn delete(&mut self, t: TxnId, key: u64) -> Result<Reply, NoMemory>
+        requires known { Declared self.old.txns t }
+        requires ordered { IsOrdered self.old }
+        requires walker { is_open (txn_in self.old.txns.cores t) ≡ true }
+        ensures row { IfOk result (IsRow (λ w. delete_row w t key) self.old self.new) }
+        ensures still { OnErr result (StillShows self.old self.new) }
+    {
+        let vs = self.versions_of(key)?;
+        let seen = self.seen_of(t, &vs)?;
+        let reply = deleted(last_of(&seen));
+        let aim = Aim::ToWrite(last_of(&seen));
+        let bucket = self.bucket_of(key);
+        match self.walk_over(t, &aim, bucket, &vs)? {
             None => Ok(reply),
             Some(cause) => Ok(Reply::Aborted(cause)),
         }
