@@ -11,3 +11,4 @@ pub mod Reserves
 pub mod EffectTurns
 pub mod KeyPlaces
 pub mod RowWalks
+pub mod AddRows

@@ -1,11 +1,13 @@
 -- A walk that is done, or refused.
-use Rattle.std.specs.Prelude.{◌≡◌, ℕ, ◌<◌, Bool, List, Option, Some, None}
+use Rattle.std.specs.Prelude.{◌≡◌, ℕ, ◌<◌, ◌+◌, ◌^◌, length, Bool, List, Option, Some, None}
 use Rattle.hek_rules.specs.declared.event.Cause.{Cause}
 use Rattle.hek_rules.specs.World.{World, Version, places}
 use Rattle.hek_rules.specs.Walk.{Judgement, Refuse, Allow, apply_all}
 use Rattle.hek_rules.specs.declared.reply.Reply.{Reply}
 use Rattle.hek_rules.specs.declared.reply.Reply.TheVariants as reply
 use Rattle.hek_rules.specs.Table.{abort}
+use Rattle.hek_laws.specs.Sound.{Sound}
+use Rattle.hek_txn.specs.TxnTable.{Declared}
 use Rattle.hek_machine.specs.declared.parts.Parts.{Parts}
 use Rattle.hek_machine.specs.Stands.{Shows, StandsFor}
 
@@ -26,3 +28,15 @@ After m t w (Refuse cause) (Some other) = (cause ≡ other) × Shows m (abort w 
 abbrev pub deleted_reply : Option ℕ → Reply
 deleted_reply None = reply.Absent
 deleted_reply (Some v) = reply.Done
+
+-- the parts show a sound world in which t may make a version
+pub record CanAdd (m : Parts) (t : ℕ) (w : World) : Type 0 where
+  pub shows : Shows m w
+  pub sound : Sound w
+  pub walker : Declared m.txns t
+  pub small : length w.versions < 2 ^ 58
+  pub named : length w.txns + 1 < 2 ^ 54
+
+pub record IsAdding (m : Parts) (t : ℕ) : Type 0 where
+  pub world : World
+  pub can : CanAdd m t world

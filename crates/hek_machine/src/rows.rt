@@ -9,13 +9,17 @@ ghost use Rattle.hek_store.specs.Stored.{of_key, of_bucket};
 ghost use Rattle.hek_txn.specs.TxnTable.{Declared};
 ghost use Rattle.hek_machine.specs.Judged.{IsShown, IsAimed, purpose_of, seen_among};
 ghost use Rattle.hek_machine.specs.Applied.{Allowed};
-ghost use Rattle.hek_machine.specs.Room.{HasRoom};
+ghost use Rattle.hek_machine.specs.Room.{HasRoom, CanMake};
 ghost use Rattle.hek_machine.specs.Stands.{Shows, StandsFor, IsOrdered, IsRow, StillShows};
-ghost use Rattle.hek_machine.specs.Walked.{ArePlaces, After, deleted_reply};
+ghost use Rattle.hek_machine.specs.Walked.{ArePlaces, After, CanAdd, IsAdding, deleted_reply};
+ghost use Rattle.hek_rules.specs.Locks.{add_version as version_added};
 
 use crate::parts::Parts;
 use crate::walks::Aim;
-use hek_rules::{Cause, Effect, NoMemory, Reply, TxnId, VersionId};
+use hek_buckets::wait_for_holders;
+use hek_rules::{Cause, Effect, NoMemory, Reply, TxnId, VersionId, WriteEntry};
+use hek_store::Version;
+use hek_word::{BeginWord, EndWord};
 
 /// The last of these.
 #[tactic(auto, using(crate::proofs::KeyPlaces::last_get))]
@@ -105,6 +109,26 @@ impl Parts {
         ensures { result ≡ key % self.now.store.buckets }
     {
         key % self.store.buckets()
+    }
+
+    /// The transaction makes a version, and comes to wait for those who lock its bucket.
+    #[tactic(auto, using(crate::proofs::AddRows::add_named, crate::proofs::AddRows::add_room))]
+    fn add_version(&mut self, t: TxnId, key: u64, value: u64)
+        requires able { IsAdding self.old t }
+        requires room { HasRoom self.old t [] }
+        requires make { CanMake self.old t (key % self.old.store.buckets) }
+        ensures { (w : _) → CanAdd self.old t w → Shows self.new (version_added w t key value) }
+    {
+        let made = WriteEntry::BeginOf(VersionId::new(self.store.len()));
+        let bucket = self.bucket_of(key);
+        self.store.add_version(Version {
+            key,
+            value,
+            begin: BeginWord::by(t),
+            end: EndWord::infinity(),
+        });
+        self.txns.push_write(t, made);
+        wait_for_holders(&self.buckets, &mut self.txns, bucket, t);
     }
 
     /// The read of a key.
