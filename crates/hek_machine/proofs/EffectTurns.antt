@@ -171,7 +171,7 @@ left-room cur new t e es k r =
 
 -- ---- the turn done
 
-kept-more : (a b c : Parts) (t : ℕ) → KeepsAdding a b t → KeepsAdding b c t → KeepsAdding a c t
+pub kept-more : (a b c : Parts) (t : ℕ) → KeepsAdding a b t → KeepsAdding b c t → KeepsAdding a c t
 kept-more a b c t p q = record {
   versions = let k = p.versions in let l = q.versions in omega (arith, k, l);
   joins = λ h ne r. q.joins h ne (p.joins h ne r);

@@ -12,3 +12,4 @@ pub mod EffectTurns
 pub mod KeyPlaces
 pub mod RowWalks
 pub mod AddRows
+pub mod Joining

@@ -41,7 +41,7 @@ module _ {T : Type 0} where
   copy-place (x ∷ xs) zero e h = ap (λ y. y ∷ items_of xs) h
   copy-place (x ∷ xs) (suc i) e h = ap (λ ys. x.items ∷ ys) (copy-place xs i e h)
 
-  items-index : (xs : List (Entries T)) (i : ℕ) → slice_index_or (items_of xs) i [] ≡ (slice_index_or xs i no_entries).items
+  pub items-index : (xs : List (Entries T)) (i : ℕ) → slice_index_or (items_of xs) i [] ≡ (slice_index_or xs i no_entries).items
   items-index [] i = refl
   items-index (x ∷ xs) zero = refl
   items-index (x ∷ xs) (suc i) = items-index xs i

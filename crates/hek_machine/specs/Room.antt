@@ -94,3 +94,7 @@ pub record Reserved (old new : Parts) : Type 0 where
 
 abbrev pub AreReady : Parts → ℕ → List Effect → Type 0
 AreReady m t effects = (e : Effect) → In e effects → IsReady m t e
+
+-- room for t in the waiting lists of each of these
+abbrev pub AreJoined : Parts → ℕ → List ℕ → Type 0
+AreJoined m t holders = (h : ℕ) → is_among holders h ≡ true → CanWait m.txns t h

@@ -2,7 +2,8 @@
 ghost use Rattle.std.specs.Prelude.{◌≡◌, ◌+◌, ◌<◌, ◌≤◌, ◌^◌, ◌∷◌, [], length, OnOk};
 ghost use Rattle.hek_laws.specs.Lists.{In};
 ghost use Rattle.hek_txn.specs.TxnTable.{Declared, read_set_of, write_set_of, bucket_set_of, waiting_list_of};
-ghost use Rattle.hek_machine.specs.Room.{reads_in, writes_in, waits_in, buckets_in, IsThere, IsReady, HasRoom, Reserved, AreReady};
+ghost use Rattle.hek_machine.specs.Room.{reads_in, writes_in, waits_in, buckets_in, IsThere, IsReady, HasRoom, Reserved, AreReady, AreJoined};
+ghost use Rattle.std.specs.List.{All};
 
 use crate::parts::Parts;
 use hek_rules::{Effect, NoMemory, TxnId};
@@ -110,5 +111,17 @@ impl Parts {
     {
         self.reserve_own(t, needs_of(effects))?;
         self.reserve_others(t, effects)
+    }
+
+    /// Room for the transaction in the waiting lists of these.
+    fn reserve_joins(&mut self, t: TxnId, holders: &[TxnId]) -> Result<(), NoMemory>
+        requires holders { All (λ h. Declared self.old.txns h) holders.now }
+        ensures reserved { Reserved self.old self.new }
+        ensures joins { OnOk result (AreJoined self.new t holders.now) }
+    {
+        for &h in holders {
+            self.txns.reserve_waiters(h, 1)?;
+        }
+        Ok(())
     }
 }

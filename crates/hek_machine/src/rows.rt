@@ -9,7 +9,7 @@ ghost use Rattle.hek_store.specs.Stored.{of_key, of_bucket};
 ghost use Rattle.hek_txn.specs.TxnTable.{Declared};
 ghost use Rattle.hek_machine.specs.Judged.{IsShown, IsAimed, purpose_of, seen_among};
 ghost use Rattle.hek_machine.specs.Applied.{Allowed};
-ghost use Rattle.hek_machine.specs.Room.{HasRoom, CanMake};
+ghost use Rattle.hek_machine.specs.Room.{HasRoom, KeepsAdding, CanMake};
 ghost use Rattle.hek_machine.specs.Stands.{Shows, StandsFor, IsOrdered, IsRow, StillShows};
 ghost use Rattle.hek_machine.specs.Walked.{ArePlaces, After, CanAdd, IsAdding, deleted_reply};
 ghost use Rattle.hek_rules.specs.Locks.{add_version as version_added};
@@ -54,6 +54,7 @@ impl Parts {
         requires allowed { (w : _) → StandsFor self.old w → Allowed w t effects.now }
         ensures done { IfOk result (λ _. (w : _) → StandsFor self.old w → Shows self.new (apply_all t w effects.now)) }
         ensures room { IfOk result (λ _. HasRoom self.new t []) }
+        ensures kept { IfOk result (λ _. KeepsAdding self.old self.new t) }
         ensures still { OnErr result (StillShows self.old self.new) }
     {
         let _ = self.store.len();
@@ -79,6 +80,7 @@ impl Parts {
         requires aimed { IsAimed self.old t vs.now aim.now }
         ensures after { IfOk result (λ r. (w : _) → StandsFor self.old w → After self.new t w (walk_of w t (purpose_of aim.now) bucket vs.now) r) }
         ensures room { IfOk result (λ r. r ≡ None → HasRoom self.new t []) }
+        ensures kept { IfOk result (λ r. r ≡ None → KeepsAdding self.old self.new t) }
         ensures still { OnErr result (StillShows self.old self.new) }
     {
         let walked = self.walk(t, aim, bucket, vs)?;

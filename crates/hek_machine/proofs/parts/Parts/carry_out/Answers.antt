@@ -1,4 +1,6 @@
 use Rattle.hek_machine.proofs.Reserves.{reserved-shows}
+use Rattle.hek_machine.proofs.Joining.{reserved_kept}
+use Rattle.hek_machine.proofs.EffectTurns.{kept-more}
 use Rattle.hek_machine.proofs.RowWalks.{effects_there, reserved-ordered, reserved-back, reserved-stands, on_err}
 use Rattle.hek_machine.proofs.parts.Parts.carry_out.Goals as goal
 
@@ -16,3 +18,7 @@ returns-in_err-reserve-clause-still c = on_err _ _ (reserved-shows c.args.self.n
 
 pub returns-clause-done : goal.returns-clause-done
 returns-clause-done c = λ w s. c.apply_all.ensures.shows w (reserved-stands c.args.self.now c.reserve.new.self c.in_ok-reserve.ensures.reserved w s)
+
+pub returns-clause-kept : goal.returns-clause-kept
+returns-clause-kept c =
+    kept-more c.args.self.now c.reserve.new.self c.apply_all.new.self c.args.t (reserved_kept c.args.self.now c.reserve.new.self c.args.t c.in_ok-reserve.ensures.reserved) c.apply_all.ensures.kept

@@ -1,0 +1,77 @@
+-- Room for a version, and for its maker in the waiting lists of those who lock the bucket.
+use Rattle.std.proofs.Common.{◌≡◌, ℕ, inl, inr, ◌+◌, ◌<◌, ◌≤◌, Bool, true, false, List, [], ◌∷◌, ◌++◌, refl, ◌∙◌, ap, sym, subst, arith, ⊎_elim, length, take, get_or}
+use Rattle.std.proofs.lemmas.List.{take_more}
+use Rattle.std.proofs.lemmas.Bool.{eqb-true, cases_Bool, false≢true}
+use Rattle.std.specs.Prelude.{slice_index_or, ◌==◌, ◌||◌, ◌⊎◌}
+use Rattle.hek_rules.specs.Listing.{is_among}
+use Rattle.hek_store.specs.Stored.{Stored}
+use Rattle.hek_txn.specs.TxnTable.{TxnTable, waiting_list_of, with_waiting_list, entry_at}
+use Rattle.hek_txn.proofs.EntryLemmas.{items-entry}
+use Rattle.hek_buckets.specs.Held.{holders_of}
+use Rattle.hek_buckets.specs.Waited.{IsReady}
+use Rattle.hek_machine.specs.declared.parts.Parts.{Parts}
+use Rattle.hek_machine.specs.Room.{Reserved, CanMake, KeepsAdding, AreJoined}
+use Rattle.hek_machine.proofs.Reserves.{reserved_more, reserved_waiters, items-index}
+
+pub reserved_store : (m : Parts) (s : Stored) → s.buckets ≡ m.store.buckets → s.versions ≡ m.store.versions → m.store.room ≤ s.room → Reserved m (record m { store = s })
+reserved_store m s b v r = record {
+  clock = refl;
+  store_buckets = b;
+  versions = v;
+  txns = record { cores = refl; waits = refl; deps = refl; read_sets = refl; write_sets = refl; bucket_sets = refl; waiting_lists = refl; dependents = refl };
+  holders = refl;
+  more_reads = λ u. omega arith;
+  more_writes = λ u. omega arith;
+  more_buckets = λ u. omega arith;
+  more_waiters = λ u. omega arith;
+  more_dependents = λ u. omega arith;
+  more_holders = λ c. omega arith;
+  more_versions = r;
+}
+
+pub wait-kept : (m n : Parts) (t h : ℕ) → Reserved m n → IsReady m.txns t h → IsReady n.txns t h
+wait-kept m n t h r k = record {
+  room = λ no.
+      let same : (waiting_list_of n.txns h).items ≡ (waiting_list_of m.txns h).items = sym (items-entry n.txns.waiting_lists h) ∙ ap (λ xs. entry_at [] xs h) r.txns.waiting_lists ∙ items-entry m.txns.waiting_lists h in
+      let old = k.room (ap (λ xs. is_among xs t) (sym same) ∙ no) in let more = r.more_waiters h in omega (arith, old, more);
+}
+
+among-last : (xs : List ℕ) (n h : ℕ) → is_among (xs ++ n ∷ []) h ≡ true → (is_among xs h ≡ true) ⊎ (h ≡ n)
+among-last [] n h e = ⊎_elim (λ same. inr (sym (eqb-true n h same))) (λ other. absurd (false≢true (sym other ∙ alone (n == h) e))) (cases_Bool (n == h))
+  where
+    alone : (b : Bool) → (b || false) ≡ true → b ≡ true
+    alone true z = refl
+    alone false z = z
+among-last (y ∷ ys) n h e =
+    ⊎_elim (λ here. inl (ap (λ b. b || is_among ys h) here))
+    (λ other. ⊎_elim (λ k. inl (ap (λ b. b || is_among ys h) other ∙ k)) (λ k. inr k) (among-last ys n h (sym (ap (λ b. b || is_among (ys ++ n ∷ []) h) other) ∙ e))) (cases_Bool (y == h))
+
+pub holders-same : (m n : Parts) (b : ℕ) → Reserved m n → (holders_of n.buckets b).items ≡ (holders_of m.buckets b).items
+holders-same m n b r = sym (items-index n.buckets b) ∙ ap (λ xs. slice_index_or xs b []) r.holders ∙ items-index m.buckets b
+
+-- one more of them
+pub joined_more : (first m : Parts) (t i h : ℕ) (holders : List ℕ) (x : TxnTable) → i < length holders → h ≡ get_or holders i h →
+    x ≡ with_waiting_list m.txns h (waiting_list_of x h) → (waiting_list_of x h).items ≡ (waiting_list_of m.txns h).items → (waiting_list_of m.txns h).room ≤ (waiting_list_of x h).room →
+    1 ≤ (waiting_list_of x h).room → AreJoined m t (take i holders) → AreJoined (record m { txns = x }) t (take (i + 1) holders)
+joined_more first m t i h holders x below at is items more some j u a =
+    ⊎_elim (λ old. wait-kept m (record m { txns = x }) t u (reserved_waiters m h x is items more) (j u old))
+    (λ same. subst (λ g. IsReady x t g) (sym (same ∙ sym at)) (record { room = λ no. omega (arith, some) }))
+    (among-last (take i holders) (get_or holders i h) u (sym (ap (λ xs. is_among xs u) (take_more holders i h below)) ∙ a))
+
+pub step_reserved : (first m : Parts) (h : ℕ) (x : TxnTable) → Reserved first m → x ≡ with_waiting_list m.txns h (waiting_list_of x h) →
+    (waiting_list_of x h).items ≡ (waiting_list_of m.txns h).items → (waiting_list_of m.txns h).room ≤ (waiting_list_of x h).room → Reserved first (record m { txns = x })
+step_reserved first m h x r is items more = reserved_more first m (record m { txns = x }) r (reserved_waiters m h x is items more)
+
+-- what is reserved keeps what making a version counts on
+pub reserved_kept : (m n : Parts) (t : ℕ) → Reserved m n → KeepsAdding m n t
+reserved_kept m n t r = record {
+  versions = r.more_versions;
+  joins = λ h ne k. wait-kept m n t h r k;
+  holders = λ b h k. inl (ap (λ xs. is_among xs h) (sym (holders-same m n b r)) ∙ k);
+}
+
+pub can_make_kept : (m n : Parts) (t b : ℕ) → KeepsAdding m n t → CanMake m t b → CanMake n t b
+can_make_kept m n t b k c = record {
+  version = let a = k.versions in let v = c.version in omega (arith, a, v);
+  joins = λ h ne a. ⊎_elim (λ old. k.joins h ne (c.joins h ne old)) (λ same. absurd (ne same)) (k.holders b h a);
+}
