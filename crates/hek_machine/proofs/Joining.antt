@@ -2,7 +2,7 @@
 use Rattle.std.proofs.Common.{◌≡◌, ℕ, inl, inr, ◌+◌, ◌<◌, ◌≤◌, Bool, true, false, List, [], ◌∷◌, ◌++◌, refl, ◌∙◌, ap, sym, subst, arith, ⊎_elim, length, take, get_or}
 use Rattle.std.proofs.lemmas.List.{take_more}
 use Rattle.std.proofs.lemmas.Bool.{eqb-true, cases_Bool, false≢true}
-use Rattle.std.specs.Prelude.{slice_index_or, ◌==◌, ◌||◌, ◌⊎◌}
+use Rattle.std.specs.Prelude.{slice_index_or, ◌==◌, ◌||◌, ◌⊎◌, Result, Ok, Err, OnOk}
 use Rattle.hek_rules.specs.Listing.{is_among}
 use Rattle.hek_store.specs.Stored.{Stored}
 use Rattle.hek_txn.specs.TxnTable.{TxnTable, waiting_list_of, with_waiting_list, entry_at}
@@ -75,3 +75,18 @@ can_make_kept m n t b k c = record {
   version = let a = k.versions in let v = c.version in omega (arith, a, v);
   joins = λ h ne a. ⊎_elim (λ old. k.joins h ne (c.joins h ne old)) (λ same. absurd (ne same)) (k.holders b h a);
 }
+
+-- room in the store, and then in the waiting lists
+pub version_reserved : (m n : Parts) (s : Stored) → s.buckets ≡ m.store.buckets → s.versions ≡ m.store.versions → m.store.room ≤ s.room → Reserved (record m { store = s }) n → Reserved m n
+version_reserved m n s b v r k = reserved_more m (record m { store = s }) n (reserved_store m s b v r) k
+
+pub can_make_now : (m n : Parts) (t bucket : ℕ) (s : Stored) (holders : List ℕ) → 0 < s.room → Reserved (record m { store = s }) n → holders ≡ (holders_of m.buckets bucket).items →
+    AreJoined n t holders → CanMake n t bucket
+can_make_now m n t bucket s holders some r is joined = record {
+  version = let more = r.more_versions in omega (arith, some, more);
+  joins = λ h ne a. joined h (ap (λ xs. is_among xs h) (is ∙ sym (holders-same (record m { store = s }) n bucket r)) ∙ a);
+}
+
+pub on_ok : {A E : Type 0} (r : Result A E) (P Q : Type 0) → (P → Q) → OnOk r P → OnOk r Q
+on_ok (Ok x) P Q h p = h p
+on_ok (Err e) P Q h p = tt

@@ -13,3 +13,4 @@ pub mod KeyPlaces
 pub mod RowWalks
 pub mod AddRows
 pub mod Joining
+pub mod UpdateRows

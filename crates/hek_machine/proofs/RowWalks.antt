@@ -142,7 +142,7 @@ key_places m key o = record {
 }
 
 -- a walk over a key is the table's
-key-walk : (m : Parts) (w : World) (t key : ℕ) (p : walking.Purpose) → StandsFor m w →
+pub key-walk : (m : Parts) (w : World) (t key : ℕ) (p : walking.Purpose) → StandsFor m w →
     walk w t p (key % m.store.buckets) (of_key m.store.versions key) ≡ walk w t p (bucket_of w key) (walking.of_key w key)
 key-walk m w t key p s =
     ap (λ n. walk w t p (key % n) (of_key m.store.versions key)) s.shows.store.buckets ∙ ap (walk w t p (bucket_of w key)) (of_key-same m.store w key s.shows.store)
@@ -177,7 +177,7 @@ on_err (Err e) P p = p
 abbrev pub Came : Parts → Parts → ℕ → walking.Purpose → ℕ → List ℕ → Option Cause → Type 0
 Came m n t p bucket vs o = (w : World) → StandsFor m w → After n t w (walk w t p bucket vs) o
 
-came-over : (m n : Parts) (t key bucket : ℕ) (vs : List ℕ) (p : walking.Purpose) (o other : Option Cause) → bucket ≡ key % m.store.buckets → vs ≡ of_key m.store.versions key → o ≡ other →
+pub came-over : (m n : Parts) (t key bucket : ℕ) (vs : List ℕ) (p : walking.Purpose) (o other : Option Cause) → bucket ≡ key % m.store.buckets → vs ≡ of_key m.store.versions key → o ≡ other →
     Came m n t p bucket vs o → Came m n t p (key % m.store.buckets) (of_key m.store.versions key) other
 came-over m n t key bucket vs p o other a b c came w s =
     subst (λ x. After n t w (walk w t p (key % m.store.buckets) (of_key m.store.versions key)) x) c

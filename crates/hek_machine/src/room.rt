@@ -114,7 +114,7 @@ impl Parts {
     }
 
     /// Room for the transaction in the waiting lists of these.
-    fn reserve_joins(&mut self, t: TxnId, holders: &[TxnId]) -> Result<(), NoMemory>
+    pub(crate) fn reserve_joins(&mut self, t: TxnId, holders: &[TxnId]) -> Result<(), NoMemory>
         requires holders { All (λ h. Declared self.old.txns h) holders.now }
         ensures reserved { Reserved self.old self.new }
         ensures joins { OnOk result (AreJoined self.new t holders.now) }

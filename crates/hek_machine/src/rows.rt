@@ -9,7 +9,8 @@ ghost use Rattle.hek_store.specs.Stored.{of_key, of_bucket};
 ghost use Rattle.hek_txn.specs.TxnTable.{Declared};
 ghost use Rattle.hek_machine.specs.Judged.{IsShown, IsAimed, purpose_of, seen_among};
 ghost use Rattle.hek_machine.specs.Applied.{Allowed};
-ghost use Rattle.hek_machine.specs.Room.{HasRoom, KeepsAdding, CanMake};
+ghost use Rattle.hek_machine.specs.Room.{HasRoom, KeepsAdding, CanMake, Reserved};
+ghost use Rattle.hek_buckets.specs.Held.{holders_of as holders_in};
 ghost use Rattle.hek_machine.specs.Stands.{Shows, StandsFor, IsOrdered, IsRow, StillShows};
 ghost use Rattle.hek_machine.specs.Walked.{ArePlaces, After, CanAdd, IsAdding, deleted_reply};
 ghost use Rattle.hek_rules.specs.Locks.{add_version as version_added};
@@ -168,5 +169,31 @@ impl Parts {
             None => Ok(reply),
             Some(cause) => Ok(Reply::Aborted(cause)),
         }
+    }
+
+    /// The transactions that lock a bucket, in order of entry.
+    fn holders_of(&self, bucket: u64) -> Result<Vec<TxnId>, NoMemory>
+        requires { bucket < length self.now.buckets }
+        ensures { IfOk result (λ hs. hs.items ≡ (holders_in self.now.buckets bucket).items) }
+    {
+        Ok(
+            self.buckets
+                .holders(bucket)
+                .iter()
+                .copied()
+                .collect(self.alloc)?,
+        )
+    }
+
+    /// Room for a version of a bucket, and for its maker in the waiting lists of those who lock the bucket.
+    fn reserve_version(&mut self, t: TxnId, bucket: u64) -> Result<(), NoMemory>
+        requires bucket { bucket < length self.old.buckets }
+        requires holders { All (λ h. Declared self.old.txns h) (holders_in self.old.buckets bucket).items }
+        ensures reserved { Reserved self.old self.new }
+        ensures make { OnOk result (CanMake self.new t bucket) }
+    {
+        let holders = self.holders_of(bucket)?;
+        self.store.reserve_version()?;
+        self.reserve_joins(t, &holders)
     }
 }
