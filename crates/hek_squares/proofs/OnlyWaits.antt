@@ -1,12 +1,12 @@
 -- Which calls change counters of waits or of dependences alone.
-use Rattle.std.proofs.Common.{◌≡◌, ℕ, ◌+◌, Bool, true, false, List, Option, Some, None, refl, ◌∙◌, ap, sym}
+use Rattle.std.proofs.Common.{◌≡◌, ℕ, ◌+◌, Bool, true, false, Some, None, refl, ◌∙◌, ap}
 use Rattle.std.specs.Prelude.{◌==◌, nat_lt, if◌then◌else◌}
 use Rattle.hek_rules.specs.Listing.{is_among}
 use Rattle.hek_rules.specs.Words.{readers_of}
 use Rattle.hek_rules.specs.declared.word.EndRecord.{EndRecord}
 use Rattle.hek_rules.specs.declared.word.EndRecord.TheVariants.{Until, Lock}
 use Rattle.hek_store.specs.Stored.{Stored, version_at}
-use Rattle.hek_txn.specs.TxnTable.{TxnTable, waits_of, deps_of, with_deps, waiting_list_of, dependents_of}
+use Rattle.hek_txn.specs.TxnTable.{TxnTable, deps_of, with_deps, waiting_list_of, dependents_of}
 use Rattle.hek_buckets.specs.Waited.{imposed_waits}
 use Rattle.hek_commit.specs.Committed.{depended_deps}
 use Rattle.hek_locks.specs.Locked.{fewer_waits, more_waits, writer_freed, is_stale, cleared_word, cleared_waits, writer_waits, reads_freely, read_lock_waits, to_write, write_lock_waits}
