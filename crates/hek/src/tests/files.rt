@@ -146,7 +146,7 @@ fn tells_faults_of_texts(rt: HostRuntime) -> Result<(), Fail> {
     ] {
         let (written, status, out, faults) = assembled(rt.alloc(), text)?;
         assert_eq!(rt; status, 1);
-        assert!(rt; written.is_none(), "no file after {line}");
+        assert!(rt; written.is_none());
         assert_eq!(rt; out.as_str(), "");
         assert_eq!(rt; faults.as_str(), line);
         let files = [("in", text)];
@@ -205,7 +205,7 @@ fn disassembles(rt: HostRuntime) -> Result<(), Fail> {
         let created = RefCell::new(None);
         let disk = MemoryDisk::new(rt.alloc(), files.as_slice(), &created);
         let (status_is, out_is, faults_is) = ran_in(rt.alloc(), &["hek", "dis", "in"], &disk, b"")?;
-        assert_eq!(rt; status_is, status, "status for {out} {faults}");
+        assert_eq!(rt; status_is, status);
         assert_eq!(rt; out_is.as_str(), out);
         assert_eq!(rt; faults_is.as_str(), faults);
         let (status_is, out_is, faults_is) = ran_in(
@@ -214,7 +214,7 @@ fn disassembles(rt: HostRuntime) -> Result<(), Fail> {
             &disk,
             image,
         )?;
-        assert_eq!(rt; status_is, status, "status of input for {out} {faults}");
+        assert_eq!(rt; status_is, status);
         assert_eq!(rt; out_is.as_str(), out);
         assert_eq!(rt; faults_is.as_str(), faults);
     }
