@@ -69,3 +69,12 @@ pub other_line : (p : Plan) (n : ℕ) (y : Event × Reply) (text line : List ℕ
 other_line p n y text line more is h l likely other = λ x after entry same.
     let only : x ≡ y = some_same x y (sym (entry_again p n x text after line more is h entry same l) ∙ likely) in
     other after (same ∙ ap (λ (z : Event × Reply). trace_line p n z.0 z.1 ++ after) only)
+
+-- two texts that are the same begin with the same entry
+pub same_entry : (p : Plan) (n : ℕ) (x y : Event × Reply) (behind further : List ℕ) → IsPlan p → is_small n → IsEntry (length p.txns) x → IsEntry (length p.txns) y →
+    trace_line p n x.0 x.1 ++ behind ≡ trace_line p n y.0 y.1 ++ further → x ≡ y
+same_entry p n x y behind further is h first second e =
+    let text = trace_line p n x.0 x.1 ++ behind in
+    let line = joined (entry_words p n x) in
+    let lines : lines_of text ≡ line ∷ lines_of behind = front_lines p n x behind is h first in
+    some_same x y (sym (entry_again p n x text behind line (lines_of behind) is h first refl lines) ∙ entry_again p n y text further line (lines_of behind) is h second e lines)

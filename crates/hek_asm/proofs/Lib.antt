@@ -12,3 +12,4 @@ mod LikelyEvent
 mod EntryAgain
 mod SmallEntry
 mod TraceSteps
+mod TraceLaws

@@ -27,7 +27,7 @@ all_more : {X : Type 0} (P : X → Type 0) (xs : List X) (x : X) → AllByRecurs
 all_more P [] x h k = (k, tt)
 all_more P (y ∷ ys) x h k = (h.0, all_more P ys x h.1 k)
 
-line_long : (p : Plan) (n : ℕ) (x : Event × Reply) → 0 < length (trace_line p n x.0 x.1)
+pub line_long : (p : Plan) (n : ℕ) (x : Event × Reply) → 0 < length (trace_line p n x.0 x.1)
 line_long p n x = omega (arith, length-append (joined (decimal n ∷ (step_words p x.0 ++ codes "->" ∷ reply_words x.1))) (10 ∷ []))
 
 pub record Grown (p : Plan) (h : List (Event × Reply)) (x : Event × Reply) (text rest after : List ℕ) : Type 0 where

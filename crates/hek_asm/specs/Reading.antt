@@ -5,7 +5,7 @@ use Rattle.hek_rules.specs.declared.event.Event.{Event}
 use Rattle.hek_rules.specs.declared.reply.Reply.{Reply}
 use Rattle.hek_rules.specs.declared.reply.Reply.TheVariants as reply
 use Rattle.hek_rules.specs.Events.{first_of, second_of}
-use Rattle.hek_rules.specs.Plan.{Plan, levels_of}
+use Rattle.hek_rules.specs.Plan.{Plan, IsPlan, levels_of}
 use Rattle.hek_rules.specs.Told.{Told}
 use Rattle.hek_asm.specs.declared.fault.TraceFault.{TraceFault}
 use Rattle.hek_asm.specs.declared.fault.TraceFault.TheVariants as fault
@@ -86,3 +86,10 @@ TraceFails p text (fault.Line n) = StopsAt p n text
 pub record IsFront (p : Plan) (n : ℕ) (x : Event × Reply) (text after : List ℕ) : Type 0 where
   pub entry : IsEntry (length p.txns) x
   pub is : text ≡ trace_line p n x.0 x.1 ++ after
+
+-- a text is the trace of one transcript at most, which reading it gives; a trace has no line at fault; and a text has one
+-- first line at fault at most
+pub record TracesAreExact : Type 0 where
+  pub one : (p : Plan) (told found : Told) (text : List ℕ) → IsPlan p → length text < 2 ^ 64 → IsTraceOf p told text → IsTraceOf p found text → found ≡ told
+  pub no_fault : (p : Plan) (told : Told) (text : List ℕ) (n : ℕ) → IsPlan p → length text < 2 ^ 64 → IsTraceOf p told text → StopsAt p n text → ⊥
+  pub one_fault : (p : Plan) (text : List ℕ) (m n : ℕ) → IsPlan p → length text < 2 ^ 64 → StopsAt p m text → StopsAt p n text → m ≡ n

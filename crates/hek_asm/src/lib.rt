@@ -14,7 +14,7 @@ mod trace;
 
 pub use assemble::assemble_text;
 pub use fault::{AsmFault, AsmKind, TraceFault};
-pub use laws::canonical_text_is_exact;
+pub use laws::{canonical_text_is_exact, traces_are_exact};
 pub use reading::read_trace;
 pub use reply::write_reply;
 pub use schedule_text::canonical;
