@@ -13,4 +13,5 @@ pub mod KeyPlaces
 pub mod RowWalks
 pub mod AddRows
 pub mod Joining
-pub mod UpdateRows
+pub mod KeyRows
+pub mod ClaimRows

@@ -9,3 +9,4 @@ mod releases;
 mod room;
 mod rows;
 mod walks;
+mod writes;
