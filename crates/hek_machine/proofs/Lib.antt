@@ -14,3 +14,6 @@ pub mod RowWalks
 pub mod AddRows
 pub mod Joining
 pub mod UpdateRows
+pub mod PairRows
+pub mod ScanRows
+pub mod CommittedRows

@@ -8,4 +8,5 @@ mod phases;
 mod releases;
 mod room;
 mod rows;
+mod scans;
 mod walks;

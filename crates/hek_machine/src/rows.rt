@@ -66,7 +66,7 @@ impl Parts {
 
     /// A walk over these versions: its effects are done, or, where it is refused, the transaction aborts, and the cause
     /// is the answer.
-    fn walk_over(
+    pub(crate) fn walk_over(
         &mut self,
         t: TxnId,
         aim: &Aim,
