@@ -8,5 +8,6 @@ mod phases;
 mod releases;
 mod room;
 mod rows;
+mod scans;
 mod walks;
 mod writes;
