@@ -14,3 +14,4 @@ pub mod RowWalks
 pub mod AddRows
 pub mod Joining
 pub mod UpdateRows
+pub mod DetectRows

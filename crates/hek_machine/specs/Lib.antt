@@ -4,3 +4,4 @@ pub mod Judged
 pub mod Room
 pub mod Applied
 pub mod Walked
+pub mod Observed

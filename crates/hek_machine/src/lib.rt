@@ -2,10 +2,16 @@
 #![tactic(auto)]
 
 mod checks;
+mod detects;
 mod effects;
+mod lists;
+mod machine;
+mod observers;
 mod parts;
 mod phases;
 mod releases;
 mod room;
 mod rows;
 mod walks;
+
+pub use machine::Machine;
