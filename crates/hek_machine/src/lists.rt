@@ -39,7 +39,8 @@ impl Machine {
         listed(self.parts.alloc, self.parts.txns.bucket_set(t))
     }
 
-    /// WaitingTxnList: the transactions that wait for this one by a bucket (section 4 of the paper: wait-for dependencies).
+    /// WaitingTxnList: the transactions that wait for this one by a bucket (section 4 of the paper: wait-for
+    /// dependencies).
     pub fn waiting_list(&self, t: TxnId) -> Result<Vec<TxnId>, NoMemory>
         requires { Declared self.now.txns t }
         ensures { IfOk result (λ list. IsShown self.now (λ w. waiters_in w t) list.items) }
@@ -55,7 +56,8 @@ impl Machine {
         listed(self.parts.alloc, self.parts.txns.dependents(t))
     }
 
-    /// LockList: the transactions that lock the bucket (section 4 of the paper: bucket locks). Buckets are numbered from 0.
+    /// LockList: the transactions that lock the bucket (section 4 of the paper: bucket locks). Buckets are numbered from
+    /// 0.
     pub fn lock_list(&self, bucket: u64) -> Result<Vec<TxnId>, NoMemory>
         requires { bucket < length self.now.buckets }
         ensures { IfOk result (λ list. IsShown self.now (λ w. lockers_in w bucket) list.items) }

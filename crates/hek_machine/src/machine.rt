@@ -29,14 +29,14 @@ impl Model for Machine {
 }
 
 impl Machine {
-    /// A machine before the first event of a schedule. Its clock is 1. The steps of the schedule are left to the caller.
+    /// A machine before the first event of a schedule. Its clock is 1. The steps of the schedule are the caller's to do.
     pub fn load(alloc: Global, schedule: &Schedule) -> Result<Machine, NoMemory>
         ensures { IfOk result (λ m. StandsFor m (opening_of schedule.now 1)) }
     {
         Machine::load_at(alloc, schedule, Time::new(1))
     }
 
-    /// The same at a later clock: the first time that is drawn. Rows are there from time 0 on.
+    /// The same at another clock, the first time that will be drawn. Rows are valid from time 0 on.
     pub fn load_at(alloc: Global, schedule: &Schedule, clock: Time) -> Result<Machine, NoMemory>
         requires { IsFirstClock clock }
         ensures { IfOk result (λ m. StandsFor m (opening_of schedule.now clock)) }
@@ -46,7 +46,7 @@ impl Machine {
         })
     }
 
-    /// A machine that shows the same, with room of its own: what is done to one leaves the other as it is.
+    /// A machine that shows the same, with room of its own: what is done to one leaves the other as it was.
     pub fn copy(&self) -> Result<Machine, NoMemory>
         ensures { IfOk result (StandsAs self.now) }
     {
