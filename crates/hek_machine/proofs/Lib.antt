@@ -15,7 +15,7 @@ pub mod AddRows
 pub mod Joining
 pub mod KeyRows
 pub mod ClaimRows
-pub mod UpdateRows
 pub mod PairRows
 pub mod ScanRows
 pub mod CommittedRows
+pub mod DetectRows

@@ -5,3 +5,4 @@ pub mod Room
 pub mod Applied
 pub mod Walked
 pub mod Written
+pub mod Observed

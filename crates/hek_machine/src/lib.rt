@@ -2,7 +2,11 @@
 #![tactic(auto)]
 
 mod checks;
+mod detects;
 mod effects;
+mod lists;
+mod machine;
+mod observers;
 mod parts;
 mod phases;
 mod releases;
@@ -11,3 +15,5 @@ mod rows;
 mod scans;
 mod walks;
 mod writes;
+
+pub use machine::Machine;

@@ -1,0 +1,57 @@
+//! The machine.
+ghost use Rattle.std.specs.Prelude.{IfOk};
+ghost use Rattle.hek_laws.specs.Runs.{IsFirstClock};
+ghost use Rattle.hek_machine.specs.Stands.{StandsFor};
+ghost use Rattle.hek_machine.specs.Observed.{opening_of, StandsAs};
+
+use crate::parts::Parts;
+use hek_rules::{NoMemory, Schedule, Time};
+use std::alloc::Global;
+use std::marker::Model;
+
+/// A machine that does the events of transactions one by one: the versions with their words, the transactions with their
+/// lists and counters, the bucket locks, and the clock (sections 2 and 4 of the paper). A contract speaks of the worlds
+/// of the rule table that it stands for.
+#[derive(Drop)]
+pub struct Machine {
+    pub(crate) parts: Parts,
+}
+
+impl Model for Machine {
+    ghost use Rattle.hek_machine.specs.declared.parts.Parts.{Parts};
+    ghost use Rattle.hek_machine.specs.Stands.{IsOrdered};
+
+    ghost Value = { Parts };
+
+    ghost view = { λ m. m.parts };
+
+    ghost invariant = { λ m. IsOrdered m.parts };
+}
+
+impl Machine {
+    /// A machine before the first event of a schedule. Its clock is 1. The steps of the schedule are the caller's to do.
+    pub fn load(alloc: Global, schedule: &Schedule) -> Result<Machine, NoMemory>
+        ensures { IfOk result (λ m. StandsFor m (opening_of schedule.now 1)) }
+    {
+        Machine::load_at(alloc, schedule, Time::new(1))
+    }
+
+    /// The same at another clock, the first time that will be drawn. Rows are valid from time 0 on.
+    pub fn load_at(alloc: Global, schedule: &Schedule, clock: Time) -> Result<Machine, NoMemory>
+        requires { IsFirstClock clock }
+        ensures { IfOk result (λ m. StandsFor m (opening_of schedule.now clock)) }
+    {
+        Ok(Machine {
+            parts: Parts::load(alloc, schedule, clock)?,
+        })
+    }
+
+    /// A machine that shows the same, with room of its own: what is done to one leaves the other as it was.
+    pub fn copy(&self) -> Result<Machine, NoMemory>
+        ensures { IfOk result (StandsAs self.now) }
+    {
+        Ok(Machine {
+            parts: self.parts.copy()?,
+        })
+    }
+}
