@@ -19,3 +19,4 @@ pub mod PairRows
 pub mod ScanRows
 pub mod CommittedRows
 pub mod DetectRows
+pub mod StepRows

@@ -6,3 +6,4 @@ pub mod Applied
 pub mod Walked
 pub mod Written
 pub mod Observed
+pub mod Steps

@@ -13,6 +13,7 @@ mod releases;
 mod room;
 mod rows;
 mod scans;
+mod steps;
 mod walks;
 mod writes;
 

@@ -1,6 +1,6 @@
 use Rattle.std.proofs.Common.{ap, sym, ◌∙◌}
 use Rattle.hek_rules.specs.Words.{begin_txn}
-use Rattle.hek_machine.proofs.ClaimRows.{maker_declared}
+use Rattle.hek_machine.proofs.CommittedRows.{maker_declared}
 use Rattle.hek_machine.proofs.parts.Parts.is_made_by_other.Goals as goal
 
 pub state-requires : goal.state-requires
