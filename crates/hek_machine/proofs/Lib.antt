@@ -20,3 +20,4 @@ pub mod ScanRows
 pub mod CommittedRows
 pub mod DetectRows
 pub mod StepRows
+pub mod RunRows

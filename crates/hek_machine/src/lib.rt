@@ -12,9 +12,11 @@ mod phases;
 mod releases;
 mod room;
 mod rows;
+mod runs;
 mod scans;
 mod steps;
 mod walks;
 mod writes;
 
 pub use machine::Machine;
+pub use runs::{Trace, run, run_at};

@@ -1,11 +1,11 @@
 //! The lists that a machine shows, each in order of entry. A list is copied, which takes time linear in it.
 ghost use Rattle.std.specs.Prelude.{◌≡◌, ◌<◌, length, IfOk};
-ghost use Rattle.hek_rules.specs.Image.{read_set, write_set, bucket_set, waiting_list as waiters_in, dependents_of, lock_list as lockers_in};
+ghost use Rattle.hek_rules.specs.Image.{read_set, write_set, bucket_set, waiting_list as waiters_in, dependents_of, lock_list as lockers_in, committed_rows};
 ghost use Rattle.hek_txn.specs.TxnTable.{Declared};
 ghost use Rattle.hek_machine.specs.Judged.{IsShown};
 
 use crate::machine::Machine;
-use hek_rules::{NoMemory, TxnId, VersionId, WriteEntry};
+use hek_rules::{NoMemory, Pairs, TxnId, VersionId, WriteEntry};
 use std::alloc::Global;
 
 fn listed<T: Copy>(alloc: Global, items: &[T]) -> Result<Vec<T>, NoMemory>
@@ -63,5 +63,13 @@ impl Machine {
         ensures { IfOk result (λ list. IsShown self.now (λ w. lockers_in w bucket) list.items) }
     {
         listed(self.parts.alloc, self.parts.buckets.holders(bucket))
+    }
+
+    /// The committed rows by key, in rising order: of each version that a committed transaction made, or the schedule,
+    /// and that no committed one ended, its key and value.
+    pub fn rows(&self) -> Result<Pairs, NoMemory>
+        ensures { IfOk result (λ rows. IsShown self.now committed_rows rows) }
+    {
+        self.parts.rows()
     }
 }

@@ -1,11 +1,13 @@
 //! The machine.
-ghost use Rattle.std.specs.Prelude.{IfOk};
-ghost use Rattle.hek_laws.specs.Runs.{IsFirstClock};
+ghost use Rattle.std.specs.Prelude.{◌≡◌, ◌&&◌, false, length, IfOk, OnErr, IsOk};
+ghost use Rattle.hek_rules.specs.Plan.{IsPlan};
+ghost use Rattle.hek_laws.specs.Runs.{IsFirstClock, IsPlaced};
 ghost use Rattle.hek_machine.specs.Stands.{StandsFor};
 ghost use Rattle.hek_machine.specs.Observed.{opening_of, StandsAs};
+ghost use Rattle.hek_machine.specs.Steps.{takes_memory, passes, IsStep};
 
 use crate::parts::Parts;
-use hek_rules::{NoMemory, Schedule, Time};
+use hek_rules::{Event, NoMemory, Reply, Schedule, Time};
 use std::alloc::Global;
 use std::marker::Model;
 
@@ -31,7 +33,8 @@ impl Model for Machine {
 impl Machine {
     /// A machine before the first event of a schedule. Its clock is 1. The steps of the schedule are the caller's to do.
     pub fn load(alloc: Global, schedule: &Schedule) -> Result<Machine, NoMemory>
-        ensures { IfOk result (λ m. StandsFor m (opening_of schedule.now 1)) }
+        ensures plan { IfOk result (λ _. IsPlan schedule.now) }
+        ensures stands { IfOk result (λ m. StandsFor m (opening_of schedule.now 1)) }
     {
         Machine::load_at(alloc, schedule, Time::new(1))
     }
@@ -39,7 +42,8 @@ impl Machine {
     /// The same at another clock, the first time that will be drawn. Rows are valid from time 0 on.
     pub fn load_at(alloc: Global, schedule: &Schedule, clock: Time) -> Result<Machine, NoMemory>
         requires { IsFirstClock clock }
-        ensures { IfOk result (λ m. StandsFor m (opening_of schedule.now clock)) }
+        ensures plan { IfOk result (λ _. IsPlan schedule.now) }
+        ensures stands { IfOk result (λ m. StandsFor m (opening_of schedule.now clock)) }
     {
         Ok(Machine {
             parts: Parts::load(alloc, schedule, clock)?,
@@ -53,5 +57,20 @@ impl Machine {
         Ok(Machine {
             parts: self.parts.copy()?,
         })
+    }
+
+    /// One event: its reply, and the machine after it, are what the rule table says. A scan is of a bucket that there is.
+    /// NoMemory changes nothing, and comes only of an event that reads or writes rows or looks for a deadlock, once it has
+    /// passed the checks. An event takes time at most linear in the versions and in what its transaction holds, and
+    /// `Detect` in the transactions times the waits.
+    #[tactic(auto, using(crate::proofs::RunRows::steps_of_rows))]
+    pub fn step(&mut self, event: Event) -> Result<Reply, NoMemory>
+        requires { IsPlaced (length self.old.buckets) event }
+        ensures step { IfOk result (IsStep event self.old self.new) }
+        ensures still { OnErr result (StandsAs self.old self.new) }
+        ensures sure { (takes_memory event && passes self.old event) ≡ false → IsOk result }
+        ensures buckets { length self.new.buckets ≡ length self.old.buckets }
+    {
+        self.parts.step(&event)
     }
 }
