@@ -1,25 +1,31 @@
 //! The command line: its words, and what is done for them.
+use crate::arguments::read_words;
+use crate::asm::asm_command;
+use crate::dis::dis_command;
+use crate::disk::{Disk, InputFile, LateFile, open};
 use crate::fault::{HekFault, report};
 use crate::release::release_command;
+use crate::schedule_file::{ScheduleFile, read_text};
 use crate::word::word_command;
 use clap::error::ErrorKind as ClapKind;
-use clap::{Arg, ArgMatches, Command, Error};
-use std::alloc::{AllocError, Global};
+use clap::{ArgMatches, Error};
+use std::alloc::Global;
 use std::convert::AsStr;
 use std::env;
 use std::env::Env;
 use std::io::{ErrorKind, Read, Write};
 
-/// Does what the program's arguments ask for, reads `input` where they say `-`, writes to `out` and `faults`, and answers
-/// the exit status: 0, or 1 after a fault, or 2 for a bad command line.
-pub fn program<R: Env + Alloc<A = Global>, I: Read + Drop, W: Write, E: Write>(
+/// Does what the program's arguments ask for, with the files of `disk`, reads `input` where they say `-`, writes to `out`
+/// and `faults`, and answers the exit status: 0, or 1 after a fault, or 2 for a bad command line.
+pub fn program<R: Env + Alloc<A = Global>, D: Disk, I: Read + Drop, W: Write, E: Write>(
     rt: &R,
+    disk: &D,
     input: I,
     out: &mut W,
     faults: &mut E,
 ) -> u8 {
     match words_of(rt) {
-        Ok(words) => answer(rt.alloc(), words.as_slice(), input, out, faults),
+        Ok(words) => answer(rt.alloc(), words.as_slice(), disk, input, out, faults),
         Err(fault) => report(fault, faults),
     }
 }
@@ -39,9 +45,10 @@ fn fault_of<'a>(kind: ErrorKind) -> HekFault<'a> {
 }
 
 /// Does what these words ask for, the program's name first.
-pub fn answer<S: AsStr, I: Read + Drop, W: Write, E: Write>(
+pub fn answer<S: AsStr, D: Disk, I: Read + Drop, W: Write, E: Write>(
     alloc: Global,
     words: &[S],
+    disk: &D,
     input: I,
     out: &mut W,
     faults: &mut E,
@@ -50,7 +57,7 @@ pub fn answer<S: AsStr, I: Read + Drop, W: Write, E: Write>(
         Ok(matches) => matches,
         Err(error) => return refuse(&error, out, faults),
     };
-    match run(alloc, &matches, input, out) {
+    match run(alloc, &matches, disk, input, out) {
         Ok(status) => status,
         Err(fault) => report(fault, faults),
     }
@@ -72,55 +79,10 @@ fn refuse<W: Write, E: Write>(error: &Error, out: &mut W, faults: &mut E) -> u8 
     }
 }
 
-fn read_words<'a, S: AsStr>(alloc: Global, words: &'a [S]) -> Result<ArgMatches<'a>, Error> {
-    hek(alloc)?.try_get_matches_from(words)
-}
-
-fn hek<'a>(alloc: Global) -> Result<Command<'a>, AllocError> {
-    let command = Command::new(alloc, "hek")
-        .about("The reference machine of pessimistic multiversion locking, step by step")
-        .after_help(
-            "Example:\n  hek release 8040000000000002 1\nprints the word and the waits that are left:\n  C000000000000002 0",
-        )
-        .subcommand_required(true)
-        .subcommand(release(alloc)?)?
-        .subcommand(word(alloc)?)?;
-    Ok(command)
-}
-
-fn release<'a>(alloc: Global) -> Result<Command<'a>, AllocError> {
-    let word = Arg::new(alloc, "WORD")
-        .required(true)
-        .help("an End word, as 16 hexadecimal digits");
-    let waits = Arg::new(alloc, "WAITS")
-        .required(true)
-        .help("how many others the word's writer waits for");
-    let command = Command::new(alloc, "release")
-        .about("Gives up one read lock of an End word")
-        .after_help(
-            "Example:\n  hek release 8040000000000002 1\nThe word is write-locked by transaction 2 and has one reader, for which 2 waits. It prints\n  C000000000000002 0",
-        )
-        .arg(word)?
-        .arg(waits)?;
-    Ok(command)
-}
-
-fn word<'a>(alloc: Global) -> Result<Command<'a>, AllocError> {
-    let words = Arg::new(alloc, "WORD").required(true).num_args(1..).help(
-        "a word, as 16 hexadecimal digits, or - for standard input, one word a line",
-    );
-    let command = Command::new(alloc, "word")
-        .about("Says what words are, as Begin and as End words")
-        .after_help(
-            "Example:\n  hek word 8040000000000002 0000000000000007\nprints\n  end lock readers 1 writer 2 no-more-reads clear\n  begin time 7; end time 7",
-        )
-        .arg(words)?;
-    Ok(command)
-}
-
-fn run<'a, I: Read + Drop, W: Write>(
+fn run<'a, D: Disk, I: Read + Drop, W: Write>(
     alloc: Global,
     matches: &ArgMatches<'a>,
+    disk: &D,
     input: I,
     out: &mut W,
 ) -> Result<u8, HekFault<'a>> {
@@ -131,8 +93,48 @@ fn run<'a, I: Read + Drop, W: Write>(
             out,
         ),
         Some(("word", found)) => word_command(alloc, texts(found, "WORD")?, input, out),
+        Some(("asm", found)) => asm(alloc, found, disk, input),
+        Some(("dis", found)) => dis(alloc, found, disk, input, out),
         _ => Err(HekFault::BadArgument),
     }
+}
+
+fn asm<'a, D: Disk, I: Read + Drop>(
+    alloc: Global,
+    found: &ArgMatches<'a>,
+    disk: &D,
+    input: I,
+) -> Result<u8, HekFault<'a>> {
+    let name = text(found, "FILE")?;
+    let mut image = LateFile::new(disk, text(found, "OUT")?);
+    let bytes = read_text(alloc, open(disk, input, name)?, name)?;
+    asm_command(alloc, bytes.as_slice(), &mut image)
+}
+
+fn dis<'a, D: Disk, I: Read + Drop, W: Write>(
+    alloc: Global,
+    found: &ArgMatches<'a>,
+    disk: &D,
+    input: I,
+    out: &mut W,
+) -> Result<u8, HekFault<'a>> {
+    let file = schedule_file(alloc, found, disk, input)?;
+    dis_command(alloc, file, out)
+}
+
+/// The schedule file that the words name, a text where they say `--text`.
+fn schedule_file<'a, D: Disk, I: Read + Drop>(
+    alloc: Global,
+    found: &ArgMatches<'a>,
+    disk: &D,
+    input: I,
+) -> Result<ScheduleFile<InputFile<I, D::Reader>>, HekFault<'a>> {
+    let name = text(found, "FILE")?;
+    let file = open(disk, input, name)?;
+    if found.get_flag("text") {
+        return Ok(ScheduleFile::Text(read_text(alloc, file, name)?));
+    }
+    Ok(ScheduleFile::Image(file))
 }
 
 fn text<'a>(found: &ArgMatches<'a>, name: &str) -> Result<&'a str, HekFault<'a>> {

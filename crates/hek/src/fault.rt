@@ -1,7 +1,11 @@
 //! What can go wrong, one line and one exit status each.
 ghost use Rattle.std.specs.Prelude.{◌≡◌};
-ghost use Rattle.hek.specs.Fault.{status_of};
+ghost use Rattle.hek.specs.declared.fault.HekFault.TheVariants as hek;
+ghost use Rattle.hek.specs.Fault.{status_of, text_fault, image_fault};
 
+use hek_asm::{AsmFault, AsmKind};
+use hek_image::LoadFault;
+use hek_rules::NoMemory;
 use hek_word::ReleaseFault;
 use std::io::Write;
 use thiserror::Error;
@@ -17,6 +21,11 @@ pub enum HekFault<'a> {
     NoReader,
     #[error("hek: bad waits")]
     BadWaits,
+    /// What is wrong with a schedule text, at the line of this number.
+    #[error("hek: line {line}: {kind}")]
+    Line { line: u64, kind: AsmKind },
+    #[error("hek: image: {0}")]
+    Image(LoadFault),
     #[error("hek: not text")]
     NotText,
     /// A file, by its name on the command line, that can't be opened or read.
@@ -38,6 +47,8 @@ impl HekFault<'_> {
             HekFault::NotAWord
             | HekFault::NoReader
             | HekFault::BadWaits
+            | HekFault::Line { .. }
+            | HekFault::Image(_)
             | HekFault::NotText
             | HekFault::CannotRead(_)
             | HekFault::CannotWrite
@@ -52,6 +63,36 @@ impl From<ReleaseFault> for HekFault<'_> {
             ReleaseFault::NoReader => HekFault::NoReader,
             ReleaseFault::BadWaits => HekFault::BadWaits,
         }
+    }
+}
+
+impl From<AsmFault> for HekFault<'_> {
+    ghost from_gives = { λ f e. e ≡ text_fault f };
+
+    fn from(fault: AsmFault) -> Self {
+        match fault {
+            AsmFault::At { line, kind } => HekFault::Line { line, kind },
+            AsmFault::NoMemory => HekFault::NoMemory,
+        }
+    }
+}
+
+impl From<LoadFault> for HekFault<'_> {
+    ghost from_gives = { λ f e. e ≡ image_fault f };
+
+    fn from(fault: LoadFault) -> Self {
+        match fault {
+            LoadFault::NoMemory => HekFault::NoMemory,
+            fault => HekFault::Image(fault),
+        }
+    }
+}
+
+impl From<NoMemory> for HekFault<'_> {
+    ghost from_gives = { λ _ e. e ≡ hek.NoMemory };
+
+    fn from(_fault: NoMemory) -> Self {
+        HekFault::NoMemory
     }
 }
 

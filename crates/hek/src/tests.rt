@@ -1,8 +1,14 @@
 ghost use Rattle.std.specs.Prelude.{◌≤◌, length, IfOk};
 
+mod files;
+
 use crate::command_line::{answer, program};
 use crate::fault::{HekFault, report};
+use files::MemoryDisk;
+use hek_asm::AsmKind;
+use hek_image::LoadFault;
 use std::alloc::{AllocError, Global};
+use std::cell::RefCell;
 use std::env::{Env, FillError};
 use std::test::Fail;
 
@@ -13,9 +19,20 @@ fn ran(alloc: Global, words: &[&str]) -> Result<(u8, String, String), AllocError
 
 // The same, over an input.
 fn ran_on(alloc: Global, words: &[&str], input: &[u8]) -> Result<(u8, String, String), AllocError> {
+    let created = RefCell::new(None);
+    ran_in(alloc, words, &MemoryDisk::new(alloc, &[], &created), input)
+}
+
+// The same, with files.
+fn ran_in(
+    alloc: Global,
+    words: &[&str],
+    disk: &MemoryDisk<'_>,
+    input: &[u8],
+) -> Result<(u8, String, String), AllocError> {
     let mut out = Vec::new(alloc);
     let mut faults = Vec::new(alloc);
-    let status = answer(alloc, words, input, &mut out, &mut faults);
+    let status = answer(alloc, words, disk, input, &mut out, &mut faults);
     let out = String::from_utf8_lossy(alloc, out.as_slice())?;
     let faults = String::from_utf8_lossy(alloc, faults.as_slice())?;
     Ok((status, out, faults))
@@ -101,9 +118,16 @@ fn helps(rt: HostRuntime) -> Result<(), Fail> {
     assert_eq!(rt; status, 0);
     assert_eq!(rt; faults.as_str(), "");
     assert!(rt; out.as_str().contains("hek release 8040000000000002 1"));
-    let (status, out, _) = ran(rt.alloc(), &["hek", "release", "--help"])?;
-    assert_eq!(rt; status, 0);
-    assert!(rt; out.as_str().contains("hek release 8040000000000002 1"));
+    for (command, example) in [
+        ("release", "hek release 8040000000000002 1"),
+        ("word", "hek word 8040000000000002 0000000000000007"),
+        ("asm", "hek asm first.txt first.hek"),
+        ("dis", "hek dis first.hek"),
+    ] {
+        let (status, out, _) = ran(rt.alloc(), &["hek", command, "--help"])?;
+        assert_eq!(rt; status, 0);
+        assert!(rt; out.as_str().contains(example), "help of {command}");
+    }
     let (status, out, faults) = ran(rt.alloc(), &["hek"])?;
     assert_eq!(rt; status, 2);
     assert_eq!(rt; out.as_str(), "");
@@ -117,9 +141,11 @@ fn tells_of_an_output_that_fails(rt: HostRuntime) -> Result<(), Fail> {
     let mut out: &mut [u8] = &mut room;
     let mut faults = Vec::new(rt.alloc());
     let words = ["hek", "release", "8040000000000002", "1"];
+    let created = RefCell::new(None);
     let status = answer(
         rt.alloc(),
         words.as_slice(),
+        &MemoryDisk::new(rt.alloc(), &[], &created),
         b"".as_slice(),
         &mut out,
         &mut faults,
@@ -178,7 +204,9 @@ fn refuses_arguments_that_are_no_text(rt: HostRuntime) -> Result<(), Fail> {
     let system = OddArguments { alloc: rt.alloc() };
     let mut out = Vec::new(rt.alloc());
     let mut faults = Vec::new(rt.alloc());
-    let status = program(&system, b"".as_slice(), &mut out, &mut faults);
+    let created = RefCell::new(None);
+    let disk = MemoryDisk::new(rt.alloc(), &[], &created);
+    let status = program(&system, &disk, b"".as_slice(), &mut out, &mut faults);
     assert_eq!(rt; status, 2);
     assert_eq!(rt; out.as_slice(), b"".as_slice());
     assert_eq!(rt; faults.as_slice(), b"hek: bad argument\n".as_slice());
@@ -192,6 +220,41 @@ fn tells_of_each_fault(rt: HostRuntime) -> Result<(), Fail> {
         (HekFault::NotAWord, 1, "hek: not a word\n"),
         (HekFault::NoReader, 1, "hek: no reader\n"),
         (HekFault::BadWaits, 1, "hek: bad waits\n"),
+        (
+            HekFault::Line {
+                line: 2,
+                kind: AsmKind::UnknownName,
+            },
+            1,
+            "hek: line 2: 4 UnknownName\n",
+        ),
+        (
+            HekFault::Image(LoadFault::BadMagic),
+            1,
+            "hek: image: 1 BadMagic\n",
+        ),
+        (
+            HekFault::Image(LoadFault::BadVersion),
+            1,
+            "hek: image: 2 BadVersion\n",
+        ),
+        (
+            HekFault::Image(LoadFault::Short),
+            1,
+            "hek: image: 3 Short\n",
+        ),
+        (
+            HekFault::Image(LoadFault::BadField(54)),
+            1,
+            "hek: image: 4 BadField at 54\n",
+        ),
+        (
+            HekFault::Image(LoadFault::Trailing),
+            1,
+            "hek: image: 5 Trailing\n",
+        ),
+        (HekFault::Image(LoadFault::Read), 1, "hek: image: 6 Read\n"),
+        (HekFault::from(LoadFault::NoMemory), 1, "hek: no memory\n"),
         (HekFault::NotText, 1, "hek: not text\n"),
         (HekFault::CannotRead("x.hek"), 1, "hek: cannot read x.hek\n"),
         (HekFault::CannotWrite, 1, "hek: cannot write\n"),

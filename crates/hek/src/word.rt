@@ -1,12 +1,10 @@
 //! The command `word`.
+use crate::disk::{INPUT, read_fault};
 use crate::fault::HekFault;
 use crate::release::hex_number;
 use hek_word::{BeginWord, EndWord};
 use std::alloc::Global;
 use std::io::{BufRead, BufReader, ErrorKind, Read, Write};
-
-/// The word of the command line that stands for the lines of standard input.
-const INPUT: &str = "-";
 
 /// Decodes words of 16 hexadecimal digits, and in place of `-` those of the input, one a line, and writes a line for
 /// each. The answer is the exit status: 1 if any was not a word.
@@ -42,7 +40,7 @@ fn word_lines<'a, B: BufRead, W: Write>(
 ) -> Result<bool, HekFault<'a>> {
     let mut are_words = true;
     for line in lines.lines(alloc) {
-        let line = line.map_err(|error| read_fault(error.kind()))?;
+        let line = line.map_err(|error| line_fault(error.kind()))?;
         let word = line.as_str().trim();
         if !word.is_empty() {
             are_words &= word_line(word, out)?;
@@ -51,11 +49,10 @@ fn word_lines<'a, B: BufRead, W: Write>(
     Ok(are_words)
 }
 
-fn read_fault<'a>(kind: ErrorKind) -> HekFault<'a> {
+fn line_fault<'a>(kind: ErrorKind) -> HekFault<'a> {
     match kind {
-        ErrorKind::OutOfMemory => HekFault::NoMemory,
         ErrorKind::InvalidData => HekFault::NotText,
-        _ => HekFault::CannotRead(INPUT),
+        kind => read_fault(kind, INPUT),
     }
 }
 

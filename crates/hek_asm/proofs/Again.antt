@@ -20,7 +20,7 @@ use Rattle.hek_asm.specs.Canonical.{row_words, txn_words, level_word}
 use Rattle.hek_asm.proofs.Joined.{IsPlain, IsWord, written_after, written_step}
 
 -- ---- words
-abbrev own : IsNumeralModel (λ ds. all_ascii_digits ds ≡ true) (digits_value 10)
+abbrev pub own : IsNumeralModel (λ ds. all_ascii_digits ds ≡ true) (digits_value 10)
 own = numerals_by_value (λ ds. all_ascii_digits ds ≡ true) tells_all_ascii_digits
 
 pub number_again : (n : ℕ) → n < 2 ^ 64 → number_of (decimal n) ≡ Some n
@@ -30,7 +30,7 @@ number_again n h =
     let it : number_of (decimal n) ≡ Some (digits_value 10 (decimal n)) = rw fits refl in
     it ∙ ap (λ (m : ℕ). Some m) value
 
-digits_plain : (w : List ℕ) → all_ascii_digits w ≡ true → AllByRecursion IsPlain w
+pub digits_plain : (w : List ℕ) → all_ascii_digits w ≡ true → AllByRecursion IsPlain w
 digits_plain [] h = tt
 digits_plain (b ∷ bs) h = let both = and_parts _ (all_ascii_digits bs) h in let range = and_parts (leb 48 b) (leb b 57) both.0 in ((omega (arith, leb-true 48 b range.0), omega (arith, leb-true b 57 range.1), λ e. absurd (omega (arith, leb-true 48 b range.0))), digits_plain bs both.1)
 

@@ -53,14 +53,14 @@ words_of-joined [] h = refl
 words_of-joined (w ∷ ws) h = word_then w (spaced ws) h.0 (at_spaced ws) ∙ ap (λ (vs : List (List ℕ)). w ∷ vs) (words_of-spaced ws h.1)
 
 -- a byte of a line
-abbrev IsInLine : ℕ → Type 0
+abbrev pub IsInLine : ℕ → Type 0
 IsInLine b = (is_line_end b ≡ false) × (is_comment b ≡ false) × (b < 128)
 
 in_line : (w : List ℕ) → AllByRecursion IsPlain w → AllByRecursion IsInLine w
 in_line [] h = tt
 in_line (b ∷ bs) h = ((no_end b h.0, no_comment b h.0, h.0.1), in_line bs h.1)
 
-all_append : (P : ℕ → Type 0) (xs ys : List ℕ) → AllByRecursion P xs → AllByRecursion P ys → AllByRecursion P (xs ++ ys)
+pub all_append : (P : ℕ → Type 0) (xs ys : List ℕ) → AllByRecursion P xs → AllByRecursion P ys → AllByRecursion P (xs ++ ys)
 all_append P [] ys h k = k
 all_append P (x ∷ xs) ys h k = (h.0, all_append P xs ys h.1 k)
 
@@ -68,11 +68,11 @@ in_spaced : (ws : List (List ℕ)) → AllByRecursion IsWord ws → AllByRecursi
 in_spaced [] h = tt
 in_spaced (w ∷ ws) h = ((refl, refl, omega arith), all_append IsInLine w (spaced ws) (in_line w h.0.plain) (in_spaced ws h.1))
 
-in_joined : (ws : List (List ℕ)) → AllByRecursion IsWord ws → AllByRecursion IsInLine (joined ws)
+pub in_joined : (ws : List (List ℕ)) → AllByRecursion IsWord ws → AllByRecursion IsInLine (joined ws)
 in_joined [] h = tt
 in_joined (w ∷ ws) h = all_append IsInLine w (spaced ws) (in_line w h.0.plain) (in_spaced ws h.1)
 
-lines_then : (xs rest : List ℕ) → AllByRecursion IsInLine xs → lines_of (xs ++ 10 ∷ rest) ≡ xs ∷ lines_of rest
+pub lines_then : (xs rest : List ℕ) → AllByRecursion IsInLine xs → lines_of (xs ++ 10 ∷ rest) ≡ xs ∷ lines_of rest
 lines_then [] rest h = refl
 lines_then (x ∷ xs) rest h = rw h.0.0 (ap (onto_first x) (lines_then xs rest h.1))
 

@@ -6,3 +6,10 @@ pub mod Again
 pub mod RoundTrip
 pub mod TextOnly
 pub mod CanonicalTidy
+mod Fronts
+mod LikelyReply
+mod LikelyEvent
+mod EntryAgain
+mod SmallEntry
+mod TraceSteps
+mod TraceLaws

@@ -71,7 +71,7 @@ own_place ns i lt d =
 place_of : (q : Plan) (t : ℕ) → IsDeclared (length q.txns) t → t - 1 < length (names_of q)
 place_of q t h = omega (arith, h.0, h.1, length-map q.txns (λ (x : List ℕ × Level). x.0))
 
-id_again : (q : Plan) (t : ℕ) → IsPlan q → IsDeclared (length q.txns) t → id_of q (name_at q t) ≡ Some t
+pub id_again : (q : Plan) (t : ℕ) → IsPlan q → IsDeclared (length q.txns) t → id_of q (name_at q t) ≡ Some t
 id_again q t is h =
     let back : (t - 1) + 1 ≡ t = omega (arith, h.0) in
     ap (option_map (λ (i : ℕ). i + 1)) (own_place (names_of q) (t - 1) (place_of q t h) is.names) ∙ ap (λ (m : ℕ). Some m) back
@@ -80,7 +80,7 @@ pub name_again : (q : Plan) (t : ℕ) → IsPlan q → IsDeclared (length q.txns
 name_again q t is h = all_at (λ w. IsTrue (is_name w)) (names_of q) (t - 1) [] is.forms (place_of q t h)
 
 -- ---- steps
-or_false : (x y : Bool) → (x || y) ≡ false → (x ≡ false) × (y ≡ false)
+pub or_false : (x y : Bool) → (x || y) ≡ false → (x ≡ false) × (y ≡ false)
 or_false true y e = absurd cc
 or_false false y e = (refl, e)
 

@@ -4,3 +4,5 @@ pub mod Trace
 pub mod Text
 pub mod Gives
 pub mod Laws
+pub mod Likely
+pub mod Reading

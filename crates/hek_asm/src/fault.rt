@@ -1,6 +1,7 @@
 //! What is wrong with a text.
 ghost use Rattle.std.specs.Prelude.{◌≡◌};
 ghost use Rattle.hek_asm.specs.declared.fault.LineFault.TheVariants as line;
+ghost use Rattle.hek_asm.specs.declared.fault.TraceFault.TheVariants as trace;
 
 use hek_rules::NoMemory;
 use std::alloc::{AllocError, AllocFailed};
@@ -42,6 +43,23 @@ pub enum AsmFault {
     At { line: u64, kind: AsmKind },
     #[error("no memory")]
     NoMemory,
+}
+
+/// Why a text isn't read as a trace: the first line that no trace of the schedule has there, or want of memory.
+#[derive(Clone, Copy, Debug, PartialEq, Eq, Error)]
+pub enum TraceFault {
+    #[error("trace line {0}")]
+    Line(u64),
+    #[error("no memory")]
+    NoMemory,
+}
+
+impl From<NoMemory> for TraceFault {
+    ghost from_gives = { λ _ e. e ≡ trace.NoMemory };
+
+    fn from(_error: NoMemory) -> TraceFault {
+        TraceFault::NoMemory
+    }
 }
 
 /// Why a line isn't taken.

@@ -4,15 +4,18 @@
 mod assemble;
 mod fault;
 mod laws;
+mod likely;
 mod line;
 mod putting;
+mod reading;
 mod reply;
 mod schedule_text;
 mod trace;
 
 pub use assemble::assemble_text;
-pub use fault::{AsmFault, AsmKind};
-pub use laws::canonical_text_is_exact;
+pub use fault::{AsmFault, AsmKind, TraceFault};
+pub use laws::{canonical_text_is_exact, traces_are_exact};
+pub use reading::read_trace;
 pub use reply::write_reply;
 pub use schedule_text::canonical;
 pub use trace::{write_line, write_trace};

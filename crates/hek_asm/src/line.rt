@@ -33,7 +33,7 @@ fn number_of(word: &[u8]) -> Result<u64, LineFault>
 }
 
 // The words of a line.
-fn words(alloc: Global, line: &[u8]) -> Result<Vec<&[u8]>, AllocError>
+pub(crate) fn words(alloc: Global, line: &[u8]) -> Result<Vec<&[u8]>, AllocError>
     ensures { IfOk result (λ v. map (λ w. w.now) v.items ≡ words_of line.now) }
 {
     let mut words = Vec::new(alloc);

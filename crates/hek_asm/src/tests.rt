@@ -1,5 +1,7 @@
 ghost use Rattle.std.specs.Prelude.{◌≡◌, false};
 
+mod reading;
+
 use crate::{AsmFault, AsmKind, assemble_text, canonical, write_reply, write_trace};
 use hek_rules::{
     Cause, Level, Members, MemorySink, NoMemory, Pairs, Refusal, Reply, Schedule, Time, TxnId,

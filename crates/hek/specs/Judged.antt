@@ -1,0 +1,66 @@
+-- What commands make of files.
+use Rattle.std.specs.Prelude.{◌≡◌, ℕ, List, Option, Ok, Err, IfSome}
+use Rattle.std.specs.Str.{IsUtf8}
+use Rattle.std.specs.Io.KnownBytes.{Appends}
+use Rattle.hek_rules.specs.Plan.{Plan}
+use Rattle.hek_asm.specs.Text.{schedule_of}
+use Rattle.hek_asm.specs.Canonical.{canonical_text}
+use Rattle.hek_image.specs.Gives.{LoadFails}
+use Rattle.hek_image.specs.Loading.{loading}
+use Rattle.hek_image.specs.Schedules.{image}
+use Rattle.hek.specs.declared.fault.HekFault.{HekFault}
+use Rattle.hek.specs.declared.fault.HekFault.TheVariants.{Line, Image, NotText, CannotRead, CannotWrite, NoMemory}
+use Rattle.hek.specs.declared.schedule_file.ScheduleFile.{ScheduleFile}
+use Rattle.hek.specs.declared.schedule_file.ScheduleFile.TheVariants as file
+
+-- why the file of a name isn't read
+abbrev pub ReadFails : List ℕ → HekFault → Type 0
+ReadFails name (CannotRead file) = file.now ≡ name
+ReadFails name NoMemory = Unit {0}
+ReadFails name other = ⊥
+
+-- why bytes aren't a schedule's text: a fault only where it is theirs
+abbrev pub TextFails : List ℕ → HekFault → Type 0
+TextFails text NotText = ¬ (IsUtf8 text)
+TextFails text (Line number kind) = schedule_of text ≡ Err (number, kind)
+TextFails text NoMemory = Unit {0}
+TextFails text other = ⊥
+
+-- a schedule from the bytes that a reader has left, where they are known
+abbrev pub ImageGives : Option (List ℕ) → Plan → Type 0
+ImageGives left plan = IfSome left (λ bytes. loading bytes ≡ Ok plan)
+
+-- why they aren't the image of one
+abbrev pub ImageFails : Option (List ℕ) → HekFault → Type 0
+ImageFails left (Image fault) = IfSome left (λ bytes. LoadFails fault (loading bytes))
+ImageFails left NoMemory = Unit {0}
+ImageFails left other = ⊥
+
+-- a text and an image
+abbrev pub FileGives : {R : Type 0} → (R → Option (List ℕ)) → ScheduleFile R → Plan → Type 0
+FileGives left (file.Text text) plan = schedule_of text.items ≡ Ok plan
+FileGives left (file.Image reader) plan = ImageGives (left reader) plan
+
+abbrev pub FileFails : {R : Type 0} → (R → Option (List ℕ)) → ScheduleFile R → HekFault → Type 0
+FileFails left (file.Text text) fault = TextFails text.items fault
+FileFails left (file.Image reader) fault = ImageFails (left reader) fault
+
+-- the image of the schedule that a text is was written behind the bytes that a writer held, where they are known
+pub record Assembles (text : List ℕ) (before after : Option (List ℕ)) : Type 0 where
+  pub plan : Plan
+  pub is : schedule_of text ≡ Ok plan
+  pub written : Appends before after (image plan)
+
+abbrev pub AsmFails : List ℕ → HekFault → Type 0
+AsmFails text CannotWrite = Unit {0}
+AsmFails text fault = TextFails text fault
+
+-- the canonical text of the schedule that a file says was written behind them
+pub record Disassembles {R : Type 0} (left : R → Option (List ℕ)) (said : ScheduleFile R) (before after : Option (List ℕ)) : Type 0 where
+  pub plan : Plan
+  pub is : FileGives left said plan
+  pub written : Appends before after (canonical_text plan)
+
+abbrev pub DisFails : {R : Type 0} → (R → Option (List ℕ)) → ScheduleFile R → HekFault → Type 0
+DisFails left said CannotWrite = Unit {0}
+DisFails left said fault = FileFails left said fault

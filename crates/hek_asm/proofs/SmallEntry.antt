@@ -1,0 +1,144 @@
+-- The numbers of what a line may be of are below 2^64.
+use Rattle.std.proofs.Common.{◌≡◌, ℕ, ◌+◌, ◌^◌, Bool, true, false, List, [], ◌∷◌, length, map, drop, take, Option, Some, None, IfSome, refl, codes, subst, arith}
+use Rattle.std.specs.Prelude.{nat_lt, nat_le, ◌&&◌, unwrap_or, if◌then◌else◌}
+use Rattle.std.specs.List.{AllByRecursion, position_or_len}
+use Rattle.std.specs.Str.{bytes_eq, all_ascii_digits}
+use Rattle.std.specs.Str.Parse.{digits_value}
+use Rattle.std.proofs.lemmas.Bool.{and_parts, ltb-true}
+use Rattle.hek_rules.specs.declared.event.Event.{Event}
+use Rattle.hek_rules.specs.declared.event.Event.TheVariants as event
+use Rattle.hek_rules.specs.declared.kind.EventKind.{EventKind}
+use Rattle.hek_rules.specs.declared.kind.EventKind.TheVariants as kind
+use Rattle.hek_rules.specs.declared.reply.Reply.{Reply}
+use Rattle.hek_rules.specs.declared.reply.Reply.TheVariants as reply
+use Rattle.hek_rules.specs.Events.{kind_named, event_of, first_of, second_of}
+use Rattle.hek_rules.specs.Plan.{Plan, id_of}
+use Rattle.hek_rules.specs.Text.{is_number}
+use Rattle.hek_asm.specs.Likely.{◌>>=◌, value_of, first_value, cause_named, refusal_named, is_equals, pair_of, of_one_word, of_two_words, of_three_words, of_few_words, likely_reply, step_named, likely_event, step_len, likely_entry}
+use Rattle.hek_asm.specs.Reading.{is_small, AreSmall, IsSmallReply}
+
+-- a choice of two that both have a property
+pick : {X : Type 0} (P : X → Type 0) (b : Bool) (x y : X) → P x → P y → P (if b then x else y)
+pick P true x y h k = h
+pick P false x y h k = k
+
+-- ---- numbers
+number_or_zero : (w : List ℕ) (b : Bool) → is_number w ≡ b → is_small (unwrap_or (if b then Some (digits_value 10 w) else None) 0)
+number_or_zero w true e = ltb-true (digits_value 10 w) (2 ^ 64) (and_parts ((nat_lt 0 (length w) && nat_le (length w) 20) && all_ascii_digits w) (nat_lt (digits_value 10 w) (2 ^ 64)) e).1
+number_or_zero w false e = omega arith
+
+value_small : (w : List ℕ) → is_small (value_of w)
+value_small w = number_or_zero w (is_number w) refl
+
+first_small : (ws : List (List ℕ)) → is_small (first_value ws)
+first_small [] = omega arith
+first_small (w ∷ ws) = value_small w
+
+values_small : (ws : List (List ℕ)) → AllByRecursion is_small (map value_of ws)
+values_small [] = tt
+values_small (w ∷ ws) = (value_small w, values_small ws)
+
+pairs_small : (ws : List (List ℕ)) → AreSmall (map pair_of ws)
+pairs_small [] = tt
+pairs_small (w ∷ ws) = ((value_small (take (position_or_len is_equals w) w), value_small (drop 1 (drop (position_or_len is_equals w) w))), pairs_small ws)
+
+-- ---- replies
+one_small : (w : List ℕ) → IsSmallReply (of_one_word w)
+one_small w =
+    pick IsSmallReply (bytes_eq w (codes "done")) _ _ tt
+    (pick IsSmallReply (bytes_eq w (codes "exists")) _ _ tt
+    (pick IsSmallReply (bytes_eq w (codes "ready")) _ _ tt
+    (pick IsSmallReply (bytes_eq w (codes "nothing")) _ _ tt
+    (pick IsSmallReply (bytes_eq w (codes "committed")) _ _ tt
+    (pick IsSmallReply (bytes_eq w (codes "failed")) _ _ tt
+    (pick IsSmallReply (bytes_eq w (codes "over")) reply.Over reply.Absent tt tt))))))
+
+two_small : (w v : List ℕ) → IsSmallReply (of_two_words w v)
+two_small w v =
+    pick IsSmallReply (bytes_eq w (codes "began")) (reply.Began (value_of v)) _ (value_small v)
+    (pick IsSmallReply (bytes_eq w (codes "found")) (reply.Found (value_of v)) _ (value_small v)
+    (pick IsSmallReply (bytes_eq w (codes "waiting")) (reply.Waiting (value_of v)) _ (value_small v)
+    (pick IsSmallReply (bytes_eq w (codes "precommitted")) (reply.Precommitted (value_of v)) _ (value_small v)
+    (pick IsSmallReply (bytes_eq w (codes "left")) (reply.Left (value_of v)) _ (value_small v)
+    (pick IsSmallReply (bytes_eq w (codes "aborted")) (reply.Aborted (cause_named v)) reply.NoCycle tt tt)))))
+
+three_small : (w v u : List ℕ) → IsSmallReply (of_three_words w v u)
+three_small w v u =
+    pick IsSmallReply (bytes_eq w (codes "refused")) (reply.Refused (refusal_named u)) _ tt
+    (pick IsSmallReply (bytes_eq v (codes "bucket")) (reply.ReleasedBucket (value_of u)) _ (value_small u)
+    (pick IsSmallReply (bytes_eq v (codes "waiter")) (reply.ReleasedWaiter (value_of u)) _ (value_small u)
+    (pick IsSmallReply (bytes_eq v (codes "commits")) (reply.WaitingCommits (value_of u)) _ (value_small u)
+    (pick IsSmallReply (bytes_eq v (codes "begin")) (reply.StampedBegin (value_of u)) _ (value_small u)
+    (pick IsSmallReply (bytes_eq v (codes "end")) (reply.StampedEnd (value_of u)) (reply.ReleasedRead (value_of u) None) (value_small u) (value_small u))))))
+
+few_small : (ws : List (List ℕ)) → IsSmallReply (of_few_words ws)
+unfolding of_few_words
+few_small [] = tt
+few_small (a ∷ []) = one_small a
+few_small (a ∷ b ∷ []) = two_small a b
+few_small (a ∷ b ∷ c ∷ []) = three_small a b c
+few_small (a ∷ b ∷ c ∷ d ∷ []) = tt
+few_small (a ∷ b ∷ c ∷ d ∷ e ∷ ws) = (value_small c, value_small e)
+
+reply_small : (ws : List (List ℕ)) → IsSmallReply (likely_reply ws)
+unfolding likely_reply
+reply_small [] = tt
+reply_small (w ∷ ws) =
+    pick IsSmallReply (bytes_eq w (codes "rows")) (reply.Rows (map pair_of ws)) _ (pairs_small ws)
+    (pick IsSmallReply (bytes_eq w (codes "victim")) (reply.Victim (first_value ws) (map value_of (drop 2 ws))) (of_few_words (w ∷ ws)) (first_small ws, values_small (drop 2 ws)) (few_small (w ∷ ws)))
+
+-- ---- events
+abbrev IsSmallEvent : Event → Type 0
+IsSmallEvent e = is_small (first_of e) × is_small (second_of e)
+
+zero_small : is_small 0
+zero_small = omega arith
+
+of_small : (k : EventKind) (t a b : ℕ) → is_small a → is_small b → IsSmallEvent (event_of k t a b)
+of_small kind.Begin t a b h k = (zero_small, zero_small)
+of_small kind.Read t a b h k = (h, zero_small)
+of_small kind.Scan t a b h k = (h, zero_small)
+of_small kind.Insert t a b h k = (h, k)
+of_small kind.Update t a b h k = (h, k)
+of_small kind.Delete t a b h k = (h, zero_small)
+of_small kind.Finish t a b h k = (zero_small, zero_small)
+of_small kind.Precommit t a b h k = (zero_small, zero_small)
+of_small kind.Release t a b h k = (zero_small, zero_small)
+of_small kind.Commit t a b h k = (zero_small, zero_small)
+of_small kind.Fail t a b h k = (zero_small, zero_small)
+of_small kind.Stamp t a b h k = (zero_small, zero_small)
+of_small kind.End t a b h k = (zero_small, zero_small)
+of_small kind.Detect t a b h k = (zero_small, zero_small)
+
+onward_some : {A B : Type 0} (P : B → Type 0) (o : Option A) (f : A → Option B) → ((x : A) → IfSome (f x) P) → IfSome (o >>= f) P
+onward_some P None f h = tt
+onward_some P (Some x) f h = h x
+
+onward_each : {A B : Type 0} (P : A → Type 0) (Q : B → Type 0) (o : Option A) (f : A → Option B) → IfSome o P → ((x : A) → P x → IfSome (f x) Q) → IfSome (o >>= f) Q
+onward_each P Q None f h k = tt
+onward_each P Q (Some x) f h k = k x h
+
+step_small : (p : Plan) (name : List ℕ) (ws : List (List ℕ)) → IfSome (step_named p name ws) IsSmallEvent
+unfolding step_named
+step_small p name [] = tt
+step_small p name (w ∷ ws) =
+    onward_some IsSmallEvent (kind_named w) (λ k. id_of p name >>= (λ t. Some (event_of k t (first_value ws) (first_value (drop 1 ws)))))
+    (λ k. onward_some IsSmallEvent (id_of p name) (λ t. Some (event_of k t (first_value ws) (first_value (drop 1 ws))))
+    (λ t. of_small k t (first_value ws) (first_value (drop 1 ws)) (first_small ws) (first_small (drop 1 ws))))
+
+event_small : (p : Plan) (ws : List (List ℕ)) → IfSome (likely_event p ws) IsSmallEvent
+unfolding likely_event
+event_small p [] = tt
+event_small p (w ∷ ws) = pick (λ (o : Option Event). IfSome o IsSmallEvent) (bytes_eq w (codes "detect")) (Some event.Detect) (step_named p w ws) (zero_small, zero_small) (step_small p w ws)
+
+abbrev pub IsSmall : Event × Reply → Type 0
+IsSmall x = IsSmallEvent x.0 × IsSmallReply x.1
+
+entry_small : (p : Plan) (ws : List (List ℕ)) → IfSome (likely_entry p ws) IsSmall
+unfolding likely_entry
+entry_small p [] = tt
+entry_small p (w ∷ ws) =
+    onward_each IsSmallEvent IsSmall (likely_event p ws) (λ e. Some (e, likely_reply (drop (step_len e + 1) ws))) (event_small p ws) (λ e h. (h, reply_small (drop (step_len e + 1) ws)))
+
+pub likely_small : (p : Plan) (ws : List (List ℕ)) (x : Event × Reply) → likely_entry p ws ≡ Some x → IsSmall x
+likely_small p ws x e = subst (λ (o : Option (Event × Reply)). IfSome o IsSmall) e (entry_small p ws)

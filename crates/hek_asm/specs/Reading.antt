@@ -1,0 +1,95 @@
+-- What a text is read as: the history whose trace it is, or the first line that no trace has there.
+use Rattle.std.specs.Prelude.{◌≡◌, ℕ, ◌+◌, ◌<◌, ◌^◌, List, ◌++◌, length, map, Some, None}
+use Rattle.std.specs.List.{AllByRecursion}
+use Rattle.hek_rules.specs.declared.event.Event.{Event}
+use Rattle.hek_rules.specs.declared.reply.Reply.{Reply}
+use Rattle.hek_rules.specs.declared.reply.Reply.TheVariants as reply
+use Rattle.hek_rules.specs.Events.{first_of, second_of}
+use Rattle.hek_rules.specs.Plan.{Plan, IsPlan, levels_of}
+use Rattle.hek_rules.specs.Told.{Told}
+use Rattle.hek_asm.specs.declared.fault.TraceFault.{TraceFault}
+use Rattle.hek_asm.specs.declared.fault.TraceFault.TheVariants as fault
+use Rattle.hek_asm.specs.Trace.{NamesDeclared, trace_line, trace}
+
+abbrev pub is_small : ℕ → Type 0
+is_small n = n < 2 ^ 64
+
+abbrev pub AreSmall : List (ℕ × ℕ) → Type 0
+AreSmall ps = AllByRecursion (λ (p : ℕ × ℕ). is_small p.0 × is_small p.1) ps
+
+-- the numbers of a reply are below 2^64
+abbrev pub IsSmallReply : Reply → Type 0
+IsSmallReply (reply.Began time) = is_small time
+IsSmallReply (reply.Found value) = is_small value
+IsSmallReply reply.Absent = Unit {0}
+IsSmallReply (reply.Rows pairs) = AreSmall pairs
+IsSmallReply reply.Done = Unit {0}
+IsSmallReply reply.Exists = Unit {0}
+IsSmallReply reply.Ready = Unit {0}
+IsSmallReply (reply.Waiting count) = is_small count
+IsSmallReply (reply.Precommitted time) = is_small time
+IsSmallReply (reply.ReleasedRead v None) = is_small v
+IsSmallReply (reply.ReleasedRead v (Some u)) = is_small v × is_small u
+IsSmallReply (reply.ReleasedBucket b) = is_small b
+IsSmallReply (reply.ReleasedWaiter u) = is_small u
+IsSmallReply reply.Nothing = Unit {0}
+IsSmallReply reply.Committed = Unit {0}
+IsSmallReply (reply.WaitingCommits count) = is_small count
+IsSmallReply reply.Failed = Unit {0}
+IsSmallReply (reply.StampedBegin v) = is_small v
+IsSmallReply (reply.StampedEnd v) = is_small v
+IsSmallReply (reply.Left v) = is_small v
+IsSmallReply reply.Over = Unit {0}
+IsSmallReply reply.NoCycle = Unit {0}
+IsSmallReply (reply.Victim t cycle) = is_small t × AllByRecursion is_small cycle
+IsSmallReply (reply.Aborted cause) = Unit {0}
+IsSmallReply (reply.Refused why) = Unit {0}
+
+-- what a line may be of: an event of a declared transaction, or detect, and a reply, with numbers below 2^64
+pub record IsEntry (txns : ℕ) (x : Event × Reply) : Type 0 where
+  pub declared : NamesDeclared txns x.0
+  pub first : is_small (first_of x.0)
+  pub second : is_small (second_of x.0)
+  pub reply : IsSmallReply x.1
+
+abbrev pub AreEntries : Plan → List (Event × Reply) → Type 0
+AreEntries p history = AllByRecursion (IsEntry (length p.txns)) history
+
+abbrev pub history_trace : Plan → List (Event × Reply) → List ℕ
+history_trace p history = trace p (map (λ (x : Event × Reply). x.0) history) (map (λ (x : Event × Reply). x.1) history)
+
+-- a transcript over the schedule whose trace is the text
+pub record IsTraceOf (p : Plan) (told : Told) (text : List ℕ) : Type 0 where
+  pub schedule : told ≡ record { buckets = p.buckets; rows = p.rows; levels = levels_of p; history = told.history }
+  pub entries : AreEntries p told.history
+  pub trace : text ≡ history_trace p told.history
+
+-- the text begins with no line of this number
+abbrev pub HasNoLine : Plan → ℕ → List ℕ → Type 0
+HasNoLine p n text = (x : Event × Reply) (after : List ℕ) → IsEntry (length p.txns) x → text ≡ trace_line p n x.0 x.1 ++ after → ⊥
+
+-- the text goes on behind the trace of some entries, and not with the next line of a trace
+pub record StopsAt (p : Plan) (n : ℕ) (text : List ℕ) : Type 0 where
+  pub before : List (Event × Reply)
+  pub rest : List ℕ
+  pub entries : AreEntries p before
+  pub is : text ≡ history_trace p before ++ rest
+  pub some : 0 < length rest
+  pub number : n ≡ length before + 1
+  pub stops : HasNoLine p n rest
+
+abbrev pub TraceFails : Plan → List ℕ → TraceFault → Type 0
+TraceFails p text fault.NoMemory = Unit {0}
+TraceFails p text (fault.Line n) = StopsAt p n text
+
+-- the front of the text is the line of an entry
+pub record IsFront (p : Plan) (n : ℕ) (x : Event × Reply) (text after : List ℕ) : Type 0 where
+  pub entry : IsEntry (length p.txns) x
+  pub is : text ≡ trace_line p n x.0 x.1 ++ after
+
+-- a text is the trace of one transcript at most, which reading it gives; a trace has no line at fault; and a text has one
+-- first line at fault at most
+pub record TracesAreExact : Type 0 where
+  pub one : (p : Plan) (told found : Told) (text : List ℕ) → IsPlan p → length text < 2 ^ 64 → IsTraceOf p told text → IsTraceOf p found text → found ≡ told
+  pub no_fault : (p : Plan) (told : Told) (text : List ℕ) (n : ℕ) → IsPlan p → length text < 2 ^ 64 → IsTraceOf p told text → StopsAt p n text → ⊥
+  pub one_fault : (p : Plan) (text : List ℕ) (m n : ℕ) → IsPlan p → length text < 2 ^ 64 → StopsAt p m text → StopsAt p n text → m ≡ n

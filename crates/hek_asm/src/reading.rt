@@ -1,0 +1,110 @@
+//! Traces read back, line by line.
+ghost use Rattle.std.specs.Prelude.{◌≡◌, ◌++◌, List, ℕ, length, map, IfOk, IfSome, MatchOption, MatchResult};
+ghost use Rattle.hek_rules.specs.Text.{words_of};
+ghost use Rattle.hek_asm.specs.Likely.{likely_entry};
+ghost use Rattle.hek_asm.specs.Reading.{HasNoLine, IsFront, IsTraceOf, TraceFails};
+ghost use Rattle.hek_asm.specs.Trace.{NamesDeclared, trace_line};
+
+use crate::fault::TraceFault;
+use crate::likely::{behind, likely_event, likely_reply, step_len};
+use crate::line::words;
+use crate::trace::write_line;
+use hek_rules::{Event, FromWrite, NoMemory, Reply, Schedule, Transcript, next_line};
+use std::alloc::Global;
+
+// The only event and reply that the line can be of, if it can be of any.
+#[tactic(auto, unfolding(crate::specs::Likely::likely_entry))]
+fn likely_entry(
+    alloc: Global,
+    schedule: &Schedule,
+    line: &[u8],
+) -> Result<Option<(Event, Reply)>, NoMemory>
+    ensures value { IfOk result (λ o. o ≡ likely_entry schedule.now (words_of line.now)) }
+    ensures declared { IfOk result (λ o. IfSome o (λ x. NamesDeclared (length schedule.now.txns) x.0)) }
+{
+    let words = words(alloc, line)?;
+    let [_, rest @ ..] = words.as_slice() else {
+        return Ok(None);
+    };
+    let Some(event) = likely_event(schedule, rest) else {
+        return Ok(None);
+    };
+    let step = event;
+    let reply = likely_reply(alloc, behind(rest, step_len(&step) + 1))?;
+    Ok(Some((event, reply)))
+}
+
+// The line of an event and a reply.
+fn line_text(
+    alloc: Global,
+    schedule: &Schedule,
+    number: u64,
+    event: Event,
+    reply: &Reply,
+) -> Result<Vec<u8>, NoMemory>
+    requires { NamesDeclared (length schedule.now.txns) event }
+    ensures { IfOk result (λ text. text.items ≡ trace_line schedule.now number event reply.now) }
+{
+    let mut sink = FromWrite::new(Vec::new(alloc));
+    match write_line(schedule, number, event, reply, &mut sink) {
+        Ok(()) => Ok(sink.into_inner()),
+        Err(_) => Err(NoMemory),
+    }
+}
+
+// What follows the front, if the text has it.
+fn without_front<'t>(text: &'t [u8], front: &[u8]) -> Option<&'t [u8]>
+    ensures { MatchOption result ((after : List ℕ) → text.now ≡ front.now ++ after → ⊥) (λ after. text.now ≡ front.now ++ after.now) }
+{
+    if text.len() < front.len() {
+        return None;
+    }
+    let (head, after) = text.split_at(front.len());
+    if head != front {
+        return None;
+    }
+    Some(after)
+}
+
+// The event and the reply of the line at the front, which has this number, and what follows it.
+fn next_entry<'t>(
+    alloc: Global,
+    schedule: &Schedule,
+    number: u64,
+    text: &'t [u8],
+) -> Result<Option<(Event, Reply, &'t [u8])>, NoMemory>
+    ensures { IfOk result (λ o. MatchOption o (HasNoLine schedule.now number text.now) (λ x. IsFront schedule.now number (x.0, x.1) text.now x.2.now)) }
+{
+    let _buckets = schedule.buckets();
+    let Some((line, _)) = next_line(text) else {
+        return Ok(None);
+    };
+    let Some((event, reply)) = likely_entry(alloc, schedule, line)? else {
+        return Ok(None);
+    };
+    let step = event;
+    let front = line_text(alloc, schedule, number, step, &reply)?;
+    match without_front(text, front.as_slice()) {
+        None => Ok(None),
+        Some(after) => Ok(Some((event, reply, after))),
+    }
+}
+
+/// The transcript over the schedule's rows and levels whose trace, with the schedule's names, the text is, else the first
+/// line that no such trace has there. A last line without LF is at fault.
+pub fn read_trace(alloc: Global, schedule: &Schedule, text: &str) -> Result<Transcript, TraceFault>
+    ensures { MatchResult result (λ told. IsTraceOf schedule.now told text.now) (TraceFails schedule.now text.now) }
+{
+    let mut transcript = Transcript::new(alloc, schedule)?;
+    let mut rest = text.as_bytes();
+    let mut number = 0u64;
+    while !rest.is_empty() {
+        number += 1;
+        let Some((event, reply, after)) = next_entry(alloc, schedule, number, rest)? else {
+            return Err(TraceFault::Line(number));
+        };
+        transcript.push(event, reply)?;
+        rest = after;
+    }
+    Ok(transcript)
+}
