@@ -4,3 +4,4 @@ pub mod Cycle
 pub mod GraphRows
 pub mod Waiting
 pub mod Shown
+pub mod Short

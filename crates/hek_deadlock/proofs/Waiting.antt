@@ -20,7 +20,7 @@ active_is Committed e = cc
 active_is (Aborted cause) e = cc
 active_is Terminated e = cc
 
-node_named : (x : TxnTable) (t : ℕ) → is_node x t ≡ true → 0 < t
+pub node_named : (x : TxnTable) (t : ℕ) → is_node x t ≡ true → 0 < t
 node_named x zero e = cc
 node_named x (suc i) e = omega arith
 
@@ -36,7 +36,7 @@ node_waits x t e =
       waits = ltb-true 0 (waits_of x t) parts.1;
     }
 
-joins : (s : Stored) (x : TxnTable) → JoinsBelow (is_edge s x) (length x.cores + 1)
+pub joins : (s : Stored) (x : TxnTable) → JoinsBelow (is_edge s x) (length x.cores + 1)
 joins s x = record {
   from = (λ u t e. node_below x u (edge_from s x u t e));
   to = (λ u t e. node_below x t (edge_to s x u t e));

@@ -1,5 +1,5 @@
 //! The victim among transactions that wait for one another.
-ghost use Rattle.std.specs.Prelude.{◌≡◌, IfOk, IfSome};
+ghost use Rattle.std.specs.Prelude.{◌≡◌, ◌≤◌, length, IfOk, IfSome};
 ghost use Rattle.hek_deadlock.specs.Edges.{victim_in, IsWaiting};
 
 use crate::graph::wait_graph;
@@ -19,6 +19,7 @@ pub fn detect(
 ) -> Result<Option<(TxnId, Members)>, NoMemory>
     ensures victim { IfOk result (λ answer. answer ≡ victim_in store.now txns.now) }
     ensures waiting { IfOk result (λ answer. IfSome answer (λ a. IsWaiting txns.now a.0)) }
+    ensures short { IfOk result (λ answer. IfSome answer (λ a. length a.1 ≤ length txns.now.cores)) }
 {
     let rows = wait_graph(alloc, store, txns)?;
     find_victim(alloc, &rows)

@@ -2,3 +2,4 @@
 pub mod Pairs
 pub mod Overlay
 pub mod Rising
+pub mod Maps

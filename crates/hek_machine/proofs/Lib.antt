@@ -13,4 +13,11 @@ pub mod KeyPlaces
 pub mod RowWalks
 pub mod AddRows
 pub mod Joining
-pub mod UpdateRows
+pub mod KeyRows
+pub mod ClaimRows
+pub mod PairRows
+pub mod ScanRows
+pub mod CommittedRows
+pub mod DetectRows
+pub mod StepRows
+pub mod RunRows

@@ -12,7 +12,7 @@ use Rattle.hek_rules.specs.declared.reply.Reply.TheVariants as reply
 use Rattle.hek_rules.specs.World.{World, Txn, txn_in, bucket_of}
 use Rattle.hek_rules.specs.Walk.{Judgement, Refuse, Allow, walk, apply_all, last, seen_of}
 use Rattle.hek_rules.specs.Walk as walking
-use Rattle.hek_rules.specs.Table.{Outcome, aborted, is_open, after_read, read_row, found, after_delete, delete_row}
+use Rattle.hek_rules.specs.Table.{Outcome, aborted, is_open}
 use Rattle.hek_laws.specs.Lists.{In}
 use Rattle.hek_laws.proofs.Runs.Reachable.{reachable-sound}
 use Rattle.hek_laws.proofs.Sound.InWalks.{is-walking}
@@ -25,7 +25,7 @@ use Rattle.hek_machine.specs.Stands.{Shows, StandsFor, IsOrdered, IsRow}
 use Rattle.hek_machine.specs.Judged.{IsShown, purpose_of, verdict, seen_among}
 use Rattle.hek_machine.specs.Room.{Reserved, IsThere}
 use Rattle.hek_machine.specs.Applied.{Allowed}
-use Rattle.hek_machine.specs.Walked.{ArePlaces, After, deleted_reply}
+use Rattle.hek_machine.specs.Walked.{ArePlaces, After}
 use Rattle.hek_machine.proofs.Loads.{copied-shows}
 use Rattle.hek_machine.proofs.Reserves.{reserved-shows}
 use Rattle.hek_machine.proofs.WalkRows.{seen-same}
@@ -151,23 +151,7 @@ pub last-seen : (m : Parts) (w : World) (t key : ℕ) → StandsFor m w → last
 last-seen m w t key s =
     ap last (sym (seen-same m t (of_key m.store.versions key) w s)) ∙ ap (λ vs. last (seen_of w t vs)) (of_key-same m.store w key s.shows.store)
 
--- ---- reads
-
-pub row_of_read : (m n : Parts) (t key : ℕ) (seen : List ℕ) (r : Reply) → seen ≡ seen_among m t (of_key m.store.versions key) → IsShown m (λ w. found w (last seen)) r →
-    ((w : World) → StandsFor m w → After n t w (walk w t walking.ToRead (key % m.store.buckets) (of_key m.store.versions key)) None) → IsRow (λ w. read_row w t key) m n r
-row_of_read m n t key seen r is shown after =
-    row_allowed m n t (λ w. read_row w t key) (λ w. walk w t walking.ToRead (key % m.store.buckets) (of_key m.store.versions key)) r
-    (λ w es s j. ap (after_read w t (last (seen_of w t (walking.of_key w key)))) (sym (key-walk m w t key walking.ToRead s) ∙ j)
-    ∙ ap (λ (x : Reply). outcome x (apply_all t w es)) (ap (found w) (sym (ap last is ∙ last-seen m w t key s)) ∙ shown w s)) after
-  where
-    outcome : Reply → World → Outcome
-    outcome x v = record { reply = x; world = v }
-
-pub read_refused_row : (m n : Parts) (t key : ℕ) (cause : Cause) →
-    ((w : World) → StandsFor m w → After n t w (walk w t walking.ToRead (key % m.store.buckets) (of_key m.store.versions key)) (Some cause)) → IsRow (λ w. read_row w t key) m n (reply.Aborted cause)
-read_refused_row m n t key cause after =
-    row_refused m n t (λ w. read_row w t key) (λ w. walk w t walking.ToRead (key % m.store.buckets) (of_key m.store.versions key)) cause
-    (λ w c s j. ap (after_read w t (last (seen_of w t (walking.of_key w key)))) (sym (key-walk m w t key walking.ToRead s) ∙ j)) after
+-- ---- answers
 
 pub on_err : {A E : Type 0} (r : Result A E) (P : Type 0) → P → OnErr r P
 on_err (Ok x) P p = tt
@@ -182,39 +166,3 @@ pub came-over : (m n : Parts) (t key bucket : ℕ) (vs : List ℕ) (p : walking.
 came-over m n t key bucket vs p o other a b c came w s =
     subst (λ x. After n t w (walk w t p (key % m.store.buckets) (of_key m.store.versions key)) x) c
     (subst (λ xs. After n t w (walk w t p (key % m.store.buckets) xs) o) b (subst (λ k. After n t w (walk w t p k vs) o) a (came w s)))
-
-pub read_came : (m n : Parts) (t key bucket : ℕ) (vs inner seen : List ℕ) (o : Option Cause) (r : Reply) → bucket ≡ key % m.store.buckets → vs ≡ of_key m.store.versions key →
-    inner ≡ of_key m.store.versions key → seen ≡ seen_among m t inner → IsShown m (λ w. found w (last seen)) r → o ≡ None → Came m n t walking.ToRead bucket vs o → IsRow (λ w. read_row w t key) m n r
-read_came m n t key bucket vs inner seen o r a b d e shown none came =
-    row_of_read m n t key seen r (e ∙ ap (seen_among m t) d) shown (came-over m n t key bucket vs walking.ToRead o None a b none came)
-
-pub read_gone : (m n : Parts) (t key bucket : ℕ) (vs : List ℕ) (o : Option Cause) (cause : Cause) → bucket ≡ key % m.store.buckets → vs ≡ of_key m.store.versions key →
-    o ≡ Some cause → Came m n t walking.ToRead bucket vs o → IsRow (λ w. read_row w t key) m n (reply.Aborted cause)
-read_gone m n t key bucket vs o cause a b some came = read_refused_row m n t key cause (came-over m n t key bucket vs walking.ToRead o (Some cause) a b some came)
-
--- ---- deletes
-
-delete-done : (w : World) (t : ℕ) (target : Option ℕ) (es : List Effect) → after_delete w t target (Allow es) ≡ record { reply = deleted_reply target; world = apply_all t w es }
-delete-done w t None es = refl
-delete-done w t (Some v) es = refl
-
-delete-refused : (w : World) (t : ℕ) (target : Option ℕ) (cause : Cause) → after_delete w t target (Refuse cause) ≡ aborted w t cause
-delete-refused w t None cause = refl
-delete-refused w t (Some v) cause = refl
-
-pub delete_came : (m n : Parts) (t key bucket : ℕ) (vs inner seen : List ℕ) (target : Option ℕ) (o : Option Cause) → bucket ≡ key % m.store.buckets → vs ≡ of_key m.store.versions key →
-    inner ≡ of_key m.store.versions key → seen ≡ seen_among m t inner → target ≡ last seen → o ≡ None → Came m n t walking.ToWrite bucket vs o → IsRow (λ w. delete_row w t key) m n (deleted_reply target)
-delete_came m n t key bucket vs inner seen target o a b d e f none came =
-    row_allowed m n t (λ w. delete_row w t key) (λ w. walk w t walking.ToWrite (key % m.store.buckets) (of_key m.store.versions key)) (deleted_reply target)
-    (λ w es s j. ap (after_delete w t (last (seen_of w t (walking.of_key w key)))) (sym (key-walk m w t key walking.ToWrite s) ∙ j)
-    ∙ ap (λ x. after_delete w t x (Allow es)) (sym (f ∙ ap last (e ∙ ap (seen_among m t) d) ∙ last-seen m w t key s))
-    ∙ delete-done w t target es)
-    (came-over m n t key bucket vs walking.ToWrite o None a b none came)
-
-pub delete_gone : (m n : Parts) (t key bucket : ℕ) (vs : List ℕ) (o : Option Cause) (cause : Cause) → bucket ≡ key % m.store.buckets → vs ≡ of_key m.store.versions key →
-    o ≡ Some cause → Came m n t walking.ToWrite bucket vs o → IsRow (λ w. delete_row w t key) m n (reply.Aborted cause)
-delete_gone m n t key bucket vs o cause a b some came =
-    row_refused m n t (λ w. delete_row w t key) (λ w. walk w t walking.ToWrite (key % m.store.buckets) (of_key m.store.versions key)) cause
-    (λ w c s j. ap (after_delete w t (last (seen_of w t (walking.of_key w key)))) (sym (key-walk m w t key walking.ToWrite s) ∙ j)
-    ∙ delete-refused w t (last (seen_of w t (walking.of_key w key))) c)
-    (came-over m n t key bucket vs walking.ToWrite o (Some cause) a b some came)

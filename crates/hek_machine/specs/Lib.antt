@@ -4,3 +4,6 @@ pub mod Judged
 pub mod Room
 pub mod Applied
 pub mod Walked
+pub mod Written
+pub mod Observed
+pub mod Steps

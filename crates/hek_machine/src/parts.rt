@@ -1,6 +1,6 @@
 //! What a machine is made of.
 ghost use Rattle.std.specs.Prelude.{IfOk};
-ghost use Rattle.hek_rules.specs.Plan.{levels_of};
+ghost use Rattle.hek_rules.specs.Plan.{IsPlan, levels_of};
 ghost use Rattle.hek_rules.specs.World.{opening};
 ghost use Rattle.hek_laws.specs.Runs.{IsFirstClock};
 ghost use Rattle.hek_machine.specs.Stands.{StandsFor, StillShows};
@@ -25,7 +25,8 @@ impl Parts {
     /// The rows and transactions of a schedule, before the first event.
     pub(crate) fn load(alloc: Global, schedule: &Schedule, clock: Time) -> Result<Parts, NoMemory>
         requires { IsFirstClock clock }
-        ensures { IfOk result (λ parts. StandsFor parts (opening schedule.now.buckets schedule.now.rows (levels_of schedule.now) clock)) }
+        ensures plan { IfOk result (λ _. IsPlan schedule.now) }
+        ensures stands { IfOk result (λ parts. StandsFor parts (opening schedule.now.buckets schedule.now.rows (levels_of schedule.now) clock)) }
     {
         Ok(Parts {
             store: Store::load(alloc, schedule)?,

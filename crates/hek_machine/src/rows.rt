@@ -7,12 +7,13 @@ ghost use Rattle.hek_rules.specs.Walk.{walk as walk_of, last, apply_all};
 ghost use Rattle.hek_rules.specs.Table.{is_open, found as found_row, read_row, delete_row};
 ghost use Rattle.hek_store.specs.Stored.{of_key, of_bucket};
 ghost use Rattle.hek_txn.specs.TxnTable.{Declared};
-ghost use Rattle.hek_machine.specs.Judged.{IsShown, IsAimed, purpose_of, seen_among};
+ghost use Rattle.hek_machine.specs.Judged.{IsShown, IsAimed, purpose_of};
 ghost use Rattle.hek_machine.specs.Applied.{Allowed};
 ghost use Rattle.hek_machine.specs.Room.{HasRoom, KeepsAdding, CanMake, Reserved};
 ghost use Rattle.hek_buckets.specs.Held.{holders_of as holders_in};
 ghost use Rattle.hek_machine.specs.Stands.{Shows, StandsFor, IsOrdered, IsRow, StillShows};
 ghost use Rattle.hek_machine.specs.Walked.{ArePlaces, After, CanAdd, IsAdding, deleted_reply};
+ghost use Rattle.hek_machine.specs.Written.{key_walk, after_walk};
 ghost use Rattle.hek_rules.specs.Locks.{add_version as version_added};
 
 use crate::parts::Parts;
@@ -24,7 +25,7 @@ use hek_word::{BeginWord, EndWord};
 
 /// The last of these.
 #[tactic(auto, using(crate::proofs::KeyPlaces::last_get))]
-fn last_of(vs: &[VersionId]) -> Option<VersionId>
+pub(crate) fn last_of(vs: &[VersionId]) -> Option<VersionId>
     ensures { result ≡ last vs.now }
 {
     vs.last().copied()
@@ -42,7 +43,7 @@ fn deleted(target: Option<VersionId>) -> Reply
 
 impl Parts {
     /// The versions of a key, in order of creation.
-    fn versions_of(&self, key: u64) -> Result<Vec<VersionId>, NoMemory>
+    pub(crate) fn versions_of(&self, key: u64) -> Result<Vec<VersionId>, NoMemory>
         ensures { IfOk result (λ vs. vs.items ≡ of_key self.now.store.versions key) }
     {
         Ok(self.store.versions_of(key).collect(self.alloc)?)
@@ -66,7 +67,7 @@ impl Parts {
 
     /// A walk over these versions: its effects are done, or, where it is refused, the transaction aborts, and the cause
     /// is the answer.
-    fn walk_over(
+    pub(crate) fn walk_over(
         &mut self,
         t: TxnId,
         aim: &Aim,
@@ -108,7 +109,7 @@ impl Parts {
         }
     }
 
-    fn bucket_of(&self, key: u64) -> u64
+    pub(crate) fn bucket_of(&self, key: u64) -> u64
         ensures { result ≡ key % self.now.store.buckets }
     {
         key % self.store.buckets()
@@ -116,7 +117,7 @@ impl Parts {
 
     /// The transaction makes a version, and comes to wait for those who lock its bucket.
     #[tactic(auto, using(crate::proofs::AddRows::add_named, crate::proofs::AddRows::add_room))]
-    fn add_version(&mut self, t: TxnId, key: u64, value: u64)
+    pub(crate) fn add_version(&mut self, t: TxnId, key: u64, value: u64)
         requires able { IsAdding self.old t }
         requires room { HasRoom self.old t [] }
         requires make { CanMake self.old t (key % self.old.store.buckets) }
@@ -134,6 +135,30 @@ impl Parts {
         wait_for_holders(&self.buckets, &mut self.txns, bucket, t);
     }
 
+    /// The walk over the versions of a key, and then this answer.
+    pub(crate) fn walk_key(
+        &mut self,
+        t: TxnId,
+        aim: &Aim,
+        key: u64,
+        vs: &[VersionId],
+        answer: Reply,
+    ) -> Result<Reply, NoMemory>
+        requires known { Declared self.old.txns t }
+        requires ordered { IsOrdered self.old }
+        requires walker { is_open (txn_in self.old.txns.cores t) ≡ true }
+        requires versions { vs.now ≡ of_key self.old.store.versions key }
+        requires aimed { IsAimed self.old t vs.now aim.now }
+        ensures row { IfOk result (IsRow (λ w. after_walk w t answer (key_walk w t (purpose_of aim.now) key)) self.old self.new) }
+        ensures still { OnErr result (StillShows self.old self.new) }
+    {
+        let bucket = self.bucket_of(key);
+        match self.walk_over(t, aim, bucket, vs)? {
+            None => Ok(answer),
+            Some(cause) => Ok(Reply::Aborted(cause)),
+        }
+    }
+
     /// The read of a key.
     pub(crate) fn read(&mut self, t: TxnId, key: u64) -> Result<Reply, NoMemory>
         requires known { Declared self.old.txns t }
@@ -145,11 +170,7 @@ impl Parts {
         let vs = self.versions_of(key)?;
         let seen = self.seen_of(t, &vs)?;
         let reply = self.found(&seen);
-        let bucket = self.bucket_of(key);
-        match self.walk_over(t, &Aim::ToRead, bucket, &vs)? {
-            None => Ok(reply),
-            Some(cause) => Ok(Reply::Aborted(cause)),
-        }
+        self.walk_key(t, &Aim::ToRead, key, &vs, reply)
     }
 
     /// The delete of a key: the last version seen is write-locked.
@@ -164,11 +185,7 @@ impl Parts {
         let seen = self.seen_of(t, &vs)?;
         let reply = deleted(last_of(&seen));
         let aim = Aim::ToWrite(last_of(&seen));
-        let bucket = self.bucket_of(key);
-        match self.walk_over(t, &aim, bucket, &vs)? {
-            None => Ok(reply),
-            Some(cause) => Ok(Reply::Aborted(cause)),
-        }
+        self.walk_key(t, &aim, key, &vs, reply)
     }
 
     /// The transactions that lock a bucket, in order of entry.
@@ -186,7 +203,7 @@ impl Parts {
     }
 
     /// Room for a version of a bucket, and for its maker in the waiting lists of those who lock the bucket.
-    fn reserve_version(&mut self, t: TxnId, bucket: u64) -> Result<(), NoMemory>
+    pub(crate) fn reserve_version(&mut self, t: TxnId, bucket: u64) -> Result<(), NoMemory>
         requires bucket { bucket < length self.old.buckets }
         requires holders { All (λ h. Declared self.old.txns h) (holders_in self.old.buckets bucket).items }
         ensures reserved { Reserved self.old self.new }

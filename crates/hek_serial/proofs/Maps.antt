@@ -1,32 +1,13 @@
 -- What a `BTreeMap` of numbers does is what `put`, `take_out` and `value_of` say.
-use Rattle.std.proofs.Common.{◌≡◌, ℕ, ◌<◌, ◌≤◌, Bool, true, false, List, [], ◌∷◌, refl, ◌∙◌, ap, sym, arith, Some, None, Option, ⊎_elim}
-use Rattle.std.proofs.lemmas.Bool.{cases_Bool, cases_eq, cases_order, cond-true, cond-false, eqb-true, eq-eqb, ne_eqb}
+use Rattle.std.proofs.Common.{◌≡◌, ℕ, ◌≤◌, false, List, [], ◌∷◌, refl, ◌∙◌, ap, sym, arith, Some, ⊎_elim}
+use Rattle.std.proofs.lemmas.Bool.{cases_Bool, eqb-true, ne_eqb}
 use Rattle.std.proofs.lemmas.Bool.Decides.{nat_tests}
-use Rattle.std.specs.Prelude.{◌==◌, nat_lt, not, filter, if◌then◌else◌}
-use Rattle.std.specs.declared.cmp.Ordering.{Ordering}
-use Rattle.std.specs.declared.cmp.Ordering.TheVariants.{Less, Equal, Greater}
-use Rattle.std.specs.Ordering.{nat_cmp, is_eq, match_ordering}
-use Rattle.std.specs.BTreeMap.{insert_entry, is_at}
+use Rattle.std.specs.Prelude.{◌==◌, not, if◌then◌else◌}
+use Rattle.std.specs.Ordering.{nat_cmp, is_eq}
+use Rattle.std.specs.BTreeMap.{is_at}
 use Rattle.std.specs.Map.{remove_entry, lookup}
 use Rattle.hek_rules.specs.Listing.{put, take_out, value_of}
-use Rattle.hek_laws.proofs.Lists.Rising.{AreAbove, AreRising, rising-put, rising-filter}
-
-by_order : {X : Type 0} (b d : Bool) (x y z : X) → match_ordering (if b then Less else (if d then Equal else Greater)) x y z ≡ (if b then x else if d then y else z)
-by_order true d x y z = refl
-by_order false true x y z = refl
-by_order false false x y z = refl
-
-same_if : {X : Type 0} (b : Bool) (x y z : X) → (b ≡ true → x ≡ y) → (if b then x else z) ≡ (if b then y else z)
-same_if true x y z h = h refl
-same_if false x y z h = refl
-
-pub insert-put : (es : List (ℕ × ℕ)) (k v : ℕ) → insert_entry nat_cmp es k v ≡ put k v es
-insert-put [] k v = refl
-insert-put (e ∷ es) k v =
-    by_order (nat_lt k e.0) (k == e.0) ((k, v) ∷ e ∷ es) ((e.0, v) ∷ es) (e ∷ insert_entry nat_cmp es k v)
-    ∙ ap (λ (zs : List (ℕ × ℕ)). if nat_lt k e.0 then (k, v) ∷ e ∷ es else zs)
-    (same_if (k == e.0) ((e.0, v) ∷ es) ((k, v) ∷ es) (e ∷ insert_entry nat_cmp es k v) (λ h. ap (λ n. (n, v) ∷ es) (sym (eqb-true _ _ h)))
-    ∙ ap (λ zs. if k == e.0 then (k, v) ∷ es else e ∷ zs) (insert-put es k v))
+use Rattle.hek_laws.proofs.Lists.Rising.{AreAbove, AreRising, rising-filter}
 
 tied : (k n : ℕ) → is_eq (nat_cmp k n) ≡ (n == k)
 tied k n = grind (arith, nat_tests)

@@ -2,8 +2,8 @@ use Rattle.std.proofs.Common.{refl}
 use Rattle.hek_machine.proofs.Loads.{loaded-stands}
 use Rattle.hek_machine.proofs.parts.Parts.load.Goals as goal
 
-pub returns : goal.returns
-returns c =
+pub returns-clause-stands : goal.returns-clause-stands
+returns-clause-stands c =
     let stored = c.in_ok-load.ensures in
     loaded-stands _ c.args.schedule.now c.args.clock stored.plan c.requires (record {
       clock = refl;

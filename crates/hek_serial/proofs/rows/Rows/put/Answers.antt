@@ -1,7 +1,7 @@
 use Rattle.std.proofs.Common.{◌≡◌, ◌∙◌, ap, sym, subst}
 use Rattle.hek_rules.specs.Listing.{put as put_in}
 use Rattle.hek_laws.proofs.Lists.Rising.{AreRising, rising-put}
-use Rattle.hek_serial.proofs.Maps.{insert-put}
+use Rattle.hek_laws.proofs.Lists.Maps.{insert-put}
 use Rattle.hek_serial.proofs.rows.Rows.put.Goals as goal
 
 pub invariant_of-self-2 : goal.invariant_of-self-2

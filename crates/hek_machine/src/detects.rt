@@ -1,0 +1,26 @@
+//! Deadlock detection (section 4 of the paper).
+ghost use Rattle.std.specs.Prelude.{IfOk, OnErr};
+ghost use Rattle.hek_rules.specs.WaitGraph.{victim};
+ghost use Rattle.hek_rules.specs.Table.{detect_row};
+ghost use Rattle.hek_machine.specs.Stands.{IsOrdered, IsRow, StillShows};
+
+use crate::parts::Parts;
+use hek_rules::{Cause, NoMemory, Reply};
+
+impl Parts {
+    /// The event `detect`: of those that wait for one another the victim aborts, if there are any.
+    pub(crate) fn detect(&mut self) -> Result<Reply, NoMemory>
+        requires ordered { IsOrdered self.old }
+        ensures row { IfOk result (IsRow (λ w. detect_row w (victim w)) self.old self.new) }
+        ensures still { OnErr result (StillShows self.old self.new) }
+    {
+        match hek_deadlock::detect(self.alloc, &self.store, &self.txns)? {
+            None => Ok(Reply::NoCycle),
+            Some(found) => {
+                let (t, cycle) = found;
+                let _ = self.abort(t, Cause::Deadlock);
+                Ok(Reply::Victim(t, cycle))
+            }
+        }
+    }
+}

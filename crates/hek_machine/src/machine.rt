@@ -1,0 +1,76 @@
+//! The machine.
+ghost use Rattle.std.specs.Prelude.{◌≡◌, ◌&&◌, false, length, IfOk, OnErr, IsOk};
+ghost use Rattle.hek_rules.specs.Plan.{IsPlan};
+ghost use Rattle.hek_laws.specs.Runs.{IsFirstClock, IsPlaced};
+ghost use Rattle.hek_machine.specs.Stands.{StandsFor};
+ghost use Rattle.hek_machine.specs.Observed.{opening_of, StandsAs};
+ghost use Rattle.hek_machine.specs.Steps.{takes_memory, passes, IsStep};
+
+use crate::parts::Parts;
+use hek_rules::{Event, NoMemory, Reply, Schedule, Time};
+use std::alloc::Global;
+use std::marker::Model;
+
+/// A machine that does the events of transactions one by one: the versions with their words, the transactions with their
+/// lists and counters, the bucket locks, and the clock (sections 2 and 4 of the paper). A contract speaks of the worlds
+/// of the rule table that it stands for.
+#[derive(Drop)]
+pub struct Machine {
+    pub(crate) parts: Parts,
+}
+
+impl Model for Machine {
+    ghost use Rattle.hek_machine.specs.declared.parts.Parts.{Parts};
+    ghost use Rattle.hek_machine.specs.Stands.{IsOrdered};
+
+    ghost Value = { Parts };
+
+    ghost view = { λ m. m.parts };
+
+    ghost invariant = { λ m. IsOrdered m.parts };
+}
+
+impl Machine {
+    /// A machine before the first event of a schedule. Its clock is 1. The steps of the schedule are the caller's to do.
+    pub fn load(alloc: Global, schedule: &Schedule) -> Result<Machine, NoMemory>
+        ensures plan { IfOk result (λ _. IsPlan schedule.now) }
+        ensures stands { IfOk result (λ m. StandsFor m (opening_of schedule.now 1)) }
+    {
+        Machine::load_at(alloc, schedule, Time::new(1))
+    }
+
+    /// The same at another clock, the first time that will be drawn. Rows are valid from time 0 on.
+    pub fn load_at(alloc: Global, schedule: &Schedule, clock: Time) -> Result<Machine, NoMemory>
+        requires { IsFirstClock clock }
+        ensures plan { IfOk result (λ _. IsPlan schedule.now) }
+        ensures stands { IfOk result (λ m. StandsFor m (opening_of schedule.now clock)) }
+    {
+        Ok(Machine {
+            parts: Parts::load(alloc, schedule, clock)?,
+        })
+    }
+
+    /// A machine that shows the same, with room of its own: what is done to one leaves the other as it was.
+    pub fn copy(&self) -> Result<Machine, NoMemory>
+        ensures { IfOk result (StandsAs self.now) }
+    {
+        Ok(Machine {
+            parts: self.parts.copy()?,
+        })
+    }
+
+    /// One event: its reply, and the machine after it, are what the rule table says. A scan is of a bucket that there is.
+    /// NoMemory changes nothing, and comes only of an event that reads or writes rows or looks for a deadlock, once it has
+    /// passed the checks. An event takes time at most linear in the versions and in what its transaction holds, and
+    /// `Detect` in the transactions times the waits.
+    #[tactic(auto, using(crate::proofs::RunRows::steps_of_rows))]
+    pub fn step(&mut self, event: Event) -> Result<Reply, NoMemory>
+        requires { IsPlaced (length self.old.buckets) event }
+        ensures step { IfOk result (IsStep event self.old self.new) }
+        ensures still { OnErr result (StandsAs self.old self.new) }
+        ensures sure { (takes_memory event && passes self.old event) ≡ false → IsOk result }
+        ensures buckets { length self.new.buckets ≡ length self.old.buckets }
+    {
+        self.parts.step(&event)
+    }
+}

@@ -1,0 +1,185 @@
+//! What a machine shows without changing: its words, counters and flags.
+ghost use Rattle.std.specs.Prelude.{◌≡◌, ◌↔◌, ◌<◌, IsTrue, length};
+ghost use Rattle.hek_rules.specs.Image.{begin_word as begin_in, end_word as end_in, wait_for_counter, commit_dep_counter, lock_count as locks_in};
+ghost use Rattle.hek_rules.specs.World.{txn_in, declared};
+ghost use Rattle.hek_txn.specs.TxnTable.{Declared};
+ghost use Rattle.hek_machine.specs.Judged.{IsShown};
+ghost use Rattle.hek_machine.specs.Stands.{IsOrdered};
+ghost use Rattle.hek_machine.specs.Observed.{of_version, key_in, value_in};
+
+use crate::machine::Machine;
+use crate::parts::Parts;
+use hek_rules::{Level, State, Time, TxnId, VersionId};
+use hek_word::{BeginWord, EndWord};
+
+impl Parts {
+    fn has_version(&self, v: VersionId) -> bool
+        ensures { IsTrue result ↔ (v < length self.now.store.versions) }
+    {
+        v.index() < self.store.len()
+    }
+}
+
+impl Machine {
+    /// The next begin or end time that is drawn, from 1 to 2^63 - 2 (section 2 of the paper: timestamps). At 2^63 - 2
+    /// nothing is drawn any more.
+    pub fn clock(&self) -> Time
+        ensures shown { IsShown self.now (λ w. w.clock) result }
+        ensures stands { IsOrdered self.now }
+    {
+        self.parts.clock
+    }
+
+    /// How many buckets there are.
+    pub fn buckets(&self) -> u64
+        ensures shown { IsShown self.now (λ w. w.buckets) result }
+        ensures held { result ≡ length self.now.buckets }
+    {
+        self.parts.buckets.len()
+    }
+
+    /// How many transactions are declared: their IDs are 1 to this number.
+    pub fn txns(&self) -> u64
+        ensures shown { IsShown self.now (λ w. length w.txns) result }
+        ensures held { result ≡ length self.now.txns.cores }
+    {
+        self.parts.txns.count()
+    }
+
+    /// Whether the schedule declares a transaction of this ID.
+    pub fn is_declared(&self, t: TxnId) -> bool
+        ensures shown { IsShown self.now (λ w. declared w.txns t) result }
+        ensures held { IsTrue result ↔ Declared self.now.txns t }
+    {
+        self.parts.txns.is_declared(t)
+    }
+
+    /// How many versions there are: the rows of the schedule, and what inserts and updates made. None is ever taken
+    /// away.
+    pub fn versions(&self) -> usize
+        ensures { IsShown self.now (λ w. length w.versions) result }
+    {
+        self.parts.store.len() as usize
+    }
+
+    /// The Begin word of a version: the time from which it is valid, or who made it (section 2 of the paper). None past
+    /// the last version.
+    pub fn begin_word(&self, v: VersionId) -> Option<BeginWord>
+        ensures { IsShown self.now (of_version begin_in v) result }
+    {
+        if self.parts.has_version(v) {
+            Some(self.parts.store.begin_of(v))
+        } else {
+            None
+        }
+    }
+
+    /// The End word of a version: the time until which it is valid, or a record lock (section 4 of the paper). None past
+    /// the last version.
+    pub fn end_word(&self, v: VersionId) -> Option<EndWord>
+        ensures { IsShown self.now (of_version end_in v) result }
+    {
+        if self.parts.has_version(v) {
+            Some(self.parts.store.end_of(v))
+        } else {
+            None
+        }
+    }
+
+    /// The key of a version. None past the last version.
+    pub fn key_of(&self, v: VersionId) -> Option<u64>
+        ensures { IsShown self.now (of_version key_in v) result }
+    {
+        if self.parts.has_version(v) {
+            Some(self.parts.store.key_of(v))
+        } else {
+            None
+        }
+    }
+
+    /// The value of a version. None past the last version.
+    pub fn value_of(&self, v: VersionId) -> Option<u64>
+        ensures { IsShown self.now (of_version value_in v) result }
+    {
+        if self.parts.has_version(v) {
+            Some(self.parts.store.value_of(v))
+        } else {
+            None
+        }
+    }
+
+    /// WaitForCounter: how much the transaction waits for (section 4 of the paper). A version that it writes and others
+    /// read-lock counts once, and so does each transaction in whose WaitingTxnList it stands.
+    pub fn waits(&self, t: TxnId) -> u64
+        requires { Declared self.now.txns t }
+        ensures { IsShown self.now (λ w. wait_for_counter w t) result }
+    {
+        self.parts.txns.waits(t)
+    }
+
+    /// CommitDepCounter: on how many preparing transactions this one's commit depends (section 2 of the paper).
+    pub fn commit_deps(&self, t: TxnId) -> u64
+        requires { Declared self.now.txns t }
+        ensures { IsShown self.now (λ w. commit_dep_counter w t) result }
+    {
+        self.parts.txns.deps(t)
+    }
+
+    /// NoMoreWaitFors: the transaction has finished its reads and writes, and takes no further waits (section 4 of the
+    /// paper).
+    pub fn no_more_waits(&self, t: TxnId) -> bool
+        requires { Declared self.now.txns t }
+        ensures { IsShown self.now (λ w. (txn_in w.txns t).finished) result }
+    {
+        self.parts.txns.no_more_wait_fors(t)
+    }
+
+    /// AbortNow: one that the transaction depended on has aborted, so it must abort too (section 2 of the paper).
+    pub fn abort_now(&self, t: TxnId) -> bool
+        requires { Declared self.now.txns t }
+        ensures { IsShown self.now (λ w. (txn_in w.txns t).doomed) result }
+    {
+        self.parts.txns.abort_now(t)
+    }
+
+    /// Its isolation level, as declared.
+    pub fn level(&self, t: TxnId) -> Level
+        requires { Declared self.now.txns t }
+        ensures { IsShown self.now (λ w. (txn_in w.txns t).level) result }
+    {
+        self.parts.txns.level(t)
+    }
+
+    /// The begin time that it drew, or 0 (section 2 of the paper: timestamps).
+    pub fn begin_time(&self, t: TxnId) -> Time
+        requires { Declared self.now.txns t }
+        ensures { IsShown self.now (λ w. (txn_in w.txns t).begin) result }
+    {
+        self.parts.txns.begin_time(t)
+    }
+
+    /// The end time that it drew, or 0 (section 2 of the paper: timestamps).
+    pub fn end_time(&self, t: TxnId) -> Time
+        requires { Declared self.now.txns t }
+        ensures { IsShown self.now (λ w. (txn_in w.txns t).end) result }
+    {
+        self.parts.txns.end_time(t)
+    }
+
+    /// Where the transaction stands (section 2 of the paper: the phases of a transaction).
+    pub fn state(&self, t: TxnId) -> State
+        requires { Declared self.now.txns t }
+        ensures { IsShown self.now (λ w. (txn_in w.txns t).state) result }
+    {
+        self.parts.txns.state(t)
+    }
+
+    /// LockCount: how many transactions lock the bucket (section 4 of the paper: bucket locks). Buckets are numbered
+    /// from 0.
+    pub fn lock_count(&self, bucket: u64) -> usize
+        requires { bucket < length self.now.buckets }
+        ensures { IsShown self.now (λ w. locks_in w bucket) result }
+    {
+        self.parts.buckets.count(bucket) as usize
+    }
+}

@@ -1,0 +1,120 @@
+//! What is found of many keys at once: the scan of a bucket, and the committed rows (section 4 of the paper: reads).
+ghost use Rattle.std.specs.Prelude.{◌≡◌, ◌<◌, ◌&&◌, true, [], length, IfOk, OnErr};
+ghost use Rattle.std.specs.List.{All};
+ghost use Rattle.hek_rules.specs.Image.{was_made as made, lasts as is_last, committed_rows};
+ghost use Rattle.hek_rules.specs.World.{txn_in, version_in, places, is_committed as committed};
+ghost use Rattle.hek_rules.specs.Table.{is_open, pairs_of as pairs_in, scan_row};
+ghost use Rattle.hek_store.specs.Stored.{of_bucket};
+ghost use Rattle.hek_txn.specs.TxnTable.{Declared};
+ghost use Rattle.hek_machine.specs.Judged.{IsShown};
+ghost use Rattle.hek_machine.specs.Stands.{IsOrdered, IsRow, StillShows};
+
+use crate::parts::Parts;
+use crate::walks::Aim;
+use hek_rules::{NoMemory, Pairs, Reply, State, TxnId, VersionId};
+use hek_word::{BeginWord, EndWord};
+use std::collections::BTreeMap;
+
+fn is_committed(state: State) -> bool
+    ensures { result ≡ committed state }
+{
+    matches!(state, State::Committed)
+}
+
+impl Parts {
+    /// The versions of a bucket, in order of creation.
+    fn versions_in(&self, bucket: u64) -> Result<Vec<VersionId>, NoMemory>
+        ensures { IfOk result (λ vs. vs.items ≡ of_bucket self.now.store.buckets self.now.store.versions bucket) }
+    {
+        Ok(self.store.versions_in(bucket).collect(self.alloc)?)
+    }
+
+    /// The pairs of these versions by key, the later ones over the earlier.
+    fn pairs_of(&self, vs: &[VersionId]) -> Result<Pairs, NoMemory>
+        requires { All (λ v. v < length self.now.store.versions) vs.now }
+        ensures { IfOk result (IsShown self.now (λ w. pairs_in w.versions [] vs.now)) }
+    {
+        let mut pairs = BTreeMap::new(self.alloc);
+        for &v in vs {
+            pairs.insert(self.store.key_of(v), self.store.value_of(v))?;
+        }
+        Ok(Pairs::new(pairs.into_iter().collect(self.alloc)?))
+    }
+
+    /// The scan of a bucket.
+    pub(crate) fn scan(&mut self, t: TxnId, bucket: u64) -> Result<Reply, NoMemory>
+        requires known { Declared self.old.txns t }
+        requires ordered { IsOrdered self.old }
+        requires walker { is_open (txn_in self.old.txns.cores t) ≡ true }
+        requires bucket { bucket < self.old.store.buckets }
+        ensures row { IfOk result (IsRow (λ w. scan_row w t bucket) self.old self.new) }
+        ensures still { OnErr result (StillShows self.old self.new) }
+    {
+        let vs = self.versions_in(bucket)?;
+        let seen = self.seen_of(t, &vs)?;
+        let pairs = self.pairs_of(&seen)?;
+        match self.walk_over(t, &Aim::ToRead, bucket, &vs)? {
+            None => Ok(Reply::Rows(pairs)),
+            Some(cause) => Ok(Reply::Aborted(cause)),
+        }
+    }
+
+    /// Whether the version was loaded, or made by a transaction that has committed.
+    fn was_made(&self, v: VersionId) -> bool
+        requires version { v < length self.now.store.versions }
+        requires ordered { IsOrdered self.now }
+        ensures { IsShown self.now (λ w. made w (version_in w.versions v).creator) result }
+    {
+        let word = self.store.begin_of(v);
+        match word.txn() {
+            Some(u) => is_committed(self.txns.state(u)),
+            None => word != BeginWord::infinity(),
+        }
+    }
+
+    /// Whether no committed transaction ended the version.
+    fn lasts(&self, v: VersionId) -> bool
+        requires version { v < length self.now.store.versions }
+        requires ordered { IsOrdered self.now }
+        ensures { IsShown self.now (λ w. is_last w (version_in w.versions v).ender) result }
+    {
+        let word = self.store.end_of(v);
+        match word.writer() {
+            Some(u) => !is_committed(self.txns.state(u)),
+            None => word.time().is_none() || word == EndWord::infinity(),
+        }
+    }
+
+    /// Whether the version is a committed row.
+    fn is_row(&self, v: VersionId) -> bool
+        requires version { v < length self.now.store.versions }
+        requires ordered { IsOrdered self.now }
+        ensures { IsShown self.now (λ w. made w (version_in w.versions v).creator && is_last w (version_in w.versions v).ender) result }
+    {
+        self.was_made(v) && self.lasts(v)
+    }
+
+    /// The versions that are committed rows, in order of creation.
+    fn committed_versions(&self) -> Result<Vec<VersionId>, NoMemory>
+        requires { IsOrdered self.now }
+        ensures { IfOk result (λ vs. IsShown self.now (λ w. places (λ v x. made w x.creator && is_last w x.ender) 0 w.versions) vs.items) }
+    {
+        let mut found = Vec::new(self.alloc);
+        for i in 0..self.store.len() {
+            let v = VersionId::new(i);
+            if self.is_row(v) {
+                found.push(v)?;
+            }
+        }
+        Ok(found)
+    }
+
+    /// The committed rows: those that committed transactions made and none of them ended.
+    pub(crate) fn rows(&self) -> Result<Pairs, NoMemory>
+        requires ordered { IsOrdered self.now }
+        ensures { IfOk result (λ r. IsShown self.now committed_rows r) }
+    {
+        let vs = self.committed_versions()?;
+        self.pairs_of(&vs)
+    }
+}
