@@ -18,7 +18,8 @@ fn hek<'a>(alloc: Global) -> Result<Command<'a>, AllocError> {
         .subcommand(release(alloc)?)?
         .subcommand(word(alloc)?)?
         .subcommand(asm(alloc)?)?
-        .subcommand(dis(alloc)?)?;
+        .subcommand(dis(alloc)?)?
+        .subcommand(run(alloc)?)?;
     Ok(command)
 }
 
@@ -81,6 +82,24 @@ fn dis<'a>(alloc: Global) -> Result<Command<'a>, AllocError> {
         .about("Prints the canonical text of a schedule")
         .after_help(
             "Example:\n  hek dis first.hek\nWhere first.hek is the image of a schedule with one bucket and nothing else, it prints\n  buckets 1",
+        )
+        .arg(file)?
+        .arg(text)?;
+    Ok(command)
+}
+
+fn run<'a>(alloc: Global) -> Result<Command<'a>, AllocError> {
+    let file = Arg::new(alloc, "FILE")
+        .required(true)
+        .help("a schedule image, or - for standard input");
+    let text = Arg::new(alloc, "text")
+        .long("text")
+        .action(ArgAction::SetTrue)
+        .help("FILE is a schedule text");
+    let command = Command::new(alloc, "run")
+        .about("Runs the steps of a schedule, and prints each with its reply")
+        .after_help(
+            "Example:\n  hek run --text first.txt\nWhere first.txt has the lines\n  buckets 1\n  row 10 100\n  txn a serializable\n  a begin\n  a read 10\nit prints\n  1 a begin -> began 1\n  2 a read 10 -> found 100",
         )
         .arg(file)?
         .arg(text)?;

@@ -5,6 +5,7 @@ use crate::dis::dis_command;
 use crate::disk::{Disk, InputFile, LateFile, open};
 use crate::fault::{HekFault, report};
 use crate::release::release_command;
+use crate::run::run_command;
 use crate::schedule_file::{ScheduleFile, read_text};
 use crate::word::word_command;
 use clap::error::ErrorKind as ClapKind;
@@ -95,6 +96,7 @@ fn run<'a, D: Disk, I: Read + Drop, W: Write>(
         Some(("word", found)) => word_command(alloc, texts(found, "WORD")?, input, out),
         Some(("asm", found)) => asm(alloc, found, disk, input),
         Some(("dis", found)) => dis(alloc, found, disk, input, out),
+        Some(("run", found)) => run_schedule(alloc, found, disk, input, out),
         _ => Err(HekFault::BadArgument),
     }
 }
@@ -120,6 +122,17 @@ fn dis<'a, D: Disk, I: Read + Drop, W: Write>(
 ) -> Result<u8, HekFault<'a>> {
     let file = schedule_file(alloc, found, disk, input)?;
     dis_command(alloc, file, out)
+}
+
+fn run_schedule<'a, D: Disk, I: Read + Drop, W: Write>(
+    alloc: Global,
+    found: &ArgMatches<'a>,
+    disk: &D,
+    input: I,
+    out: &mut W,
+) -> Result<u8, HekFault<'a>> {
+    let file = schedule_file(alloc, found, disk, input)?;
+    run_command(alloc, file, out)
 }
 
 /// The schedule file that the words name, a text where they say `--text`.

@@ -8,6 +8,7 @@ mod dis;
 mod disk;
 mod fault;
 mod release;
+mod run;
 mod schedule_file;
 #[cfg(test)]
 mod tests;

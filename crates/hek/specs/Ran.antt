@@ -1,0 +1,21 @@
+-- What the command `run` makes of a file.
+use Rattle.std.specs.Prelude.{ℕ, List, Option, map}
+use Rattle.std.specs.Io.KnownBytes.{Appends}
+use Rattle.hek_rules.specs.declared.event.Event.{Event}
+use Rattle.hek_rules.specs.declared.reply.Reply.{Reply}
+use Rattle.hek_rules.specs.Plan.{Plan}
+use Rattle.hek_rules.specs.Run.{transcript}
+use Rattle.hek_asm.specs.Trace.{trace}
+use Rattle.hek_machine.specs.Observed.{opening_of}
+use Rattle.hek.specs.declared.schedule_file.ScheduleFile.{ScheduleFile}
+use Rattle.hek.specs.Judged.{FileGives}
+
+-- the trace of a schedule's steps: each with the reply that the rule table gives, from the opening world on
+abbrev pub trace_of_steps : Plan → List ℕ
+trace_of_steps p = trace p p.steps (map (λ (x : Event × Reply). x.1) (transcript (opening_of p 1) p.steps))
+
+-- it was written behind the bytes that a writer held, where they are known
+pub record Runs {R : Type 0} (left : R → Option (List ℕ)) (said : ScheduleFile R) (before after : Option (List ℕ)) : Type 0 where
+  pub plan : Plan
+  pub is : FileGives left said plan
+  pub written : Appends before after (trace_of_steps plan)
