@@ -21,3 +21,4 @@ pub mod CommittedRows
 pub mod DetectRows
 pub mod StepRows
 pub mod RunRows
+pub mod PlacedSteps

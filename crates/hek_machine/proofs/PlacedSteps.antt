@@ -1,0 +1,32 @@
+-- The steps of a schedule may be made of its machine: each scan is of a bucket that there is.
+use Rattle.std.proofs.Common.{◌≡◌, ℕ, List, [], ◌∷◌, sym, subst, length}
+use Rattle.std.proofs.lemmas.List.Elements.{All-nil, All-cons}
+use Rattle.std.specs.List.{All, AllByRecursion}
+use Rattle.hek_rules.specs.declared.event.Event.{Event}
+use Rattle.hek_rules.specs.declared.event.Event.TheVariants as event
+use Rattle.hek_rules.specs.Plan.{Plan, IsPlan, IsStep}
+use Rattle.hek_laws.specs.Runs.{IsPlaced}
+
+step_placed : (buckets txns : ℕ) (e : Event) → IsStep buckets txns e → IsPlaced buckets e
+step_placed b n (event.Begin t) h = tt
+step_placed b n (event.Read t k) h = tt
+step_placed b n (event.Scan t k) h = h.1
+step_placed b n (event.Insert t k v) h = tt
+step_placed b n (event.Update t k v) h = tt
+step_placed b n (event.Delete t k) h = tt
+step_placed b n (event.Finish t) h = tt
+step_placed b n (event.Precommit t) h = tt
+step_placed b n (event.Release t) h = tt
+step_placed b n (event.Commit t) h = tt
+step_placed b n (event.Fail t) h = tt
+step_placed b n (event.Stamp t) h = tt
+step_placed b n (event.End t) h = tt
+step_placed b n event.Detect h = tt
+
+all_placed : (buckets txns : ℕ) (es : List Event) → AllByRecursion (IsStep buckets txns) es → All (IsPlaced buckets) es
+all_placed b n [] h = All-nil (IsPlaced b)
+all_placed b n (e ∷ es) h = All-cons (IsPlaced b) e es (step_placed b n e h.0) (all_placed b n es h.1)
+
+-- the steps of a schedule, as a slice gives them
+pub steps_placed : (p : Plan) (es : List Event) → IsPlan p → es ≡ p.steps → All (IsPlaced p.buckets) es
+steps_placed p es is same = subst (All (IsPlaced p.buckets)) (sym same) (all_placed p.buckets (length p.txns) p.steps is.steps)
