@@ -1,15 +1,21 @@
 -- What commands make of files.
-use Rattle.std.specs.Prelude.{◌≡◌, ℕ, List, Option, Ok, Err, IfSome}
+use Rattle.std.specs.Prelude.{◌≡◌, ◌⊎◌, ℕ, List, [], ◌∷◌, ◌++◌, codes, Option, Ok, Err, IfSome}
 use Rattle.std.specs.Str.{IsUtf8}
 use Rattle.std.specs.Io.KnownBytes.{Appends}
+use Rattle.std.specs.Fmt.{decimal}
+use Rattle.hek_rules.specs.declared.serial.Verdict.{Verdict}
+use Rattle.hek_rules.specs.declared.serial.Verdict.TheVariants.{Serial, NotSerial}
+use Rattle.hek_rules.specs.Faults.{IsVerdict}
 use Rattle.hek_rules.specs.Plan.{Plan}
+use Rattle.hek_rules.specs.Told.{Told}
+use Rattle.hek_asm.specs.Reading.{IsTraceOf, StopsAt}
 use Rattle.hek_asm.specs.Text.{schedule_of}
 use Rattle.hek_asm.specs.Canonical.{canonical_text}
 use Rattle.hek_image.specs.Gives.{LoadFails}
 use Rattle.hek_image.specs.Loading.{loading}
 use Rattle.hek_image.specs.Schedules.{image}
 use Rattle.hek.specs.declared.fault.HekFault.{HekFault}
-use Rattle.hek.specs.declared.fault.HekFault.TheVariants.{Line, Image, NotText, CannotRead, CannotWrite, NoMemory}
+use Rattle.hek.specs.declared.fault.HekFault.TheVariants.{Line, Image, TraceLine, NotText, CannotRead, CannotWrite, NoMemory}
 use Rattle.hek.specs.declared.schedule_file.ScheduleFile.{ScheduleFile}
 use Rattle.hek.specs.declared.schedule_file.ScheduleFile.TheVariants as file
 
@@ -64,3 +70,34 @@ pub record Disassembles {R : Type 0} (left : R → Option (List ℕ)) (said : Sc
 abbrev pub DisFails : {R : Type 0} → (R → Option (List ℕ)) → ScheduleFile R → HekFault → Type 0
 DisFails left said CannotWrite = Unit {0}
 DisFails left said fault = FileFails left said fault
+
+-- why a text isn't a trace over a schedule
+abbrev pub TraceTextFails : Plan → List ℕ → HekFault → Type 0
+TraceTextFails plan text NotText = ¬ (IsUtf8 text)
+TraceTextFails plan text (TraceLine number) = StopsAt plan number text
+TraceTextFails plan text NoMemory = Unit {0}
+TraceTextFails plan text other = ⊥
+
+abbrev pub verdict_text : Verdict → List ℕ
+verdict_text Serial = codes "serial" ++ 10 ∷ []
+verdict_text (NotSerial number) = codes "not serial " ++ decimal number ++ 10 ∷ []
+
+abbrev pub verdict_status : Verdict → ℕ
+verdict_status Serial = 0
+verdict_status (NotSerial number) = 1
+
+-- the right verdict on the transcript whose trace a text is was written behind them, and is the exit status
+pub record Checks {R : Type 0} (left : R → Option (List ℕ)) (said : ScheduleFile R) (text : List ℕ) (before after : Option (List ℕ)) (status : ℕ) : Type 0 where
+  pub plan : Plan
+  pub is : FileGives left said plan
+  pub told : Told
+  pub read : IsTraceOf plan told text
+  pub verdict : Verdict
+  pub right : IsVerdict told verdict
+  pub written : Appends before after (verdict_text verdict)
+  pub answer : status ≡ verdict_status verdict
+
+abbrev pub CheckFails : {R : Type 0} → (R → Option (List ℕ)) → ScheduleFile R → List ℕ → HekFault → Type 0
+CheckFails left said text CannotWrite = Unit {0}
+CheckFails left said text NoMemory = Unit {0}
+CheckFails left said text fault = FileFails left said fault ⊎ ((plan : Plan) × FileGives left said plan × TraceTextFails plan text fault)

@@ -12,14 +12,15 @@ fn hek<'a>(alloc: Global) -> Result<Command<'a>, AllocError> {
     let command = Command::new(alloc, "hek")
         .about("The reference machine of pessimistic multiversion locking, step by step")
         .after_help(
-            "Examples:\n  hek release 8040000000000002 1\nprints the word and the waits that are left:\n  C000000000000002 0\n  hek asm first.txt first.hek\n  hek dis first.hek\nmake the image of a schedule's text, and print it as text again",
+            "Examples:\n  hek release 8040000000000002 1\nprints the word and the waits that are left:\n  C000000000000002 0\n  hek asm first.txt first.hek\n  hek dis first.hek\nmake the image of a schedule's text, and print it as text again\n  hek check first.hek trace.txt\nsays whether a trace over it is serial",
         )
         .subcommand_required(true)
         .subcommand(release(alloc)?)?
         .subcommand(word(alloc)?)?
         .subcommand(asm(alloc)?)?
         .subcommand(dis(alloc)?)?
-        .subcommand(run(alloc)?)?;
+        .subcommand(run(alloc)?)?
+        .subcommand(check(alloc)?)?;
     Ok(command)
 }
 
@@ -70,38 +71,52 @@ fn asm<'a>(alloc: Global) -> Result<Command<'a>, AllocError> {
     Ok(command)
 }
 
-fn dis<'a>(alloc: Global) -> Result<Command<'a>, AllocError> {
-    let file = Arg::new(alloc, "FILE")
+fn schedule_file<'a>(alloc: Global) -> Arg<'a> {
+    Arg::new(alloc, "FILE")
         .required(true)
-        .help("a schedule image, or - for standard input");
-    let text = Arg::new(alloc, "text")
+        .help("a schedule image, or - for standard input")
+}
+
+fn text_flag<'a>(alloc: Global) -> Arg<'a> {
+    Arg::new(alloc, "text")
         .long("text")
         .action(ArgAction::SetTrue)
-        .help("FILE is a schedule text");
+        .help("FILE is a schedule text")
+}
+
+fn dis<'a>(alloc: Global) -> Result<Command<'a>, AllocError> {
     let command = Command::new(alloc, "dis")
         .about("Prints the canonical text of a schedule")
         .after_help(
             "Example:\n  hek dis first.hek\nWhere first.hek is the image of a schedule with one bucket and nothing else, it prints\n  buckets 1",
         )
-        .arg(file)?
-        .arg(text)?;
+        .arg(schedule_file(alloc))?
+        .arg(text_flag(alloc))?;
+    Ok(command)
+}
+
+fn check<'a>(alloc: Global) -> Result<Command<'a>, AllocError> {
+    let trace = Arg::new(alloc, "TRACE")
+        .required(true)
+        .help("a trace over its transactions, or - for standard input");
+    let command = Command::new(alloc, "check")
+        .about("Says whether a trace is serial")
+        .after_help(
+            "Example:\n  hek check first.hek trace.txt\nIt prints `serial` where the committed transactions can stand one after another, by end time, and else\n  not serial 2\nwith the number of the first event at fault, and status 1.",
+        )
+        .arg(schedule_file(alloc))?
+        .arg(trace)?
+        .arg(text_flag(alloc))?;
     Ok(command)
 }
 
 fn run<'a>(alloc: Global) -> Result<Command<'a>, AllocError> {
-    let file = Arg::new(alloc, "FILE")
-        .required(true)
-        .help("a schedule image, or - for standard input");
-    let text = Arg::new(alloc, "text")
-        .long("text")
-        .action(ArgAction::SetTrue)
-        .help("FILE is a schedule text");
     let command = Command::new(alloc, "run")
         .about("Runs the steps of a schedule, and prints each with its reply")
         .after_help(
             "Example:\n  hek run --text first.txt\nWhere first.txt has the lines\n  buckets 1\n  row 10 100\n  txn a serializable\n  a begin\n  a read 10\nit prints\n  1 a begin -> began 1\n  2 a read 10 -> found 100",
         )
-        .arg(file)?
-        .arg(text)?;
+        .arg(schedule_file(alloc))?
+        .arg(text_flag(alloc))?;
     Ok(command)
 }

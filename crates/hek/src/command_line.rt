@@ -1,6 +1,7 @@
 //! The command line: its words, and what is done for them.
 use crate::arguments::read_words;
 use crate::asm::asm_command;
+use crate::check::check_command;
 use crate::dis::dis_command;
 use crate::disk::{Disk, InputFile, LateFile, open};
 use crate::fault::{HekFault, report};
@@ -97,6 +98,7 @@ fn run<'a, D: Disk, I: Read + Drop, W: Write>(
         Some(("asm", found)) => asm(alloc, found, disk, input),
         Some(("dis", found)) => dis(alloc, found, disk, input, out),
         Some(("run", found)) => run_schedule(alloc, found, disk, input, out),
+        Some(("check", found)) => check(alloc, found, disk, input, out),
         _ => Err(HekFault::BadArgument),
     }
 }
@@ -107,9 +109,10 @@ fn asm<'a, D: Disk, I: Read + Drop>(
     disk: &D,
     input: I,
 ) -> Result<u8, HekFault<'a>> {
+    let mut input = Some(input);
     let name = text(found, "FILE")?;
     let mut image = LateFile::new(disk, text(found, "OUT")?);
-    let bytes = read_text(alloc, open(disk, input, name)?, name)?;
+    let bytes = read_text(alloc, open(disk, &mut input, name)?, name)?;
     asm_command(alloc, bytes.as_slice(), &mut image)
 }
 
@@ -120,7 +123,8 @@ fn dis<'a, D: Disk, I: Read + Drop, W: Write>(
     input: I,
     out: &mut W,
 ) -> Result<u8, HekFault<'a>> {
-    let file = schedule_file(alloc, found, disk, input)?;
+    let mut input = Some(input);
+    let file = schedule_file(alloc, found, disk, &mut input)?;
     dis_command(alloc, file, out)
 }
 
@@ -131,8 +135,23 @@ fn run_schedule<'a, D: Disk, I: Read + Drop, W: Write>(
     input: I,
     out: &mut W,
 ) -> Result<u8, HekFault<'a>> {
-    let file = schedule_file(alloc, found, disk, input)?;
+    let mut input = Some(input);
+    let file = schedule_file(alloc, found, disk, &mut input)?;
     run_command(alloc, file, out)
+}
+
+fn check<'a, D: Disk, I: Read + Drop, W: Write>(
+    alloc: Global,
+    found: &ArgMatches<'a>,
+    disk: &D,
+    input: I,
+    out: &mut W,
+) -> Result<u8, HekFault<'a>> {
+    let mut input = Some(input);
+    let file = schedule_file(alloc, found, disk, &mut input)?;
+    let name = text(found, "TRACE")?;
+    let trace = read_text(alloc, open(disk, &mut input, name)?, name)?;
+    check_command(alloc, file, trace.as_slice(), out)
 }
 
 /// The schedule file that the words name, a text where they say `--text`.
@@ -140,7 +159,7 @@ fn schedule_file<'a, D: Disk, I: Read + Drop>(
     alloc: Global,
     found: &ArgMatches<'a>,
     disk: &D,
-    input: I,
+    input: &mut Option<I>,
 ) -> Result<ScheduleFile<InputFile<I, D::Reader>>, HekFault<'a>> {
     let name = text(found, "FILE")?;
     let file = open(disk, input, name)?;

@@ -1,4 +1,5 @@
 //! The files that commands read and write.
+ghost use Rattle.std.specs.Prelude.{IfErr};
 ghost use Rattle.hek.specs.Judged.{ReadFails};
 
 use crate::fault::HekFault;
@@ -64,14 +65,19 @@ impl<I: Read + Drop, F: Read + Drop> Read for InputFile<I, F> {
     }
 }
 
-/// Opens a file to read it, where `-` is the input.
+/// Opens a file to read it. `-` is the input, which is there once.
 pub fn open<'a, I: Read + Drop, D: Disk>(
     disk: &D,
-    input: I,
+    input: &mut Option<I>,
     name: &'a str,
-) -> Result<InputFile<I, D::Reader>, HekFault<'a>> {
+) -> Result<InputFile<I, D::Reader>, HekFault<'a>>
+    ensures { IfErr result (ReadFails name.now) }
+{
     if name == INPUT {
-        return Ok(InputFile::Input(input));
+        return match input.take() {
+            Some(input) => Ok(InputFile::Input(input)),
+            None => Err(HekFault::CannotRead(name)),
+        };
     }
     match disk.open(name) {
         Ok(file) => Ok(InputFile::File(file)),

@@ -1,9 +1,9 @@
 //! What can go wrong, one line and one exit status each.
 ghost use Rattle.std.specs.Prelude.{◌≡◌};
 ghost use Rattle.hek.specs.declared.fault.HekFault.TheVariants as hek;
-ghost use Rattle.hek.specs.Fault.{status_of, text_fault, image_fault};
+ghost use Rattle.hek.specs.Fault.{status_of, text_fault, image_fault, trace_fault};
 
-use hek_asm::{AsmFault, AsmKind};
+use hek_asm::{AsmFault, AsmKind, TraceFault};
 use hek_image::LoadFault;
 use hek_rules::NoMemory;
 use hek_word::ReleaseFault;
@@ -26,6 +26,9 @@ pub enum HekFault<'a> {
     Line { line: u64, kind: AsmKind },
     #[error("hek: image: {0}")]
     Image(LoadFault),
+    /// The first line that no trace has there, by its number.
+    #[error("hek: trace line {0}")]
+    TraceLine(u64),
     #[error("hek: not text")]
     NotText,
     /// A file, by its name on the command line, that can't be opened or read.
@@ -49,6 +52,7 @@ impl HekFault<'_> {
             | HekFault::BadWaits
             | HekFault::Line { .. }
             | HekFault::Image(_)
+            | HekFault::TraceLine(_)
             | HekFault::NotText
             | HekFault::CannotRead(_)
             | HekFault::CannotWrite
@@ -84,6 +88,17 @@ impl From<LoadFault> for HekFault<'_> {
         match fault {
             LoadFault::NoMemory => HekFault::NoMemory,
             fault => HekFault::Image(fault),
+        }
+    }
+}
+
+impl From<TraceFault> for HekFault<'_> {
+    ghost from_gives = { λ f e. e ≡ trace_fault f };
+
+    fn from(fault: TraceFault) -> Self {
+        match fault {
+            TraceFault::Line(line) => HekFault::TraceLine(line),
+            TraceFault::NoMemory => HekFault::NoMemory,
         }
     }
 }

@@ -3,6 +3,7 @@
 
 mod arguments;
 mod asm;
+mod check;
 mod command_line;
 mod dis;
 mod disk;

@@ -123,6 +123,7 @@ fn helps(rt: HostRuntime) -> Result<(), Fail> {
         ("word", "hek word 8040000000000002 0000000000000007"),
         ("asm", "hek asm first.txt first.hek"),
         ("dis", "hek dis first.hek"),
+        ("check", "hek check first.hek trace.txt"),
     ] {
         let (status, out, _) = ran(rt.alloc(), &["hek", command, "--help"])?;
         assert_eq!(rt; status, 0);
@@ -255,6 +256,7 @@ fn tells_of_each_fault(rt: HostRuntime) -> Result<(), Fail> {
         ),
         (HekFault::Image(LoadFault::Read), 1, "hek: image: 6 Read\n"),
         (HekFault::from(LoadFault::NoMemory), 1, "hek: no memory\n"),
+        (HekFault::TraceLine(2), 1, "hek: trace line 2\n"),
         (HekFault::NotText, 1, "hek: not text\n"),
         (HekFault::CannotRead("x.hek"), 1, "hek: cannot read x.hek\n"),
         (HekFault::CannotWrite, 1, "hek: cannot write\n"),

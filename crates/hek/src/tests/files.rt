@@ -337,3 +337,109 @@ fn tells_of_devices_that_fail(rt: HostRuntime) -> Result<(), Fail> {
     );
     Ok(())
 }
+
+// A row, and transactions of both levels.
+const BOTH: &[u8] = b"buckets 1\nrow 10 100\ntxn a serializable\ntxn b repeatable\n";
+
+// The status, what is printed, and the faults of `hek check --text` over that schedule and a trace.
+fn checked(alloc: Global, trace: &[u8]) -> Result<(u8, String, String), AllocError> {
+    let files = [("both", BOTH)];
+    let created = RefCell::new(None);
+    let disk = MemoryDisk::new(alloc, files.as_slice(), &created);
+    let words = ["hek", "check", "--text", "both", "-"];
+    ran_in(alloc, &words, &disk, trace)
+}
+
+#[test]
+fn checks(rt: HostRuntime) -> Result<(), Fail> {
+    for (trace, status, out) in [
+        (b"".as_slice(), 0, "serial\n"),
+        (b"1 a commit -> committed\n", 1, "not serial 1\n"),
+        (
+            b"1 a precommit -> precommitted 3\n2 b precommit -> precommitted 3\n3 a commit -> committed\n4 b commit -> committed\n",
+            1,
+            "not serial 4\n",
+        ),
+        (
+            b"1 a precommit -> precommitted 3\n2 a commit -> committed\n3 a commit -> committed\n",
+            1,
+            "not serial 3\n",
+        ),
+        (
+            b"1 b read 10 -> absent\n2 b precommit -> precommitted 2\n3 b commit -> committed\n",
+            0,
+            "serial\n",
+        ),
+        (
+            b"1 a read 10 -> absent\n2 a precommit -> precommitted 2\n3 a commit -> committed\n",
+            1,
+            "not serial 1\n",
+        ),
+        (
+            b"1 b read 10 -> found 7\n2 b precommit -> precommitted 2\n3 b commit -> committed\n",
+            1,
+            "not serial 1\n",
+        ),
+        (b"1 a read 10 -> found 7\n", 0, "serial\n"),
+        (
+            b"1 a begin -> began 1\n2 a read 10 -> found 100\n3 a finish -> ready\n4 a precommit -> precommitted 2\n5 a commit -> committed\n",
+            0,
+            "serial\n",
+        ),
+        (
+            b"1 a begin -> began 1\n2 a read 10 -> found 101\n3 a finish -> ready\n4 a precommit -> precommitted 2\n5 a commit -> committed\n",
+            1,
+            "not serial 2\n",
+        ),
+    ] {
+        let (status_is, out_is, faults_is) = checked(rt.alloc(), trace)?;
+        assert_eq!(rt; status_is, status);
+        assert_eq!(rt; out_is.as_str(), out);
+        assert_eq!(rt; faults_is.as_str(), "");
+    }
+    Ok(())
+}
+
+#[test]
+fn tells_faults_of_traces(rt: HostRuntime) -> Result<(), Fail> {
+    for (trace, line) in [
+        (b"1 a commit -> committed".as_slice(), "hek: trace line 1\n"),
+        (b"1 c commit -> committed\n", "hek: trace line 1\n"),
+        (
+            b"1 a commit -> committed\n3 a commit -> committed\n",
+            "hek: trace line 2\n",
+        ),
+        (b"1 a commit -> committed\n\xFF", "hek: not text\n"),
+    ] {
+        let (status, out, faults) = checked(rt.alloc(), trace)?;
+        assert_eq!(rt; status, 1);
+        assert_eq!(rt; out.as_str(), "");
+        assert_eq!(rt; faults.as_str(), line);
+    }
+    Ok(())
+}
+
+#[test]
+fn looks_for_faults_of_files_first(rt: HostRuntime) -> Result<(), Fail> {
+    let files = [("bad", b"HKSB".as_slice()), ("trace", b"1\n".as_slice())];
+    let created = RefCell::new(None);
+    let disk = MemoryDisk::new(rt.alloc(), files.as_slice(), &created);
+    for (words, line) in [
+        (
+            ["hek", "check", "none.hek", "none.txt"],
+            "hek: cannot read none.hek\n",
+        ),
+        (
+            ["hek", "check", "bad", "none.txt"],
+            "hek: cannot read none.txt\n",
+        ),
+        (["hek", "check", "bad", "trace"], "hek: image: 1 BadMagic\n"),
+        (["hek", "check", "-", "-"], "hek: cannot read -\n"),
+    ] {
+        let (status, out, faults) = ran_in(rt.alloc(), &words, &disk, &SMALLEST)?;
+        assert_eq!(rt; status, 1);
+        assert_eq!(rt; out.as_str(), "");
+        assert_eq!(rt; faults.as_str(), line);
+    }
+    Ok(())
+}
