@@ -35,7 +35,12 @@ fn trace_text(alloc: Global, schedule: &Schedule) -> Result<Vec<u8>, NoMemory>
     let _ = schedule.buckets();
     let trace = run(alloc, schedule, schedule.steps())?;
     let mut sink = FromWrite::new(Vec::new(alloc));
-    match write_trace(schedule, schedule.steps(), trace.replies.as_slice(), &mut sink) {
+    match write_trace(
+        schedule,
+        schedule.steps(),
+        trace.replies.as_slice(),
+        &mut sink,
+    ) {
         Ok(()) => Ok(sink.into_inner()),
         Err(_) => Err(NoMemory),
     }
