@@ -1,0 +1,37 @@
+-- A run answers each event once; and the steps of a schedule with their replies, one more at a time.
+use Rattle.std.proofs.Common.{◌≡◌, ℕ, zero, suc, ◌+◌, ◌<◌, List, [], ◌∷◌, ◌++◌, refl, ◌∙◌, ap, arith, length, take, get_or}
+use Rattle.std.specs.List.{zip}
+use Rattle.std.specs.Prelude.{map}
+use Rattle.hek_rules.specs.declared.event.Event.{Event}
+use Rattle.hek_rules.specs.declared.reply.Reply.{Reply}
+use Rattle.hek_rules.specs.Plan.{Plan}
+use Rattle.hek_rules.specs.Told.{Told}
+use Rattle.hek_rules.specs.World.{World}
+use Rattle.hek_rules.specs.Run.{next, transcript}
+use Rattle.hek_machine.specs.declared.parts.Parts.{Parts}
+use Rattle.hek_machine.specs.Observed.{opening_of}
+use Rattle.hek_machine.specs.Steps.{IsRun, told_of}
+
+one_each : (w : World) (es : List Event) → length (map (λ (x : Event × Reply). x.1) (transcript w es)) ≡ length es
+one_each w [] = refl
+one_each w (e ∷ es) = ap suc (one_each (next w e) es)
+
+pub replies_paired : (p : Plan) (clock : ℕ) (es : List Event) (rs : List Reply) (m : Parts) → IsRun p clock es rs m → length rs ≡ length es
+replies_paired p clock es rs m ran = ap (λ (xs : List Reply). length xs) ran.replies ∙ one_each (opening_of p clock) es
+
+zip_more : {X Y : Type 0} (xs : List X) (ys : List Y) (i : ℕ) (x : X) (y : Y) → i < length xs → i < length ys → x ≡ get_or xs i x → y ≡ get_or ys i y →
+    zip (take i xs) (take i ys) ++ (x, y) ∷ [] ≡ zip (take (suc i) xs) (take (suc i) ys)
+zip_more [] ys i x y a b e f = absurd (omega (arith, a))
+zip_more (z ∷ xs) [] i x y a b e f = absurd (omega (arith, b))
+zip_more {X = X} {Y = Y} (z ∷ xs) (w ∷ ys) zero x y a b e f = ap (λ (u : X). (u, y) ∷ []) e ∙ ap (λ (u : Y). (z, u) ∷ []) f
+zip_more {X = X} {Y = Y} (z ∷ xs) (w ∷ ys) (suc i) x y a b e f = ap (λ (ps : List (X × Y)). (z, w) ∷ ps) (zip_more xs ys i x y (omega (arith, a)) (omega (arith, b)) e f)
+
+-- one more step with its reply
+pub told_more : (p : Plan) (i : ℕ) (es : List Event) (rs : List Reply) (e : Event) (r : Reply) (old new : Told) → i < length es → i < length rs → e ≡ get_or es i e → r ≡ get_or rs i r →
+    old ≡ told_of p (take i es) (take i rs) → new ≡ record old { history = old.history ++ (e, r) ∷ [] } → new ≡ told_of p (take (i + 1) es) (take (i + 1) rs)
+told_more p i es rs e r old new a b ee er told pushed =
+    let more : suc i ≡ i + 1 = omega arith in
+    pushed
+    ∙ ap (λ (t : Told). record t { history = t.history ++ (e, r) ∷ [] }) told
+    ∙ ap (λ (h : List (Event × Reply)). record (told_of p es rs) { history = h }) (zip_more es rs i e r a b ee er)
+    ∙ ap (λ k. told_of p (take k es) (take k rs)) more

@@ -1,0 +1,120 @@
+//! A vector beside what is stored of it.
+ghost use Rattle.std.specs.Prelude.{◌≡◌, ◌↔◌, length, IfOk, IsTrue};
+ghost use Rattle.hek_rules.specs.Faults.{IsVerdict};
+ghost use Rattle.hek_asm.specs.Trace.{trace};
+ghost use Rattle.hek_image.specs.Schedules.{image};
+ghost use Rattle.hek_machine.specs.Steps.{told_of};
+
+use crate::fault::Fault;
+use crate::stored::{Stored, Summary};
+use hek_asm::{assemble_text, canonical, write_trace};
+use hek_image::{load_image, write_image};
+use hek_machine::run;
+use hek_rules::{
+    Ending, MemorySink, MemorySource, NoMemory, Reply, Schedule, Transcript, Verdict, WriteFault,
+};
+use hek_serial::check;
+use std::alloc::Global;
+use thiserror::Error;
+
+/// In what a vector first differs from what is stored of it.
+#[derive(Clone, Copy, Debug, PartialEq, Eq, Error)]
+pub enum Difference {
+    #[error("the number of steps differs")]
+    Steps,
+    #[error("the image differs")]
+    Image,
+    /// The schedule that the stored image is isn't that of the text.
+    #[error("the schedule of the image differs")]
+    Schedule,
+    #[error("the trace differs")]
+    Trace,
+    #[error("the verdict differs")]
+    Verdict,
+}
+
+/// The first difference, if there is one.
+pub fn compare(
+    alloc: Global,
+    summary: &Summary,
+    stored: &Stored,
+) -> Result<Option<Difference>, Fault> {
+    let schedule = assemble_text(alloc, stored.text.as_str())?;
+    if schedule.steps().len() != summary.steps {
+        return Ok(Some(Difference::Steps));
+    }
+    if let Some(bytes) = &stored.image {
+        if !is_image_of(alloc, bytes.as_slice(), &schedule)? {
+            return Ok(Some(Difference::Image));
+        }
+        if !loads_as(alloc, bytes.as_slice(), &schedule)? {
+            return Ok(Some(Difference::Schedule));
+        }
+    }
+    compare_run(alloc, &schedule, stored.trace.as_slice(), summary.verdict)
+}
+
+/// Whether these bytes are what a schedule is written as.
+fn is_image_of(alloc: Global, bytes: &[u8], schedule: &Schedule) -> Result<bool, WriteFault>
+    ensures { IfOk result (λ same. IsTrue same ↔ (image schedule.now ≡ bytes.now)) }
+{
+    let mut sink = MemorySink::new(alloc, usize::MAX, usize::MAX);
+    write_image(schedule, &mut sink)?;
+    Ok(sink.bytes() == bytes)
+}
+
+/// Whether a schedule is loaded from these bytes whose canonical text is that of this one. They come a few at a time.
+fn loads_as(alloc: Global, bytes: &[u8], schedule: &Schedule) -> Result<bool, Fault> {
+    let mut source = MemorySource::new(bytes, 61, Ending::Ends);
+    let loaded = load_image(alloc, &mut source)?;
+    let text = canonical(alloc, &loaded)?;
+    Ok(text == canonical(alloc, schedule)?)
+}
+
+/// Runs the steps of a schedule.
+#[tactic(auto, using(hek_machine::proofs::PlacedSteps::steps_placed, crate::proofs::Runs::replies_paired))]
+fn compare_run(
+    alloc: Global,
+    schedule: &Schedule,
+    trace: &[u8],
+    verdict: Verdict,
+) -> Result<Option<Difference>, Fault> {
+    let _buckets = schedule.buckets();
+    let ran = run(alloc, schedule, schedule.steps())?;
+    if !is_trace_of(alloc, trace, schedule, ran.replies.as_slice())? {
+        return Ok(Some(Difference::Trace));
+    }
+    if check(alloc, &transcript(alloc, schedule, &ran.replies)?)? != verdict {
+        return Ok(Some(Difference::Verdict));
+    }
+    Ok(None)
+}
+
+/// Whether these bytes are the trace of a schedule's steps with these replies.
+#[tactic(auto, using(hek_asm::proofs::RowLemmas::steps_declared))]
+fn is_trace_of(
+    alloc: Global,
+    bytes: &[u8],
+    schedule: &Schedule,
+    replies: &[Reply],
+) -> Result<bool, WriteFault>
+    requires { length replies.now ≡ length schedule.now.steps }
+    ensures { IfOk result (λ same. IsTrue same ↔ (trace schedule.now schedule.now.steps replies.now ≡ bytes.now)) }
+{
+    let _buckets = schedule.buckets();
+    let mut sink = MemorySink::new(alloc, usize::MAX, usize::MAX);
+    write_trace(schedule, schedule.steps(), replies, &mut sink)?;
+    Ok(sink.bytes() == bytes)
+}
+
+/// The steps of a schedule with these replies.
+fn transcript(alloc: Global, schedule: &Schedule, replies: &[Reply]) -> Result<Transcript, NoMemory>
+    requires { length replies.now ≡ length schedule.now.steps }
+    ensures { IfOk result (λ transcript. transcript ≡ told_of schedule.now schedule.now.steps replies.now) }
+{
+    let mut transcript = Transcript::new(alloc, schedule)?;
+    for place in 0..replies.len() {
+        transcript.push(schedule.steps()[place], replies[place].copy()?)?;
+    }
+    Ok(transcript)
+}
