@@ -8,21 +8,27 @@ use crate::tests::scene::{
 };
 use crate::tests::shown::assert_same;
 use crate::{Machine, Trace, run, run_at};
-use hek_rules::{Event, Level, NoMemory, Refusal, Reply, Schedule, State, Time};
+use hek_rules::{Event, Level, Refusal, Reply, Schedule, State, Time};
 use std::alloc::Global;
 use std::process::Abort;
 
 /// The last time but one that can be drawn.
 const LATE: u64 = (1 << 63) - 3;
 
+fn assert_fits(rt: &impl Abort, schedule: &Schedule, event: &Event)
+    ensures { IsPlaced schedule.now.buckets event.now }
+{
+    match *event {
+        Event::Scan(_, bucket) => assert!(rt; bucket < schedule.buckets()),
+        _ => {}
+    }
+}
+
 fn assert_all_placed(rt: &impl Abort, schedule: &Schedule, events: &[Event])
     ensures { All (IsPlaced schedule.now.buckets) events.now }
 {
-    for &event in events {
-        match event {
-            Event::Scan(_, bucket) => assert!(rt; bucket < schedule.buckets()),
-            _ => {}
-        }
+    for event in events {
+        assert_fits(rt, schedule, event);
     }
 }
 
@@ -36,14 +42,13 @@ fn traced(rt: &impl Abort, alloc: Global, schedule: &Schedule, events: &[Event])
 }
 
 fn stepped(rt: &impl Abort, machine: &mut Machine, event: Event) -> Reply {
-    assert_placed(rt, machine, event);
-    match machine.step(event) {
-        Ok(reply) => reply,
-        Err(NoMemory) => {
-            assert_placed(rt, machine, event);
-            machine.step(event).expect(rt, "no memory")
-        }
+    let (first, second) = (event, event);
+    assert_placed(rt, machine, &event);
+    if let Ok(reply) = machine.step(first) {
+        return reply;
     }
+    assert_placed(rt, machine, &event);
+    machine.step(second).expect(rt, "no memory")
 }
 
 fn assert_same_replies(rt: &impl Abort, trace: &Trace, machine: &mut Machine, events: &[Event]) {

@@ -7,7 +7,7 @@ ghost use Rattle.hek_txn.specs.TxnTable.{Declared};
 use crate::Machine;
 use crate::tests::shown::assert_same;
 use hek_rules::{
-    Event, Level, MAX_BUCKETS, Members, NoMemory, Pairs, Reply, Schedule, Time, TxnId, VersionId,
+    Event, Level, MAX_BUCKETS, Members, Pairs, Reply, Schedule, Time, TxnId, VersionId,
 };
 use std::alloc::Global;
 use std::process::Abort;
@@ -131,7 +131,7 @@ pub(crate) fn end(t: u64) -> Event {
     Event::End(id(t))
 }
 
-fn wants_memory(event: Event) -> bool {
+fn wants_memory(event: &Event) -> bool {
     matches!(
         event,
         Event::Read(..)
@@ -203,10 +203,10 @@ pub(crate) fn declared(rt: &impl Abort, machine: &Machine, number: u64) -> TxnId
     t
 }
 
-pub(crate) fn assert_placed(rt: &impl Abort, machine: &Machine, event: Event)
-    ensures { IsPlaced (length machine.now.buckets) event }
+pub(crate) fn assert_placed(rt: &impl Abort, machine: &Machine, event: &Event)
+    ensures { IsPlaced (length machine.now.buckets) event.now }
 {
-    match event {
+    match *event {
         Event::Scan(_, bucket) => assert!(rt; bucket < machine.buckets()),
         _ => {}
     }
@@ -248,31 +248,33 @@ impl Scene {
     /// Another machine, after the same events.
     fn replayed(&self, rt: &impl Abort) -> Machine {
         let mut machine = loaded(rt, self.alloc, &self.schedule);
-        for &event in &self.events {
+        for event in &self.events {
             assert_placed(rt, &machine, event);
-            assert!(rt; machine.step(event).is_ok(), "no memory");
+            let reply = machine.step(*event);
+            assert!(rt; reply.is_ok(), "no memory");
         }
         machine
     }
 
     /// The event has been refused memory: it has changed nothing, and is made again.
-    fn step_again(&mut self, rt: &impl Abort, event: Event) -> Reply {
+    fn step_again(&mut self, rt: &impl Abort, event: &Event) -> Reply {
         assert!(rt; wants_memory(event), "{event:?}");
         let before = self.replayed(rt);
         assert_same(rt, &self.machine, &before);
         assert_placed(rt, &self.machine, event);
-        self.machine.step(event).expect(rt, "no memory")
+        self.machine.step(*event).expect(rt, "no memory")
     }
 
     /// The event has this reply.
     pub(crate) fn gives(&mut self, rt: &impl Abort, event: Event, wanted: &Reply) {
-        assert_placed(rt, &self.machine, event);
-        let reply = match self.machine.step(event) {
+        let (first, noted) = (event, event);
+        assert_placed(rt, &self.machine, &event);
+        let reply = match self.machine.step(first) {
             Ok(reply) => reply,
-            Err(NoMemory) => self.step_again(rt, event),
+            Err(_) => self.step_again(rt, &event),
         };
         assert!(rt; reply.same(wanted), "{event:?}: {reply:?}");
-        pushed(rt, &mut self.events, event);
+        pushed(rt, &mut self.events, noted);
     }
 
     /// The events have these replies.
