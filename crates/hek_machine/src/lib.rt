@@ -15,6 +15,8 @@ mod rows;
 mod runs;
 mod scans;
 mod steps;
+#[cfg(test)]
+mod tests;
 mod walks;
 mod writes;
 

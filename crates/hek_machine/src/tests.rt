@@ -1,0 +1,8 @@
+//! Runs of the machine that were worked out by hand from the description of the scheme, reply by reply and word by word,
+//! and what the machine does where memory is refused.
+mod commits;
+mod locks;
+mod runs;
+mod scene;
+mod shown;
+mod waits;
