@@ -1,5 +1,5 @@
 //! Schedules from files: from a text or from an image.
-ghost use Rattle.std.specs.Prelude.{◌≡◌, ◌≤◌, ◌^◌, length, MatchResult, IfOk, IfSome, Ok};
+ghost use Rattle.std.specs.Prelude.{◌≡◌, MatchResult, IfSome, Ok};
 ghost use Rattle.hek_asm.specs.Text.{schedule_of};
 ghost use Rattle.hek.specs.Judged.{ReadFails, TextFails, ImageGives, ImageFails, FileGives, FileFails};
 

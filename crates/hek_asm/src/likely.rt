@@ -1,6 +1,6 @@
 //! The one event and the one reply that the words of a trace line may be of. Whether the line is theirs is told by writing
 //! it.
-ghost use Rattle.std.specs.Prelude.{◌≡◌, ◌≤◌, ◌+◌, map, drop, length, IfOk, IfSome};
+ghost use Rattle.std.specs.Prelude.{◌≡◌, ◌≤◌, map, drop, length, IfOk, IfSome};
 ghost use Rattle.std.specs.List.{position_or_len};
 ghost use Rattle.hek_asm.specs.Likely.{value_of, first_value, cause_named, refusal_named, is_equals, pair_of, of_one_word, of_two_words, of_three_words, of_few_words, likely_reply, step_named, likely_event, step_len};
 ghost use Rattle.hek_asm.specs.Trace.{NamesDeclared};

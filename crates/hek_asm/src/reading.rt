@@ -1,5 +1,5 @@
 //! Traces read back, line by line.
-ghost use Rattle.std.specs.Prelude.{◌≡◌, ◌++◌, List, ℕ, length, map, IfOk, IfSome, MatchOption, MatchResult};
+ghost use Rattle.std.specs.Prelude.{◌≡◌, ◌++◌, List, ℕ, length, IfOk, IfSome, MatchOption, MatchResult};
 ghost use Rattle.hek_rules.specs.Text.{words_of};
 ghost use Rattle.hek_asm.specs.Likely.{likely_entry};
 ghost use Rattle.hek_asm.specs.Reading.{HasNoLine, IsFront, IsTraceOf, TraceFails};
