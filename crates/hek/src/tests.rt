@@ -1,6 +1,7 @@
 ghost use Rattle.std.specs.Prelude.{◌≤◌, length, IfOk};
 
 mod files;
+mod runs;
 
 use crate::command_line::{answer, program};
 use crate::fault::{HekFault, report};
