@@ -22,3 +22,4 @@ pub mod DetectRows
 pub mod StepRows
 pub mod RunRows
 pub mod PlacedSteps
+pub mod SmallReplies

@@ -1,9 +1,10 @@
 -- One event: which events may want memory, and what a step of a machine is; and runs of many.
-use Rattle.std.specs.Prelude.{◌≡◌, ℕ, Bool, true, false, ◌&&◌, Option, Some, None, List, [], map, slice_get}
+use Rattle.std.specs.Prelude.{◌≡◌, ◌≤◌, ℕ, Bool, true, false, ◌&&◌, Option, Some, None, List, [], map, slice_get, length}
 use Rattle.std.specs.List.{zip}
 use Rattle.hek_rules.specs.declared.event.Event.{Event}
 use Rattle.hek_rules.specs.declared.event.Event.TheVariants as event
 use Rattle.hek_rules.specs.declared.reply.Reply.{Reply}
+use Rattle.hek_rules.specs.declared.reply.Reply.TheVariants as replies
 use Rattle.hek_rules.specs.Events.{txn_of}
 use Rattle.hek_rules.specs.World.{World, txn_in, declared}
 use Rattle.hek_rules.specs.Run.{next, reply, run, transcript}
@@ -73,3 +74,9 @@ serial_rows_of p events replies = laid_over (zip events replies) (serial_order (
 -- and whatever rows a machine shows as committed are those
 abbrev pub RowsAreSerial : Plan → List Event → List Reply → Parts → Type 0
 RowsAreSerial p events replies m = (rows : List (ℕ × ℕ)) → IsShown m committed_rows rows → rows ≡ serial_rows_of p events replies
+
+-- a reply has at most as many pairs as there are versions, and as many members as there are transactions
+abbrev pub IsSmall : World → Reply → Type 0
+IsSmall w (replies.Rows pairs) = length pairs ≤ length w.versions
+IsSmall w (replies.Victim t cycle) = length cycle ≤ length w.txns
+IsSmall w r = Unit {0}

@@ -1,10 +1,11 @@
 //! The machine.
 ghost use Rattle.std.specs.Prelude.{◌≡◌, ◌&&◌, false, length, IfOk, OnErr, IsOk};
 ghost use Rattle.hek_rules.specs.Plan.{IsPlan};
+ghost use Rattle.hek_rules.specs.World.{World};
 ghost use Rattle.hek_laws.specs.Runs.{IsFirstClock, IsPlaced};
 ghost use Rattle.hek_machine.specs.Stands.{StandsFor};
 ghost use Rattle.hek_machine.specs.Observed.{opening_of, StandsAs};
-ghost use Rattle.hek_machine.specs.Steps.{takes_memory, passes, IsStep};
+ghost use Rattle.hek_machine.specs.Steps.{takes_memory, passes, IsStep, IsSmall};
 
 use crate::parts::Parts;
 use hek_rules::{Event, NoMemory, Reply, Schedule, Time};
@@ -67,6 +68,7 @@ impl Machine {
     pub fn step(&mut self, event: Event) -> Result<Reply, NoMemory>
         requires { IsPlaced (length self.old.buckets) event }
         ensures step { IfOk result (IsStep event self.old self.new) }
+        ensures small { IfOk result (λ r. (w : World) → StandsFor self.old w → IsSmall w r) }
         ensures still { OnErr result (StandsAs self.old self.new) }
         ensures sure { (takes_memory event && passes self.old event) ≡ false → IsOk result }
         ensures buckets { length self.new.buckets ≡ length self.old.buckets }

@@ -1,23 +1,11 @@
--- A run answers each event once; and the steps of a schedule with their replies, one more at a time.
+-- The steps of a schedule with their replies, one more at a time.
 use Rattle.std.proofs.Common.{◌≡◌, ℕ, zero, suc, ◌+◌, ◌<◌, List, [], ◌∷◌, ◌++◌, refl, ◌∙◌, ap, arith, length, take, get_or}
 use Rattle.std.specs.List.{zip}
-use Rattle.std.specs.Prelude.{map}
 use Rattle.hek_rules.specs.declared.event.Event.{Event}
 use Rattle.hek_rules.specs.declared.reply.Reply.{Reply}
 use Rattle.hek_rules.specs.Plan.{Plan}
 use Rattle.hek_rules.specs.Told.{Told}
-use Rattle.hek_rules.specs.World.{World}
-use Rattle.hek_rules.specs.Run.{next, transcript}
-use Rattle.hek_machine.specs.declared.parts.Parts.{Parts}
-use Rattle.hek_machine.specs.Observed.{opening_of}
-use Rattle.hek_machine.specs.Steps.{IsRun, told_of}
-
-one_each : (w : World) (es : List Event) → length (map (λ (x : Event × Reply). x.1) (transcript w es)) ≡ length es
-one_each w [] = refl
-one_each w (e ∷ es) = ap suc (one_each (next w e) es)
-
-pub replies_paired : (p : Plan) (clock : ℕ) (es : List Event) (rs : List Reply) (m : Parts) → IsRun p clock es rs m → length rs ≡ length es
-replies_paired p clock es rs m ran = ap (λ (xs : List Reply). length xs) ran.replies ∙ one_each (opening_of p clock) es
+use Rattle.hek_machine.specs.Steps.{told_of}
 
 zip_more : {X Y : Type 0} (xs : List X) (ys : List Y) (i : ℕ) (x : X) (y : Y) → i < length xs → i < length ys → x ≡ get_or xs i x → y ≡ get_or ys i y →
     zip (take i xs) (take i ys) ++ (x, y) ∷ [] ≡ zip (take (suc i) xs) (take (suc i) ys)

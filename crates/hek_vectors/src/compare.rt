@@ -72,7 +72,7 @@ fn loads_as(alloc: Global, bytes: &[u8], schedule: &Schedule) -> Result<bool, Fa
 }
 
 /// Runs the steps of a schedule.
-#[tactic(auto, using(hek_machine::proofs::PlacedSteps::steps_placed, crate::proofs::Runs::replies_paired))]
+#[tactic(auto, using(hek_machine::proofs::PlacedSteps::steps_placed, hek_machine::proofs::PlacedSteps::replies_paired))]
 fn compare_run(
     alloc: Global,
     schedule: &Schedule,

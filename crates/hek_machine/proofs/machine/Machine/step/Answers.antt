@@ -1,6 +1,10 @@
-use Rattle.std.proofs.Common.{sym, ap, subst, ◌∙◌, length}
+use Rattle.std.proofs.Common.{sym, ap, subst, ◌∙◌, length, IfOk}
+use Rattle.hek_rules.specs.World.{World}
 use Rattle.hek_laws.specs.Runs.{IsPlaced}
 use Rattle.hek_machine.specs.declared.parts.Parts.{Parts}
+use Rattle.hek_machine.specs.Stands.{StandsFor}
+use Rattle.hek_machine.specs.Steps.{IsSmall}
+use Rattle.hek_machine.proofs.SmallReplies.{small_replies}
 use Rattle.hek_machine.proofs.RunRows.{ordered_after, buckets_after}
 use Rattle.hek_machine.proofs.machine.Machine.step.Goals as goal
 
@@ -12,3 +16,7 @@ invariant_of-self c =
 pub returns-clause-buckets : goal.returns-clause-buckets
 returns-clause-buckets c =
     buckets_after _ c.self.inside.parts c.step.new.self c.step.result c.self.invariant c.step.ensures.row c.step.ensures.still ∙ ap (λ (m : Parts). length m.buckets) c.self.view_is
+
+pub returns-clause-small : goal.returns-clause-small
+returns-clause-small c =
+    subst (λ (m : Parts). IfOk c.step.result (λ r. (w : World) → StandsFor m w → IsSmall w r)) c.self.view_is (small_replies _ c.self.inside.parts c.step.new.self c.step.result c.step.ensures.row)
