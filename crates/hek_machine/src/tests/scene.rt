@@ -144,7 +144,7 @@ fn wants_memory(event: &Event) -> bool {
 }
 
 // Where memory is refused once, a call made again has it.
-fn add_row(rt: &impl Abort, schedule: &mut Schedule, key: u64, value: u64) {
+pub(crate) fn add_row(rt: &impl Abort, schedule: &mut Schedule, key: u64, value: u64) {
     assert!(rt; schedule.row_fits(key));
     if schedule.add_row(key, value).is_err() {
         assert!(rt; schedule.row_fits(key));

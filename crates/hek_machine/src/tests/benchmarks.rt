@@ -1,0 +1,54 @@
+//! Events a second, among more and more versions.
+use crate::Machine;
+use crate::tests::scene::{A, add_row, id, loaded, schedule_of};
+use hek_rules::{Event, Level, Reply};
+use std::alloc::Global;
+use std::process::Abort;
+use std::test::Fail;
+use std::time::Instant;
+
+/// How many events are timed.
+const EVENTS: u64 = 1_000;
+
+/// So many rows, and a transaction that has begun.
+fn begun(rt: &impl Abort, alloc: Global, rows: u64, level: Level) -> Machine {
+    let mut schedule = schedule_of(rt, alloc, 1, &[], &[level]);
+    for key in 0..rows {
+        add_row(rt, &mut schedule, key, 0);
+    }
+    let mut machine = loaded(rt, alloc, &schedule);
+    let reply = machine.step(Event::Begin(id(A)));
+    assert!(rt; reply.is_ok());
+    machine
+}
+
+/// Reads of one row after another, or updates.
+fn step_on_each(rt: &impl Abort, machine: &mut Machine, updates: bool) {
+    for key in 0..EVENTS {
+        let event = if updates {
+            Event::Update(id(A), key, 1)
+        } else {
+            Event::Read(id(A), key)
+        };
+        let reply = machine.step(event);
+        assert!(rt; matches!(&reply, Ok(Reply::Found(0) | Reply::Done)));
+    }
+}
+
+#[test]
+fn tells_events_per_second(rt: HostRuntime) -> Result<(), Fail> {
+    for level in [Level::Repeatable, Level::Serializable] {
+        for updates in [false, true] {
+            for rows in [1_000, 2_000, 4_000] {
+                let mut machine = begun(&rt, rt.alloc(), rows, level);
+                let start = Instant::now(&rt)?;
+                step_on_each(&rt, &mut machine, updates);
+                let time = start.elapsed(&rt)?.as_micros();
+                let kind = if updates { "updates" } else { "reads" };
+                let rate = 1_000_000_000u128.checked_div(time).unwrap_or(0);
+                let _ = eprintln!(rt; "{level:?}, {rows} rows: {rate} {kind} a second");
+            }
+        }
+    }
+    Ok(())
+}
