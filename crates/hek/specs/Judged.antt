@@ -67,9 +67,16 @@ pub record Disassembles {R : Type 0} (left : R → Option (List ℕ)) (said : Sc
   pub is : FileGives left said plan
   pub written : Appends before after (canonical_text plan)
 
-abbrev pub DisFails : {R : Type 0} → (R → Option (List ℕ)) → ScheduleFile R → HekFault → Type 0
-DisFails left said CannotWrite = Unit {0}
-DisFails left said fault = FileFails left said fault
+-- why nothing is printed of the schedule that a file says
+abbrev pub PrintFails : {R : Type 0} → (R → Option (List ℕ)) → ScheduleFile R → HekFault → Type 0
+PrintFails left said CannotWrite = Unit {0}
+PrintFails left said fault = FileFails left said fault
+
+-- why a run doesn't go on
+abbrev pub IsStop : HekFault → Type 0
+IsStop NoMemory = Unit {0}
+IsStop CannotWrite = Unit {0}
+IsStop other = ⊥
 
 -- why a text isn't a trace over a schedule
 abbrev pub TraceTextFails : Plan → List ℕ → HekFault → Type 0

@@ -12,7 +12,7 @@ fn hek<'a>(alloc: Global) -> Result<Command<'a>, AllocError> {
     let command = Command::new(alloc, "hek")
         .about("The reference machine of pessimistic multiversion locking, step by step")
         .after_help(
-            "Examples:\n  hek release 8040000000000002 1\nprints the word and the waits that are left:\n  C000000000000002 0\n  hek asm first.txt first.hek\n  hek dis first.hek\nmake the image of a schedule's text, and print it as text again\n  hek check first.hek trace.txt\nsays whether a trace over it is serial",
+            "Examples:\n  hek run --text first.txt\nruns a schedule, and prints each step with its reply\n  hek release 8040000000000002 1\nprints the word and the waits that are left:\n  C000000000000002 0\n  hek asm first.txt first.hek\n  hek dis first.hek\nmake the image of a schedule's text, and print it as text again\n  hek check first.hek trace.txt\nsays whether a trace over it is serial",
         )
         .subcommand_required(true)
         .subcommand(release(alloc)?)?
@@ -111,12 +111,22 @@ fn check<'a>(alloc: Global) -> Result<Command<'a>, AllocError> {
 }
 
 fn run<'a>(alloc: Global) -> Result<Command<'a>, AllocError> {
+    let state = Arg::new(alloc, "state")
+        .long("state")
+        .action(ArgAction::SetTrue)
+        .help("prints the state of the machine behind the trace");
+    let state_at = Arg::new(alloc, "state-at")
+        .long("state-at")
+        .value_name("N")
+        .help("stops after N steps, and prints the state there");
     let command = Command::new(alloc, "run")
         .about("Runs the steps of a schedule, and prints each with its reply")
         .after_help(
-            "Example:\n  hek run --text first.txt\nWhere first.txt has the lines\n  buckets 1\n  row 10 100\n  txn a serializable\n  a begin\n  a read 10\nit prints\n  1 a begin -> began 1\n  2 a read 10 -> found 100",
+            "Example:\n  hek run --text first.txt\nWhere first.txt has the lines\n  buckets 1\n  row 10 100\n  txn a serializable\n  a begin\n  a read 10\nit prints\n  1 a begin -> began 1\n  2 a read 10 -> found 100\nWith --state it goes on with the clock, the versions, the transactions and the locked buckets.",
         )
         .arg(schedule_file(alloc))?
-        .arg(text_flag(alloc))?;
+        .arg(text_flag(alloc))?
+        .arg(state)?
+        .arg(state_at)?;
     Ok(command)
 }

@@ -6,11 +6,12 @@ use crate::dis::dis_command;
 use crate::disk::{Disk, InputFile, LateFile, open};
 use crate::fault::{HekFault, report};
 use crate::release::release_command;
-use crate::run::run_command;
+use crate::run::{run_command, state_command};
 use crate::schedule_file::{ScheduleFile, read_text};
 use crate::word::word_command;
 use clap::error::ErrorKind as ClapKind;
 use clap::{ArgMatches, Error};
+use hek_rules::number;
 use std::alloc::Global;
 use std::convert::AsStr;
 use std::env;
@@ -136,8 +137,24 @@ fn run_schedule<'a, D: Disk, I: Read + Drop, W: Write>(
     out: &mut W,
 ) -> Result<u8, HekFault<'a>> {
     let mut input = Some(input);
+    let upto = state_at(found)?;
     let file = schedule_file(alloc, found, disk, &mut input)?;
-    run_command(alloc, file, out)
+    if upto.is_some() || found.get_flag("state") {
+        state_command(alloc, file, upto, out)
+    } else {
+        run_command(alloc, file, out)
+    }
+}
+
+/// The number of steps that the words give with `--state-at`.
+fn state_at<'a>(found: &ArgMatches<'a>) -> Result<Option<u64>, HekFault<'a>> {
+    match found.get_str("state-at") {
+        None => Ok(None),
+        Some(text) => match number(text.as_bytes()) {
+            Some(count) => Ok(Some(count)),
+            None => Err(HekFault::BadArgument),
+        },
+    }
 }
 
 fn check<'a, D: Disk, I: Read + Drop, W: Write>(

@@ -1,6 +1,6 @@
 //! The command `dis`.
 ghost use Rattle.std.specs.Prelude.{◌≡◌, MatchResult};
-ghost use Rattle.hek.specs.Judged.{Disassembles, DisFails};
+ghost use Rattle.hek.specs.Judged.{Disassembles, PrintFails};
 
 use crate::fault::HekFault;
 use crate::schedule_file::{ScheduleFile, schedule_in};
@@ -14,7 +14,7 @@ pub fn dis_command<'a, R: Read + Drop, W: Write>(
     file: ScheduleFile<R>,
     out: &mut W,
 ) -> Result<u8, HekFault<'a>>
-    ensures { MatchResult result (λ status. (status ≡ 0) × Disassembles R.remaining file (W.contents out.old) (W.contents out.new)) (DisFails R.remaining file) }
+    ensures { MatchResult result (λ status. (status ≡ 0) × Disassembles R.remaining file (W.contents out.old) (W.contents out.new)) (PrintFails R.remaining file) }
 {
     let schedule = schedule_in(alloc, file)?;
     let text = canonical(alloc, &schedule)?;

@@ -8,9 +8,11 @@ mod command_line;
 mod dis;
 mod disk;
 mod fault;
+mod lines;
 mod release;
 mod run;
 mod schedule_file;
+mod state;
 #[cfg(test)]
 mod tests;
 mod word;

@@ -5,7 +5,7 @@ use Rattle.hek_rules.specs.declared.event.Cause.{Cause}
 use Rattle.hek_rules.specs.declared.reply.Reply.{Reply}
 use Rattle.hek_rules.specs.declared.reply.Reply.TheVariants as reply
 use Rattle.hek_rules.specs.World.{World, places}
-use Rattle.hek_rules.specs.Walk.{Judgement, walk, apply_all, seen_of}
+use Rattle.hek_rules.specs.Walk.{walk, apply_all, seen_of}
 use Rattle.hek_rules.specs.Walk as walking
 use Rattle.hek_rules.specs.Table.{Outcome, after_scan, pairs_of, scan_row}
 use Rattle.hek_store.specs.Stored.{of_bucket}

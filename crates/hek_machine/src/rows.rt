@@ -1,11 +1,11 @@
 //! Reads and writes of rows: each walks over the versions of a key or a bucket (section 4 of the paper: reads and
 //! updates).
-ghost use Rattle.std.specs.Prelude.{◌≡◌, ◌<◌, ◌%◌, true, None, [], length, IfOk, OnOk, OnErr, MatchResult};
+ghost use Rattle.std.specs.Prelude.{◌≡◌, ◌<◌, ◌%◌, true, None, [], length, IfOk, OnOk, OnErr};
 ghost use Rattle.std.specs.List.{All};
 ghost use Rattle.hek_rules.specs.World.{txn_in, bucket_of};
 ghost use Rattle.hek_rules.specs.Walk.{walk as walk_of, last, apply_all};
 ghost use Rattle.hek_rules.specs.Table.{is_open, found as found_row, read_row, delete_row};
-ghost use Rattle.hek_store.specs.Stored.{of_key, of_bucket};
+ghost use Rattle.hek_store.specs.Stored.{of_key};
 ghost use Rattle.hek_txn.specs.TxnTable.{Declared};
 ghost use Rattle.hek_machine.specs.Judged.{IsShown, IsAimed, purpose_of};
 ghost use Rattle.hek_machine.specs.Applied.{Allowed};
@@ -59,6 +59,7 @@ impl Parts {
         ensures kept { IfOk result (λ _. KeepsAdding self.old self.new t) }
         ensures still { OnErr result (StillShows self.old self.new) }
     {
+        // There are too few versions for a counter of waits to overflow.
         let _ = self.store.len();
         self.reserve(t, effects)?;
         self.apply_all(t, effects);

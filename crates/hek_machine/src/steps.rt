@@ -1,6 +1,5 @@
 //! One event is one row: the checks, and then the row of the event's kind.
-ghost use Rattle.std.specs.Prelude.{◌≡◌, ◌&&◌, true, false, Some, IfOk, OnErr, IsOk};
-ghost use Rattle.hek_rules.specs.Events.{txn_of};
+ghost use Rattle.std.specs.Prelude.{◌≡◌, ◌&&◌, false, Some, IfOk, OnErr, IsOk};
 ghost use Rattle.hek_rules.specs.World.{txn_in};
 ghost use Rattle.hek_rules.specs.Table.{row as row_of, checked, outcome};
 ghost use Rattle.hek_laws.specs.Runs.{IsPlaced};

@@ -9,7 +9,7 @@ ghost use Rattle.hek_txn.specs.TxnTable.{Declared};
 ghost use Rattle.hek_machine.specs.Judged.{IsShown, IsAimed, purpose_of};
 ghost use Rattle.hek_machine.specs.Room.{CanMake};
 ghost use Rattle.hek_machine.specs.Stands.{IsOrdered, IsRow, StillShows};
-ghost use Rattle.hek_machine.specs.Written.{key_walk, after_walk, after_making, after_conflict};
+ghost use Rattle.hek_machine.specs.Written.{key_walk, after_making, after_conflict};
 
 use crate::parts::Parts;
 use crate::rows::last_of;
@@ -36,6 +36,7 @@ impl Parts {
         ensures still { OnErr result (StillShows self.old self.new) }
     {
         let bucket = self.bucket_of(key);
+        // There are too few versions for a counter of waits to overflow.
         let _ = self.store.len();
         match self.walk_over(t, aim, bucket, vs)? {
             None => {

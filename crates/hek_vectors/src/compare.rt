@@ -1,6 +1,5 @@
 //! A vector beside what is stored of it.
 ghost use Rattle.std.specs.Prelude.{◌≡◌, ◌↔◌, length, IfOk, IsTrue};
-ghost use Rattle.hek_rules.specs.Faults.{IsVerdict};
 ghost use Rattle.hek_asm.specs.Trace.{trace};
 ghost use Rattle.hek_image.specs.Schedules.{image};
 ghost use Rattle.hek_machine.specs.Steps.{told_of};

@@ -1,3 +1,5 @@
+mod weak;
+
 use crate::{BeginWord, Dropped, EndWord, ReleaseFault, release_word};
 use hek_rules::{Time, TxnId};
 use std::test::Fail;
