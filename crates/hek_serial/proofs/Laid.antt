@@ -1,14 +1,14 @@
 -- The order laid over, as far as a time reaches, and the first wrong reply of one transaction more.
-use Rattle.std.proofs.Common.{◌≡◌, ℕ, zero, suc, ◌+◌, ◌<◌, ◌≤◌, min, Bool, true, false, List, [], ◌∷◌, ◌++◌, length, refl, ◌∙◌, ap, sym, subst, Some, None, Option, ⊎_elim, take, get_or, add-one, arith}
+use Rattle.std.proofs.Common.{◌≡◌, ℕ, zero, suc, ◌+◌, ◌<◌, ◌≤◌, min, List, [], ◌∷◌, length, refl, ◌∙◌, ap, sym, subst, Some, None, Option, ⊎_elim, take, get_or, arith}
 use Rattle.std.proofs.lemmas.Bool.{cases_eq, cases_lt, lt-ltb, le-ltb, cond-true, cond-false}
-use Rattle.std.specs.Prelude.{slice_get, filter, nat_lt, if◌then◌else◌}
+use Rattle.std.specs.Prelude.{slice_get, filter, nat_lt}
 use Rattle.hek_rules.specs.declared.event.Level.{Level}
 use Rattle.hek_rules.specs.declared.event.Event.{Event}
 use Rattle.hek_rules.specs.declared.reply.Reply.{Reply}
 use Rattle.hek_rules.specs.Faults.{level_of}
 use Rattle.hek_rules.specs.Serial.{lay_all, writes_of, laid_over}
 use Rattle.hek_laws.proofs.Worlds.Histories.{laid_over-append}
-use Rattle.hek_serial.specs.Replay.{at_place, IsRightFor, IsFirstWrong, IsFirstIfDeclared, IsFirstOfAll, IsWrongOf, found_by}
+use Rattle.hek_serial.specs.Replay.{at_place, IsRightFor, IsFirstIfDeclared, IsFirstOfAll, IsWrongOf, found_by}
 use Rattle.hek_serial.proofs.Undo.{take_one_more}
 
 pub at_place-get : (xs : List (ℕ × ℕ)) (k : ℕ) (x : ℕ × ℕ) → k < length xs → x ≡ get_or xs k x → at_place xs k ≡ x

@@ -6,7 +6,7 @@ use Rattle.std.specs.Prelude.{◌==◌, not, if◌then◌else◌}
 use Rattle.std.specs.Ordering.{nat_cmp, is_eq}
 use Rattle.std.specs.BTreeMap.{is_at}
 use Rattle.std.specs.Map.{remove_entry, lookup}
-use Rattle.hek_rules.specs.Listing.{put, take_out, value_of}
+use Rattle.hek_rules.specs.Listing.{take_out, value_of}
 use Rattle.hek_laws.proofs.Lists.Rising.{AreAbove, AreRising, rising-filter}
 
 tied : (k n : ℕ) → is_eq (nat_cmp k n) ≡ (n == k)

@@ -1,5 +1,5 @@
 -- Changes that are taken back, and the writes of a longer front of a history.
-use Rattle.std.proofs.Common.{◌≡◌, ℕ, zero, suc, ◌+◌, ◌<◌, Bool, true, false, List, [], ◌∷◌, ◌++◌, refl, ◌∙◌, ap, sym, Some, None, Option, ⊎_elim, take, add-one, arith}
+use Rattle.std.proofs.Common.{◌≡◌, ℕ, zero, suc, ◌+◌, List, [], ◌∷◌, ◌++◌, refl, ◌∙◌, ap, sym, Some, None, Option, ⊎_elim, take, add-one}
 use Rattle.std.proofs.lemmas.Bool.{cases_Bool, cond-true, cond-false, eqb-true}
 use Rattle.std.specs.Prelude.{◌==◌, slice_get, if◌then◌else◌}
 use Rattle.hek_rules.specs.declared.event.Event.{Event}
@@ -8,14 +8,24 @@ use Rattle.hek_rules.specs.declared.serial.Write.{Write}
 use Rattle.hek_rules.specs.Listing.{put, take_out, value_of}
 use Rattle.hek_rules.specs.Serial.{lay, lay_all, write_of, writes_of}
 use Rattle.hek_laws.proofs.Lists.Overlay.{key_of, left_by, value_of-put, value_of-take_out, value_of-lay}
-use Rattle.hek_laws.proofs.Lists.Rising.{AreRising, same_rows, rising-put, rising-filter, rising-lay_all}
+use Rattle.hek_laws.proofs.Lists.Rising.{AreRising, same_rows, rising-put, rising-lay_all}
 use Rattle.hek_laws.proofs.Worlds.Histories.{writes_of-append, lay_all-append, append-nil}
-use Rattle.hek_serial.specs.Replay.{laid_back}
+use Rattle.hek_serial.specs.Held.{Held}
+use Rattle.hek_serial.specs.Replay.{laid_back, undone}
 use Rattle.hek_serial.proofs.Maps.{rising-take_out}
 
 pub laid_back-append : (us : List Write) (u : Write) (rows : List (ℕ × ℕ)) → laid_back (us ++ u ∷ []) rows ≡ laid_back us (lay u rows)
 laid_back-append [] u rows = refl
 laid_back-append (w ∷ us) u rows = ap (lay w) (laid_back-append us u rows)
+
+pub undone-append : (us : List Write) (u : Write) (s : Held) → undone (us ++ u ∷ []) s ≡ undone us (record { buckets = s.buckets; rows = lay u s.rows })
+undone-append us u s = ap (λ rows. record { buckets = s.buckets; rows = rows }) (laid_back-append us u s.rows)
+
+-- with one change more to take back
+pub undone-more : (us : List Write) (u : Write) (old new : Held) → new.buckets ≡ old.buckets → lay u new.rows ≡ old.rows → undone (us ++ u ∷ []) new ≡ undone us old
+undone-more us u old new b r =
+    let rows = laid_back-append us u new.rows ∙ ap (laid_back us) r in
+    λ i. record { buckets = b i; rows = rows i }
 
 -- what a key has once it has again what it had
 again : (w : Write) (rows : List (ℕ × ℕ)) (o : Option ℕ) → value_of rows (key_of w) ≡ o → (q : ℕ) → (if key_of w == q then o else value_of (lay w rows) q) ≡ value_of rows q

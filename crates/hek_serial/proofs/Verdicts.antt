@@ -7,20 +7,18 @@ use Rattle.hek_rules.specs.declared.event.Event.{Event}
 use Rattle.hek_rules.specs.declared.event.Event.TheVariants as event
 use Rattle.hek_rules.specs.declared.reply.Reply.{Reply}
 use Rattle.hek_rules.specs.Told.{Told}
-use Rattle.hek_rules.specs.Listing.{is_among}
 use Rattle.hek_rules.specs.Events.{txn_of}
-use Rattle.hek_rules.specs.Faults.{put_all, level_of, is_declared, commits_anew, own_rows, IsRight, IsRightIf, HasNoFault, IsFirstFault}
-use Rattle.hek_rules.specs.Serial.{lay_all, writes_of, end_of, committed_by, committed_in, serial_order, serial_rows, is_of, IsRightAt}
-use Rattle.hek_serial.specs.Replay.{at_place, found_by, IsRightFor, IsRightEntry, IsPlain, IsPlainEntry, IsFirstPlain, IsFirstOfAll, IsWrongOf}
+use Rattle.hek_rules.specs.Faults.{put_all, level_of, own_rows, IsRight, IsRightIf, HasNoFault, IsFirstFault}
+use Rattle.hek_rules.specs.Serial.{lay_all, writes_of, serial_order, serial_rows, is_of}
+use Rattle.hek_serial.specs.Replay.{at_place, found_by, IsRightFor, IsRightEntry, IsPlain, IsPlainEntry, IsFirstPlain, IsFirstOfAll}
 use Rattle.hek_serial.proofs.Orders.{ender_at, place_of}
 
 -- the test of an event's transaction, by its name
-named : (o : Option ℕ) → ℕ → Bool
+abbrev pub named : (o : Option ℕ) → ℕ → Bool
 named None t = false
 named (Some x) t = x == t
 
-is_of-named : (e : Event) (t : ℕ) → is_of t e ≡ named (txn_of e) t
-unfolding named
+pub is_of-named : (e : Event) (t : ℕ) → is_of t e ≡ named (txn_of e) t
 is_of-named (event.Begin x) t = refl
 is_of-named (event.Read x key) t = refl
 is_of-named (event.Scan x bucket) t = refl
@@ -37,19 +35,17 @@ is_of-named (event.End x) t = refl
 is_of-named event.Detect t = refl
 
 named-some : (o : Option ℕ) (t : ℕ) → named o t ≡ true → o ≡ Some t
-unfolding named
 named-some None t h = cc
 named-some (Some x) t h = ap Some (eqb-true x t h)
 
 some-named : (o : Option ℕ) (t : ℕ) → o ≡ Some t → named o t ≡ true
-unfolding named
 some-named None t h = cc
 some-named (Some x) t h = let same : x ≡ t = cc in eq-eqb x t same
 
 is_of-from : (e : Event) (t : ℕ) → txn_of e ≡ Some t → is_of t e ≡ true
 is_of-from e t h = is_of-named e t ∙ some-named (txn_of e) t h
 
-is_of-to : (e : Event) (t : ℕ) → is_of t e ≡ true → txn_of e ≡ Some t
+pub is_of-to : (e : Event) (t : ℕ) → is_of t e ≡ true → txn_of e ≡ Some t
 is_of-to e t h = named-some (txn_of e) t (sym (is_of-named e t) ∙ h)
 
 -- all replies of the order are right at a place

@@ -7,11 +7,15 @@ use Rattle.hek_rules.specs.declared.serial.Write.{Write}
 use Rattle.hek_rules.specs.Serial.{lay, lay_all, writes_of, is_of, committed_by, end_of, laid_over, IsRightAt}
 use Rattle.hek_rules.specs.Faults.{level_of, is_declared, commits_anew}
 use Rattle.hek_rules.specs.Events.{txn_of}
+use Rattle.hek_serial.specs.Held.{Held}
 
 -- the rows after these changes, the last first
 abbrev pub laid_back : List Write → List (ℕ × ℕ) → List (ℕ × ℕ)
 laid_back [] rows = rows
 laid_back (w ∷ ws) rows = lay w (laid_back ws rows)
+
+abbrev pub undone : List Write → Held → Held
+undone ws s = record { buckets = s.buckets; rows = laid_back ws s.rows }
 
 abbrev pub IsRightEntry : Level → ℕ → ℕ → List (ℕ × ℕ) → Option (Event × Reply) → Type 0
 IsRightEntry level buckets t rows None = Unit {0}

@@ -1,9 +1,9 @@
 //! What a history says of its transactions.
-ghost use Rattle.std.specs.Prelude.{◌≡◌, ◌∷◌, [], ℕ, length, MatchOption};
-ghost use Rattle.std.specs.List.{zip};
-ghost use Rattle.hek_rules.specs.Serial.{is_of as of_txn, write_of, committed_by, end_drawn, end_of as end_in};
+ghost use Rattle.std.specs.Prelude.{◌≡◌, ◌∷◌, [], ℕ, MatchOption};
+ghost use Rattle.hek_rules.specs.Serial.{is_of as of_txn, write_of, committed_by};
 ghost use Rattle.hek_rules.specs.Events.{txn_of as txn_in};
 ghost use Rattle.hek_rules.specs.Faults.{level_of as level_in, is_declared as declared_in};
+ghost use Rattle.hek_serial.specs.Ends.{draws};
 
 use hek_rules::{Event, Level, Reply, Time, TxnId, Write};
 
@@ -46,15 +46,15 @@ pub fn committed(event: Event, reply: &Reply) -> Option<TxnId>
     }
 }
 
-/// The end time that an event draws for t.
-pub fn drawn(t: TxnId, event: Event, reply: &Reply) -> Option<Time>
-    ensures { result ≡ end_drawn t event reply.now }
+/// Who draws an end time by an event, and which.
+pub fn drawn(event: Event, reply: &Reply) -> Option<(TxnId, Time)>
+    ensures { result ≡ draws event reply.now }
 {
     let Reply::Precommitted(time) = reply else {
         return None;
     };
     match event {
-        Event::Precommit(x) => { if x == t { Some(*time) } else { None } }
+        Event::Precommit(t) => Some((t, *time)),
         _ => None,
     }
 }
@@ -87,18 +87,4 @@ pub fn is_declared(levels: &[Level], event: Event) -> bool
         Some(t) => level_of(levels, t).is_some(),
         None => true,
     }
-}
-
-/// The first end time that was drawn for t.
-pub fn end_of(t: TxnId, events: &[Event], replies: &[Reply]) -> Option<Time>
-    requires { length replies.now ≡ length events.now }
-    ensures { result ≡ end_in t (zip events.now replies.now) }
-{
-    for i in 0..events.len() {
-        match drawn(t, events[i], &replies[i]) {
-            Some(time) => return Some(time),
-            None => {}
-        }
-    }
-    None
 }

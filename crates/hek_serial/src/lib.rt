@@ -2,13 +2,16 @@
 //! these run one after another, by end time?
 #![tactic(auto)]
 
+mod ends;
 mod faults;
 mod history;
 mod judge;
+mod links;
 mod order;
 mod replay;
 mod replies;
 mod rows;
+mod table;
 #[cfg(test)]
 mod tests;
 mod verdict;

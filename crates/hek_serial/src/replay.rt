@@ -2,11 +2,14 @@
 ghost use Rattle.std.specs.Prelude.{◌≡◌, ◌<◌, ◌≤◌, ℕ, List, length, min, take, OnOk, IfOk};
 ghost use Rattle.std.specs.List.{zip};
 ghost use Rattle.hek_rules.specs.Serial.{laid_over};
+ghost use Rattle.hek_serial.specs.Held.{Held};
+ghost use Rattle.hek_serial.specs.Links.{AreLinks};
 ghost use Rattle.hek_serial.specs.Replay.{IsInOrder, IsReach, IsFirstWrong, IsFirstIfDeclared, IsFirstOfAll};
 ghost use Rattle.hek_rules.specs.Faults.{level_of as level_in};
 
 use crate::history::level_of;
 use crate::judge::{first_wrong, lay_writes_of, undo_all};
+use crate::links::Links;
 use crate::rows::Rows;
 use hek_rules::{Event, Level, NoMemory, Reply, Time, TxnId};
 use std::alloc::Global;
@@ -24,20 +27,22 @@ pub fn advance(
     from: usize,
     time: Time,
     order: &[(Time, TxnId)],
+    links: &Links,
     events: &[Event],
     replies: &[Reply],
 ) -> Result<usize, NoMemory>
     requires same { length replies.now ≡ length events.now }
+    requires links { AreLinks events.now links.now.first links.now.next.items }
     requires within { from ≤ length order.now }
     ensures reach { IfOk result (λ n. IsReach order.now time from n) }
-    ensures laid { IfOk result (λ n. (base : List (ℕ × ℕ)) → rows.old ≡ laid_over (zip events.now replies.now) (take from order.now) base → rows.new ≡ laid_over (zip events.now replies.now) (take n order.now) base) }
+    ensures laid { IfOk result (λ n. (base : Held) → rows.old ≡ record base { rows = laid_over (zip events.now replies.now) (take from order.now) base.rows } → rows.new ≡ record base { rows = laid_over (zip events.now replies.now) (take n order.now) base.rows }) }
 {
     for at in from..order.len() {
         let (end, t) = order[at];
         if time.number() <= end.number() {
             return Ok(at);
         }
-        lay_writes_of(t, rows, events, replies)?;
+        lay_writes_of(t, rows, links, events, replies)?;
     }
     Ok(order.len())
 }
@@ -46,19 +51,19 @@ pub fn advance(
 pub fn judge(
     alloc: Global,
     level: Level,
-    buckets: u64,
     t: TxnId,
     rows: &mut Rows,
+    links: &Links,
     events: &[Event],
     replies: &[Reply],
 ) -> Result<usize, NoMemory>
     requires same { length replies.now ≡ length events.now }
-    requires some { 0 < buckets }
-    ensures first { IfOk result (λ n. IsFirstWrong level buckets t rows.old (zip events.now replies.now) n) }
+    requires links { AreLinks events.now links.now.first links.now.next.items }
+    ensures first { IfOk result (λ n. IsFirstWrong level rows.old.buckets t rows.old.rows (zip events.now replies.now) n) }
     ensures kept { OnOk result (rows.new ≡ rows.old) }
 {
     let mut undo = Vec::new(alloc);
-    let wrong = first_wrong(level, buckets, t, rows, &mut undo, events, replies)?;
+    let wrong = first_wrong(level, t, rows, &mut undo, links, events, replies)?;
     undo_all(rows, &mut undo)?;
     Ok(wrong)
 }
@@ -67,19 +72,19 @@ pub fn judge(
 pub fn judge_declared(
     alloc: Global,
     levels: &[Level],
-    buckets: u64,
     t: TxnId,
     rows: &mut Rows,
+    links: &Links,
     events: &[Event],
     replies: &[Reply],
 ) -> Result<usize, NoMemory>
     requires same { length replies.now ≡ length events.now }
-    requires some { 0 < buckets }
-    ensures first { IfOk result (λ n. IsFirstIfDeclared (level_in levels.now t) buckets t rows.old (zip events.now replies.now) n) }
+    requires links { AreLinks events.now links.now.first links.now.next.items }
+    ensures first { IfOk result (λ n. IsFirstIfDeclared (level_in levels.now t) rows.old.buckets t rows.old.rows (zip events.now replies.now) n) }
     ensures kept { OnOk result (rows.new ≡ rows.old) }
 {
     match level_of(levels, t) {
-        Some(level) => judge(alloc, level, buckets, t, rows, events, replies),
+        Some(level) => judge(alloc, level, t, rows, links, events, replies),
         None => Ok(events.len()),
     }
 }
@@ -88,23 +93,23 @@ pub fn judge_declared(
 pub fn replay(
     alloc: Global,
     levels: &[Level],
-    buckets: u64,
     order: &[(Time, TxnId)],
     rows: &mut Rows,
+    links: &Links,
     events: &[Event],
     replies: &[Reply],
 ) -> Result<usize, NoMemory>
     requires same { length replies.now ≡ length events.now }
-    requires some { 0 < buckets }
+    requires links { AreLinks events.now links.now.first links.now.next.items }
     requires rises { IsInOrder order.now }
-    ensures { IfOk result (λ n. IsFirstOfAll levels.now buckets order.now rows.old (zip events.now replies.now) (length order.now) n) }
+    ensures { IfOk result (λ n. IsFirstOfAll levels.now rows.old.buckets order.now rows.old.rows (zip events.now replies.now) (length order.now) n) }
 {
     let mut first = events.len();
     let mut laid = 0;
     for at in 0..order.len() {
         let (time, t) = order[at];
-        laid = advance(rows, laid, time, order, events, replies)?;
-        let wrong = judge_declared(alloc, levels, buckets, t, rows, events, replies)?;
+        laid = advance(rows, laid, time, order, links, events, replies)?;
+        let wrong = judge_declared(alloc, levels, t, rows, links, events, replies)?;
         first = least(first, wrong);
     }
     Ok(first)

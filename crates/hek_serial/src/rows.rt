@@ -1,13 +1,13 @@
-//! Rows by key.
-ghost use Rattle.std.specs.Prelude.{◌≡◌, ◌<◌, ◌↔◌, [], ℕ, is_some, IsTrue, OnOk, IfOk};
-ghost use Rattle.hek_rules.specs.Listing.{put as put_in, take_out as taken_out, value_of as value_in};
+//! Rows by key, bucket by bucket.
+ghost use Rattle.std.specs.Prelude.{◌≡◌, ◌<◌, ◌↔◌, [], ℕ, IsTrue, OnOk, IfOk};
+ghost use Rattle.hek_rules.specs.Listing.{value_of as value_in};
 ghost use Rattle.hek_rules.specs.Serial.{AreIn, rows_of, lay as laid};
 ghost use Rattle.hek_laws.proofs.Lists.Overlay.{key_of as key_in};
 ghost use Rattle.hek_laws.proofs.Lists.Rising.{AreRising};
 
+use crate::table::Table;
 use hek_rules::{NoMemory, Write};
 use std::alloc::Global;
-use std::collections::BTreeMap;
 use std::marker::Model;
 
 /// The key that a change is of.
@@ -20,64 +20,49 @@ pub fn key_of(write: Write) -> u64
     }
 }
 
-/// Keys with their values, in rising order of keys.
+/// Keys with their values, in so many buckets.
 #[derive(Drop)]
 pub struct Rows {
-    map: BTreeMap<u64, u64>,
+    parts: Vec<Table>,
 }
 
 impl Model for Rows {
-    ghost use Rattle.std.specs.Prelude.{ℕ, List};
-    ghost use Rattle.hek_laws.proofs.Lists.Rising.{AreRising};
+    ghost use Rattle.std.specs.Prelude.{length};
+    ghost use Rattle.hek_serial.specs.Held.{Held, AreParts, gathered};
 
-    ghost Value = { List (ℕ × ℕ) };
+    ghost Value = { Held };
 
-    ghost view = { λ r. r.map.entries };
+    ghost view = { λ r. record { buckets = length r.parts.items; rows = gathered r.parts.items } };
 
-    ghost invariant = { λ r. AreRising r.map.entries };
+    ghost invariant = { λ r. AreParts r.parts.items };
 }
 
 impl Rows {
-    pub fn new(alloc: Global) -> Rows
-        ensures { result ≡ [] }
+    /// No rows in so many buckets.
+    pub fn new(alloc: Global, buckets: u64) -> Result<Rows, NoMemory>
+        requires { 0 < buckets }
+        ensures { IfOk result (λ rows. rows ≡ record { buckets = buckets; rows = [] }) }
     {
-        Rows {
-            map: BTreeMap::new(alloc),
+        let mut parts = Vec::new(alloc);
+        for _bucket in 0..buckets {
+            parts.push(Table::new(alloc))?;
         }
-    }
-
-    /// The key has this value from now on.
-    pub fn put(&mut self, key: u64, value: u64) -> Result<(), NoMemory>
-        ensures { OnOk result (self.new ≡ put_in key value self.old) }
-    {
-        self.map.insert(key, value)?;
-        Ok(())
-    }
-
-    /// The key has no value from now on.
-    pub fn take_out(&mut self, key: u64)
-        ensures { self.new ≡ taken_out key self.old }
-    {
-        let _value = self.map.remove(&key);
+        Ok(Rows { parts })
     }
 
     /// Makes a change.
     pub fn lay(&mut self, write: Write) -> Result<(), NoMemory>
-        ensures { OnOk result (self.new ≡ laid write self.old) }
+        ensures { OnOk result (self.new ≡ record self.old { rows = laid write self.old.rows }) }
     {
-        match write {
-            Write::Put(key, value) => self.put(key, value),
-            Write::Remove(key) => {
-                self.take_out(key);
-                Ok(())
-            }
-        }
+        let bucket = key_of(write) % self.parts.len() as u64;
+        self.parts[bucket as usize].lay(write)?;
+        Ok(())
     }
 
     /// Makes a change, and answers the one that takes it back.
     pub fn change(&mut self, write: Write) -> Result<Write, NoMemory>
-        ensures laid { OnOk result (self.new ≡ laid write self.old) }
-        ensures back { IfOk result (λ back. laid back self.new ≡ self.old) }
+        ensures laid { OnOk result (self.new ≡ record self.old { rows = laid write self.old.rows }) }
+        ensures back { IfOk result (λ back. laid back self.new.rows ≡ self.old.rows) }
     {
         let key = key_of(write);
         let before = self.value_of(key);
@@ -89,15 +74,16 @@ impl Rows {
     }
 
     pub fn value_of(&self, key: u64) -> Option<u64>
-        ensures value { result ≡ value_in self.now key }
-        ensures rising { AreRising self.now }
+        ensures value { result ≡ value_in self.now.rows key }
+        ensures rising { AreRising self.now.rows }
     {
-        self.map.get(&key).copied()
+        let bucket = key % self.parts.len() as u64;
+        self.parts[bucket as usize].value_of(key)
     }
 
     /// Whether each of the pairs is among the rows.
     pub fn has_all(&self, pairs: &[(u64, u64)]) -> bool
-        ensures { IsTrue result ↔ AreIn self.now pairs.now }
+        ensures { IsTrue result ↔ AreIn self.now.rows pairs.now }
     {
         for pair in pairs {
             if self.value_of(pair.0) != Some(pair.1) {
@@ -108,19 +94,13 @@ impl Rows {
     }
 
     /// Whether the pairs are the rows of a bucket.
-    pub fn is_bucket(&self, buckets: u64, bucket: u64, pairs: &[(u64, u64)]) -> bool
-        requires { 0 < buckets }
-        ensures { IsTrue result ↔ (pairs.now ≡ rows_of buckets bucket self.now) }
+    pub fn is_bucket(&self, bucket: u64, pairs: &[(u64, u64)]) -> bool
+        ensures { IsTrue result ↔ (pairs.now ≡ rows_of self.now.buckets bucket self.now.rows) }
     {
-        let mut seen = 0;
-        for (key, value) in &self.map {
-            if *key % buckets == bucket {
-                if seen == pairs.len() || pairs[seen] != (*key, *value) {
-                    return false;
-                }
-                seen += 1;
-            }
+        if bucket < self.parts.len() as u64 {
+            self.parts[bucket as usize].is(pairs)
+        } else {
+            pairs.is_empty()
         }
-        seen == pairs.len()
     }
 }

@@ -1,3 +1,5 @@
+mod benchmarks;
+mod plain;
 mod scene;
 mod worked;
 

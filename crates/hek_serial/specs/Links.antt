@@ -1,0 +1,39 @@
+-- Where the events of each transaction stand.
+use Rattle.std.specs.Prelude.{ℕ, ◌≡◌, ◌+◌, ◌<◌, ◌≤◌, Bool, true, false, List, Option, Some, None, length, slice_get, slice_index, unwrap_or}
+use Rattle.hek_rules.specs.declared.event.Event.{Event}
+use Rattle.hek_rules.specs.Serial.{is_of}
+use Rattle.hek_rules.specs.Listing.{put, value_of}
+
+-- whether what stands somewhere is an event of t
+abbrev pub is_event_of : ℕ → Option Event → Bool
+is_event_of t None = false
+is_event_of t (Some e) = is_of t e
+
+abbrev pub comes_at : ℕ → List Event → ℕ → Bool
+comes_at t es i = is_event_of t (slice_get es i)
+
+-- n is the first place from a place on of an event of t, or the number of places
+pub record IsNextOf (t : ℕ) (es : List Event) (from n : ℕ) : Type 0 where
+  pub on : from ≤ n
+  pub within : n ≤ length es
+  pub between : (j : ℕ) → from ≤ j → j < n → comes_at t es j ≡ false
+  pub there : n < length es → comes_at t es n ≡ true
+
+-- the place that is kept for t, or the number of places
+abbrev pub place_in : List (ℕ × ℕ) → ℕ → ℕ → ℕ
+place_in first count t = unwrap_or (value_of first t) count
+
+-- the place that is kept for the transaction of an event, if there is one
+abbrev pub next_in : List (ℕ × ℕ) → ℕ → Option ℕ → ℕ
+next_in first count None = count
+next_in first count (Some t) = place_in first count t
+
+-- a place is kept for the transaction of an event, if there is one
+abbrev pub with_place : List (ℕ × ℕ) → ℕ → Option ℕ → List (ℕ × ℕ)
+with_place first place None = first
+with_place first place (Some t) = put t place first
+
+pub record AreLinks (es : List Event) (first : List (ℕ × ℕ)) (next : List ℕ) : Type 0 where
+  pub long : length next ≡ length es
+  pub starts : (t : ℕ) → IsNextOf t es 0 (place_in first (length es) t)
+  pub follows : (t i : ℕ) → comes_at t es i ≡ true → IsNextOf t es (i + 1) (slice_index next i)
