@@ -1,19 +1,23 @@
 -- What commands make of files.
-use Rattle.std.specs.Prelude.{◌≡◌, ◌⊎◌, ℕ, List, [], ◌∷◌, ◌++◌, codes, Option, Ok, Err, IfSome}
+use Rattle.std.specs.Prelude.{◌≡◌, ◌⊎◌, ℕ, ◌-◌, Bool, true, false, List, [], ◌∷◌, ◌++◌, codes, Option, Some, None, Ok, Err, IfSome, slice_get}
 use Rattle.std.specs.Str.{IsUtf8}
 use Rattle.std.specs.Io.KnownBytes.{Appends}
 use Rattle.std.specs.Fmt.{decimal}
+use Rattle.hek_rules.specs.declared.reply.Reply.{Reply}
 use Rattle.hek_rules.specs.declared.serial.Verdict.{Verdict}
 use Rattle.hek_rules.specs.declared.serial.Verdict.TheVariants.{Serial, NotSerial}
 use Rattle.hek_rules.specs.Faults.{IsVerdict}
 use Rattle.hek_rules.specs.Plan.{Plan}
 use Rattle.hek_rules.specs.Told.{Told}
 use Rattle.hek_asm.specs.Reading.{IsTraceOf, StopsAt}
+use Rattle.hek_asm.specs.Lines.{joined}
 use Rattle.hek_asm.specs.Text.{schedule_of}
+use Rattle.hek_asm.specs.Trace.{reply_words}
 use Rattle.hek_asm.specs.Canonical.{canonical_text}
 use Rattle.hek_image.specs.Gives.{LoadFails}
 use Rattle.hek_image.specs.Loading.{loading}
 use Rattle.hek_image.specs.Schedules.{image}
+use Rattle.hek_serial.specs.Explained.{reply_at}
 use Rattle.hek.specs.declared.fault.HekFault.{HekFault}
 use Rattle.hek.specs.declared.fault.HekFault.TheVariants.{Line, Image, TraceLine, NotText, CannotRead, CannotWrite, NoMemory}
 use Rattle.hek.specs.declared.schedule_file.ScheduleFile.{ScheduleFile}
@@ -93,15 +97,29 @@ abbrev pub verdict_status : Verdict → ℕ
 verdict_status Serial = 0
 verdict_status (NotSerial number) = 1
 
--- the right verdict on the transcript whose trace a text is was written behind them, and is the exit status
-pub record Checks {R : Type 0} (left : R → Option (List ℕ)) (said : ScheduleFile R) (text : List ℕ) (before after : Option (List ℕ)) (status : ℕ) : Type 0 where
+abbrev pub reply_text : Option Reply → List ℕ
+reply_text None = codes "none"
+reply_text (Some r) = joined (reply_words r)
+
+-- what the event with this number would have been answered in the serial order, on a line of its own
+abbrev pub serial_line : Told → ℕ → List ℕ
+serial_line told n = codes "serial reply: " ++ reply_text (reply_at told (n - 1) (slice_get told.history (n - 1))) ++ 10 ∷ []
+
+-- that line where it is asked for, and an event is at fault
+abbrev pub why_text : Bool → Told → Verdict → List ℕ
+why_text false told verdict = []
+why_text true told Serial = []
+why_text true told (NotSerial number) = serial_line told number
+
+-- the right verdict on the transcript whose trace a text is was written behind them, and why; it is the exit status
+pub record Checks {R : Type 0} (left : R → Option (List ℕ)) (said : ScheduleFile R) (text : List ℕ) (why : Bool) (before after : Option (List ℕ)) (status : ℕ) : Type 0 where
   pub plan : Plan
   pub is : FileGives left said plan
   pub told : Told
   pub read : IsTraceOf plan told text
   pub verdict : Verdict
   pub right : IsVerdict told verdict
-  pub written : Appends before after (verdict_text verdict)
+  pub written : Appends before after (verdict_text verdict ++ why_text why told verdict)
   pub answer : status ≡ verdict_status verdict
 
 abbrev pub CheckFails : {R : Type 0} → (R → Option (List ℕ)) → ScheduleFile R → List ℕ → HekFault → Type 0

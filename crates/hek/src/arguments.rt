@@ -99,6 +99,10 @@ fn check<'a>(alloc: Global) -> Result<Command<'a>, AllocError> {
     let trace = Arg::new(alloc, "TRACE")
         .required(true)
         .help("a trace over its transactions, or - for standard input");
+    let why = Arg::new(alloc, "why")
+        .long("why")
+        .action(ArgAction::SetTrue)
+        .help("says what the first event at fault would have been answered");
     let command = Command::new(alloc, "check")
         .about("Says whether a trace is serial")
         .after_help(
@@ -106,7 +110,8 @@ fn check<'a>(alloc: Global) -> Result<Command<'a>, AllocError> {
         )
         .arg(schedule_file(alloc))?
         .arg(trace)?
-        .arg(text_flag(alloc))?;
+        .arg(text_flag(alloc))?
+        .arg(why)?;
     Ok(command)
 }
 

@@ -1,32 +1,39 @@
 //! The command `check`.
-ghost use Rattle.std.specs.Prelude.{◌≡◌, MatchResult, IfOk, IfErr};
+ghost use Rattle.std.specs.Prelude.{◌≡◌, ◌++◌, ◌∷◌, [], codes, false, is_err, IsTrue, MatchResult, IfOk, IfErr, OnOk};
 ghost use Rattle.std.specs.Io.KnownBytes.{Appends};
 ghost use Rattle.hek_asm.specs.Reading.{IsTraceOf};
-ghost use Rattle.hek.specs.Judged.{TraceTextFails, verdict_text, verdict_status, Checks, CheckFails};
+ghost use Rattle.hek.specs.Judged.{TraceTextFails, verdict_text, verdict_status, reply_text, serial_line, why_text, IsStop, Checks, CheckFails};
 
 use crate::fault::HekFault;
+use crate::lines::send;
 use crate::schedule_file::{ScheduleFile, schedule_in};
-use hek_asm::read_trace;
-use hek_rules::{Schedule, Transcript, Verdict};
-use hek_serial::check;
+use hek_asm::{read_trace, write_reply};
+use hek_rules::{
+    FromWrite, NoMemory, Reply, Schedule, Sink, Transcript, Verdict, WriteFault, put_all,
+};
+use hek_serial::{check, serial_reply};
 use std::alloc::Global;
 use std::io::{Read, Write};
 use std::str;
 
-/// Writes the verdict on the transcript whose trace over a file's schedule a text is. The answer is the exit status: 1 where
-/// the transcript isn't serial.
+/// Writes the verdict on the transcript whose trace over a file's schedule a text is, and where `why` asks for it what the
+/// event at fault would have been answered in the serial order. The answer is the exit status: 1 where the transcript isn't
+/// serial.
 pub fn check_command<'a, R: Read + Drop, W: Write>(
     alloc: Global,
     file: ScheduleFile<R>,
     trace: &[u8],
+    why: bool,
     out: &mut W,
 ) -> Result<u8, HekFault<'a>>
-    ensures { MatchResult result (Checks R.remaining file trace.now (W.contents out.old) (W.contents out.new)) (CheckFails R.remaining file trace.now) }
+    ensures { MatchResult result (Checks R.remaining file trace.now why (W.contents out.old) (W.contents out.new)) (CheckFails R.remaining file trace.now) }
 {
     let schedule = schedule_in(alloc, file)?;
     let transcript = transcript_of_text(alloc, &schedule, trace)?;
     let verdict = check(alloc, &transcript)?;
-    write_verdict(verdict, out)
+    let status = write_verdict(verdict, out)?;
+    write_why(alloc, why, &transcript, verdict, out)?;
+    Ok(status)
 }
 
 /// The transcript over a schedule whose trace a text is.
@@ -58,4 +65,53 @@ fn write_verdict<'a, W: Write>(verdict: Verdict, out: &mut W) -> Result<u8, HekF
         Ok(()) => Ok(status),
         Err(_) => Err(HekFault::CannotWrite),
     }
+}
+
+/// Writes what the event at fault would have been answered, where that is asked for.
+fn write_why<'a, W: Write>(
+    alloc: Global,
+    why: bool,
+    transcript: &Transcript,
+    verdict: Verdict,
+    out: &mut W,
+) -> Result<(), HekFault<'a>>
+    ensures written { OnOk result (Appends (W.contents out.old) (W.contents out.new) (why_text why transcript.now verdict)) }
+    ensures stops { IfErr result IsStop }
+{
+    if !why {
+        return Ok(());
+    }
+    match verdict {
+        Verdict::Serial => Ok(()),
+        Verdict::NotSerial(number) => {
+            let mut line = serial_line(alloc, transcript, number)?;
+            send(&mut line, out)
+        }
+    }
+}
+
+/// The line that says what the event with a number would have been answered.
+fn serial_line(alloc: Global, transcript: &Transcript, number: u64) -> Result<Vec<u8>, NoMemory>
+    ensures { IfOk result (λ line. line.items ≡ serial_line transcript.now number) }
+{
+    let reply = serial_reply(alloc, transcript, number.saturating_sub(1) as usize)?;
+    let mut sink = FromWrite::new(Vec::new(alloc));
+    match put_serial_line(&reply, &mut sink) {
+        Ok(()) => Ok(sink.into_inner()),
+        Err(_) => Err(NoMemory),
+    }
+}
+
+fn put_serial_line<S: Sink>(reply: &Option<Reply>, sink: &mut S) -> Result<(), WriteFault>
+    requires { S.failed sink.old ≡ false }
+    ensures ok { OnOk result (IsTrue (S.tells sink.old) → S.holds sink.new ≡ S.holds sink.old ++ (codes "serial reply: " ++ reply_text reply.now ++ 10 ∷ [])) }
+    ensures tells { IsTrue (S.tells sink.old) → IsTrue (S.tells sink.new) }
+    ensures fails { S.failed sink.new ≡ is_err result }
+{
+    put_all(sink, b"serial reply: ")?;
+    match reply {
+        Some(reply) => write_reply(reply, sink)?,
+        None => put_all(sink, b"none")?,
+    }
+    put_all(sink, b"\n")
 }

@@ -168,7 +168,8 @@ fn check<'a, D: Disk, I: Read + Drop, W: Write>(
     let file = schedule_file(alloc, found, disk, &mut input)?;
     let name = text(found, "TRACE")?;
     let trace = read_text(alloc, open(disk, &mut input, name)?, name)?;
-    check_command(alloc, file, trace.as_slice(), out)
+    let why = found.get_flag("why");
+    check_command(alloc, file, trace.as_slice(), why, out)
 }
 
 /// The schedule file that the words name, a text where they say `--text`.

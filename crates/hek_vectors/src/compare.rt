@@ -4,6 +4,7 @@ ghost use Rattle.hek_asm.specs.Trace.{trace};
 ghost use Rattle.hek_image.specs.Schedules.{image};
 ghost use Rattle.hek_machine.specs.Steps.{told_of};
 
+use crate::agreement::checkers_agree;
 use crate::fault::Fault;
 use crate::stored::{Stored, Summary};
 use hek_asm::{assemble_text, canonical, write_trace};
@@ -30,6 +31,9 @@ pub enum Difference {
     Trace,
     #[error("the verdict differs")]
     Verdict,
+    /// The checker and the plain one, on that trace or on it with a reply changed.
+    #[error("the verdicts of two checkers differ")]
+    Checkers,
 }
 
 /// The first difference, if there is one.
@@ -85,6 +89,9 @@ fn compare_run(
     }
     if check(alloc, &transcript(alloc, schedule, &ran.replies)?)? != verdict {
         return Ok(Some(Difference::Verdict));
+    }
+    if !checkers_agree(alloc, schedule, &ran.replies)? {
+        return Ok(Some(Difference::Checkers));
     }
     Ok(None)
 }

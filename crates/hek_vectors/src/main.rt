@@ -2,9 +2,11 @@
 //! compared with what is stored of it.
 #![tactic(auto)]
 
+mod agreement;
 mod compare;
 mod fault;
 mod folder;
+mod plain;
 mod stored;
 #[cfg(test)]
 mod tests;

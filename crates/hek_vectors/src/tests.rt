@@ -1,3 +1,5 @@
+mod benchmarks;
+
 use crate::compare::{Difference, compare};
 use crate::fault::Fault;
 use crate::folder::Count;
