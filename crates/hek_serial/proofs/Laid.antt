@@ -11,11 +11,6 @@ use Rattle.hek_laws.proofs.Worlds.Histories.{laid_over-append}
 use Rattle.hek_serial.specs.Replay.{at_place, IsRightFor, IsFirstIfDeclared, IsFirstOfAll, IsWrongOf, found_by}
 use Rattle.hek_serial.proofs.Undo.{take_one_more}
 
-pub at_place-get : (xs : List (ℕ × ℕ)) (k : ℕ) (x : ℕ × ℕ) → k < length xs → x ≡ get_or xs k x → at_place xs k ≡ x
-at_place-get [] k x l e = absurd (omega (arith, l))
-at_place-get (y ∷ xs) zero x l e = sym e
-at_place-get (y ∷ xs) (suc k) x l e = at_place-get xs k x (omega (arith, l)) e
-
 -- with another value past the end
 pub at_place-or : (xs : List (ℕ × ℕ)) (k : ℕ) (x : ℕ × ℕ) → k < length xs → at_place xs k ≡ get_or xs k x
 at_place-or [] k x l = absurd (omega (arith, l))

@@ -3,6 +3,7 @@
 #![tactic(auto)]
 
 mod ends;
+mod explain;
 mod faults;
 mod history;
 mod judge;
@@ -16,4 +17,5 @@ mod table;
 mod tests;
 mod verdict;
 
+pub use explain::serial_reply;
 pub use verdict::check;

@@ -103,4 +103,16 @@ impl Rows {
             pairs.is_empty()
         }
     }
+
+    /// The rows of a bucket.
+    pub fn bucket(&self, alloc: Global, bucket: u64) -> Result<Vec<(u64, u64)>, NoMemory>
+        ensures { IfOk result (λ pairs. pairs.items ≡ rows_of self.now.buckets bucket self.now.rows) }
+    {
+        if bucket < self.parts.len() as u64 {
+            let pairs = self.parts[bucket as usize].pairs(alloc)?;
+            Ok(pairs)
+        } else {
+            Ok(Vec::new(alloc))
+        }
+    }
 }

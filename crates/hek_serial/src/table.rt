@@ -1,5 +1,5 @@
 //! Numbers by number.
-ghost use Rattle.std.specs.Prelude.{◌≡◌, ◌↔◌, [], ℕ, IsTrue, OnOk, OnErr};
+ghost use Rattle.std.specs.Prelude.{◌≡◌, ◌↔◌, [], ℕ, IsTrue, OnOk, OnErr, IfOk};
 ghost use Rattle.hek_rules.specs.Listing.{put as put_in, take_out as taken_out, value_of as value_in};
 ghost use Rattle.hek_rules.specs.Serial.{lay as laid};
 ghost use Rattle.hek_laws.proofs.Lists.Rising.{AreRising};
@@ -84,5 +84,16 @@ impl Table {
             seen += 1;
         }
         seen == pairs.len()
+    }
+
+    /// The keys with their values.
+    pub fn pairs(&self, alloc: Global) -> Result<Vec<(u64, u64)>, NoMemory>
+        ensures { IfOk result (λ pairs. pairs.items ≡ self.now) }
+    {
+        let mut pairs = Vec::new(alloc);
+        for (key, value) in &self.map {
+            pairs.push((*key, *value))?;
+        }
+        Ok(pairs)
     }
 }

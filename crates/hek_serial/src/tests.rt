@@ -1,4 +1,6 @@
+mod agreement;
 mod benchmarks;
+mod explained;
 mod plain;
 mod scene;
 mod worked;

@@ -78,9 +78,8 @@ fn a_writer_behind_a_reader(rt: HostRuntime) -> Result<(), Fail> {
     Ok(())
 }
 
-#[test]
-fn a_deadlock(rt: HostRuntime) -> Result<(), Fail> {
-    let alloc = rt.alloc();
+/// Two that wait for one another, of which one is aborted.
+fn deadlock(alloc: Global) -> Result<Vec<(Event, Reply)>, NoMemory> {
     let members = vec![in alloc; b(), a()]?;
     let script = vec![in alloc;
         began(a(), 1),
@@ -103,17 +102,22 @@ fn a_deadlock(rt: HostRuntime) -> Result<(), Fail> {
         precommitted(a(), 3),
         committed(a()),
     ]?;
+    Ok(script)
+}
+
+#[test]
+fn a_deadlock(rt: HostRuntime) -> Result<(), Fail> {
+    let alloc = rt.alloc();
     let rows = [(10, 100), (20, 200)];
     let level = Level::Serializable;
     let mut transcript = opening(&rt, alloc, 1, &rows, &[level, level])?;
-    tell(&mut transcript, script)?;
+    tell(&mut transcript, deadlock(alloc)?)?;
     assert_eq!(rt; check(alloc, &transcript), Ok(Verdict::Serial));
     Ok(())
 }
 
-#[test]
-fn an_aborted_writer(rt: HostRuntime) -> Result<(), Fail> {
-    let alloc = rt.alloc();
+/// A writer that fails, and another of the same row.
+fn aborted_writer(alloc: Global) -> Result<Vec<(Event, Reply)>, NoMemory> {
     let script = vec![in alloc;
         began(c(), 1),
         found(c(), 10, 100),
@@ -131,8 +135,14 @@ fn an_aborted_writer(rt: HostRuntime) -> Result<(), Fail> {
         precommitted(a(), 5),
         committed(a()),
     ]?;
+    Ok(script)
+}
+
+#[test]
+fn an_aborted_writer(rt: HostRuntime) -> Result<(), Fail> {
+    let alloc = rt.alloc();
     let mut transcript = start(&rt, alloc, Level::Serializable)?;
-    tell(&mut transcript, script)?;
+    tell(&mut transcript, aborted_writer(alloc)?)?;
     assert_eq!(rt; check(alloc, &transcript), Ok(Verdict::Serial));
     Ok(())
 }
@@ -170,9 +180,8 @@ fn a_phantom(rt: HostRuntime) -> Result<(), Fail> {
     Ok(())
 }
 
-#[test]
-fn a_cascade(rt: HostRuntime) -> Result<(), Fail> {
-    let alloc = rt.alloc();
+/// Two that depend on one that fails.
+fn cascade(alloc: Global) -> Result<Vec<(Event, Reply)>, NoMemory> {
     let script = vec![in alloc;
         began(a(), 1),
         done(Event::Insert(a(), 11, 1)),
@@ -190,15 +199,20 @@ fn a_cascade(rt: HostRuntime) -> Result<(), Fail> {
         aborted(Event::Commit(b()), Cause::Cascade),
         aborted(Event::Read(c(), 10), Cause::Cascade),
     ]?;
+    Ok(script)
+}
+
+#[test]
+fn a_cascade(rt: HostRuntime) -> Result<(), Fail> {
+    let alloc = rt.alloc();
     let mut transcript = start(&rt, alloc, Level::Serializable)?;
-    tell(&mut transcript, script)?;
+    tell(&mut transcript, cascade(alloc)?)?;
     assert_eq!(rt; check(alloc, &transcript), Ok(Verdict::Serial));
     Ok(())
 }
 
-#[test]
-fn competing_inserts(rt: HostRuntime) -> Result<(), Fail> {
-    let alloc = rt.alloc();
+/// Two that insert one key.
+fn two_inserts(alloc: Global) -> Result<Vec<(Event, Reply)>, NoMemory> {
     let script = vec![in alloc;
         began(a(), 1),
         began(b(), 2),
@@ -213,14 +227,20 @@ fn competing_inserts(rt: HostRuntime) -> Result<(), Fail> {
         precommitted(c(), 5),
         committed(c()),
     ]?;
+    Ok(script)
+}
+
+#[test]
+fn competing_inserts(rt: HostRuntime) -> Result<(), Fail> {
+    let alloc = rt.alloc();
     let mut transcript = start(&rt, alloc, Level::Serializable)?;
-    tell(&mut transcript, script)?;
+    tell(&mut transcript, two_inserts(alloc)?)?;
     assert_eq!(rt; check(alloc, &transcript), Ok(Verdict::Serial));
     Ok(())
 }
 
-/// Scans of two buckets, in one of which another inserts, which ends later.
-fn scans(alloc: Global) -> Result<Vec<(Event, Reply)>, NoMemory> {
+/// Scans of two buckets, in one of which another inserts, and the ends of both at given times.
+fn scans(alloc: Global, first: u64, second: u64) -> Result<Vec<(Event, Reply)>, NoMemory> {
     let before = listed(alloc, &[(10, 100), (12, 120)])?;
     let other = listed(alloc, &[(11, 110)])?;
     let after = listed(alloc, &[(10, 100)])?;
@@ -235,6 +255,10 @@ fn scans(alloc: Global) -> Result<Vec<(Event, Reply)>, NoMemory> {
         done(Event::Delete(a(), 12)),
         (Event::Scan(a(), 0), after),
         finished(a()),
+        precommitted(a(), first),
+        committed(a()),
+        precommitted(b(), second),
+        committed(b()),
     ]?;
     Ok(script)
 }
@@ -246,14 +270,7 @@ fn scans_of_two_buckets(rt: HostRuntime) -> Result<(), Fail> {
     let level = Level::Serializable;
     for (first, second, verdict) in [(3, 4, Verdict::Serial), (4, 3, Verdict::NotSerial(4))] {
         let mut transcript = opening(&rt, alloc, 2, &rows, &[level, level])?;
-        tell(&mut transcript, scans(alloc)?)?;
-        let ends = vec![in alloc;
-            precommitted(a(), first),
-            committed(a()),
-            precommitted(b(), second),
-            committed(b()),
-        ]?;
-        tell(&mut transcript, ends)?;
+        tell(&mut transcript, scans(alloc, first, second)?)?;
         assert_eq!(rt; check(alloc, &transcript), Ok(verdict));
     }
     Ok(())
@@ -276,4 +293,20 @@ fn one_reader(rt: HostRuntime) -> Result<(), Fail> {
         assert_eq!(rt; check(alloc, &transcript), Ok(verdict));
     }
     Ok(())
+}
+
+/// How many worked scripts there are.
+pub(crate) const SCRIPTS: usize = 7;
+
+/// The worked scripts by number.
+pub(crate) fn script(alloc: Global, number: usize) -> Result<Vec<(Event, Reply)>, NoMemory> {
+    match number {
+        0 => reader_then_writer(alloc, 200),
+        1 => deadlock(alloc),
+        2 => aborted_writer(alloc),
+        3 => phantom(alloc),
+        4 => cascade(alloc),
+        5 => two_inserts(alloc),
+        _ => scans(alloc, 3, 4),
+    }
 }
