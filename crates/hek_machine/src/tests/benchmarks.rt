@@ -1,6 +1,7 @@
 //! Events a second, among more and more versions.
 use crate::Machine;
 use crate::tests::scene::{A, add_row, id, loaded, schedule_of};
+use crate::tests::script::Opening;
 use hek_rules::{Event, Level, Reply};
 use std::alloc::Global;
 use std::process::Abort;
@@ -12,7 +13,12 @@ const EVENTS: u64 = 1_000;
 
 /// So many rows, and a transaction that has begun.
 fn begun(rt: &impl Abort, alloc: Global, rows: u64, level: Level) -> Machine {
-    let mut schedule = schedule_of(rt, alloc, 1, &[], &[level]);
+    let opening = Opening {
+        buckets: 1,
+        rows: &[],
+        levels: &[level],
+    };
+    let mut schedule = schedule_of(rt, alloc, opening);
     for key in 0..rows {
         add_row(rt, &mut schedule, key, 0);
     }
