@@ -1,38 +1,34 @@
 //! What a scene must show.
 use crate::tests::scene::{Scene, declared, version};
-use crate::tests::script::Written;
+use crate::tests::script::{Written, ids, pushed};
 use crate::tests::shown::{
     bucket_list, dependents, lock_list, read_list, rows, waiting_list, write_list,
 };
-use hek_rules::{TxnId, VersionId, WriteEntry};
+use hek_rules::{VersionId, WriteEntry};
+use std::alloc::Global;
 use std::process::Abort;
 
-fn assert_txns(rt: &impl Abort, list: &[TxnId], wanted: &[u64]) {
-    assert_eq!(rt; list.len(), wanted.len());
-    for (t, number) in list.iter().zip(wanted) {
-        assert_eq!(rt; t.number(), *number);
+fn versions(rt: &impl Abort, alloc: Global, numbers: &[u64]) -> Vec<VersionId> {
+    let mut versions = Vec::new(alloc);
+    for index in numbers {
+        pushed(rt, &mut versions, version(*index));
     }
-}
-
-fn assert_versions(rt: &impl Abort, list: &[VersionId], wanted: &[u64]) {
-    assert_eq!(rt; list.len(), wanted.len());
-    for (v, index) in list.iter().zip(wanted) {
-        assert_eq!(rt; v.index(), *index);
-    }
+    versions
 }
 
 fn entry_of(written: Written) -> WriteEntry {
     match written {
-        Written::BeginOf(v) => WriteEntry::BeginOf(version(v)),
-        Written::EndOf(v) => WriteEntry::EndOf(version(v)),
+        Written::BeginOf(index) => WriteEntry::BeginOf(version(index)),
+        Written::EndOf(index) => WriteEntry::EndOf(version(index)),
     }
 }
 
-fn assert_entries(rt: &impl Abort, list: &[WriteEntry], wanted: &[Written]) {
-    assert_eq!(rt; list.len(), wanted.len());
-    for (entry, written) in list.iter().zip(wanted) {
-        assert_eq!(rt; *entry, entry_of(*written));
+fn entries(rt: &impl Abort, alloc: Global, list: &[Written]) -> Vec<WriteEntry> {
+    let mut entries = Vec::new(alloc);
+    for written in list {
+        pushed(rt, &mut entries, entry_of(*written));
     }
+    entries
 }
 
 impl Scene {
@@ -70,23 +66,32 @@ impl Scene {
     }
 
     pub(crate) fn has_read_list(&self, rt: &impl Abort, number: u64, wanted: &[u64]) {
-        assert_versions(rt, &read_list(rt, &self.machine, number), wanted);
+        let list = read_list(rt, &self.machine, number);
+        let wanted = versions(rt, self.alloc, wanted);
+        assert_eq!(rt; list.as_slice(), wanted.as_slice());
     }
 
     pub(crate) fn has_write_list(&self, rt: &impl Abort, number: u64, wanted: &[Written]) {
-        assert_entries(rt, &write_list(rt, &self.machine, number), wanted);
+        let list = write_list(rt, &self.machine, number);
+        let wanted = entries(rt, self.alloc, wanted);
+        assert_eq!(rt; list.as_slice(), wanted.as_slice());
     }
 
     pub(crate) fn has_bucket_list(&self, rt: &impl Abort, number: u64, wanted: &[u64]) {
-        assert_eq!(rt; bucket_list(rt, &self.machine, number).as_slice(), wanted);
+        let list = bucket_list(rt, &self.machine, number);
+        assert_eq!(rt; list.as_slice(), wanted);
     }
 
     pub(crate) fn has_waiting_list(&self, rt: &impl Abort, number: u64, wanted: &[u64]) {
-        assert_txns(rt, &waiting_list(rt, &self.machine, number), wanted);
+        let list = waiting_list(rt, &self.machine, number);
+        let wanted = ids(rt, self.alloc, wanted);
+        assert_eq!(rt; list.as_slice(), wanted.as_slice());
     }
 
     pub(crate) fn has_dependents(&self, rt: &impl Abort, number: u64, wanted: &[u64]) {
-        assert_txns(rt, &dependents(rt, &self.machine, number), wanted);
+        let list = dependents(rt, &self.machine, number);
+        let wanted = ids(rt, self.alloc, wanted);
+        assert_eq!(rt; list.as_slice(), wanted.as_slice());
     }
 
     pub(crate) fn has_lock_count(&self, rt: &impl Abort, bucket: u64, wanted: usize) {
@@ -99,10 +104,13 @@ impl Scene {
     }
 
     pub(crate) fn has_lock_list(&self, rt: &impl Abort, bucket: u64, wanted: &[u64]) {
-        assert_txns(rt, &lock_list(rt, &self.machine, bucket), wanted);
+        let list = lock_list(rt, &self.machine, bucket);
+        let wanted = ids(rt, self.alloc, wanted);
+        assert_eq!(rt; list.as_slice(), wanted.as_slice());
     }
 
     pub(crate) fn has_rows(&self, rt: &impl Abort, wanted: &[(u64, u64)]) {
-        assert_eq!(rt; rows(rt, &self.machine).items(), wanted);
+        let rows = rows(rt, &self.machine);
+        assert_eq!(rt; rows.items(), wanted);
     }
 }

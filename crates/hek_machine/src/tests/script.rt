@@ -1,7 +1,7 @@
 //! Tests as tables: the steps of a machine and what it shows between them, by plain numbers.
 use crate::tests::runs::assert_runs;
 use crate::tests::scene::{Scene, id, version};
-use hek_rules::{Cause, Event, Level, Members, Pairs, Refusal, Reply, Time};
+use hek_rules::{Cause, Event, Level, Members, Pairs, Refusal, Reply, Time, TxnId};
 use std::alloc::Global;
 use std::process::Abort;
 
@@ -132,13 +132,17 @@ pub(crate) fn pushed<T: Copy>(rt: &impl Abort, items: &mut Vec<T>, item: T) {
     }
 }
 
+pub(crate) fn ids(rt: &impl Abort, alloc: Global, numbers: &[u64]) -> Vec<TxnId> {
+    let mut ids = Vec::new(alloc);
+    for number in numbers {
+        pushed(rt, &mut ids, id(*number));
+    }
+    ids
+}
+
 fn victim(rt: &impl Abort, alloc: Global, cycle: &[u64]) -> Reply {
     assert!(rt; !cycle.is_empty());
-    let mut members = Vec::new(alloc);
-    for number in cycle {
-        pushed(rt, &mut members, id(*number));
-    }
-    Reply::Victim(id(cycle[0]), Members::new(members))
+    Reply::Victim(id(cycle[0]), Members::new(ids(rt, alloc, cycle)))
 }
 
 fn listed(rt: &impl Abort, alloc: Global, rows: &[(u64, u64)]) -> Reply {
