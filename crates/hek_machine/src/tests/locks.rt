@@ -5,6 +5,7 @@ use crate::tests::script::Moment::*;
 use crate::tests::script::Wanted::*;
 use crate::tests::script::{Moment, Opening, REPEATABLE, assert_plays, play};
 use hek_rules::{Cause, Level};
+use std::process::Abort;
 
 /// b updates the row that a has read, and a releases its read lock once it has its end time.
 const READER_THEN_WRITER: &[Moment] = &[
@@ -105,15 +106,23 @@ const ONE_TOO_MANY: &[Moment] = &[
     EndWord(0, 0xBFFF_FFFF_FFFF_FFFF),
 ];
 
+fn begin_256(rt: &impl Abort, scene: &mut Scene) {
+    for t in 1..257 {
+        scene.gives(rt, Begin(t), Began(t));
+    }
+}
+
+fn read_by_255(rt: &impl Abort, scene: &mut Scene) {
+    for t in 1..256 {
+        scene.gives(rt, Read(t, 10), Found(100));
+    }
+}
+
 #[test]
 fn a_version_takes_255_readers(rt: HostRuntime) {
     let mut scene = Scene::new(&rt, rt.alloc(), CROWD);
-    for t in 1..257 {
-        scene.gives(&rt, Begin(t), Began(t));
-    }
-    for t in 1..256 {
-        scene.gives(&rt, Read(t, 10), Found(100));
-    }
+    begin_256(&rt, &mut scene);
+    read_by_255(&rt, &mut scene);
     play(&rt, &mut scene, ONE_TOO_MANY);
 }
 
