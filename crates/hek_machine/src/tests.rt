@@ -3,7 +3,9 @@
 mod benchmarks;
 mod commits;
 mod locks;
+mod looks;
 mod runs;
 mod scene;
+mod script;
 mod shown;
 mod waits;

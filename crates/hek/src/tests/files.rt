@@ -1,5 +1,6 @@
 //! The commands over files: `asm` and `dis`.
 use super::ran_in;
+use super::rows::{QUIET, Row, assert_created, assert_rows, assert_said, assert_says};
 use crate::asm::asm_command;
 use crate::dis::dis_command;
 use crate::disk::Disk;
@@ -10,6 +11,7 @@ use std::alloc::{AllocError, Global};
 use std::cell::RefCell;
 use std::io;
 use std::io::{ErrorKind, Read, Write};
+use std::process::Abort;
 use std::test::Fail;
 
 /// Files of given names and bytes, and one that may be created.
@@ -93,74 +95,73 @@ const IMAGE: [u8; 62] =
 
 const TEXT: &str = "buckets 4\nrow 10 100\ntxn a serializable\na read 10\n";
 
-// The bytes that `hek asm in out` leaves in the file out, if any, and its status, output and faults.
-fn assembled(
+// Texts and their images.
+const ASSEMBLED: &[(&str, &[u8])] = &[
+    ("buckets 1", &SMALLEST),
+    ("# one\n\n buckets 01\r\n", &SMALLEST),
+    (TEXT, &IMAGE),
+];
+
+fn assert_assembles(
+    rt: &impl Abort,
     alloc: Global,
-    text: &[u8],
-) -> Result<(Option<Vec<u8>>, u8, String, String), AllocError> {
-    let created = RefCell::new(None);
-    let files = [("in", text)];
-    let disk = MemoryDisk::new(alloc, files.as_slice(), &created);
-    let (status, out, faults) = ran_in(alloc, &["hek", "asm", "in", "out"], &disk, b"")?;
-    Ok((created.into_inner(), status, out, faults))
+    text: &str,
+    image: &[u8],
+) -> Result<(), AllocError> {
+    let words = ["hek", "asm", "in", "out"];
+    let created = assert_says(rt, alloc, &words, text.as_bytes(), b"", (0, "", ""))?;
+    assert_created(rt, created, Some(image));
+    Ok(())
 }
 
 #[test]
 fn assembles(rt: HostRuntime) -> Result<(), Fail> {
-    for (text, image) in [
-        ("buckets 1", SMALLEST.as_slice()),
-        ("# one\n\n buckets 01\r\n", SMALLEST.as_slice()),
-        (TEXT, IMAGE.as_slice()),
-    ] {
-        let (written, status, out, faults) = assembled(rt.alloc(), text.as_bytes())?;
-        assert_eq!(rt; status, 0, "status of {text}");
-        assert_eq!(rt; out.as_str(), "");
-        assert_eq!(rt; faults.as_str(), "");
-        let written = written.expect(&rt, "an image");
-        assert_eq!(rt; written.as_slice(), image, "image of {text}");
+    for &(text, image) in ASSEMBLED {
+        assert_assembles(&rt, rt.alloc(), text, image)?;
     }
+    Ok(())
+}
+
+const TEXT_FAULTS: &[(&[u8], &str)] = &[
+    (b"", "hek: line 1: 1 NoBuckets\n"),
+    (b"row 10 100", "hek: line 1: 1 NoBuckets\n"),
+    (b"buckets 0", "hek: line 1: 3 BadNumber\n"),
+    (b"buckets 1025", "hek: line 1: 7 TooMany\n"),
+    (b"buckets 1\na read 10", "hek: line 2: 4 UnknownName\n"),
+    (b"buckets 1\na reed 10", "hek: line 2: 2 BadWord\n"),
+    (b"buckets 1\nrow 1 1\nrow 01 2", "hek: line 3: 6 KeyTwice\n"),
+    (
+        b"buckets 1\ntxn a repeatable\na scan 1",
+        "hek: line 3: 8 BadBucket\n",
+    ),
+    (b"buckets 1\nrow x 1", "hek: line 2: 3 BadNumber\n"),
+    (
+        b"buckets 1\ntxn a repeatable\ntxn a serializable",
+        "hek: line 3: 5 NameTwice\n",
+    ),
+    (b"buckets 1\n\xC3\xA9", "hek: line 2: 9 NotAscii\n"),
+    (b"buckets 1\n\xFF", "hek: not text\n"),
+];
+
+// A text's fault, of `asm`, which creates no file then, and of `dis`.
+fn assert_text_fault(
+    rt: &impl Abort,
+    alloc: Global,
+    text: &[u8],
+    faults: &str,
+) -> Result<(), AllocError> {
+    let words = ["hek", "asm", "in", "out"];
+    let created = assert_says(rt, alloc, &words, text, b"", (1, "", faults))?;
+    assert_created(rt, created, None);
+    let words = ["hek", "dis", "--text", "in"];
+    assert_says(rt, alloc, &words, text, b"", (1, "", faults))?;
     Ok(())
 }
 
 #[test]
 fn tells_faults_of_texts(rt: HostRuntime) -> Result<(), Fail> {
-    for (text, line) in [
-        (b"".as_slice(), "hek: line 1: 1 NoBuckets\n"),
-        (b"row 10 100", "hek: line 1: 1 NoBuckets\n"),
-        (b"buckets 0", "hek: line 1: 3 BadNumber\n"),
-        (b"buckets 1025", "hek: line 1: 7 TooMany\n"),
-        (b"buckets 1\na read 10", "hek: line 2: 4 UnknownName\n"),
-        (b"buckets 1\na reed 10", "hek: line 2: 2 BadWord\n"),
-        (b"buckets 1\nrow 1 1\nrow 01 2", "hek: line 3: 6 KeyTwice\n"),
-        (
-            b"buckets 1\ntxn a repeatable\na scan 1",
-            "hek: line 3: 8 BadBucket\n",
-        ),
-        (b"buckets 1\nrow x 1", "hek: line 2: 3 BadNumber\n"),
-        (
-            b"buckets 1\ntxn a repeatable\ntxn a serializable",
-            "hek: line 3: 5 NameTwice\n",
-        ),
-        (b"buckets 1\n\xC3\xA9", "hek: line 2: 9 NotAscii\n"),
-        (b"buckets 1\n\xFF", "hek: not text\n"),
-    ] {
-        let (written, status, out, faults) = assembled(rt.alloc(), text)?;
-        assert_eq!(rt; status, 1);
-        assert!(rt; written.is_none());
-        assert_eq!(rt; out.as_str(), "");
-        assert_eq!(rt; faults.as_str(), line);
-        let files = [("in", text)];
-        let created = RefCell::new(None);
-        let disk = MemoryDisk::new(rt.alloc(), files.as_slice(), &created);
-        let (status, out, faults) = ran_in(
-            rt.alloc(),
-            &["hek", "dis", "--text", "in"],
-            &disk,
-            b"",
-        )?;
-        assert_eq!(rt; status, 1);
-        assert_eq!(rt; out.as_str(), "");
-        assert_eq!(rt; faults.as_str(), line);
+    for &(text, faults) in TEXT_FAULTS {
+        assert_text_fault(&rt, rt.alloc(), text, faults)?;
     }
     Ok(())
 }
@@ -174,102 +175,118 @@ fn changed(place: usize, byte: u8) -> [u8; 62] {
     image
 }
 
+// What `dis` says of an image, in a file and at the input.
+fn assert_disassembles(
+    rt: &impl Abort,
+    alloc: Global,
+    image: &[u8],
+    wanted: (u8, &str, &str),
+) -> Result<(), AllocError> {
+    assert_says(rt, alloc, &["hek", "dis", "in"], image, b"", wanted)?;
+    assert_says(rt, alloc, &["hek", "dis", "-"], image, image, wanted)?;
+    Ok(())
+}
+
+// Images, and those with one byte changed.
+const IMAGES: &[(&[u8], (u8, &str, &str))] = &[
+    (&SMALLEST, (0, "buckets 1\n", "")),
+    (&IMAGE, (0, TEXT, "")),
+    (b"HKS", (1, "", "hek: image: 3 Short\n")),
+    (
+        b"HKSC\x00\x01\x00\x00\x00\x01\x00\x00\x00\x00\x00\x00\x00\x00\x00\x00\x00",
+        (1, "", "hek: image: 3 Short\n"),
+    ),
+    (
+        b"HKSC\x00\x01\x00\x00\x00\x01\x00\x00\x00\x00\x00\x00\x00\x00\x00\x00\x00\x00\x00",
+        (1, "", "hek: image: 5 Trailing\n"),
+    ),
+];
+
+const CHANGES: &[(usize, u8, &str)] = &[
+    (61, 1, "hek: image: 4 BadField at 54\n"),
+    (38, 3, "hek: image: 4 BadField at 38\n"),
+    (41, 0, "hek: image: 4 BadField at 41\n"),
+    (45, 2, "hek: image: 4 BadField at 42\n"),
+    (5, 2, "hek: image: 2 BadVersion\n"),
+    (0, 0x47, "hek: image: 1 BadMagic\n"),
+];
+
 #[test]
 fn disassembles(rt: HostRuntime) -> Result<(), Fail> {
-    let long = b"HKSC\x00\x01\x00\x00\x00\x01\x00\x00\x00\x00\x00\x00\x00\x00\x00\x00\x00\x00\x00";
-    let second_operand = changed(61, 1);
-    let level = changed(38, 3);
-    let opcode = changed(41, 0);
-    let txn = changed(45, 2);
-    let version = changed(5, 2);
-    let magic = changed(0, 0x47);
-    for (image, status, out, faults) in [
-        (SMALLEST.as_slice(), 0, "buckets 1\n", ""),
-        (IMAGE.as_slice(), 0, TEXT, ""),
-        (b"HKS".as_slice(), 1, "", "hek: image: 3 Short\n"),
-        (&SMALLEST[..21], 1, "", "hek: image: 3 Short\n"),
-        (long.as_slice(), 1, "", "hek: image: 5 Trailing\n"),
-        (
-            second_operand.as_slice(),
-            1,
-            "",
-            "hek: image: 4 BadField at 54\n",
-        ),
-        (level.as_slice(), 1, "", "hek: image: 4 BadField at 38\n"),
-        (opcode.as_slice(), 1, "", "hek: image: 4 BadField at 41\n"),
-        (txn.as_slice(), 1, "", "hek: image: 4 BadField at 42\n"),
-        (version.as_slice(), 1, "", "hek: image: 2 BadVersion\n"),
-        (magic.as_slice(), 1, "", "hek: image: 1 BadMagic\n"),
-    ] {
-        let files = [("in", image)];
-        let created = RefCell::new(None);
-        let disk = MemoryDisk::new(rt.alloc(), files.as_slice(), &created);
-        let (status_is, out_is, faults_is) = ran_in(rt.alloc(), &["hek", "dis", "in"], &disk, b"")?;
-        assert_eq!(rt; status_is, status);
-        assert_eq!(rt; out_is.as_str(), out);
-        assert_eq!(rt; faults_is.as_str(), faults);
-        let (status_is, out_is, faults_is) = ran_in(
-            rt.alloc(),
-            &["hek", "dis", "-"],
-            &disk,
-            image,
-        )?;
-        assert_eq!(rt; status_is, status);
-        assert_eq!(rt; out_is.as_str(), out);
-        assert_eq!(rt; faults_is.as_str(), faults);
+    for &(image, said) in IMAGES {
+        assert_disassembles(&rt, rt.alloc(), image, said)?;
+    }
+    for &(place, byte, faults) in CHANGES {
+        assert_disassembles(&rt, rt.alloc(), &changed(place, byte), (1, "", faults))?;
     }
     Ok(())
 }
 
+const FROM_INPUT: &[Row<'static>] = &[
+    Row {
+        words: &["hek", "dis", "-", "--text"],
+        input: b" buckets\t007 # seven",
+        out: "buckets 7\n",
+        ..QUIET
+    },
+    Row {
+        words: &["hek", "asm", "-", "out"],
+        input: b"buckets 1",
+        created: Some(&SMALLEST),
+        ..QUIET
+    },
+];
+
 #[test]
 fn reads_texts_from_input(rt: HostRuntime) -> Result<(), Fail> {
+    assert_rows(&rt, rt.alloc(), FROM_INPUT)?;
+    Ok(())
+}
+
+const FILES: &[(&str, &[u8])] = &[("in", b"buckets 1"), ("bad", b"buckets")];
+
+const FILE_FAULTS: &[(&[&str], &str)] = &[
+    (
+        &["hek", "asm", "none.txt", "out"],
+        "hek: cannot read none.txt\n",
+    ),
+    (
+        &["hek", "asm", "none.txt", "locked"],
+        "hek: cannot read none.txt\n",
+    ),
+    (&["hek", "asm", "bad", "locked"], "hek: line 1: 2 BadWord\n"),
+    (&["hek", "asm", "in", "locked"], "hek: cannot write\n"),
+    (
+        &["hek", "dis", "--text", "none.txt"],
+        "hek: cannot read none.txt\n",
+    ),
+    (
+        &["hek", "dis", "--", "none.hek"],
+        "hek: cannot read none.hek\n",
+    ),
+];
+
+// A command line over these files has this fault, and creates nothing.
+fn assert_fault(
+    rt: &impl Abort,
+    alloc: Global,
+    words: &[&str],
+    files: &[(&str, &[u8])],
+    fault: &str,
+) -> Result<(), AllocError> {
     let created = RefCell::new(None);
-    let disk = MemoryDisk::new(rt.alloc(), &[], &created);
-    let words = ["hek", "dis", "-", "--text"];
-    let (status, out, faults) = ran_in(rt.alloc(), &words, &disk, b" buckets\t007 # seven")?;
-    assert_eq!(rt; status, 0);
-    assert_eq!(rt; out.as_str(), "buckets 7\n");
-    assert_eq!(rt; faults.as_str(), "");
-    let words = ["hek", "asm", "-", "out"];
-    let (status, _, faults) = ran_in(rt.alloc(), &words, &disk, b"buckets 1")?;
-    assert_eq!(rt; status, 0);
-    assert_eq!(rt; faults.as_str(), "");
-    let written = created.into_inner().expect(&rt, "an image");
-    assert_eq!(rt; written.as_slice(), SMALLEST.as_slice());
+    let disk = MemoryDisk::new(alloc, files, &created);
+    let said = ran_in(alloc, words, &disk, &SMALLEST)?;
+    assert_said(rt, words, &said, (1, "", fault));
+    assert_created(rt, created.into_inner(), None);
     Ok(())
 }
 
 #[test]
 fn tells_of_files(rt: HostRuntime) -> Result<(), Fail> {
-    let files = [("in", b"buckets 1".as_slice()), ("bad", b"buckets")];
-    let created = RefCell::new(None);
-    let disk = MemoryDisk::new(rt.alloc(), files.as_slice(), &created);
-    for (words, line) in [
-        (
-            ["hek", "asm", "none.txt", "out"],
-            "hek: cannot read none.txt\n",
-        ),
-        (
-            ["hek", "asm", "none.txt", "locked"],
-            "hek: cannot read none.txt\n",
-        ),
-        (["hek", "asm", "bad", "locked"], "hek: line 1: 2 BadWord\n"),
-        (["hek", "asm", "in", "locked"], "hek: cannot write\n"),
-        (
-            ["hek", "dis", "--text", "none.txt"],
-            "hek: cannot read none.txt\n",
-        ),
-        (
-            ["hek", "dis", "--", "none.hek"],
-            "hek: cannot read none.hek\n",
-        ),
-    ] {
-        let (status, out, faults) = ran_in(rt.alloc(), &words, &disk, b"")?;
-        assert_eq!(rt; status, 1);
-        assert_eq!(rt; out.as_str(), "");
-        assert_eq!(rt; faults.as_str(), line);
+    for &(words, fault) in FILE_FAULTS {
+        assert_fault(&rt, rt.alloc(), words, FILES, fault)?;
     }
-    assert!(rt; created.into_inner().is_none());
     Ok(())
 }
 
@@ -298,148 +315,158 @@ impl Write for Broken<'_> {
     }
 }
 
-#[test]
-fn tells_of_devices_that_fail(rt: HostRuntime) -> Result<(), Fail> {
-    let mut out = Vec::new(rt.alloc());
-    for (bytes, fault) in [
-        (SMALLEST.as_slice(), LoadFault::Read),
-        (&SMALLEST[..21], LoadFault::Read),
-        (b"HKSB".as_slice(), LoadFault::BadMagic),
-    ] {
-        let file = ScheduleFile::Image(Broken { bytes });
-        assert_eq!(rt;
-            dis_command(rt.alloc(), file, &mut out),
-            Err(HekFault::Image(fault))
-        );
-    }
+// Where the image breaks off, the reader's error comes, and nothing is printed.
+fn assert_broken_reader(rt: &impl Abort, alloc: Global, bytes: &[u8], fault: LoadFault) {
+    let mut out = Vec::new(alloc);
+    let file = ScheduleFile::Image(Broken { bytes });
+    let result = dis_command(alloc, file, &mut out);
+    assert_eq!(rt; result, Err(HekFault::Image(fault)));
     assert!(rt; out.is_empty());
+}
+
+fn assert_broken_writer(rt: &impl Abort, alloc: Global) {
     let mut broken = Broken { bytes: b"" };
     let file = ScheduleFile::Image(SMALLEST.as_slice());
-    assert_eq!(rt;
-        dis_command(rt.alloc(), file, &mut broken),
-        Err(HekFault::CannotWrite)
-    );
-    assert_eq!(rt;
-        asm_command(rt.alloc(), b"buckets 1", &mut broken),
-        Err(HekFault::CannotWrite)
-    );
-    let name = "in";
-    assert_eq!(rt;
-        read_text(
-            rt.alloc(),
-            Broken {
-                bytes: b"buckets 1"
-            },
-            name
-        )
-        .err(),
-        Some(HekFault::CannotRead(name))
-    );
-    Ok(())
+    let result = dis_command(alloc, file, &mut broken);
+    assert_eq!(rt; result, Err(HekFault::CannotWrite));
+    let result = asm_command(alloc, b"buckets 1", &mut broken);
+    assert_eq!(rt; result, Err(HekFault::CannotWrite));
+}
+
+fn assert_broken_text(rt: &impl Abort, alloc: Global, name: &str) {
+    let text = Broken {
+        bytes: b"buckets 1",
+    };
+    let fault = read_text(alloc, text, name).err();
+    assert_eq!(rt; fault, Some(HekFault::CannotRead(name)));
+}
+
+const BROKEN: &[(&[u8], LoadFault)] = &[
+    (&SMALLEST, LoadFault::Read),
+    (
+        b"HKSC\x00\x01\x00\x00\x00\x01\x00\x00\x00\x00\x00\x00\x00\x00\x00\x00\x00",
+        LoadFault::Read,
+    ),
+    (b"HKSB", LoadFault::BadMagic),
+];
+
+#[test]
+fn tells_of_devices_that_fail(rt: HostRuntime) {
+    for &(bytes, fault) in BROKEN {
+        assert_broken_reader(&rt, rt.alloc(), bytes, fault);
+    }
+    assert_broken_writer(&rt, rt.alloc());
+    assert_broken_text(&rt, rt.alloc(), "in");
 }
 
 // A row, and transactions of both levels.
 const BOTH: &[u8] = b"buckets 1\nrow 10 100\ntxn a serializable\ntxn b repeatable\n";
 
-// The status, what is printed, and the faults of `hek check --text` over that schedule and a trace.
-fn checked(alloc: Global, trace: &[u8]) -> Result<(u8, String, String), AllocError> {
+// What `hek check --text` says of a trace over that schedule.
+fn assert_checks(
+    rt: &impl Abort,
+    alloc: Global,
+    trace: &[u8],
+    wanted: (u8, &str, &str),
+) -> Result<(), AllocError> {
     let files = [("both", BOTH)];
     let created = RefCell::new(None);
     let disk = MemoryDisk::new(alloc, files.as_slice(), &created);
     let words = ["hek", "check", "--text", "both", "-"];
-    ran_in(alloc, &words, &disk, trace)
+    let said = ran_in(alloc, &words, &disk, trace)?;
+    assert_said(rt, &words, &said, wanted);
+    Ok(())
 }
+
+const CHECKED: &[(&[u8], u8, &str)] = &[
+    (b"", 0, "serial\n"),
+    (b"1 a commit -> committed\n", 1, "not serial 1\n"),
+    (
+        b"1 a precommit -> precommitted 3\n2 b precommit -> precommitted 3\n3 a commit -> committed\n4 b commit -> committed\n",
+        1,
+        "not serial 4\n",
+    ),
+    (
+        b"1 a precommit -> precommitted 3\n2 a commit -> committed\n3 a commit -> committed\n",
+        1,
+        "not serial 3\n",
+    ),
+    (
+        b"1 b read 10 -> absent\n2 b precommit -> precommitted 2\n3 b commit -> committed\n",
+        0,
+        "serial\n",
+    ),
+    (
+        b"1 a read 10 -> absent\n2 a precommit -> precommitted 2\n3 a commit -> committed\n",
+        1,
+        "not serial 1\n",
+    ),
+    (
+        b"1 b read 10 -> found 7\n2 b precommit -> precommitted 2\n3 b commit -> committed\n",
+        1,
+        "not serial 1\n",
+    ),
+    (b"1 a read 10 -> found 7\n", 0, "serial\n"),
+    (
+        b"1 a begin -> began 1\n2 a read 10 -> found 100\n3 a finish -> ready\n4 a precommit -> precommitted 2\n5 a commit -> committed\n",
+        0,
+        "serial\n",
+    ),
+    (
+        b"1 a begin -> began 1\n2 a read 10 -> found 101\n3 a finish -> ready\n4 a precommit -> precommitted 2\n5 a commit -> committed\n",
+        1,
+        "not serial 2\n",
+    ),
+];
 
 #[test]
 fn checks(rt: HostRuntime) -> Result<(), Fail> {
-    for (trace, status, out) in [
-        (b"".as_slice(), 0, "serial\n"),
-        (b"1 a commit -> committed\n", 1, "not serial 1\n"),
-        (
-            b"1 a precommit -> precommitted 3\n2 b precommit -> precommitted 3\n3 a commit -> committed\n4 b commit -> committed\n",
-            1,
-            "not serial 4\n",
-        ),
-        (
-            b"1 a precommit -> precommitted 3\n2 a commit -> committed\n3 a commit -> committed\n",
-            1,
-            "not serial 3\n",
-        ),
-        (
-            b"1 b read 10 -> absent\n2 b precommit -> precommitted 2\n3 b commit -> committed\n",
-            0,
-            "serial\n",
-        ),
-        (
-            b"1 a read 10 -> absent\n2 a precommit -> precommitted 2\n3 a commit -> committed\n",
-            1,
-            "not serial 1\n",
-        ),
-        (
-            b"1 b read 10 -> found 7\n2 b precommit -> precommitted 2\n3 b commit -> committed\n",
-            1,
-            "not serial 1\n",
-        ),
-        (b"1 a read 10 -> found 7\n", 0, "serial\n"),
-        (
-            b"1 a begin -> began 1\n2 a read 10 -> found 100\n3 a finish -> ready\n4 a precommit -> precommitted 2\n5 a commit -> committed\n",
-            0,
-            "serial\n",
-        ),
-        (
-            b"1 a begin -> began 1\n2 a read 10 -> found 101\n3 a finish -> ready\n4 a precommit -> precommitted 2\n5 a commit -> committed\n",
-            1,
-            "not serial 2\n",
-        ),
-    ] {
-        let (status_is, out_is, faults_is) = checked(rt.alloc(), trace)?;
-        assert_eq!(rt; status_is, status);
-        assert_eq!(rt; out_is.as_str(), out);
-        assert_eq!(rt; faults_is.as_str(), "");
+    for &(trace, status, out) in CHECKED {
+        assert_checks(&rt, rt.alloc(), trace, (status, out, ""))?;
     }
     Ok(())
 }
+
+const TRACE_FAULTS: &[(&[u8], &str)] = &[
+    (b"1 a commit -> committed", "hek: trace line 1\n"),
+    (b"1 c commit -> committed\n", "hek: trace line 1\n"),
+    (
+        b"1 a commit -> committed\n3 a commit -> committed\n",
+        "hek: trace line 2\n",
+    ),
+    (b"1 a commit -> committed\n\xFF", "hek: not text\n"),
+];
 
 #[test]
 fn tells_faults_of_traces(rt: HostRuntime) -> Result<(), Fail> {
-    for (trace, line) in [
-        (b"1 a commit -> committed".as_slice(), "hek: trace line 1\n"),
-        (b"1 c commit -> committed\n", "hek: trace line 1\n"),
-        (
-            b"1 a commit -> committed\n3 a commit -> committed\n",
-            "hek: trace line 2\n",
-        ),
-        (b"1 a commit -> committed\n\xFF", "hek: not text\n"),
-    ] {
-        let (status, out, faults) = checked(rt.alloc(), trace)?;
-        assert_eq!(rt; status, 1);
-        assert_eq!(rt; out.as_str(), "");
-        assert_eq!(rt; faults.as_str(), line);
+    for &(trace, faults) in TRACE_FAULTS {
+        assert_checks(&rt, rt.alloc(), trace, (1, "", faults))?;
     }
     Ok(())
 }
 
+const BAD_FILES: &[(&str, &[u8])] = &[("bad", b"HKSB"), ("trace", b"1\n")];
+
+const FIRST_FAULTS: &[(&[&str], &str)] = &[
+    (
+        &["hek", "check", "none.hek", "none.txt"],
+        "hek: cannot read none.hek\n",
+    ),
+    (
+        &["hek", "check", "bad", "none.txt"],
+        "hek: cannot read none.txt\n",
+    ),
+    (
+        &["hek", "check", "bad", "trace"],
+        "hek: image: 1 BadMagic\n",
+    ),
+    (&["hek", "check", "-", "-"], "hek: cannot read -\n"),
+];
+
 #[test]
 fn looks_for_faults_of_files_first(rt: HostRuntime) -> Result<(), Fail> {
-    let files = [("bad", b"HKSB".as_slice()), ("trace", b"1\n".as_slice())];
-    let created = RefCell::new(None);
-    let disk = MemoryDisk::new(rt.alloc(), files.as_slice(), &created);
-    for (words, line) in [
-        (
-            ["hek", "check", "none.hek", "none.txt"],
-            "hek: cannot read none.hek\n",
-        ),
-        (
-            ["hek", "check", "bad", "none.txt"],
-            "hek: cannot read none.txt\n",
-        ),
-        (["hek", "check", "bad", "trace"], "hek: image: 1 BadMagic\n"),
-        (["hek", "check", "-", "-"], "hek: cannot read -\n"),
-    ] {
-        let (status, out, faults) = ran_in(rt.alloc(), &words, &disk, &SMALLEST)?;
-        assert_eq!(rt; status, 1);
-        assert_eq!(rt; out.as_str(), "");
-        assert_eq!(rt; faults.as_str(), line);
+    for &(words, fault) in FIRST_FAULTS {
+        assert_fault(&rt, rt.alloc(), words, BAD_FILES, fault)?;
     }
     Ok(())
 }

@@ -1,8 +1,7 @@
 //! The command `run`.
-use super::files::MemoryDisk;
-use super::ran_in;
+use super::rows::{QUIET, Row, assert_rows, assert_says};
 use std::alloc::{AllocError, Global};
-use std::cell::RefCell;
+use std::process::Abort;
 use std::test::Fail;
 
 // A reader, and a writer that waits for it.
@@ -19,75 +18,77 @@ const CROSSED: &str =
 const CROSSED_TRACE: &str =
     "1 a begin -> began 1\n2 b begin -> began 2\n3 a read 10 -> found 100\n4 b read 20 -> found 200\n5 a update 20 201 -> done\n6 b update 10 101 -> done\n7 a finish -> ready\n8 b finish -> ready\n9 a precommit -> waiting 1\n10 b precommit -> waiting 1\n11 detect -> victim 2 cycle 2 1\n12 detect -> no cycle\n13 b precommit -> aborted deadlock\n14 b release -> released read 1 writer 1\n15 a precommit -> precommitted 3\n";
 
-// The status, output and faults of a command line over the file `in`.
-fn ran_over(
-    alloc: Global,
-    words: &[&str],
-    file: &[u8],
-) -> Result<(u8, String, String), AllocError> {
-    let created = RefCell::new(None);
-    let files = [("in", file)];
-    let disk = MemoryDisk::new(alloc, files.as_slice(), &created);
-    ran_in(alloc, words, &disk, b"")
-}
+const RUNS: &[(&str, &str)] = &[
+    ("buckets 1\n", ""),
+    (READ_AND_WRITTEN, READ_AND_WRITTEN_TRACE),
+    (CROSSED, CROSSED_TRACE),
+];
 
 #[test]
 fn runs_texts(rt: HostRuntime) -> Result<(), Fail> {
-    for (text, trace) in [
-        ("buckets 1\n", ""),
-        (READ_AND_WRITTEN, READ_AND_WRITTEN_TRACE),
-        (CROSSED, CROSSED_TRACE),
-    ] {
+    for &(text, trace) in RUNS {
         let words = ["hek", "run", "--text", "in"];
-        let (status, out, faults) = ran_over(rt.alloc(), words.as_slice(), text.as_bytes())?;
-        assert_eq!(rt; faults.as_str(), "");
-        assert_eq!(rt; out.as_str(), trace, "trace of {text}");
-        assert_eq!(rt; status, 0, "status of {text}");
+        assert_says(
+            &rt,
+            rt.alloc(),
+            &words,
+            text.as_bytes(),
+            b"",
+            (0, trace, ""),
+        )?;
     }
+    Ok(())
+}
+
+// An image has the run of its text.
+fn assert_runs_image(
+    rt: &impl Abort,
+    alloc: Global,
+    text: &str,
+    trace: &str,
+) -> Result<(), AllocError> {
+    let words = ["hek", "asm", "in", "out"];
+    let created = assert_says(rt, alloc, &words, text.as_bytes(), b"", (0, "", ""))?;
+    let image = created.expect(rt, "an image");
+    let words = ["hek", "run", "in"];
+    assert_says(rt, alloc, &words, image.as_slice(), b"", (0, trace, ""))?;
     Ok(())
 }
 
 #[test]
 fn runs_images(rt: HostRuntime) -> Result<(), Fail> {
-    for text in ["buckets 1\n", READ_AND_WRITTEN, CROSSED] {
-        let alloc = rt.alloc();
-        let created = RefCell::new(None);
-        let files = [("in", text.as_bytes())];
-        let disk = MemoryDisk::new(alloc, files.as_slice(), &created);
-        let (status, _, _) = ran_in(alloc, &["hek", "asm", "in", "out"], &disk, b"")?;
-        assert_eq!(rt; status, 0, "status of {text}");
-        let image = created.into_inner().expect(&rt, "an image");
-        let (_, of_image, _) = ran_over(alloc, &["hek", "run", "in"], image.as_slice())?;
-        let (_, of_text, _) = ran_over(alloc, &["hek", "run", "--text", "in"], text.as_bytes())?;
-        assert_eq!(rt; of_image.as_str(), of_text.as_str(), "trace of {text}");
+    for &(text, trace) in RUNS {
+        assert_runs_image(&rt, rt.alloc(), text, trace)?;
     }
     Ok(())
 }
 
+const NOT_RUN: &[Row<'static>] = &[
+    Row {
+        words: &["hek", "run", "in"],
+        files: &[("in", b"HKSC\x00\x01")],
+        status: 1,
+        faults: "hek: image: 3 Short\n",
+        ..QUIET
+    },
+    Row {
+        words: &["hek", "run", "on"],
+        files: &[("in", b"HKSC\x00\x01")],
+        status: 1,
+        faults: "hek: cannot read on\n",
+        ..QUIET
+    },
+    Row {
+        words: &["hek", "run", "--text", "in"],
+        files: &[("in", b"buckets 1\na begin\n")],
+        status: 1,
+        faults: "hek: line 2: 4 UnknownName\n",
+        ..QUIET
+    },
+];
+
 #[test]
 fn tells_why_it_runs_nothing(rt: HostRuntime) -> Result<(), Fail> {
-    let text = "buckets 1\na begin\n";
-    let short = b"HKSC\x00\x01";
-    let rows = [
-        (
-            &["hek", "run", "in"],
-            short.as_slice(),
-            "hek: image: 3 Short\n",
-        ),
-        (
-            &["hek", "run", "on"],
-            short.as_slice(),
-            "hek: cannot read on\n",
-        ),
-    ];
-    for (words, file, fault) in rows {
-        let (status, out, faults) = ran_over(rt.alloc(), words.as_slice(), file)?;
-        assert_eq!(rt; (status, out.as_str(), faults.as_str()), (1, "", fault));
-    }
-    let words = ["hek", "run", "--text", "in"];
-    let (status, out, faults) = ran_over(rt.alloc(), words.as_slice(), text.as_bytes())?;
-    assert_eq!(rt; status, 1);
-    assert_eq!(rt; out.as_str(), "");
-    assert_eq!(rt; faults.as_str(), "hek: line 2: 4 UnknownName\n");
+    assert_rows(&rt, rt.alloc(), NOT_RUN)?;
     Ok(())
 }

@@ -1,18 +1,25 @@
 //! Events a second, among more and more versions.
 use crate::Machine;
 use crate::tests::scene::{A, add_row, id, loaded, schedule_of};
+use crate::tests::script::Opening;
 use hek_rules::{Event, Level, Reply};
 use std::alloc::Global;
+use std::io;
 use std::process::Abort;
 use std::test::Fail;
-use std::time::Instant;
+use std::time::{Clock, Instant};
 
 /// How many events are timed.
 const EVENTS: u64 = 1_000;
 
 /// So many rows, and a transaction that has begun.
 fn begun(rt: &impl Abort, alloc: Global, rows: u64, level: Level) -> Machine {
-    let mut schedule = schedule_of(rt, alloc, 1, &[], &[level]);
+    let opening = Opening {
+        buckets: 1,
+        rows: &[],
+        levels: &[level],
+    };
+    let mut schedule = schedule_of(rt, alloc, opening);
     for key in 0..rows {
         add_row(rt, &mut schedule, key, 0);
     }
@@ -35,20 +42,39 @@ fn step_on_each(rt: &impl Abort, machine: &mut Machine, updates: bool) {
     }
 }
 
+/// How many events a second that comes to.
+fn rate<R: Abort + Clock>(
+    rt: &R,
+    alloc: Global,
+    level: Level,
+    rows: u64,
+    updates: bool,
+) -> io::Result<u128> {
+    let mut machine = begun(rt, alloc, rows, level);
+    let start = Instant::now(rt)?;
+    step_on_each(rt, &mut machine, updates);
+    let time = start.elapsed(rt)?.as_micros();
+    Ok(1_000_000_000u128.checked_div(time).unwrap_or(0))
+}
+
+/// Levels, and how many rows there are.
+const SIZES: &[(Level, u64)] = &[
+    (Level::Repeatable, 1_000),
+    (Level::Repeatable, 2_000),
+    (Level::Repeatable, 4_000),
+    (Level::Serializable, 1_000),
+    (Level::Serializable, 2_000),
+    (Level::Serializable, 4_000),
+];
+
 #[test]
 fn tells_events_per_second(rt: HostRuntime) -> Result<(), Fail> {
-    for level in [Level::Repeatable, Level::Serializable] {
-        for updates in [false, true] {
-            for rows in [1_000, 2_000, 4_000] {
-                let mut machine = begun(&rt, rt.alloc(), rows, level);
-                let start = Instant::now(&rt)?;
-                step_on_each(&rt, &mut machine, updates);
-                let time = start.elapsed(&rt)?.as_micros();
-                let kind = if updates { "updates" } else { "reads" };
-                let rate = 1_000_000_000u128.checked_div(time).unwrap_or(0);
-                let _ = eprintln!(rt; "{level:?}, {rows} rows: {rate} {kind} a second");
-            }
-        }
+    for &(level, rows) in SIZES {
+        let reads = rate(&rt, rt.alloc(), level, rows, false)?;
+        let updates = rate(&rt, rt.alloc(), level, rows, true)?;
+        let _ = eprintln!(rt;
+            "{level:?}, {rows} rows: {reads} reads and {updates} updates a second"
+        );
     }
     Ok(())
 }

@@ -2,9 +2,12 @@
 ghost use Rattle.std.specs.List.{All};
 ghost use Rattle.hek_laws.specs.Runs.{IsPlaced};
 
-use crate::tests::scene::{
-    A, B, Scene, assert_placed, began, begin, declared, finish, id, loaded, schedule_of, update,
-    version,
+use crate::tests::scene::{A, B, Scene, assert_placed, declared, id, loaded, schedule_of, version};
+use crate::tests::script::Act::*;
+use crate::tests::script::Moment::*;
+use crate::tests::script::Wanted::*;
+use crate::tests::script::{
+    Act, Moment, Opening, REPEATABLE, SERIALIZABLE, Wanted, event_of, play, reply_of,
 };
 use crate::tests::shown::assert_same;
 use crate::{Machine, Trace, run, run_at};
@@ -68,93 +71,134 @@ pub(crate) fn assert_runs(rt: &impl Abort, scene: &Scene) {
     assert_same(rt, &trace.machine, &machine);
 }
 
-fn late_schedule(rt: &impl Abort, alloc: Global) -> Schedule {
-    schedule_of(rt, alloc, 1, &[(10, 100)], &[Level::Repeatable; 3])
-}
-
 fn loaded_late(rt: &impl Abort, alloc: Global) -> Machine {
-    let schedule = late_schedule(rt, alloc);
+    let schedule = schedule_of(rt, alloc, REPEATABLE);
     match Machine::load_at(alloc, &schedule, Time::new(LATE)) {
         Ok(machine) => machine,
         Err(_) => Machine::load_at(alloc, &schedule, Time::new(LATE)).expect(rt, "no memory"),
     }
 }
 
+fn assert_gives(rt: &impl Abort, alloc: Global, machine: &mut Machine, act: Act, wanted: Wanted) {
+    let reply = stepped(rt, machine, event_of(act));
+    assert!(rt; reply.same(&reply_of(rt, alloc, wanted)), "{reply:?}");
+}
+
+fn assert_clock(rt: &impl Abort, machine: &Machine, wanted: u64) {
+    assert_eq!(rt; machine.clock().number(), wanted);
+}
+
 #[test]
 fn a_full_clock_draws_no_times(rt: HostRuntime) {
-    let mut machine = loaded_late(&rt, rt.alloc());
-    assert_eq!(rt; machine.clock(), Time::new(LATE));
-    let first = stepped(&rt, &mut machine, begin(A));
-    assert!(rt; first.same(&began(9223372036854775805)), "{first:?}");
-    let second = stepped(&rt, &mut machine, begin(B));
-    assert!(rt;
-        second.same(&Reply::Refused(Refusal::ClockFull)),
-        "{second:?}"
-    );
+    let alloc = rt.alloc();
+    let mut machine = loaded_late(&rt, alloc);
+    assert_clock(&rt, &machine, LATE);
+    for (act, wanted) in [
+        (Begin(A), Began(9223372036854775805)),
+        (Begin(B), Refused(Refusal::ClockFull)),
+    ] {
+        assert_gives(&rt, alloc, &mut machine, act, wanted);
+    }
+}
+
+// Where memory is refused once, a call made again has it.
+fn traced_late(rt: &impl Abort, alloc: Global, schedule: &Schedule, events: &[Event]) -> Trace {
+    assert_all_placed(rt, schedule, events);
+    match run_at(alloc, schedule, Time::new(LATE), events) {
+        Ok(trace) => trace,
+        Err(_) => run_at(alloc, schedule, Time::new(LATE), events).expect(rt, "no memory"),
+    }
+}
+
+fn assert_replies(rt: &impl Abort, alloc: Global, trace: &Trace, wanted: &[Wanted]) {
+    assert_eq!(rt; trace.replies.len(), wanted.len());
+    for (reply, want) in trace.replies.iter().zip(wanted) {
+        assert!(rt; reply.same(&reply_of(rt, alloc, *want)), "{reply:?}");
+    }
 }
 
 #[test]
 fn a_run_starts_at_another_clock(rt: HostRuntime) {
     let alloc = rt.alloc();
-    let schedule = late_schedule(&rt, alloc);
-    let events = [begin(A), begin(B)];
-    assert_all_placed(&rt, &schedule, &events);
-    let trace = match run_at(alloc, &schedule, Time::new(LATE), &events) {
-        Ok(trace) => trace,
-        Err(_) => run_at(alloc, &schedule, Time::new(LATE), &events).expect(&rt, "no memory"),
-    };
-    let wanted = [
-        began(9223372036854775805),
-        Reply::Refused(Refusal::ClockFull),
-    ];
-    assert_eq!(rt; trace.replies.len(), 2);
-    for (reply, want) in trace.replies.iter().zip(&wanted) {
-        assert!(rt; reply.same(want), "{reply:?}");
-    }
-    assert_eq!(rt; trace.machine.clock().number(), 9223372036854775806);
+    let schedule = schedule_of(&rt, alloc, REPEATABLE);
+    let events = [event_of(Begin(A)), event_of(Begin(B))];
+    let trace = traced_late(&rt, alloc, &schedule, &events);
+    let wanted = [Began(9223372036854775805), Refused(Refusal::ClockFull)];
+    assert_replies(&rt, alloc, &trace, &wanted);
+    assert_clock(&rt, &trace.machine, 9223372036854775806);
 }
+
+// Where memory is refused once, a call made again has it.
+fn copied(rt: &impl Abort, machine: &Machine) -> Machine {
+    match machine.copy() {
+        Ok(copy) => copy,
+        Err(_) => machine.copy().expect(rt, "no memory"),
+    }
+}
+
+fn assert_no_more_waits(rt: &impl Abort, machine: &Machine, number: u64, wanted: bool) {
+    let t = declared(rt, machine, number);
+    assert_eq!(rt; machine.no_more_waits(t), wanted);
+}
+
+const UPDATED: &[Moment] = &[Step(Begin(A), Began(1)), Step(Update(A, 10, 200), Done)];
 
 #[test]
 fn a_copy_goes_its_own_way(rt: HostRuntime) {
-    let mut scene = Scene::start(&rt, rt.alloc(), Level::Serializable);
-    scene.gives(&rt, begin(A), &began(1));
-    scene.gives(&rt, update(A, 10, 200), &Reply::Done);
-    let mut copy = match scene.machine.copy() {
-        Ok(copy) => copy,
-        Err(_) => scene.machine.copy().expect(&rt, "no memory"),
-    };
+    let alloc = rt.alloc();
+    let mut scene = Scene::new(&rt, alloc, SERIALIZABLE);
+    play(&rt, &mut scene, UPDATED);
+    let mut copy = copied(&rt, &scene.machine);
     assert_same(&rt, &copy, &scene.machine);
-    let reply = stepped(&rt, &mut copy, finish(A));
-    assert!(rt; reply.same(&Reply::Ready));
-    assert!(rt; copy.no_more_waits(declared(&rt, &copy, A)));
-    let machine = &scene.machine;
-    assert!(rt; !machine.no_more_waits(declared(&rt, machine, A)));
+    assert_gives(&rt, alloc, &mut copy, Finish(A), Ready);
+    assert_no_more_waits(&rt, &copy, A, true);
+    assert_no_more_waits(&rt, &scene.machine, A, false);
 }
 
-#[test]
-fn a_machine_shows_what_it_was_loaded_with(rt: HostRuntime) {
-    let levels = [Level::Serializable, Level::Repeatable];
-    let mut scene = Scene::new(&rt, rt.alloc(), 3, &[(10, 100), (11, 110)], &levels);
-    assert_eq!(rt; scene.machine.clock(), Time::new(1));
-    assert_eq!(rt; scene.machine.buckets(), 3);
-    assert_eq!(rt; scene.machine.txns(), 2);
-    assert_eq!(rt; scene.machine.versions(), 2);
-    assert!(rt; scene.machine.is_declared(id(B)) && !scene.machine.is_declared(id(3)));
-    assert_eq!(rt; scene.machine.key_of(version(1)), Some(11));
-    assert_eq!(rt; scene.machine.value_of(version(1)), Some(110));
-    assert_eq!(rt; scene.machine.key_of(version(2)), None);
-    assert_eq!(rt; scene.machine.value_of(version(2)), None);
-    assert!(rt; scene.machine.begin_word(version(2)).is_none());
-    assert!(rt; scene.machine.end_word(version(2)).is_none());
-    scene.has_begin(&rt, 0, 0);
-    scene.has_end(&rt, 0, 0x7FFF_FFFF_FFFF_FFFF);
-    scene.gives(&rt, begin(B), &began(1));
-    scene.gives(&rt, finish(B), &Reply::Ready);
-    let machine = &scene.machine;
-    let b = declared(&rt, machine, B);
+const TWO_OF_EACH: Opening<'static> = Opening {
+    buckets: 3,
+    rows: &[(10, 100), (11, 110)],
+    levels: &[Level::Serializable, Level::Repeatable],
+};
+
+fn assert_shows_counts(rt: &impl Abort, machine: &Machine) {
+    assert_clock(rt, machine, 1);
+    assert_eq!(rt; machine.buckets(), 3);
+    assert_eq!(rt; machine.txns(), 2);
+    assert_eq!(rt; machine.versions(), 2);
+    assert!(rt; machine.is_declared(id(B)) && !machine.is_declared(id(3)));
+}
+
+fn assert_shows_rows(rt: &impl Abort, machine: &Machine) {
+    assert_eq!(rt; machine.key_of(version(1)), Some(11));
+    assert_eq!(rt; machine.value_of(version(1)), Some(110));
+    assert_eq!(rt; machine.key_of(version(2)), None);
+    assert_eq!(rt; machine.value_of(version(2)), None);
+    assert!(rt; machine.begin_word(version(2)).is_none());
+    assert!(rt; machine.end_word(version(2)).is_none());
+}
+
+fn assert_shows_second_txn(rt: &impl Abort, machine: &Machine) {
+    let b = declared(rt, machine, B);
     assert_eq!(rt; machine.level(b), Level::Repeatable);
     assert_eq!(rt; machine.state(b), State::Active);
     assert_eq!(rt; machine.begin_time(b), Time::new(1));
     assert_eq!(rt; machine.end_time(b), Time::new(0));
     assert!(rt; machine.no_more_waits(b));
+}
+
+const FINISHED: &[Moment] = &[
+    BeginWord(0, 0),
+    EndWord(0, 0x7FFF_FFFF_FFFF_FFFF),
+    Step(Begin(B), Began(1)),
+    Step(Finish(B), Ready),
+];
+
+#[test]
+fn a_machine_shows_what_it_was_loaded_with(rt: HostRuntime) {
+    let mut scene = Scene::new(&rt, rt.alloc(), TWO_OF_EACH);
+    assert_shows_counts(&rt, &scene.machine);
+    assert_shows_rows(&rt, &scene.machine);
+    play(&rt, &mut scene, FINISHED);
+    assert_shows_second_txn(&rt, &scene.machine);
 }

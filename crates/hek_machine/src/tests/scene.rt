@@ -5,10 +5,9 @@ ghost use Rattle.hek_laws.specs.Runs.{IsPlaced};
 ghost use Rattle.hek_txn.specs.TxnTable.{Declared};
 
 use crate::Machine;
+use crate::tests::script::{Act, Opening, Wanted, event_of, pushed, reply_of};
 use crate::tests::shown::assert_same;
-use hek_rules::{
-    Event, Level, MAX_BUCKETS, Members, Pairs, Reply, Schedule, Time, TxnId, VersionId,
-};
+use hek_rules::{Event, Level, MAX_BUCKETS, Reply, Schedule, TxnId, VersionId};
 use std::alloc::Global;
 use std::process::Abort;
 
@@ -25,110 +24,6 @@ pub(crate) fn id(number: u64) -> TxnId {
 
 pub(crate) fn version(index: u64) -> VersionId {
     VersionId::new(index)
-}
-
-pub(crate) fn began(time: u64) -> Reply {
-    Reply::Began(Time::new(time))
-}
-
-pub(crate) fn precommitted(time: u64) -> Reply {
-    Reply::Precommitted(Time::new(time))
-}
-
-/// The read lock of a version is released, and nobody is told.
-pub(crate) fn released(index: u64) -> Reply {
-    Reply::ReleasedRead(version(index), None)
-}
-
-/// The last read lock of a version is released, and its writer is told.
-pub(crate) fn released_last(index: u64, writer: u64) -> Reply {
-    Reply::ReleasedRead(version(index), Some(id(writer)))
-}
-
-pub(crate) fn stamped_begin(index: u64) -> Reply {
-    Reply::StampedBegin(version(index))
-}
-
-pub(crate) fn stamped_end(index: u64) -> Reply {
-    Reply::StampedEnd(version(index))
-}
-
-// Where memory is refused once, a call made again has it.
-fn pushed<T: Copy>(rt: &impl Abort, items: &mut Vec<T>, item: T) {
-    if items.push(item).is_err() {
-        assert!(rt; items.push(item).is_ok());
-    }
-}
-
-/// The victim of a deadlock, by its cycle from the victim on.
-pub(crate) fn victim(rt: &impl Abort, alloc: Global, cycle: &[u64]) -> Reply {
-    assert!(rt; !cycle.is_empty());
-    let mut members = Vec::new(alloc);
-    for number in cycle {
-        pushed(rt, &mut members, id(*number));
-    }
-    Reply::Victim(id(cycle[0]), Members::new(members))
-}
-
-/// The rows that a scan finds.
-pub(crate) fn listed(rt: &impl Abort, alloc: Global, rows: &[(u64, u64)]) -> Reply {
-    let mut pairs = Vec::new(alloc);
-    for row in rows {
-        pushed(rt, &mut pairs, *row);
-    }
-    Reply::Rows(Pairs::new(pairs))
-}
-
-pub(crate) fn begin(t: u64) -> Event {
-    Event::Begin(id(t))
-}
-
-pub(crate) fn read(t: u64, key: u64) -> Event {
-    Event::Read(id(t), key)
-}
-
-pub(crate) fn scan(t: u64, bucket: u64) -> Event {
-    Event::Scan(id(t), bucket)
-}
-
-pub(crate) fn insert(t: u64, key: u64, value: u64) -> Event {
-    Event::Insert(id(t), key, value)
-}
-
-pub(crate) fn update(t: u64, key: u64, value: u64) -> Event {
-    Event::Update(id(t), key, value)
-}
-
-pub(crate) fn delete(t: u64, key: u64) -> Event {
-    Event::Delete(id(t), key)
-}
-
-pub(crate) fn finish(t: u64) -> Event {
-    Event::Finish(id(t))
-}
-
-pub(crate) fn precommit(t: u64) -> Event {
-    Event::Precommit(id(t))
-}
-
-pub(crate) fn release(t: u64) -> Event {
-    Event::Release(id(t))
-}
-
-pub(crate) fn commit(t: u64) -> Event {
-    Event::Commit(id(t))
-}
-
-pub(crate) fn fail(t: u64) -> Event {
-    Event::Fail(id(t))
-}
-
-pub(crate) fn stamp(t: u64) -> Event {
-    Event::Stamp(id(t))
-}
-
-pub(crate) fn end(t: u64) -> Event {
-    Event::End(id(t))
 }
 
 fn wants_memory(event: &Event) -> bool {
@@ -169,20 +64,15 @@ fn add_txn(rt: &impl Abort, alloc: Global, schedule: &mut Schedule, level: Level
     }
 }
 
-/// A schedule of no steps over these rows, with a transaction of each of these levels.
-pub(crate) fn schedule_of(
-    rt: &impl Abort,
-    alloc: Global,
-    buckets: u64,
-    rows: &[(u64, u64)],
-    levels: &[Level],
-) -> Schedule {
+/// A schedule of no steps.
+pub(crate) fn schedule_of(rt: &impl Abort, alloc: Global, opening: Opening<'_>) -> Schedule {
+    let buckets = opening.buckets;
     assert!(rt; buckets > 0 && buckets <= MAX_BUCKETS);
     let mut schedule = Schedule::new(alloc, buckets);
-    for row in rows {
+    for row in opening.rows {
         add_row(rt, &mut schedule, row.0, row.1);
     }
-    for level in levels {
+    for level in opening.levels {
         add_txn(rt, alloc, &mut schedule, *level);
     }
     schedule
@@ -223,14 +113,8 @@ pub(crate) struct Scene {
 
 impl Scene {
     /// Before the first event.
-    pub(crate) fn new(
-        rt: &impl Abort,
-        alloc: Global,
-        buckets: u64,
-        rows: &[(u64, u64)],
-        levels: &[Level],
-    ) -> Scene {
-        let schedule = schedule_of(rt, alloc, buckets, rows, levels);
+    pub(crate) fn new(rt: &impl Abort, alloc: Global, opening: Opening<'_>) -> Scene {
+        let schedule = schedule_of(rt, alloc, opening);
         let machine = loaded(rt, alloc, &schedule);
         Scene {
             schedule,
@@ -238,11 +122,6 @@ impl Scene {
             events: Vec::new(alloc),
             alloc,
         }
-    }
-
-    /// One bucket, one row, and three transactions of a level.
-    pub(crate) fn start(rt: &impl Abort, alloc: Global, level: Level) -> Scene {
-        Scene::new(rt, alloc, 1, &[(10, 100)], &[level, level, level])
     }
 
     /// Another machine, after the same events.
@@ -266,53 +145,16 @@ impl Scene {
     }
 
     /// The event has this reply.
-    pub(crate) fn gives(&mut self, rt: &impl Abort, event: Event, wanted: &Reply) {
+    pub(crate) fn gives(&mut self, rt: &impl Abort, act: Act, wanted: Wanted) {
+        let event = event_of(act);
         let (first, noted) = (event, event);
         assert_placed(rt, &self.machine, &event);
         let reply = match self.machine.step(first) {
             Ok(reply) => reply,
             Err(_) => self.step_again(rt, &event),
         };
-        assert!(rt; reply.same(wanted), "{event:?}: {reply:?}");
+        let wanted = reply_of(rt, self.alloc, wanted);
+        assert!(rt; reply.same(&wanted), "{event:?}: {reply:?}");
         pushed(rt, &mut self.events, noted);
-    }
-
-    /// The events have these replies.
-    pub(crate) fn play(&mut self, rt: &impl Abort, script: &[(Event, Reply)]) {
-        for step in script {
-            self.gives(rt, step.0, &step.1);
-        }
-    }
-
-    pub(crate) fn has_begin(&self, rt: &impl Abort, index: u64, bits: u64) {
-        match self.machine.begin_word(version(index)) {
-            Some(word) => assert_eq!(rt; word.bits(), bits, "Begin of {index}"),
-            None => assert!(rt; false, "no version {index}"),
-        }
-    }
-
-    pub(crate) fn has_end(&self, rt: &impl Abort, index: u64, bits: u64) {
-        match self.machine.end_word(version(index)) {
-            Some(word) => assert_eq!(rt; word.bits(), bits, "End of {index}"),
-            None => assert!(rt; false, "no version {index}"),
-        }
-    }
-
-    pub(crate) fn waits(&self, rt: &impl Abort, number: u64) -> u64 {
-        self.machine.waits(declared(rt, &self.machine, number))
-    }
-
-    pub(crate) fn commit_deps(&self, rt: &impl Abort, number: u64) -> u64 {
-        self.machine
-            .commit_deps(declared(rt, &self.machine, number))
-    }
-
-    pub(crate) fn abort_now(&self, rt: &impl Abort, number: u64) -> bool {
-        self.machine.abort_now(declared(rt, &self.machine, number))
-    }
-
-    pub(crate) fn lock_count(&self, rt: &impl Abort, bucket: u64) -> usize {
-        assert!(rt; bucket < self.machine.buckets());
-        self.machine.lock_count(bucket)
     }
 }

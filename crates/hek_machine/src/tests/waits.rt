@@ -1,195 +1,161 @@
 //! Bucket locks, the waits that they bring, and deadlocks.
-use crate::tests::runs::assert_runs;
-use crate::tests::scene::{
-    A, B, C, Scene, began, begin, commit, delete, finish, id, insert, listed, precommit,
-    precommitted, read, release, released_last, scan, update, victim,
+use crate::tests::scene::{A, B, C};
+use crate::tests::script::Act::*;
+use crate::tests::script::Moment::*;
+use crate::tests::script::Wanted::*;
+use crate::tests::script::{Moment, Opening, REPEATABLE, SERIALIZABLE, assert_plays};
+use hek_rules::{Cause, Level};
+
+const TWO_ROWS: Opening<'static> = Opening {
+    buckets: 1,
+    rows: &[(10, 100), (20, 200)],
+    levels: &[Level::Repeatable; 3],
 };
-use crate::tests::shown::{bucket_list, lock_list, read_list, waiting_list};
-use hek_rules::{Cause, Event, Level, Reply, VersionId};
+
+const DEADLOCK_OF_TWO: &[Moment] = &[
+    Step(Begin(A), Began(1)),
+    Step(Begin(B), Began(2)),
+    Step(Read(A, 10), Found(100)),
+    Step(Read(B, 20), Found(200)),
+    Step(Update(A, 20, 201), Done),
+    EndWord(1, 0x8040_0000_0000_0001),
+    Step(Update(B, 10, 101), Done),
+    EndWord(0, 0x8040_0000_0000_0002),
+    Step(Finish(A), Ready),
+    Step(Finish(B), Ready),
+    Step(Precommit(A), Waiting(1)),
+    Step(Precommit(B), Waiting(1)),
+    Step(Detect, Victim(&[2, 1])),
+    Step(Detect, NoCycle),
+    Step(Precommit(B), Aborted(Cause::Deadlock)),
+    Step(Release(B), ReleasedLast(1, A)),
+    EndWord(1, 0xC000_0000_0000_0001),
+    Step(Precommit(A), Precommitted(3)),
+];
 
 #[test]
 fn a_deadlock_of_two(rt: HostRuntime) {
-    let alloc = rt.alloc();
-    let levels = [Level::Repeatable; 3];
-    let mut scene = Scene::new(&rt, alloc, 1, &[(10, 100), (20, 200)], &levels);
-    scene.play(
-        &rt,
-        &[
-            (begin(A), began(1)),
-            (begin(B), began(2)),
-            (read(A, 10), Reply::Found(100)),
-            (read(B, 20), Reply::Found(200)),
-            (update(A, 20, 201), Reply::Done),
-        ],
-    );
-    scene.has_end(&rt, 1, 0x8040_0000_0000_0001);
-    scene.gives(&rt, update(B, 10, 101), &Reply::Done);
-    scene.has_end(&rt, 0, 0x8040_0000_0000_0002);
-    scene.play(
-        &rt,
-        &[
-            (finish(A), Reply::Ready),
-            (finish(B), Reply::Ready),
-            (precommit(A), Reply::Waiting(1)),
-            (precommit(B), Reply::Waiting(1)),
-            (Event::Detect, victim(&rt, alloc, &[2, 1])),
-            (Event::Detect, Reply::NoCycle),
-            (precommit(B), Reply::Aborted(Cause::Deadlock)),
-            (release(B), released_last(1, A)),
-        ],
-    );
-    scene.has_end(&rt, 1, 0xC000_0000_0000_0001);
-    scene.gives(&rt, precommit(A), &precommitted(3));
-    assert_runs(&rt, &scene);
+    assert_plays(&rt, rt.alloc(), TWO_ROWS, &[DEADLOCK_OF_TWO]);
 }
+
+const THREE_ROWS: Opening<'static> = Opening {
+    buckets: 1,
+    rows: &[(10, 100), (20, 200), (30, 300)],
+    levels: &[Level::Repeatable; 3],
+};
+
+const TWO_DEADLOCKS: &[Moment] = &[
+    Step(Begin(A), Began(1)),
+    Step(Begin(B), Began(2)),
+    Step(Begin(C), Began(3)),
+    Step(Read(A, 10), Found(100)),
+    Step(Read(B, 10), Found(100)),
+    Step(Read(C, 20), Found(200)),
+    Step(Read(C, 30), Found(300)),
+    Step(Update(C, 10, 101), Done),
+    EndWord(0, 0x8080_0000_0000_0003),
+    Waits(C, 1),
+    Step(Update(A, 20, 201), Done),
+    Step(Update(B, 30, 301), Done),
+    Step(Detect, NoCycle),
+    Step(Finish(A), Ready),
+    Step(Finish(B), Ready),
+    Step(Finish(C), Ready),
+    Step(Precommit(A), Waiting(1)),
+    Step(Precommit(B), Waiting(1)),
+    Step(Precommit(C), Waiting(1)),
+    Step(Detect, Victim(&[3, 1])),
+    Step(Detect, NoCycle),
+    Step(Release(C), ReleasedLast(1, A)),
+    Waits(A, 0),
+];
 
 #[test]
 fn the_least_of_two_deadlocks(rt: HostRuntime) {
-    let alloc = rt.alloc();
-    let rows = [(10, 100), (20, 200), (30, 300)];
-    let mut scene = Scene::new(&rt, alloc, 1, &rows, &[Level::Repeatable; 3]);
-    scene.play(
-        &rt,
-        &[
-            (begin(A), began(1)),
-            (begin(B), began(2)),
-            (begin(C), began(3)),
-            (read(A, 10), Reply::Found(100)),
-            (read(B, 10), Reply::Found(100)),
-            (read(C, 20), Reply::Found(200)),
-            (read(C, 30), Reply::Found(300)),
-            (update(C, 10, 101), Reply::Done),
-        ],
-    );
-    scene.has_end(&rt, 0, 0x8080_0000_0000_0003);
-    assert_eq!(rt; scene.waits(&rt, C), 1);
-    scene.play(
-        &rt,
-        &[
-            (update(A, 20, 201), Reply::Done),
-            (update(B, 30, 301), Reply::Done),
-            (Event::Detect, Reply::NoCycle),
-            (finish(A), Reply::Ready),
-            (finish(B), Reply::Ready),
-            (finish(C), Reply::Ready),
-            (precommit(A), Reply::Waiting(1)),
-            (precommit(B), Reply::Waiting(1)),
-            (precommit(C), Reply::Waiting(1)),
-            (Event::Detect, victim(&rt, alloc, &[3, 1])),
-            (Event::Detect, Reply::NoCycle),
-            (release(C), released_last(1, A)),
-        ],
-    );
-    assert_eq!(rt; scene.waits(&rt, A), 0);
-    assert_runs(&rt, &scene);
+    assert_plays(&rt, rt.alloc(), THREE_ROWS, &[TWO_DEADLOCKS]);
 }
+
+const INSERT_THAT_WAITS: &[Moment] = &[
+    Step(Begin(A), Began(1)),
+    Step(Begin(B), Began(2)),
+    Step(Read(A, 11), Absent),
+    LockCount(0, 1),
+    Step(Insert(B, 11, 5), Done),
+    Waits(B, 1),
+    WaitingList(A, &[B]),
+    LockList(0, &[A, B]),
+    Step(Finish(B), Ready),
+    Step(Precommit(B), Waiting(1)),
+    Step(Finish(A), Ready),
+    Step(Precommit(A), Precommitted(3)),
+    Step(Release(A), ReleasedBucket(0)),
+    Step(Release(A), ReleasedWaiter(B)),
+    Step(Precommit(B), Precommitted(4)),
+];
 
 #[test]
 fn an_insert_waits_for_those_who_lock_its_bucket(rt: HostRuntime) {
-    let mut scene = Scene::start(&rt, rt.alloc(), Level::Serializable);
-    scene.play(
-        &rt,
-        &[
-            (begin(A), began(1)),
-            (begin(B), began(2)),
-            (read(A, 11), Reply::Absent),
-        ],
-    );
-    assert_eq!(rt; scene.lock_count(&rt, 0), 1);
-    scene.gives(&rt, insert(B, 11, 5), &Reply::Done);
-    assert_eq!(rt; scene.waits(&rt, B), 1);
-    let waiters = waiting_list(&rt, &scene.machine, A);
-    assert_eq!(rt; waiters.as_slice(), [id(B)].as_slice());
-    let lockers = lock_list(&rt, &scene.machine, 0);
-    assert_eq!(rt; lockers.as_slice(), [id(A), id(B)].as_slice());
-    scene.play(
-        &rt,
-        &[
-            (finish(B), Reply::Ready),
-            (precommit(B), Reply::Waiting(1)),
-            (finish(A), Reply::Ready),
-            (precommit(A), precommitted(3)),
-            (release(A), Reply::ReleasedBucket(0)),
-            (release(A), Reply::ReleasedWaiter(id(B))),
-            (precommit(B), precommitted(4)),
-        ],
-    );
-    assert_runs(&rt, &scene);
+    assert_plays(&rt, rt.alloc(), SERIALIZABLE, &[INSERT_THAT_WAITS]);
 }
+
+const PHANTOM: &[Moment] = &[
+    Step(Begin(A), Began(1)),
+    Step(Begin(B), Began(2)),
+    Step(Read(A, 11), Absent),
+    Step(Insert(B, 11, 5), Done),
+    Step(Finish(B), Ready),
+    Step(Precommit(B), Precommitted(3)),
+    Step(Commit(B), Committed),
+    Step(Read(A, 11), Found(5)),
+];
 
 #[test]
 fn a_repeatable_reader_may_meet_a_phantom(rt: HostRuntime) {
-    let mut scene = Scene::start(&rt, rt.alloc(), Level::Repeatable);
-    scene.play(
-        &rt,
-        &[
-            (begin(A), began(1)),
-            (begin(B), began(2)),
-            (read(A, 11), Reply::Absent),
-            (insert(B, 11, 5), Reply::Done),
-            (finish(B), Reply::Ready),
-            (precommit(B), precommitted(3)),
-            (commit(B), Reply::Committed),
-            (read(A, 11), Reply::Found(5)),
-        ],
-    );
-    assert_runs(&rt, &scene);
+    assert_plays(&rt, rt.alloc(), REPEATABLE, &[PHANTOM]);
 }
+
+const FINISHED_MAKER: &[Moment] = &[
+    Step(Begin(B), Began(1)),
+    Step(Insert(B, 11, 5), Done),
+    Step(Finish(B), Ready),
+    Step(Begin(A), Began(2)),
+    Step(Read(A, 11), Aborted(Cause::NoMoreWaits)),
+    LockCount(0, 1),
+    LockList(0, &[B]),
+    WaitingList(A, &[]),
+    Waits(B, 0),
+];
 
 #[test]
 fn a_finished_maker_takes_no_more_waits(rt: HostRuntime) {
-    let mut scene = Scene::start(&rt, rt.alloc(), Level::Serializable);
-    scene.play(
-        &rt,
-        &[
-            (begin(B), began(1)),
-            (insert(B, 11, 5), Reply::Done),
-            (finish(B), Reply::Ready),
-            (begin(A), began(2)),
-            (read(A, 11), Reply::Aborted(Cause::NoMoreWaits)),
-        ],
-    );
-    assert_eq!(rt; scene.lock_count(&rt, 0), 1);
-    let lockers = lock_list(&rt, &scene.machine, 0);
-    assert_eq!(rt; lockers.as_slice(), [id(B)].as_slice());
-    assert!(rt; waiting_list(&rt, &scene.machine, A).is_empty());
-    assert_eq!(rt; scene.waits(&rt, B), 0);
-    assert_runs(&rt, &scene);
+    assert_plays(&rt, rt.alloc(), SERIALIZABLE, &[FINISHED_MAKER]);
 }
+
+const TWO_BUCKETS: Opening<'static> = Opening {
+    buckets: 2,
+    rows: &[(10, 100), (11, 110), (12, 120)],
+    levels: &[Level::Serializable; 3],
+};
+
+const SCANS: &[Moment] = &[
+    Step(Begin(A), Began(1)),
+    Step(Begin(B), Began(2)),
+    Step(Insert(B, 14, 140), Done),
+    Step(Scan(A, 0), Rows(&[(10, 100), (12, 120)])),
+    Waits(B, 1),
+    LockList(0, &[B, A]),
+    Step(Scan(A, 1), Rows(&[(11, 110)])),
+    ReadList(A, &[0, 2, 1]),
+    BucketList(A, &[0, 1]),
+    Step(Finish(B), Ready),
+    Step(Precommit(B), Waiting(1)),
+    Step(Delete(A, 12), Done),
+    EndWord(2, 0x8000_0000_0000_0001),
+    Waits(A, 0),
+    Step(Scan(A, 0), Rows(&[(10, 100)])),
+];
 
 #[test]
 fn a_scan_makes_those_wait_who_insert_there(rt: HostRuntime) {
-    let alloc = rt.alloc();
-    let rows = [(10, 100), (11, 110), (12, 120)];
-    let mut scene = Scene::new(&rt, alloc, 2, &rows, &[Level::Serializable; 3]);
-    scene.play(
-        &rt,
-        &[
-            (begin(A), began(1)),
-            (begin(B), began(2)),
-            (insert(B, 14, 140), Reply::Done),
-            (scan(A, 0), listed(&rt, alloc, &[(10, 100), (12, 120)])),
-        ],
-    );
-    assert_eq!(rt; scene.waits(&rt, B), 1);
-    let lockers = lock_list(&rt, &scene.machine, 0);
-    assert_eq!(rt; lockers.as_slice(), [id(B), id(A)].as_slice());
-    scene.gives(&rt, scan(A, 1), &listed(&rt, alloc, &[(11, 110)]));
-    let reads = read_list(&rt, &scene.machine, A);
-    let read = [VersionId::new(0), VersionId::new(2), VersionId::new(1)];
-    assert_eq!(rt; reads.as_slice(), read.as_slice());
-    let buckets = bucket_list(&rt, &scene.machine, A);
-    assert_eq!(rt; buckets.as_slice(), [0, 1].as_slice());
-    scene.play(
-        &rt,
-        &[
-            (finish(B), Reply::Ready),
-            (precommit(B), Reply::Waiting(1)),
-            (delete(A, 12), Reply::Done),
-        ],
-    );
-    scene.has_end(&rt, 2, 0x8000_0000_0000_0001);
-    assert_eq!(rt; scene.waits(&rt, A), 0);
-    scene.gives(&rt, scan(A, 0), &listed(&rt, alloc, &[(10, 100)]));
-    assert_runs(&rt, &scene);
+    assert_plays(&rt, rt.alloc(), TWO_BUCKETS, &[SCANS]);
 }
