@@ -104,14 +104,32 @@ fn serial_line(alloc: Global, transcript: &Transcript, number: u64) -> Result<Ve
 
 fn put_serial_line<S: Sink>(reply: &Option<Reply>, sink: &mut S) -> Result<(), WriteFault>
     requires { S.failed sink.old ≡ false }
-    ensures ok { OnOk result (IsTrue (S.tells sink.old) → S.holds sink.new ≡ S.holds sink.old ++ (codes "serial reply: " ++ reply_text reply.now ++ 10 ∷ [])) }
+    ensures ok { OnOk result (IsTrue (S.tells sink.old) → S.holds sink.new ≡ S.holds sink.old ++ (codes "serial reply: " ++ (reply_text reply.now ++ 10 ∷ []))) }
     ensures tells { IsTrue (S.tells sink.old) → IsTrue (S.tells sink.new) }
     ensures fails { S.failed sink.new ≡ is_err result }
 {
     put_all(sink, b"serial reply: ")?;
-    match reply {
-        Some(reply) => write_reply(reply, sink)?,
-        None => put_all(sink, b"none")?,
-    }
+    put_reply_line(reply, sink)
+}
+
+fn put_reply_line<S: Sink>(reply: &Option<Reply>, sink: &mut S) -> Result<(), WriteFault>
+    requires { S.failed sink.old ≡ false }
+    ensures ok { OnOk result (IsTrue (S.tells sink.old) → S.holds sink.new ≡ S.holds sink.old ++ (reply_text reply.now ++ 10 ∷ [])) }
+    ensures tells { IsTrue (S.tells sink.old) → IsTrue (S.tells sink.new) }
+    ensures fails { S.failed sink.new ≡ is_err result }
+{
+    put_reply(reply, sink)?;
     put_all(sink, b"\n")
+}
+
+fn put_reply<S: Sink>(reply: &Option<Reply>, sink: &mut S) -> Result<(), WriteFault>
+    requires { S.failed sink.old ≡ false }
+    ensures ok { OnOk result (IsTrue (S.tells sink.old) → S.holds sink.new ≡ S.holds sink.old ++ reply_text reply.now) }
+    ensures tells { IsTrue (S.tells sink.old) → IsTrue (S.tells sink.new) }
+    ensures fails { S.failed sink.new ≡ is_err result }
+{
+    match reply {
+        Some(reply) => write_reply(reply, sink),
+        None => put_all(sink, b"none"),
+    }
 }

@@ -3,6 +3,7 @@ ghost use Rattle.std.specs.Prelude.{◌≤◌, length, IfOk};
 mod files;
 mod rows;
 mod runs;
+mod states;
 
 use crate::command_line::{answer, program};
 use crate::fault::{HekFault, report};
