@@ -46,6 +46,9 @@ other_place first i count t (Some x) n = ap (λ o. unwrap_or o count) (value_of-
 own_place : (first : List (ℕ × ℕ)) (i count t : ℕ) → place_in (with_place first i (Some t)) count t ≡ i
 own_place first i count t = ap (λ o. unwrap_or o count) (value_of-put first t i t ∙ cond-true (t == t) (Some i) (value_of first t) (eq-eqb t t refl))
 
+pub above : (a b : ℕ) → b ≤ a → (a ≡ b → ⊥) → b + 1 ≤ a
+above a b m n = omega (arith, m, n)
+
 from_here : (t : ℕ) (es : List Event) (i n : ℕ) → comes_at t es i ≡ false → IsNextOf t es (i + 1) n → IsNextOf t es i n
 from_here t es i n off is =
     let on = is.on in
@@ -55,9 +58,6 @@ from_here t es i n off is =
       between = λ j a l. ⊎_elim (λ same. ap (comes_at t es) same ∙ off) (λ other. is.between j (above j i a other) l) (cases_eq j i);
       there = is.there;
     }
-  where
-    above : (a b : ℕ) → b ≤ a → (a ≡ b → ⊥) → b + 1 ≤ a
-    above a b m n = omega (arith, m, n)
 
 starts_here : (es : List Event) (i : ℕ) (e : Event) (first : List (ℕ × ℕ)) → i < length es → slice_get es i ≡ Some e → ((t : ℕ) → IsNextOf t es (i + 1) (place_in first (length es) t)) →
     (t : ℕ) → IsNextOf t es i (place_in (with_place first i (txn_of e)) (length es) t)
@@ -88,9 +88,6 @@ one_linked es i e first next l at a =
           subst (IsNextOf t es (j + 1)) (sym is) (subst (λ m. IsNextOf t es (m + 1) (place_in first (length es) t)) (sym same) (a.starts t)))
           (λ other. subst (IsNextOf t es (j + 1)) (sym (get_or-set_other next i j new 0 other)) (a.follows t j (above j i b other) c)) (cases_eq j i);
     }
-  where
-    above : (a b : ℕ) → b ≤ a → (a ≡ b → ⊥) → b + 1 ≤ a
-    above a b m n = omega (arith, m, n)
 
 -- the first place, as it is looked up
 pub first_is : (es : List Event) (first : List (ℕ × ℕ)) (next : List ℕ) (t n : ℕ) → AreLinks es first next → n ≡ place_in first (length next) t → IsNextOf t es 0 n

@@ -2,7 +2,7 @@
 use Rattle.std.proofs.Common.{◌≡◌, ℕ, zero, suc, ◌<◌, ◌≤◌, ◌%◌, Bool, true, false, List, [], ◌∷◌, length, refl, ◌∙◌, ap, sym, subst, arith, Some, None, Option, ⊎_elim, get_or, set, replicate}
 use Rattle.std.proofs.Math.Nat.{mod-lt}
 use Rattle.std.proofs.lemmas.List.{length-set, get_or-set_same, get_or-set_other}
-use Rattle.std.proofs.lemmas.Bool.{cases_Bool, cases_eq, cond-true, cond-false, eqb-true, eq-eqb, ne_eqb}
+use Rattle.std.proofs.lemmas.Bool.{cases_Bool, cases_eq, cond-true, cond-false, eqb-true, eqb-false, eq-eqb, ne_eqb}
 use Rattle.std.specs.Prelude.{◌==◌, if◌then◌else◌}
 use Rattle.std.specs.Option.{option_or}
 use Rattle.hek_rules.specs.declared.serial.Write.{Write}
@@ -104,12 +104,9 @@ gathered-lay parts w l a =
     ∙ ⊎_elim
     (λ y. cond-true (b == m) (if key_of w == q then left_by w else value_of (part_at parts m) q) (value_of (part_at parts m) q) y)
     (λ f. cond-false (b == m) (if key_of w == q then left_by w else value_of (part_at parts m) q) (value_of (part_at parts m) q) f
-    ∙ sym (cond-false (key_of w == q) (left_by w) (value_of (part_at parts m) q) (ne_eqb (key_of w) q (λ e. absurd (eqb_apart b m f (ap (λ k. k % length parts) e))))))
+    ∙ sym (cond-false (key_of w == q) (left_by w) (value_of (part_at parts m) q) (ne_eqb (key_of w) q (λ e. absurd (eqb-false b m f (ap (λ k. k % length parts) e))))))
     (cases_Bool (b == m))
     ∙ ap (λ o. if key_of w == q then left_by w else o) (sym (value_of-gathered parts q a)) ∙ sym (value_of-lay w (gathered parts) q))
-  where
-    eqb_apart : (x y : ℕ) → (x == y) ≡ false → x ≡ y → ⊥
-    eqb_apart x y f e = let t : (x == y) ≡ true = eq-eqb x y e in cc
 
 -- the rows of a bucket are its part
 pub rows_of-gathered : (parts : List (List (ℕ × ℕ))) (b : ℕ) → AreParts parts → rows_of (length parts) b (gathered parts) ≡ part_at parts b
@@ -119,11 +116,8 @@ rows_of-gathered parts b a =
     (λ q. value_of-filter test (gathered parts) q
     ∙ ⊎_elim
     (λ y. cond-true (test q) (value_of (gathered parts) q) None y ∙ value_of-gathered parts q a ∙ ap (λ i. value_of (part_at parts i) q) (eqb-true _ _ y))
-    (λ f. cond-false (test q) (value_of (gathered parts) q) None f ∙ sym (a.apart b q (λ e. eqb_apart (q % length parts) b f e)))
+    (λ f. cond-false (test q) (value_of (gathered parts) q) None f ∙ sym (a.apart b q (λ e. eqb-false (q % length parts) b f e)))
     (cases_Bool (test q)))
-  where
-    eqb_apart : (x y : ℕ) → (x == y) ≡ false → x ≡ y → ⊥
-    eqb_apart x y f e = let t : (x == y) ≡ true = eq-eqb x y e in cc
 
 pub gathered-empty : (n : ℕ) → gathered (replicate n []) ≡ []
 gathered-empty zero = refl
