@@ -71,12 +71,12 @@ pub record Disassembles {R : Type 0} (left : R → Option (List ℕ)) (said : Sc
   pub is : FileGives left said plan
   pub written : Appends before after (canonical_text plan)
 
--- why nothing is printed of the schedule that a file says
+-- why what is to be printed of the schedule that a file says isn't, or not to its end
 abbrev pub PrintFails : {R : Type 0} → (R → Option (List ℕ)) → ScheduleFile R → HekFault → Type 0
 PrintFails left said CannotWrite = Unit {0}
 PrintFails left said fault = FileFails left said fault
 
--- why a run doesn't go on
+-- why writing stops
 abbrev pub IsStop : HekFault → Type 0
 IsStop NoMemory = Unit {0}
 IsStop CannotWrite = Unit {0}

@@ -2,7 +2,7 @@
 ghost use Rattle.std.specs.Prelude.{◌≡◌, ◌++◌, ◌∷◌, [], codes, false, is_err, IsTrue, MatchResult, IfOk, IfErr, OnOk};
 ghost use Rattle.std.specs.Io.KnownBytes.{Appends};
 ghost use Rattle.hek_asm.specs.Reading.{IsTraceOf};
-ghost use Rattle.hek.specs.Judged.{TraceTextFails, verdict_text, verdict_status, reply_text, serial_line, why_text, IsStop, Checks, CheckFails};
+ghost use Rattle.hek.specs.Judged.{TraceTextFails, verdict_text, verdict_status, reply_text, serial_line, why_text, Checks, CheckFails};
 
 use crate::fault::HekFault;
 use crate::lines::send;
@@ -31,8 +31,9 @@ pub fn check_command<'a, R: Read + Drop, W: Write>(
     let schedule = schedule_in(alloc, file)?;
     let transcript = transcript_of_text(alloc, &schedule, trace)?;
     let verdict = check(alloc, &transcript)?;
+    let mut reason = reason(alloc, why, &transcript, verdict)?;
     let status = write_verdict(verdict, out)?;
-    write_why(alloc, why, &transcript, verdict, out)?;
+    send(&mut reason, out)?;
     Ok(status)
 }
 
@@ -67,26 +68,21 @@ fn write_verdict<'a, W: Write>(verdict: Verdict, out: &mut W) -> Result<u8, HekF
     }
 }
 
-/// Writes what the event at fault would have been answered, where that is asked for.
-fn write_why<'a, W: Write>(
+/// What the event at fault would have been answered, where that is asked for.
+fn reason(
     alloc: Global,
     why: bool,
     transcript: &Transcript,
     verdict: Verdict,
-    out: &mut W,
-) -> Result<(), HekFault<'a>>
-    ensures written { OnOk result (Appends (W.contents out.old) (W.contents out.new) (why_text why transcript.now verdict)) }
-    ensures stops { IfErr result IsStop }
+) -> Result<Vec<u8>, NoMemory>
+    ensures { IfOk result (λ text. text.items ≡ why_text why transcript.now verdict) }
 {
     if !why {
-        return Ok(());
+        return Ok(Vec::new(alloc));
     }
     match verdict {
-        Verdict::Serial => Ok(()),
-        Verdict::NotSerial(number) => {
-            let mut line = serial_line(alloc, transcript, number)?;
-            send(&mut line, out)
-        }
+        Verdict::Serial => Ok(Vec::new(alloc)),
+        Verdict::NotSerial(number) => serial_line(alloc, transcript, number),
     }
 }
 

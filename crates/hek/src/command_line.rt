@@ -137,10 +137,10 @@ fn run_schedule<'a, D: Disk, I: Read + Drop, W: Write>(
     out: &mut W,
 ) -> Result<u8, HekFault<'a>> {
     let mut input = Some(input);
-    let upto = state_at(found)?;
+    let limit = state_at(found)?;
     let file = schedule_file(alloc, found, disk, &mut input)?;
-    if upto.is_some() || found.get_flag("state") {
-        state_command(alloc, file, upto, out)
+    if limit.is_some() || found.get_flag("state") {
+        state_command(alloc, file, limit, out)
     } else {
         run_command(alloc, file, out)
     }

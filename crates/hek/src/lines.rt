@@ -23,7 +23,7 @@ pub fn send<'a, W: Write>(lines: &mut Vec<u8>, out: &mut W) -> Result<(), HekFau
     Ok(())
 }
 
-/// The same once they have many bytes.
+/// Writes the lines once they have many bytes; until then nothing happens.
 pub fn send_if_many<'a, W: Write>(lines: &mut Vec<u8>, out: &mut W) -> Result<(), HekFault<'a>>
     ensures kept { OnOk result (Passes (W.contents out.old) lines.old.items (W.contents out.new) lines.new.items) }
     ensures stops { IfErr result IsStop }

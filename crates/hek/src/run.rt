@@ -13,7 +13,7 @@ ghost use Rattle.hek.specs.Ran.{Runs, RunsTo, ShowsState, trace_of, first_of};
 use crate::fault::HekFault;
 use crate::lines::{send, send_if_many};
 use crate::schedule_file::{ScheduleFile, schedule_in};
-use crate::state::state_lines;
+use crate::state::{clock_line, state_lines};
 use hek_asm::write_line;
 use hek_machine::Machine;
 use hek_rules::{Event, FromWrite, NoMemory, Reply, Schedule};
@@ -32,47 +32,53 @@ pub fn run_command<'a, R: Read + Drop, W: Write>(
     ensures { MatchResult result (λ status. (status ≡ 0) × Runs R.remaining file (W.contents out.old) (W.contents out.new)) (PrintFails R.remaining file) }
 {
     let schedule = schedule_in(alloc, file)?;
+    // There is a bucket, and each step is one of this schedule.
     let _ = schedule.buckets();
     let _machine = write_run(alloc, &schedule, schedule.steps(), out)?;
     Ok(0)
 }
 
-/// The same up to a step, and then the state of the machine (`state_lines`). Where there are fewer steps, all are run.
+/// Runs the first steps of the schedule that a file says, as many as `limit` says or all of them, and writes their trace, the
+/// clock of the machine after them, and the rest of its state (`state_lines`). The answer is the exit status.
 pub fn state_command<'a, R: Read + Drop, W: Write>(
     alloc: Global,
     file: ScheduleFile<R>,
-    upto: Option<u64>,
+    limit: Option<u64>,
     out: &mut W,
 ) -> Result<u8, HekFault<'a>>
-    ensures { MatchResult result (λ status. (status ≡ 0) × RunsTo R.remaining file upto (W.contents out.old) (W.contents out.new)) (PrintFails R.remaining file) }
+    ensures { MatchResult result (λ status. (status ≡ 0) × RunsTo R.remaining file limit (W.contents out.old) (W.contents out.new)) (PrintFails R.remaining file) }
 {
     let schedule = schedule_in(alloc, file)?;
-    write_state(alloc, &schedule, upto, out)?;
+    write_state(alloc, &schedule, limit, out)?;
     Ok(0)
 }
 
-/// Runs steps of a schedule, all of them or as many as are given, and writes their trace and then the state.
+/// The same for a schedule.
 fn write_state<'a, W: Write>(
     alloc: Global,
     schedule: &Schedule,
-    upto: Option<u64>,
+    limit: Option<u64>,
     out: &mut W,
 ) -> Result<(), HekFault<'a>>
-    ensures written { OnOk result (ShowsState schedule.now upto (W.contents out.old) (W.contents out.new)) }
+    ensures written { OnOk result (ShowsState schedule.now limit (W.contents out.old) (W.contents out.new)) }
     ensures stops { IfErr result IsStop }
 {
+    // There is a bucket, and each step is one of this schedule.
     let _ = schedule.buckets();
-    let steps = first_steps(schedule.steps(), upto);
+    let steps = first_steps(schedule.steps(), limit);
     let machine = write_run(alloc, schedule, steps, out)?;
+    let clock = machine.clock();
+    let mut line = clock_line(alloc, clock)?;
+    send(&mut line, out)?;
     let mut lines = state_lines(alloc, schedule, &machine)?;
     send(&mut lines, out)
 }
 
 /// So many steps at the front, or all of them.
-fn first_steps(steps: &[Event], upto: Option<u64>) -> &[Event]
-    ensures { result.now ≡ first_of upto steps.now }
+fn first_steps(steps: &[Event], limit: Option<u64>) -> &[Event]
+    ensures { result.now ≡ first_of limit steps.now }
 {
-    match upto {
+    match limit {
         None => steps,
         Some(count) => {
             if count < steps.len() as u64 {
@@ -85,7 +91,7 @@ fn first_steps(steps: &[Event], upto: Option<u64>) -> &[Event]
 }
 
 /// Runs steps on the rows and transactions of a schedule, and writes their trace. The answer is the machine after them.
-pub fn write_run<'a, W: Write>(
+fn write_run<'a, W: Write>(
     alloc: Global,
     schedule: &Schedule,
     steps: &[Event],

@@ -1,7 +1,8 @@
 //! The state of a machine as text.
-ghost use Rattle.std.specs.Prelude.{◌<◌, length};
+ghost use Rattle.std.specs.Prelude.{◌≡◌, ◌<◌, length, IfOk};
 ghost use Rattle.hek_rules.specs.Plan.{IsDeclared};
 ghost use Rattle.hek_txn.specs.TxnTable.{Declared};
+ghost use Rattle.hek.specs.Ran.{clock_text};
 
 use hek_machine::Machine;
 use hek_rules::{Cause, Level, NoMemory, Schedule, State, Time, TxnId, VersionId, WriteEntry};
@@ -9,14 +10,25 @@ use std::alloc::Global;
 use std::io;
 use std::io::Write;
 
-/// The clock of a machine, its versions, the transactions of its schedule and its locked buckets, a line each.
+/// The line of a clock.
+pub fn clock_line(alloc: Global, clock: Time) -> Result<Vec<u8>, NoMemory>
+    ensures { IfOk result (λ line. line.items ≡ clock_text clock) }
+{
+    let clock = clock.number();
+    let mut line = Vec::new(alloc);
+    match writeln!(line, "clock {clock}") {
+        Ok(()) => Ok(line),
+        Err(_) => Err(NoMemory),
+    }
+}
+
+/// The versions of a machine, the transactions of its schedule and its locked buckets, a line each.
 pub fn state_lines(
     alloc: Global,
     schedule: &Schedule,
     machine: &Machine,
 ) -> Result<Vec<u8>, NoMemory> {
     let mut lines = Vec::new(alloc);
-    put_clock(machine, &mut lines)?;
     for index in 0..machine.versions() {
         put_version(machine, VersionId::new(index as u64), &mut lines)?;
     }
@@ -43,12 +55,7 @@ fn put_all_buckets(machine: &Machine, lines: &mut Vec<u8>) -> Result<(), NoMemor
     Ok(())
 }
 
-fn put_clock(machine: &Machine, lines: &mut Vec<u8>) -> Result<(), NoMemory> {
-    let clock = machine.clock().number();
-    put(writeln!(lines, "clock {clock}"))
-}
-
-// Bytes can't be written to a list only where there is no memory for them.
+// Writing to a list of bytes fails only where there is no memory.
 fn put(written: io::Result<()>) -> Result<(), NoMemory> {
     match written {
         Ok(()) => Ok(()),

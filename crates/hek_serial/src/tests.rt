@@ -1,7 +1,5 @@
-mod agreement;
 mod benchmarks;
 mod explained;
-mod plain;
 mod scene;
 mod worked;
 

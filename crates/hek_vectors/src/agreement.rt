@@ -1,11 +1,11 @@
 //! The checker beside the plain one.
 use crate::plain::plain_check;
-use hek_rules::{NoMemory, Reply, Schedule, Time, Transcript, Verdict};
+use hek_rules::{NoMemory, Pairs, Reply, Schedule, Time, Transcript};
 use hek_serial::check;
 use std::alloc::Global;
 
-/// So many replies of a run are changed, each alone.
-const CHANGES: usize = 8;
+/// So many replies of a run are changed, each alone: all of a short one.
+const CHANGES: usize = 32;
 
 /// Whether both checkers give a transcript the same verdict.
 fn agree(alloc: Global, transcript: &Transcript) -> Result<bool, NoMemory> {
@@ -39,7 +39,7 @@ fn changed_at(
     for (at, event) in schedule.steps().iter().enumerate() {
         if let Some(reply) = replies.get(at) {
             let reply = if at == place {
-                another(reply)
+                another(alloc, reply)?
             } else {
                 reply.copy()?
             };
@@ -49,16 +49,29 @@ fn changed_at(
     Ok(transcript)
 }
 
-/// Another reply that may stand behind the same event.
-fn another(reply: &Reply) -> Reply {
-    match reply {
+/// Another reply.
+fn another(alloc: Global, reply: &Reply) -> Result<Reply, NoMemory> {
+    Ok(match reply {
         Reply::Found(value) => Reply::Found(value.wrapping_add(1)),
         Reply::Absent => Reply::Found(0),
         Reply::Done => Reply::Absent,
         Reply::Exists => Reply::Done,
         Reply::Precommitted(_) => Reply::Precommitted(Time::new(1)),
-        Reply::Rows(_) => Reply::Absent,
+        Reply::Rows(pairs) => Reply::Rows(other_pairs(alloc, pairs)?),
         Reply::Waiting(_) | Reply::WaitingCommits(_) => Reply::Committed,
+        Reply::Nothing => Reply::Over,
         _ => Reply::Nothing,
+    })
+}
+
+/// The pairs with other values, or one where there is none.
+fn other_pairs(alloc: Global, pairs: &Pairs) -> Result<Pairs, NoMemory> {
+    let mut others = Vec::new(alloc);
+    for pair in pairs.items() {
+        others.push((pair.0, pair.1.wrapping_add(1)))?;
     }
+    if others.is_empty() {
+        others.push((0, 0))?;
+    }
+    Ok(Pairs::new(others))
 }

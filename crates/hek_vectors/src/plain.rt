@@ -124,19 +124,29 @@ fn place_in(order: &mut Vec<(Time, TxnId)>, time: Time, t: TxnId) -> Result<(), 
     Ok(())
 }
 
+/// Puts t into the order, if it has an end time and isn't in yet.
+fn join(
+    order: &mut Vec<(Time, TxnId)>,
+    t: TxnId,
+    history: &[(Event, Reply)],
+) -> Result<(), NoMemory> {
+    match end_of(t, history) {
+        Some(time) => {
+            if order.iter().all(|other| other.1 != t) {
+                place_in(order, time, t)?;
+            }
+            Ok(())
+        }
+        None => Ok(()),
+    }
+}
+
 /// The committed transactions with their end times, in the order of these.
 fn serial_order(alloc: Global, history: &[(Event, Reply)]) -> Result<Vec<(Time, TxnId)>, NoMemory> {
     let mut order: Vec<(Time, TxnId)> = Vec::new(alloc);
     for told in history {
         match committed(told) {
-            Some(t) => match end_of(t, history) {
-                Some(time) => {
-                    if order.iter().all(|other| other.1 != t) {
-                        place_in(&mut order, time, t)?;
-                    }
-                }
-                None => {}
-            },
+            Some(t) => join(&mut order, t, history)?,
             None => {}
         }
     }
@@ -259,6 +269,23 @@ fn first_wrong(
     Ok(history.len())
 }
 
+/// Lays over all that t wrote.
+fn lay_all(t: TxnId, history: &[(Event, Reply)], rows: &mut Rows) -> Result<(), NoMemory> {
+    for told in history {
+        lay(t, told, rows)?;
+    }
+    Ok(())
+}
+
+/// The rows that a run begins with.
+fn opening(alloc: Global, transcript: &Transcript) -> Result<Rows, NoMemory> {
+    let mut rows = BTreeMap::new(alloc);
+    for row in transcript.rows() {
+        let _old = rows.insert(row.0, row.1)?;
+    }
+    Ok(rows)
+}
+
 /// The rows that a transaction of this end time finds.
 fn found_at(
     alloc: Global,
@@ -267,15 +294,10 @@ fn found_at(
     order: &[(Time, TxnId)],
     history: &[(Event, Reply)],
 ) -> Result<Rows, NoMemory> {
-    let mut rows = BTreeMap::new(alloc);
-    for row in transcript.rows() {
-        let _old = rows.insert(row.0, row.1)?;
-    }
+    let mut rows = opening(alloc, transcript)?;
     for ended in order {
         if ended.0 < time {
-            for told in history {
-                lay(ended.1, told, &mut rows)?;
-            }
+            lay_all(ended.1, history, &mut rows)?;
         }
     }
     Ok(rows)

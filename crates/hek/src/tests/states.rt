@@ -1,5 +1,11 @@
 //! The command `run` with the state of the machine, and the command `check` with the reason.
 use super::rows::{QUIET, Row, assert_rows};
+use crate::fault::HekFault;
+use crate::run::run_command;
+use crate::schedule_file::ScheduleFile;
+use std::alloc::{AllocError, Global};
+use std::io;
+use std::io::{ErrorKind, Write};
 use std::test::Fail;
 
 // A reader, and a writer that waits for it.
@@ -179,5 +185,69 @@ const REASONS: &[Row<'static>] = &[
 #[test]
 fn tells_why_a_trace_is_not_serial(rt: HostRuntime) -> Result<(), Fail> {
     assert_rows(&rt, rt.alloc(), REASONS)?;
+    Ok(())
+}
+
+// Takes so many bytes, and then answers errors.
+#[derive(Drop)]
+struct Narrow {
+    taken: Vec<u8>,
+    room: usize,
+}
+
+impl Write for Narrow {
+    fn write(&mut self, buf: &[u8]) -> io::Result<usize> {
+        if self.taken.len() >= self.room {
+            return Err(io::Error::from(ErrorKind::Other));
+        }
+        self.taken.write(buf)
+    }
+
+    fn flush(&mut self) -> io::Result<()> {
+        Ok(())
+    }
+}
+
+// One begin, and 3,000 more that are refused.
+fn long_text(alloc: Global) -> Result<Vec<u8>, AllocError> {
+    let mut text = Vec::from_slice(alloc, b"buckets 1\ntxn a repeatable\na begin\n")?;
+    for _ in 0..3_000 {
+        text.extend_from_slice(b"a begin\n")?;
+    }
+    Ok(text)
+}
+
+fn long_trace(alloc: Global) -> Result<String, AllocError> {
+    let mut trace = String::from_str(alloc, "1 a begin -> began 1\n")?;
+    for number in 2..3_002 {
+        let line = format!(in alloc; "{number} a begin -> refused 3 BegunTwice\n")?;
+        trace.push_str(line.as_str())?;
+    }
+    Ok(trace)
+}
+
+fn run_over(
+    alloc: Global,
+    room: usize,
+) -> Result<(Narrow, Result<u8, HekFault<'static>>), AllocError> {
+    let text = long_text(alloc)?;
+    let mut out = Narrow {
+        taken: Vec::new(alloc),
+        room,
+    };
+    let file: ScheduleFile<&[u8]> = ScheduleFile::Text(text);
+    let answer = run_command(alloc, file, &mut out);
+    Ok((out, answer))
+}
+
+#[test]
+fn writes_long_traces_piece_by_piece(rt: HostRuntime) -> Result<(), Fail> {
+    let trace = long_trace(rt.alloc())?;
+    let (out, answer) = run_over(rt.alloc(), usize::MAX)?;
+    assert_eq!(rt; answer, Ok(0));
+    assert_eq!(rt; out.taken.as_slice(), trace.as_bytes());
+    let (out, answer) = run_over(rt.alloc(), 1)?;
+    assert_eq!(rt; answer, Err(HekFault::CannotWrite));
+    assert!(rt; out.taken.len() > 65_536 && trace.as_bytes().starts_with(out.taken.as_slice()));
     Ok(())
 }

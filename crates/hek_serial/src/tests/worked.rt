@@ -294,19 +294,3 @@ fn one_reader(rt: HostRuntime) -> Result<(), Fail> {
     }
     Ok(())
 }
-
-/// How many worked scripts there are.
-pub(crate) const SCRIPTS: usize = 7;
-
-/// The worked scripts by number.
-pub(crate) fn script(alloc: Global, number: usize) -> Result<Vec<(Event, Reply)>, NoMemory> {
-    match number {
-        0 => reader_then_writer(alloc, 200),
-        1 => deadlock(alloc),
-        2 => aborted_writer(alloc),
-        3 => phantom(alloc),
-        4 => cascade(alloc),
-        5 => two_inserts(alloc),
-        _ => scans(alloc, 3, 4),
-    }
-}

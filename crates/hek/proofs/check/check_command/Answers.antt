@@ -1,3 +1,5 @@
+use Rattle.std.proofs.Common.{subst, List, ℕ}
+use Rattle.std.specs.Io.KnownBytes.{Appends}
 use Rattle.hek.specs.Judged.{verdict_text, why_text}
 use Rattle.hek.proofs.Sending.{appends-both}
 use Rattle.hek.proofs.check.check_command.Goals as goal
@@ -6,6 +8,9 @@ pub returns : goal.returns
 returns g c =
     let told = c.in_ok-transcript.transcript in
     let verdict = c.in_ok-verdict.verdict in
+    let held = g.W.Write.contents c.args.out.now in
+    let told_verdict = g.W.Write.contents c.write_verdict.new.out in
+    let after = g.W.Write.contents c.send.new.out in
     record {
       plan = c.in_ok-schedule.schedule;
       is = c.in_ok-schedule.ensures;
@@ -13,6 +18,7 @@ returns g c =
       read = c.in_ok-transcript.ensures;
       verdict = verdict;
       right = c.in_ok-verdict.ensures;
-      written = appends-both (g.W.Write.contents c.args.out.now) _ (g.W.Write.contents c.write_why.new.out) (verdict_text verdict) (why_text c.args.why told verdict) c.in_ok-status.ensures.ok.1 c.in_ok-write_why.ensures.written;
+      written = appends-both held told_verdict after (verdict_text verdict) (why_text c.args.why told verdict) c.in_ok-status.ensures.ok.1
+          (subst (λ (xs : List ℕ). Appends told_verdict after xs) c.in_ok-reason.ensures c.in_ok-send.ensures.written);
       answer = c.in_ok-status.ensures.ok.0;
     }
