@@ -19,6 +19,3 @@ pub use reading::read_trace;
 pub use reply::write_reply;
 pub use schedule_text::canonical;
 pub use trace::{write_line, write_trace};
-
-#[cfg(test)]
-mod tests;

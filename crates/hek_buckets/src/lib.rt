@@ -2,8 +2,6 @@
 #![tactic(auto)]
 
 mod buckets;
-#[cfg(test)]
-mod tests;
 mod waits;
 
 pub use buckets::Buckets;

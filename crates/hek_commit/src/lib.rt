@@ -5,8 +5,6 @@
 mod dependents;
 mod phases;
 mod stamps;
-#[cfg(test)]
-mod tests;
 
 pub use dependents::depend;
 pub use phases::{abort, commit, end, precommit};

@@ -6,8 +6,6 @@ mod graph;
 mod laws;
 mod levels;
 mod search;
-#[cfg(test)]
-mod tests;
 
 pub use detector::detect;
 pub use laws::victim_is_that_of_the_world;

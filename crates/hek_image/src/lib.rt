@@ -14,6 +14,3 @@ pub use fault::LoadFault;
 pub use laws::images_are_exact;
 pub use loading::load_image;
 pub use writing::write_image;
-
-#[cfg(test)]
-mod tests;

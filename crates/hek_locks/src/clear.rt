@@ -10,8 +10,9 @@ use hek_store::Store;
 use hek_txn::Txns;
 use hek_word::EndWord;
 
-/// Whether an aborted writer holds the word.
-pub(crate) fn is_stale(txns: &Txns, word: EndWord) -> bool
+/// Whether an aborted writer holds the word, which the next reader or writer may then take from it. (Section 4 of the
+/// paper: an aborted transaction gives its write locks up.)
+pub fn is_stale(txns: &Txns, word: EndWord) -> bool
     requires { KnowsWriter txns.now word }
     ensures { result ≡ stale txns.now.cores word }
 {
@@ -21,8 +22,8 @@ pub(crate) fn is_stale(txns: &Txns, word: EndWord) -> bool
     }
 }
 
-/// The word once an aborted writer is gone.
-pub(crate) fn cleared(txns: &Txns, word: EndWord) -> EndWord
+/// The word once an aborted writer, if it has one, is gone: what a reader or a writer that comes now is judged by.
+pub fn cleared(txns: &Txns, word: EndWord) -> EndWord
     requires { KnowsWriter txns.now word }
     ensures { result ≡ cleared_word txns.now.cores word }
 {

@@ -5,11 +5,9 @@
 mod clear;
 mod read;
 mod release;
-#[cfg(test)]
-mod tests;
 mod write;
 
-pub use clear::clear_write;
+pub use clear::{clear_write, cleared, is_stale};
 pub use read::{can_read_lock, read_lock};
 pub use release::release_read;
 pub use write::{can_write_lock, write_lock};

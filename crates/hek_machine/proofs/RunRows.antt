@@ -16,7 +16,7 @@ use Rattle.hek_rules.specs.Faults.{put_all, HasNoFault}
 use Rattle.hek_laws.specs.Runs.{IsFirstClock, IsPlaced}
 use Rattle.hek_laws.proofs.Runs.NoFault.{run-no_fault}
 use Rattle.hek_laws.proofs.Runs.Opening.{run-rows}
-use Rattle.hek_laws.proofs.Runs.Reachable.{next-reachable}
+use Rattle.hek_laws.proofs.Runs.Reachable.{next-reachable, run-append}
 use Rattle.hek_laws.proofs.Worlds.Fixed.{fixed-next}
 use Rattle.hek_machine.specs.declared.parts.Parts.{Parts}
 use Rattle.hek_machine.specs.Stands.{StandsFor, IsOrdered, IsRow, StillShows}
@@ -54,10 +54,6 @@ buckets_after e m n (Err f) o i s = (s.world o.world o.stands.shows).buckets.cou
 abbrev pub replies_of : World → List Event → List Reply
 replies_of w es = map (λ (x : Event × Reply). x.1) (transcript w es)
 
-run_more : (w : World) (es : List Event) (e : Event) → run w (es ++ e ∷ []) ≡ next (run w es) e
-run_more w [] e = refl
-run_more w (x ∷ xs) e = run_more (next w x) xs e
-
 replies_more : (w : World) (es : List Event) (e : Event) → replies_of w (es ++ e ∷ []) ≡ replies_of w es ++ reply (run w es) e ∷ []
 replies_more w [] e = refl
 replies_more w (x ∷ xs) e = ap (λ rs. reply w x ∷ rs) (replies_more (next w x) xs e)
@@ -68,7 +64,7 @@ taken-more es i e below at = take_more es i e below ∙ ap (λ x. take i es ++ x
 pub step_stands : (p : Plan) (clock i : ℕ) (es : List Event) (e : Event) (m n : Parts) (r : Reply) → i < length es → e ≡ get_or es i e → StandsFor m (run (opening_of p clock) (take i es)) → IsStep e m n r →
     StandsFor n (run (opening_of p clock) (take (i + 1) es))
 step_stands p clock i es e m n r below at s step =
-    subst (StandsFor n) (sym (ap (run (opening_of p clock)) (taken-more es i e below at) ∙ run_more (opening_of p clock) (take i es) e)) (step.world (run (opening_of p clock) (take i es)) s)
+    subst (StandsFor n) (sym (ap (run (opening_of p clock)) (taken-more es i e below at) ∙ run-append (opening_of p clock) (take i es) e)) (step.world (run (opening_of p clock) (take i es)) s)
 
 pub step_replies : (p : Plan) (clock i : ℕ) (es : List Event) (e : Event) (m n : Parts) (rs : List Reply) (r : Reply) → i < length es → e ≡ get_or es i e → StandsFor m (run (opening_of p clock) (take i es)) →
     IsStep e m n r → rs ≡ replies_of (opening_of p clock) (take i es) → rs ++ r ∷ [] ≡ replies_of (opening_of p clock) (take (i + 1) es)

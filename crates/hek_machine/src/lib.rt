@@ -15,8 +15,6 @@ mod rows;
 mod runs;
 mod scans;
 mod steps;
-#[cfg(test)]
-mod tests;
 mod walks;
 mod writes;
 

@@ -53,6 +53,3 @@ pub trait Sink {
         ensures tells { IsTrue (tells self.old) → IsTrue (tells self.new) }
         ensures fails { failed self.new ≡ is_none result };
 }
-
-#[cfg(test)]
-mod tests;

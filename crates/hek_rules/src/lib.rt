@@ -34,6 +34,3 @@ pub use serial::{Verdict, Write};
 pub use text::{next_line, next_word, number};
 pub use transcript::Transcript;
 pub use word::{BeginRecord, Dropped, EndRecord};
-
-#[cfg(test)]
-mod tests;

@@ -241,6 +241,3 @@ impl Schedule {
             && self.same_steps(other)
     }
 }
-
-#[cfg(test)]
-mod tests;

@@ -101,6 +101,3 @@ pub fn number(word: &[u8]) -> Option<u64>
     }
     u64::try_from(value).ok()
 }
-
-#[cfg(test)]
-mod tests;

@@ -143,6 +143,3 @@ impl Transcript {
         self.replies.as_slice()
     }
 }
-
-#[cfg(test)]
-mod tests;

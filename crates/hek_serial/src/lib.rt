@@ -13,8 +13,6 @@ mod replay;
 mod replies;
 mod rows;
 mod table;
-#[cfg(test)]
-mod tests;
 mod verdict;
 
 pub use explain::serial_reply;

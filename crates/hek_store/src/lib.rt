@@ -3,8 +3,6 @@
 
 mod places;
 mod store;
-#[cfg(test)]
-mod tests;
 mod version;
 
 pub use places::{VersionsIn, VersionsOf};

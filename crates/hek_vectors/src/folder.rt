@@ -1,7 +1,5 @@
 //! A folder of vectors: NAME.hek, NAME.trace and, for some, NAME.img for each line of its SUMMARY.
-use crate::compare::{Difference, compare};
-use crate::fault::Fault;
-use crate::stored::{Stored, Summary};
+use hek_stored::{Difference, Fault, Stored, Summary, compare};
 use std::io::ErrorKind;
 use std::{fmt, fs, io};
 

@@ -2,17 +2,10 @@
 //! compared with what is stored of it.
 #![tactic(auto)]
 
-mod agreement;
-mod compare;
-mod fault;
 mod folder;
-mod plain;
-mod stored;
-#[cfg(test)]
-mod tests;
 
-use fault::Fault;
 use folder::{Count, compare_folder};
+use hek_stored::Fault;
 use std::env;
 use std::process::ExitCode;
 

@@ -1,8 +1,6 @@
 //! What a reader sees of a version.
 #![tactic(auto)]
 
-#[cfg(test)]
-mod tests;
 mod visibility;
 
 pub use hek_rules::Sight;

@@ -30,6 +30,3 @@ const READER: u64 = 1 << 54;
 
 /// The number that stands for no writer, one above the last ID.
 const NO_WRITER: u64 = (1 << 54) - 1;
-
-#[cfg(test)]
-mod tests;

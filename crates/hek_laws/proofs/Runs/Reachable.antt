@@ -88,7 +88,7 @@ opening-reachable buckets clock rows levels some distinct first = record {
   same = refl;
 }
 
-run-append : (w : World) (es : List Event) (e : Event) → run w (es ++ e ∷ []) ≡ next (run w es) e
+pub run-append : (w : World) (es : List Event) (e : Event) → run w (es ++ e ∷ []) ≡ next (run w es) e
 run-append w [] e = refl
 run-append w (x ∷ xs) e = run-append (next w x) xs e
 

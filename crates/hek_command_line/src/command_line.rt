@@ -1,0 +1,192 @@
+//! The command line: its words, and what is done for them.
+use crate::arguments::read_words;
+use crate::disk::{Disk, InputFile, LateFile, open};
+use clap::error::ErrorKind as ClapKind;
+use clap::{ArgMatches, Error};
+use hek_commands::{
+    HekFault, ScheduleFile, asm_command, check_command, dis_command, read_text, release_command,
+    report, run_command, state_command, word_command,
+};
+use hek_rules::number;
+use std::alloc::Global;
+use std::convert::AsStr;
+use std::env;
+use std::env::Env;
+use std::io::{ErrorKind, Read, Write};
+
+/// Does what the program's arguments ask for, with the files of `disk`, reads `input` where they say `-`, writes to `out`
+/// and `faults`, and answers the exit status: 0, or 1 after a fault, or 2 for a bad command line.
+pub fn program<R: Env + Alloc<A = Global>, D: Disk, I: Read + Drop, W: Write, E: Write>(
+    rt: &R,
+    disk: &D,
+    input: I,
+    out: &mut W,
+    faults: &mut E,
+) -> u8 {
+    match words_of(rt) {
+        Ok(words) => answer(rt.alloc(), words.as_slice(), disk, input, out, faults),
+        Err(fault) => report(fault, faults),
+    }
+}
+
+/// The arguments, the program's name first.
+fn words_of<'a, R: Env + Alloc<A = Global>>(rt: &R) -> Result<Vec<String>, HekFault<'a>> {
+    let words = env::args(rt).map_err(|error| fault_of(error.kind()))?;
+    words.collect(rt.alloc()).map_err(|_| HekFault::NoMemory)
+}
+
+/// Why the arguments can't be had: memory, or one of them isn't UTF-8.
+fn fault_of<'a>(kind: ErrorKind) -> HekFault<'a> {
+    match kind {
+        ErrorKind::OutOfMemory => HekFault::NoMemory,
+        _ => HekFault::BadArgument,
+    }
+}
+
+/// Does what these words ask for, the program's name first.
+pub fn answer<S: AsStr, D: Disk, I: Read + Drop, W: Write, E: Write>(
+    alloc: Global,
+    words: &[S],
+    disk: &D,
+    input: I,
+    out: &mut W,
+    faults: &mut E,
+) -> u8 {
+    let matches = match read_words(alloc, words) {
+        Ok(matches) => matches,
+        Err(error) => return refuse(&error, out, faults),
+    };
+    match run(alloc, &matches, disk, input, out) {
+        Ok(status) => status,
+        Err(fault) => report(fault, faults),
+    }
+}
+
+/// Writes what the reader of the command line says: help on standard output, else why it refuses.
+fn refuse<W: Write, E: Write>(error: &Error, out: &mut W, faults: &mut E) -> u8 {
+    if error.kind() == ClapKind::OutOfMemory {
+        return report(HekFault::NoMemory, faults);
+    }
+    if error.use_stderr() {
+        let _ = write!(faults, "{error}");
+        2
+    } else {
+        match write!(out, "{error}") {
+            Ok(()) => 0,
+            Err(_) => report(HekFault::CannotWrite, faults),
+        }
+    }
+}
+
+fn run<'a, D: Disk, I: Read + Drop, W: Write>(
+    alloc: Global,
+    matches: &ArgMatches<'a>,
+    disk: &D,
+    input: I,
+    out: &mut W,
+) -> Result<u8, HekFault<'a>> {
+    match matches.subcommand() {
+        Some(("release", found)) => release_command(
+            text(found, "WORD")?,
+            text(found, "WAITS")?,
+            out,
+        ),
+        Some(("word", found)) => word_command(alloc, texts(found, "WORD")?, input, out),
+        Some(("asm", found)) => asm(alloc, found, disk, input),
+        Some(("dis", found)) => dis(alloc, found, disk, input, out),
+        Some(("run", found)) => run_schedule(alloc, found, disk, input, out),
+        Some(("check", found)) => check(alloc, found, disk, input, out),
+        _ => Err(HekFault::BadArgument),
+    }
+}
+
+fn asm<'a, D: Disk, I: Read + Drop>(
+    alloc: Global,
+    found: &ArgMatches<'a>,
+    disk: &D,
+    input: I,
+) -> Result<u8, HekFault<'a>> {
+    let mut input = Some(input);
+    let name = text(found, "FILE")?;
+    let mut image = LateFile::new(disk, text(found, "OUT")?);
+    let bytes = read_text(alloc, open(disk, &mut input, name)?, name)?;
+    asm_command(alloc, bytes.as_slice(), &mut image)
+}
+
+fn dis<'a, D: Disk, I: Read + Drop, W: Write>(
+    alloc: Global,
+    found: &ArgMatches<'a>,
+    disk: &D,
+    input: I,
+    out: &mut W,
+) -> Result<u8, HekFault<'a>> {
+    let mut input = Some(input);
+    let file = schedule_file(alloc, found, disk, &mut input)?;
+    dis_command(alloc, file, out)
+}
+
+fn run_schedule<'a, D: Disk, I: Read + Drop, W: Write>(
+    alloc: Global,
+    found: &ArgMatches<'a>,
+    disk: &D,
+    input: I,
+    out: &mut W,
+) -> Result<u8, HekFault<'a>> {
+    let mut input = Some(input);
+    let limit = state_at(found)?;
+    let file = schedule_file(alloc, found, disk, &mut input)?;
+    if limit.is_some() || found.get_flag("state") {
+        state_command(alloc, file, limit, out)
+    } else {
+        run_command(alloc, file, out)
+    }
+}
+
+/// The number of steps that the words give with `--state-at`.
+fn state_at<'a>(found: &ArgMatches<'a>) -> Result<Option<u64>, HekFault<'a>> {
+    match found.get_str("state-at") {
+        None => Ok(None),
+        Some(text) => match number(text.as_bytes()) {
+            Some(count) => Ok(Some(count)),
+            None => Err(HekFault::BadArgument),
+        },
+    }
+}
+
+fn check<'a, D: Disk, I: Read + Drop, W: Write>(
+    alloc: Global,
+    found: &ArgMatches<'a>,
+    disk: &D,
+    input: I,
+    out: &mut W,
+) -> Result<u8, HekFault<'a>> {
+    let mut input = Some(input);
+    let file = schedule_file(alloc, found, disk, &mut input)?;
+    let name = text(found, "TRACE")?;
+    let trace = read_text(alloc, open(disk, &mut input, name)?, name)?;
+    let why = found.get_flag("why");
+    check_command(alloc, file, trace.as_slice(), why, out)
+}
+
+/// The schedule file that the words name, a text where they say `--text`.
+fn schedule_file<'a, D: Disk, I: Read + Drop>(
+    alloc: Global,
+    found: &ArgMatches<'a>,
+    disk: &D,
+    input: &mut Option<I>,
+) -> Result<ScheduleFile<InputFile<I, D::Reader>>, HekFault<'a>> {
+    let name = text(found, "FILE")?;
+    let file = open(disk, input, name)?;
+    if found.get_flag("text") {
+        return Ok(ScheduleFile::Text(read_text(alloc, file, name)?));
+    }
+    Ok(ScheduleFile::Image(file))
+}
+
+fn text<'a>(found: &ArgMatches<'a>, name: &str) -> Result<&'a str, HekFault<'a>> {
+    found.get_str(name).ok_or(HekFault::BadArgument)
+}
+
+fn texts<'m, 'a>(found: &'m ArgMatches<'a>, name: &str) -> Result<&'m [&'a str], HekFault<'a>> {
+    found.get_strs(name).ok_or(HekFault::BadArgument)
+}

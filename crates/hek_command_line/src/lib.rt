@@ -1,0 +1,9 @@
+//! The command line of the program: its words and their help, the files that it opens, and the command that is called.
+#![tactic(auto)]
+
+mod arguments;
+mod command_line;
+mod disk;
+
+pub use command_line::{answer, program};
+pub use disk::{Disk, SystemDisk};

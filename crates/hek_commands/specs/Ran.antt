@@ -1,0 +1,49 @@
+-- What the command `run` makes of a file.
+use Rattle.std.specs.Prelude.{ℕ, List, [], ◌∷◌, ◌++◌, codes, Option, Some, None, map, take}
+use Rattle.std.specs.Fmt.{decimal}
+use Rattle.std.specs.Io.KnownBytes.{Appends}
+use Rattle.hek_rules.specs.declared.event.Event.{Event}
+use Rattle.hek_rules.specs.declared.reply.Reply.{Reply}
+use Rattle.hek_rules.specs.Plan.{Plan}
+use Rattle.hek_rules.specs.World.{World}
+use Rattle.hek_rules.specs.Run.{run, transcript}
+use Rattle.hek_asm.specs.Trace.{trace}
+use Rattle.hek_machine.specs.Observed.{opening_of}
+use Rattle.hek_commands.specs.declared.schedule_file.ScheduleFile.{ScheduleFile}
+use Rattle.hek_commands.specs.Judged.{FileGives}
+
+-- the trace of these steps: each with the reply that the rule table gives, from the opening world of a schedule on
+abbrev pub trace_of : Plan → List Event → List ℕ
+trace_of p es = trace p es (map (λ (x : Event × Reply). x.1) (transcript (opening_of p 1) es))
+
+abbrev pub trace_of_steps : Plan → List ℕ
+trace_of_steps p = trace_of p p.steps
+
+-- it was written behind the bytes that a writer held, where they are known
+pub record Runs {R : Type 0} (left : R → Option (List ℕ)) (said : ScheduleFile R) (before after : Option (List ℕ)) : Type 0 where
+  pub plan : Plan
+  pub is : FileGives left said plan
+  pub written : Appends before after (trace_of_steps plan)
+
+-- so many steps at the front, or all of them
+abbrev pub first_of : Option ℕ → List Event → List Event
+first_of None es = es
+first_of (Some n) es = take n es
+
+-- the world after these steps
+abbrev pub world_after : Plan → List Event → World
+world_after p es = run (opening_of p 1) es
+
+abbrev pub clock_text : ℕ → List ℕ
+clock_text clock = codes "clock " ++ decimal clock ++ 10 ∷ []
+
+-- the trace of a schedule's first steps was written behind them, then the line of the clock after these, and then some bytes
+pub record ShowsState (plan : Plan) (limit : Option ℕ) (before after : Option (List ℕ)) : Type 0 where
+  pub more : List ℕ
+  pub written : Appends before after (trace_of plan (first_of limit plan.steps) ++ (clock_text (world_after plan (first_of limit plan.steps)).clock ++ more))
+
+-- so it was for the schedule that a file says
+pub record RunsTo {R : Type 0} (left : R → Option (List ℕ)) (said : ScheduleFile R) (limit : Option ℕ) (before after : Option (List ℕ)) : Type 0 where
+  pub plan : Plan
+  pub is : FileGives left said plan
+  pub shows : ShowsState plan limit before after

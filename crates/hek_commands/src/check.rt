@@ -1,0 +1,131 @@
+//! The command `check`.
+ghost use Rattle.std.specs.Prelude.{◌≡◌, ◌++◌, ◌∷◌, [], codes, false, is_err, IsTrue, MatchResult, IfOk, IfErr, OnOk};
+ghost use Rattle.std.specs.Io.KnownBytes.{Appends};
+ghost use Rattle.hek_asm.specs.Reading.{IsTraceOf};
+ghost use Rattle.hek_commands.specs.Judged.{TraceTextFails, verdict_text, verdict_status, reply_text, serial_line, why_text, Checks, CheckFails};
+
+use crate::fault::HekFault;
+use crate::lines::send;
+use crate::schedule_file::{ScheduleFile, schedule_in};
+use hek_asm::{read_trace, write_reply};
+use hek_rules::{
+    FromWrite, NoMemory, Reply, Schedule, Sink, Transcript, Verdict, WriteFault, put_all,
+};
+use hek_serial::{check, serial_reply};
+use std::alloc::Global;
+use std::io::{Read, Write};
+use std::str;
+
+/// Writes the verdict on the transcript whose trace over a file's schedule a text is, and where `why` asks for it what the
+/// event at fault would have been answered in the serial order. The answer is the exit status: 1 where the transcript isn't
+/// serial.
+pub fn check_command<'a, R: Read + Drop, W: Write>(
+    alloc: Global,
+    file: ScheduleFile<R>,
+    trace: &[u8],
+    why: bool,
+    out: &mut W,
+) -> Result<u8, HekFault<'a>>
+    ensures { MatchResult result (Checks R.remaining file trace.now why (W.contents out.old) (W.contents out.new)) (CheckFails R.remaining file trace.now) }
+{
+    let schedule = schedule_in(alloc, file)?;
+    let transcript = transcript_of_text(alloc, &schedule, trace)?;
+    let verdict = check(alloc, &transcript)?;
+    let mut reason = reason(alloc, why, &transcript, verdict)?;
+    let status = write_verdict(verdict, out)?;
+    send(&mut reason, out)?;
+    Ok(status)
+}
+
+/// The transcript over a schedule whose trace a text is.
+fn transcript_of_text<'a>(
+    alloc: Global,
+    schedule: &Schedule,
+    text: &[u8],
+) -> Result<Transcript, HekFault<'a>>
+    ensures { MatchResult result (λ told. IsTraceOf schedule.now told text.now) (TraceTextFails schedule.now text.now) }
+{
+    let Ok(text) = str::from_utf8(text) else {
+        return Err(HekFault::NotText);
+    };
+    match read_trace(alloc, schedule, text) {
+        Ok(transcript) => Ok(transcript),
+        Err(fault) => Err(HekFault::from(fault)),
+    }
+}
+
+fn write_verdict<'a, W: Write>(verdict: Verdict, out: &mut W) -> Result<u8, HekFault<'a>>
+    ensures ok { IfOk result (λ status. (status ≡ verdict_status verdict) × Appends (W.contents out.old) (W.contents out.new) (verdict_text verdict)) }
+    ensures err { IfErr result (λ fault. fault ≡ HekFault.CannotWrite) }
+{
+    let (status, written) = match verdict {
+        Verdict::Serial => (0, writeln!(out, "serial")),
+        Verdict::NotSerial(number) => (1, writeln!(out, "not serial {number}")),
+    };
+    match written {
+        Ok(()) => Ok(status),
+        Err(_) => Err(HekFault::CannotWrite),
+    }
+}
+
+/// What the event at fault would have been answered, where that is asked for.
+fn reason(
+    alloc: Global,
+    why: bool,
+    transcript: &Transcript,
+    verdict: Verdict,
+) -> Result<Vec<u8>, NoMemory>
+    ensures { IfOk result (λ text. text.items ≡ why_text why transcript.now verdict) }
+{
+    if !why {
+        return Ok(Vec::new(alloc));
+    }
+    match verdict {
+        Verdict::Serial => Ok(Vec::new(alloc)),
+        Verdict::NotSerial(number) => serial_line(alloc, transcript, number),
+    }
+}
+
+/// The line that says what the event with a number would have been answered.
+fn serial_line(alloc: Global, transcript: &Transcript, number: u64) -> Result<Vec<u8>, NoMemory>
+    ensures { IfOk result (λ line. line.items ≡ serial_line transcript.now number) }
+{
+    let reply = serial_reply(alloc, transcript, number.saturating_sub(1) as usize)?;
+    let mut sink = FromWrite::new(Vec::new(alloc));
+    match put_serial_line(&reply, &mut sink) {
+        Ok(()) => Ok(sink.into_inner()),
+        Err(_) => Err(NoMemory),
+    }
+}
+
+fn put_serial_line<S: Sink>(reply: &Option<Reply>, sink: &mut S) -> Result<(), WriteFault>
+    requires { S.failed sink.old ≡ false }
+    ensures ok { OnOk result (IsTrue (S.tells sink.old) → S.holds sink.new ≡ S.holds sink.old ++ (codes "serial reply: " ++ (reply_text reply.now ++ 10 ∷ []))) }
+    ensures tells { IsTrue (S.tells sink.old) → IsTrue (S.tells sink.new) }
+    ensures fails { S.failed sink.new ≡ is_err result }
+{
+    put_all(sink, b"serial reply: ")?;
+    put_reply_line(reply, sink)
+}
+
+fn put_reply_line<S: Sink>(reply: &Option<Reply>, sink: &mut S) -> Result<(), WriteFault>
+    requires { S.failed sink.old ≡ false }
+    ensures ok { OnOk result (IsTrue (S.tells sink.old) → S.holds sink.new ≡ S.holds sink.old ++ (reply_text reply.now ++ 10 ∷ [])) }
+    ensures tells { IsTrue (S.tells sink.old) → IsTrue (S.tells sink.new) }
+    ensures fails { S.failed sink.new ≡ is_err result }
+{
+    put_reply(reply, sink)?;
+    put_all(sink, b"\n")
+}
+
+fn put_reply<S: Sink>(reply: &Option<Reply>, sink: &mut S) -> Result<(), WriteFault>
+    requires { S.failed sink.old ≡ false }
+    ensures ok { OnOk result (IsTrue (S.tells sink.old) → S.holds sink.new ≡ S.holds sink.old ++ reply_text reply.now) }
+    ensures tells { IsTrue (S.tells sink.old) → IsTrue (S.tells sink.new) }
+    ensures fails { S.failed sink.new ≡ is_err result }
+{
+    match reply {
+        Some(reply) => write_reply(reply, sink),
+        None => put_all(sink, b"none"),
+    }
+}

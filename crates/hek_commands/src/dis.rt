@@ -1,0 +1,25 @@
+//! The command `dis`.
+ghost use Rattle.std.specs.Prelude.{◌≡◌, MatchResult};
+ghost use Rattle.hek_commands.specs.Judged.{Disassembles, PrintFails};
+
+use crate::fault::HekFault;
+use crate::schedule_file::{ScheduleFile, schedule_in};
+use hek_asm::canonical;
+use std::alloc::Global;
+use std::io::{Read, Write};
+
+/// Writes the canonical text of the schedule that a file says. The answer is the exit status.
+pub fn dis_command<'a, R: Read + Drop, W: Write>(
+    alloc: Global,
+    file: ScheduleFile<R>,
+    out: &mut W,
+) -> Result<u8, HekFault<'a>>
+    ensures { MatchResult result (λ status. (status ≡ 0) × Disassembles R.remaining file (W.contents out.old) (W.contents out.new)) (PrintFails R.remaining file) }
+{
+    let schedule = schedule_in(alloc, file)?;
+    let text = canonical(alloc, &schedule)?;
+    match out.write_all(text.as_bytes()) {
+        Ok(()) => Ok(0),
+        Err(_) => Err(HekFault::CannotWrite),
+    }
+}

@@ -1,0 +1,22 @@
+//! The commands of the program, over words, readers and writers that are handed in.
+#![tactic(auto)]
+
+mod asm;
+mod check;
+mod dis;
+mod fault;
+mod lines;
+mod release;
+mod run;
+mod schedule_file;
+mod state;
+mod word;
+
+pub use asm::asm_command;
+pub use check::check_command;
+pub use dis::dis_command;
+pub use fault::{HekFault, read_fault, report};
+pub use release::release_command;
+pub use run::{run_command, state_command};
+pub use schedule_file::{ScheduleFile, read_text};
+pub use word::{INPUT, word_command};

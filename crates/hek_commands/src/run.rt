@@ -1,0 +1,138 @@
+//! The command `run`.
+ghost use Rattle.std.specs.Prelude.{◌≡◌, ◌++◌, length, IfOk, IfErr, OnOk, MatchResult};
+ghost use Rattle.std.specs.List.{All, AllByRecursion};
+ghost use Rattle.std.specs.Io.KnownBytes.{Appends};
+ghost use Rattle.hek_rules.specs.Run.{run as run_of};
+ghost use Rattle.hek_laws.specs.Runs.{IsPlaced};
+ghost use Rattle.hek_asm.specs.Trace.{NamesDeclared, trace_line};
+ghost use Rattle.hek_machine.specs.Stands.{StandsFor};
+ghost use Rattle.hek_machine.specs.Observed.{opening_of};
+ghost use Rattle.hek_commands.specs.Judged.{PrintFails, IsStop};
+ghost use Rattle.hek_commands.specs.Ran.{Runs, RunsTo, ShowsState, trace_of, first_of};
+
+use crate::fault::HekFault;
+use crate::lines::{send, send_if_many};
+use crate::schedule_file::{ScheduleFile, schedule_in};
+use crate::state::{clock_line, state_lines};
+use hek_asm::write_line;
+use hek_machine::Machine;
+use hek_rules::{Event, FromWrite, NoMemory, Reply, Schedule};
+use std::alloc::Global;
+use std::io::{Read, Write};
+use std::mem;
+
+/// Runs the steps of the schedule that a file says, and writes their trace as it goes. The answer is the exit status.
+/// After a fault the lines of the steps before it may have been written.
+#[tactic(auto, using(hek_asm::proofs::RowLemmas::steps_declared, hek_machine::proofs::PlacedSteps::steps_placed))]
+pub fn run_command<'a, R: Read + Drop, W: Write>(
+    alloc: Global,
+    file: ScheduleFile<R>,
+    out: &mut W,
+) -> Result<u8, HekFault<'a>>
+    ensures { MatchResult result (λ status. (status ≡ 0) × Runs R.remaining file (W.contents out.old) (W.contents out.new)) (PrintFails R.remaining file) }
+{
+    let schedule = schedule_in(alloc, file)?;
+    // There is a bucket, and each step is one of this schedule.
+    let _ = schedule.buckets();
+    let _machine = write_run(alloc, &schedule, schedule.steps(), out)?;
+    Ok(0)
+}
+
+/// Runs the first steps of the schedule that a file says, as many as `limit` says or all of them, and writes their trace, the
+/// clock of the machine after them, and the rest of its state (`state_lines`). The answer is the exit status.
+pub fn state_command<'a, R: Read + Drop, W: Write>(
+    alloc: Global,
+    file: ScheduleFile<R>,
+    limit: Option<u64>,
+    out: &mut W,
+) -> Result<u8, HekFault<'a>>
+    ensures { MatchResult result (λ status. (status ≡ 0) × RunsTo R.remaining file limit (W.contents out.old) (W.contents out.new)) (PrintFails R.remaining file) }
+{
+    let schedule = schedule_in(alloc, file)?;
+    write_state(alloc, &schedule, limit, out)?;
+    Ok(0)
+}
+
+/// The same for a schedule.
+fn write_state<'a, W: Write>(
+    alloc: Global,
+    schedule: &Schedule,
+    limit: Option<u64>,
+    out: &mut W,
+) -> Result<(), HekFault<'a>>
+    ensures written { OnOk result (ShowsState schedule.now limit (W.contents out.old) (W.contents out.new)) }
+    ensures stops { IfErr result IsStop }
+{
+    // There is a bucket, and each step is one of this schedule.
+    let _ = schedule.buckets();
+    let steps = first_steps(schedule.steps(), limit);
+    let machine = write_run(alloc, schedule, steps, out)?;
+    let clock = machine.clock();
+    let mut line = clock_line(alloc, clock)?;
+    send(&mut line, out)?;
+    let mut lines = state_lines(alloc, schedule, &machine)?;
+    send(&mut lines, out)
+}
+
+/// So many steps at the front, or all of them.
+fn first_steps(steps: &[Event], limit: Option<u64>) -> &[Event]
+    ensures { result.now ≡ first_of limit steps.now }
+{
+    match limit {
+        None => steps,
+        Some(count) => {
+            if count < steps.len() as u64 {
+                &steps[..count as usize]
+            } else {
+                steps
+            }
+        }
+    }
+}
+
+/// Runs steps on the rows and transactions of a schedule, and writes their trace. The answer is the machine after them.
+fn write_run<'a, W: Write>(
+    alloc: Global,
+    schedule: &Schedule,
+    steps: &[Event],
+    out: &mut W,
+) -> Result<Machine, HekFault<'a>>
+    requires placed { All (IsPlaced schedule.now.buckets) steps.now }
+    requires declared { AllByRecursion (NamesDeclared (length schedule.now.txns)) steps.now }
+    ensures stands { IfOk result (λ m. StandsFor m (run_of (opening_of schedule.now 1) steps.now)) }
+    ensures written { OnOk result (Appends (W.contents out.old) (W.contents out.new) (trace_of schedule.now steps.now)) }
+    ensures stops { IfErr result IsStop }
+{
+    let mut machine = Machine::load(alloc, schedule)?;
+    let mut lines = Vec::new(alloc);
+    for place in 0..steps.len() {
+        let event = &steps[place];
+        let reply = machine.step(*event)?;
+        put_line(alloc, schedule, place as u64 + 1, event, &reply, &mut lines)?;
+        send_if_many(&mut lines, out)?;
+    }
+    send(&mut lines, out)?;
+    Ok(machine)
+}
+
+/// The line of an event and its reply comes behind the lines.
+fn put_line(
+    alloc: Global,
+    schedule: &Schedule,
+    number: u64,
+    event: &Event,
+    reply: &Reply,
+    lines: &mut Vec<u8>,
+) -> Result<(), NoMemory>
+    requires { NamesDeclared (length schedule.now.txns) event.now }
+    ensures { OnOk result (lines.new.items ≡ lines.old.items ++ trace_line schedule.now number event.now reply.now) }
+{
+    let mut sink = FromWrite::new(mem::replace(lines, Vec::new(alloc)));
+    match write_line(schedule, number, *event, reply, &mut sink) {
+        Ok(()) => {
+            *lines = sink.into_inner();
+            Ok(())
+        }
+        Err(_) => Err(NoMemory),
+    }
+}
