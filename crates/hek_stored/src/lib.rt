@@ -3,11 +3,11 @@
 #![tactic(auto)]
 
 mod agreement;
-mod compare;
-mod fault;
+mod comparison;
+mod faults;
+mod files;
 mod plain;
-mod stored;
 
-pub use compare::{Difference, compare};
-pub use fault::Fault;
-pub use stored::{Stored, Summary};
+pub use comparison::{Difference, compare};
+pub use faults::Fault;
+pub use files::{Stored, Summary};

@@ -1,6 +1,6 @@
 use Rattle.std.proofs.Common.{rules}
 use Rattle.hek_stored.proofs.Runs.{told_more}
-use Rattle.hek_stored.proofs.compare.transcript.Goals as goal
+use Rattle.hek_stored.proofs.comparison.transcript.Goals as goal
 
 pub loop-place-preserved : goal.loop-place-preserved
 loop-place-preserved c = record {

@@ -1,6 +1,6 @@
 use Rattle.std.proofs.Common.{◌≡◌, take}
 use Rattle.hek_machine.specs.Steps.{told_of}
-use Rattle.hek_stored.proofs.compare.transcript.Given as goal
+use Rattle.hek_stored.proofs.comparison.transcript.Given as goal
 
 -- the steps so far stand there with their replies
 abbrev pub invariant-loop-place : goal.invariant-loop-place

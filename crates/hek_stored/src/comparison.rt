@@ -5,8 +5,8 @@ ghost use Rattle.hek_image.specs.Schedules.{image};
 ghost use Rattle.hek_machine.specs.Steps.{told_of};
 
 use crate::agreement::checkers_agree;
-use crate::fault::Fault;
-use crate::stored::{Stored, Summary};
+use crate::faults::Fault;
+use crate::files::{Stored, Summary};
 use hek_asm::{assemble_text, canonical, write_trace};
 use hek_image::{load_image, write_image};
 use hek_machine::run;
