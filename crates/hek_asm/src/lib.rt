@@ -18,4 +18,4 @@ pub use laws::{canonical_text_is_exact, traces_are_exact};
 pub use reading::read_trace;
 pub use reply::write_reply;
 pub use schedule_text::canonical;
-pub use trace::{write_line, write_trace};
+pub use trace::{write_line, write_step, write_trace};

@@ -48,8 +48,12 @@ fn put_operands<S: Sink>(
     }
 }
 
-// A step, with a space before each word.
-fn put_step<S: Sink>(schedule: &Schedule, event: &Event, sink: &mut S) -> Result<(), WriteFault>
+/// Writes a step as it stands in a trace, with a space before each word.
+pub fn write_step<S: Sink>(
+    schedule: &Schedule,
+    event: &Event,
+    sink: &mut S,
+) -> Result<(), WriteFault>
     requires works { S.failed sink.old ≡ false }
     requires declared { NamesDeclared (length schedule.now.txns) event.now }
     ensures ok { OnOk result (IsTrue (S.tells sink.old) → S.holds sink.new ≡ S.holds sink.old ++ spaced (step_words schedule.now event.now)) }
@@ -78,7 +82,7 @@ pub fn write_line<S: Sink>(
     ensures fails { S.failed sink.new ≡ is_err result }
 {
     put_number(number, sink)?;
-    put_step(schedule, &event, sink)?;
+    write_step(schedule, &event, sink)?;
     put_text(" -> ", sink)?;
     write_reply(reply, sink)?;
     put_text("\n", sink)

@@ -22,6 +22,8 @@ struct ArgumentText {
 enum Form {
     /// A word in its place.
     Word,
+    /// A word in its place, or none.
+    MaybeWord,
     /// Words in their place, one at least.
     Words,
     /// `--name`.
@@ -136,7 +138,22 @@ const CHECK: CommandText = CommandText {
     ],
 };
 
-const COMMANDS: &[CommandText] = &[RELEASE, WORD, ASM, DIS, RUN, CHECK];
+const DEBUG: CommandText = CommandText {
+    name: "debug",
+    about: "Does the steps of a schedule one by one, up to breakpoints and watches, and back",
+    example: "Commands, one a line:\n  step N             N steps\n  run                steps until a breakpoint or a watch fits\n  back N             N steps back\n  break at N         stops after step N\n  break event EVENT  stops after each event of a kind, as update\n  break txn NAME     stops after each event of a transaction\n  watch begin V      stops where the Begin word of version V changes\n  watch end V        the same for its End word\n  watch waits NAME   stops where the number that a transaction waits for changes\n  clear              forgets all breakpoints and watches\nWithout COMMANDS they are read from standard input, and each is answered at once; there `help` lists them, with the questions that only such a session has.\n\nExample:\n  hek debug --text first.txt\nWhere first.txt has the lines\n  buckets 1\n  row 10 100\n  txn a serializable\n  a begin\n  a read 10\nthe commands\n  watch end 0\n  run\nare answered with\n  at 0 set 1\n  1 end 0 7FFFFFFFFFFFFFFF\n  at 2 break 1 -> found 100\n  1 end 0 807FFFFFFFFFFFFF",
+    arguments: &[
+        FILE,
+        ArgumentText {
+            name: "COMMANDS",
+            help: "a text of commands, or - for standard input",
+            form: Form::MaybeWord,
+        },
+        TEXT,
+    ],
+};
+
+const COMMANDS: &[CommandText] = &[RELEASE, WORD, ASM, DIS, RUN, DEBUG, CHECK];
 
 /// Reads the words of a command line, the program's name first.
 pub fn read_words<'a, S: AsStr>(alloc: Global, words: &'a [S]) -> Result<ArgMatches<'a>, Error> {
@@ -172,6 +189,7 @@ fn argument_of<'a>(alloc: Global, text: &ArgumentText) -> Arg<'a> {
     let argument = Arg::new(alloc, text.name).help(text.help);
     match text.form {
         Form::Word => argument.required(true),
+        Form::MaybeWord => argument,
         Form::Words => argument.required(true).num_args(1..),
         Form::Flag => argument.long(text.name).action(ArgAction::SetTrue),
         Form::Number => argument.long(text.name).value_name("N"),

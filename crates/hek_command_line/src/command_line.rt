@@ -4,25 +4,26 @@ use crate::disk::{Disk, InputFile, LateFile, open};
 use clap::error::ErrorKind as ClapKind;
 use clap::{ArgMatches, Error};
 use hek_commands::{
-    HekFault, ScheduleFile, asm_command, check_command, dis_command, read_text, release_command,
-    report, run_command, state_command, word_command,
+    HekFault, INPUT, ScheduleFile, asm_command, check_command, dis_command, read_text,
+    release_command, report, run_command, state_command, word_command,
 };
+use hek_debug_commands::{debug_command, debug_session};
 use hek_rules::number;
 use std::alloc::Global;
 use std::convert::AsStr;
 use std::env;
 use std::env::Env;
-use std::io::{ErrorKind, Read, Write};
+use std::io::{ErrorKind, IsTerminal, Read, Write};
 
 /// Does what the program's arguments ask for, with the files of `disk`, reads `input` where they say `-`, writes to `out`
 /// and `faults`, and answers the exit status: 0, or 1 after a fault, or 2 for a bad command line.
-pub fn program<R: Env + Alloc<A = Global>, D: Disk, I: Read + Drop, W: Write, E: Write>(
-    rt: &R,
-    disk: &D,
-    input: I,
-    out: &mut W,
-    faults: &mut E,
-) -> u8 {
+pub fn program<
+    R: Env + Alloc<A = Global>,
+    D: Disk,
+    I: Read + IsTerminal + Drop,
+    W: Write,
+    E: Write,
+>(rt: &R, disk: &D, input: I, out: &mut W, faults: &mut E) -> u8 {
     match words_of(rt) {
         Ok(words) => answer(rt.alloc(), words.as_slice(), disk, input, out, faults),
         Err(fault) => report(fault, faults),
@@ -44,7 +45,7 @@ fn fault_of<'a>(kind: ErrorKind) -> HekFault<'a> {
 }
 
 /// Does what these words ask for, the program's name first.
-pub fn answer<S: AsStr, D: Disk, I: Read + Drop, W: Write, E: Write>(
+pub fn answer<S: AsStr, D: Disk, I: Read + IsTerminal + Drop, W: Write, E: Write>(
     alloc: Global,
     words: &[S],
     disk: &D,
@@ -56,7 +57,7 @@ pub fn answer<S: AsStr, D: Disk, I: Read + Drop, W: Write, E: Write>(
         Ok(matches) => matches,
         Err(error) => return refuse(&error, out, faults),
     };
-    match run(alloc, &matches, disk, input, out) {
+    match run(alloc, &matches, disk, input, out, faults) {
         Ok(status) => status,
         Err(fault) => report(fault, faults),
     }
@@ -78,12 +79,13 @@ fn refuse<W: Write, E: Write>(error: &Error, out: &mut W, faults: &mut E) -> u8 
     }
 }
 
-fn run<'a, D: Disk, I: Read + Drop, W: Write>(
+fn run<'a, D: Disk, I: Read + IsTerminal + Drop, W: Write, E: Write>(
     alloc: Global,
     matches: &ArgMatches<'a>,
     disk: &D,
     input: I,
     out: &mut W,
+    faults: &mut E,
 ) -> Result<u8, HekFault<'a>> {
     match matches.subcommand() {
         Some(("release", found)) => release_command(
@@ -95,6 +97,7 @@ fn run<'a, D: Disk, I: Read + Drop, W: Write>(
         Some(("asm", found)) => asm(alloc, found, disk, input),
         Some(("dis", found)) => dis(alloc, found, disk, input, out),
         Some(("run", found)) => run_schedule(alloc, found, disk, input, out),
+        Some(("debug", found)) => debug(alloc, found, disk, input, out, faults),
         Some(("check", found)) => check(alloc, found, disk, input, out),
         _ => Err(HekFault::BadArgument),
     }
@@ -150,6 +153,29 @@ fn state_at<'a>(found: &ArgMatches<'a>) -> Result<Option<u64>, HekFault<'a>> {
             Some(count) => Ok(Some(count)),
             None => Err(HekFault::BadArgument),
         },
+    }
+}
+
+fn debug<'a, D: Disk, I: Read + IsTerminal + Drop, W: Write, E: Write>(
+    alloc: Global,
+    found: &ArgMatches<'a>,
+    disk: &D,
+    input: I,
+    out: &mut W,
+    faults: &mut E,
+) -> Result<u8, HekFault<'a>> {
+    let prompts = input.is_terminal();
+    let mut input = Some(input);
+    let file = schedule_file(alloc, found, disk, &mut input)?;
+    match found.get_str("COMMANDS") {
+        Some(name) => {
+            let commands = read_text(alloc, open(disk, &mut input, name)?, name)?;
+            debug_command(alloc, file, commands.as_slice(), out)
+        }
+        None => {
+            let typed = open(disk, &mut input, INPUT)?;
+            debug_session(alloc, file, typed, prompts, out, faults)
+        }
     }
 }
 

@@ -30,6 +30,9 @@ pub enum HekFault<'a> {
     /// The first line that no trace has there, by its number.
     #[error("hek: trace line {0}")]
     TraceLine(u64),
+    /// The first line that is no command of the debugger, by its number.
+    #[error("hek: command line {0}")]
+    CommandLine(u64),
     #[error("hek: not text")]
     NotText,
     /// A file, by its name on the command line, that can't be opened or read.
@@ -54,6 +57,7 @@ impl HekFault<'_> {
             | HekFault::Line { .. }
             | HekFault::Image(_)
             | HekFault::TraceLine(_)
+            | HekFault::CommandLine(_)
             | HekFault::NotText
             | HekFault::CannotRead(_)
             | HekFault::CannotWrite

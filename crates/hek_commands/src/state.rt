@@ -63,7 +63,8 @@ fn put(written: io::Result<()>) -> Result<(), NoMemory> {
     }
 }
 
-fn put_version(machine: &Machine, v: VersionId, lines: &mut Vec<u8>) -> Result<(), NoMemory> {
+/// The line of a version comes behind the lines: its row and what its two words say.
+pub fn put_version(machine: &Machine, v: VersionId, lines: &mut Vec<u8>) -> Result<(), NoMemory> {
     let index = v.index();
     if let Some(key) = machine.key_of(v) {
         put(write!(lines, "version {index}: key {key}"))?;
@@ -82,7 +83,8 @@ fn put_version(machine: &Machine, v: VersionId, lines: &mut Vec<u8>) -> Result<(
     put(writeln!(lines))
 }
 
-fn put_txn(
+/// The line of a transaction comes behind the lines: its fields and lists.
+pub fn put_txn(
     schedule: &Schedule,
     machine: &Machine,
     t: TxnId,

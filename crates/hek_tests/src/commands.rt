@@ -1,9 +1,11 @@
 ghost use Rattle.std.specs.Prelude.{◌≤◌, length, IfOk};
 
+mod debugs;
 mod files;
 mod rows;
 mod runs;
 mod states;
+mod typed;
 
 use crate::asserts::is;
 use files::MemoryDisk;
@@ -17,6 +19,7 @@ use std::cell::RefCell;
 use std::env::{Env, FillError};
 use std::process::Abort;
 use std::test::Fail;
+use typed::Typed;
 
 // The status, what is printed, and the faults of a command line.
 fn ran(alloc: Global, words: &[&str]) -> Result<(u8, String, String), AllocError> {
@@ -35,6 +38,16 @@ fn ran_in(
     words: &[&str],
     disk: &MemoryDisk<'_>,
     input: &[u8],
+) -> Result<(u8, String, String), AllocError> {
+    ran_typed(alloc, words, disk, Typed::new(input, false))
+}
+
+// The same, where the input may be a terminal.
+fn ran_typed(
+    alloc: Global,
+    words: &[&str],
+    disk: &MemoryDisk<'_>,
+    input: Typed<'_>,
 ) -> Result<(u8, String, String), AllocError> {
     let mut out = Vec::new(alloc);
     let mut faults = Vec::new(alloc);
@@ -145,6 +158,7 @@ const HELPS: &[(&[&str], &str)] = &[
     ),
     (&["hek", "asm", "--help"], "hek asm first.txt first.hek"),
     (&["hek", "dis", "--help"], "hek dis first.hek"),
+    (&["hek", "debug", "--help"], "watch waits NAME"),
     (&["hek", "check", "--help"], "hek check first.hek trace.txt"),
 ];
 
@@ -177,7 +191,7 @@ fn tells_of_an_output_that_fails(rt: HostRuntime) -> Result<(), Fail> {
         rt.alloc(),
         words.as_slice(),
         &MemoryDisk::new(rt.alloc(), &[], &created),
-        b"".as_slice(),
+        Typed::new(b"", false),
         &mut out,
         &mut faults,
     );
@@ -237,7 +251,13 @@ fn refuses_arguments_that_are_no_text(rt: HostRuntime) -> Result<(), Fail> {
     let mut faults = Vec::new(rt.alloc());
     let created = RefCell::new(None);
     let disk = MemoryDisk::new(rt.alloc(), &[], &created);
-    let status = program(&system, &disk, b"".as_slice(), &mut out, &mut faults);
+    let status = program(
+        &system,
+        &disk,
+        Typed::new(b"", false),
+        &mut out,
+        &mut faults,
+    );
     is(&rt, status, 2);
     is(&rt, out.as_slice(), b"".as_slice());
     is(&rt, faults.as_slice(), b"hek: bad argument\n".as_slice());
@@ -284,6 +304,7 @@ const FAULTS: &[(HekFault<'static>, u8, &str)] = &[
     ),
     (HekFault::Image(LoadFault::Read), 1, "hek: image: 6 Read\n"),
     (HekFault::TraceLine(2), 1, "hek: trace line 2\n"),
+    (HekFault::CommandLine(2), 1, "hek: command line 2\n"),
     (HekFault::NotText, 1, "hek: not text\n"),
     (HekFault::CannotRead("x.hek"), 1, "hek: cannot read x.hek\n"),
     (HekFault::CannotWrite, 1, "hek: cannot write\n"),

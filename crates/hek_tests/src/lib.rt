@@ -14,6 +14,8 @@ mod commit;
 #[cfg(test)]
 mod deadlock;
 #[cfg(test)]
+mod debug;
+#[cfg(test)]
 mod image;
 #[cfg(test)]
 mod locks;

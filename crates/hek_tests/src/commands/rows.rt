@@ -1,17 +1,19 @@
 //! What must come of command lines.
 use super::files::MemoryDisk;
-use super::{ran, ran_in};
+use super::typed::Typed;
+use super::{ran, ran_in, ran_typed};
 use std::alloc::{AllocError, Global};
 use std::cell::RefCell;
 use std::process::Abort;
 
-/// A command line over files and an input; and its status, what it prints, its faults, and the bytes of the file that it
+/// A command line over files and an input, which may be a terminal; and its status, what it prints, its faults, and the bytes of the file that it
 /// creates, if any.
 #[derive(Clone, Copy)]
 pub struct Row<'a> {
     pub words: &'a [&'a str],
     pub files: &'a [(&'a str, &'a [u8])],
     pub input: &'a [u8],
+    pub is_terminal: bool,
     pub status: u8,
     pub out: &'a str,
     pub faults: &'a str,
@@ -23,6 +25,7 @@ pub const QUIET: Row<'static> = Row {
     words: &[],
     files: &[],
     input: b"",
+    is_terminal: false,
     status: 0,
     out: "",
     faults: "",
@@ -71,7 +74,8 @@ pub fn assert_says(
 fn assert_row(rt: &impl Abort, alloc: Global, row: &Row<'_>) -> Result<(), AllocError> {
     let created = RefCell::new(None);
     let disk = MemoryDisk::new(alloc, row.files, &created);
-    let said = ran_in(alloc, row.words, &disk, row.input)?;
+    let input = Typed::new(row.input, row.is_terminal);
+    let said = ran_typed(alloc, row.words, &disk, input)?;
     assert_said(rt, row.words, &said, (row.status, row.out, row.faults));
     assert_created(rt, created.into_inner(), row.created);
     Ok(())

@@ -1,0 +1,2 @@
+mod Sending
+mod StopTexts

@@ -1,0 +1,19 @@
+-- What is written command by command, and what is still to come.
+use Rattle.std.proofs.Common.{ℕ, List, [], ◌++◌, ◌∙◌, ap, sym, append_assoc, Option, Some, None}
+use Rattle.std.proofs.lemmas.List.{append-nil}
+use Rattle.std.specs.Io.KnownBytes.{Appends}
+use Rattle.hek_commands.specs.Sent.{Passes}
+
+-- the next of the lines that are still to come goes out
+pub passes-next : (b n m : Option (List ℕ)) (whole line rest : List ℕ) → Passes b whole n (line ++ rest) → Appends n m line → Passes b whole m rest
+passes-next None n m whole line rest p q = tt
+passes-next (Some held) None m whole line rest p q = absurd p
+passes-next (Some held) (Some now) None whole line rest p q = absurd q
+passes-next (Some held) (Some now) (Some then) whole line rest p q =
+    ap (λ (xs : List ℕ). xs ++ rest) q ∙ append_assoc now line rest ∙ p
+
+-- no line is still to come
+pub passes-over : (b n : Option (List ℕ)) (whole : List ℕ) → Passes b whole n [] → Appends b n whole
+passes-over None n whole p = tt
+passes-over (Some held) None whole p = absurd p
+passes-over (Some held) (Some now) whole p = sym (append-nil now) ∙ p

@@ -1,0 +1,206 @@
+//! Answers to the questions of a session.
+ghost use Rattle.std.specs.Prelude.{length};
+ghost use Rattle.std.specs.List.{AllByRecursion};
+ghost use Rattle.hek_asm.specs.Trace.{NamesDeclared};
+
+use crate::question::Question;
+use crate::stop_text::{put_name, put_number, put_text};
+use hek_asm::write_step;
+use hek_commands::{clock_line, put_txn, put_version, state_lines};
+use hek_debug::{Debugger, Mark};
+use hek_machine::Machine;
+use hek_rules::{Event, FromWrite, NoMemory, Schedule, TxnId, VersionId};
+use std::alloc::Global;
+use std::io::Write;
+use std::mem;
+
+/// So many steps are listed before the position, and behind it.
+const ROUND: u64 = 5;
+
+const HELP: &str = "commands:
+  step N              N steps on, as in step 1
+  run                 on until a breakpoint or a watch fits, or to the end
+  back N              N steps back, as in back 2
+  break at N          run stops after step N, as in break at 4
+  break event EVENT   run stops after each event of a kind, as in break event update
+  break txn NAME      run stops after each event of a transaction, as in break txn b
+  watch begin V       run stops where the Begin word of a version changes, as in watch begin 1
+  watch end V         the same for its End word, as in watch end 0
+  watch waits NAME    run stops where the number that a transaction waits for changes, as in watch waits b
+  clear               no more breakpoints and watches
+questions:
+  show                the whole state: the clock, versions, transactions and locked buckets
+  show txn NAME       a transaction, as in show txn b
+  show version V      a version, as in show version 0
+  show key K          the versions of a key, as in show key 10
+  list                the steps round the position, the next one marked with =>
+  marks               the breakpoints and watches, as they were set
+  help                this
+  quit                the end of the session
+";
+
+/// The answer to a question comes behind the lines. `quit` has none.
+pub(crate) fn put_answer(
+    alloc: Global,
+    debugger: &Debugger,
+    question: Question,
+    lines: &mut Vec<u8>,
+) -> Result<(), NoMemory> {
+    let machine = debugger.machine();
+    match question {
+        Question::State => put_state(alloc, debugger, lines),
+        Question::Txn(t) => put_one_txn(debugger.schedule(), machine, t, lines),
+        Question::Version(v) => put_one_version(machine, v, lines),
+        Question::Key(key) => put_key(machine, key, lines),
+        Question::Steps => put_steps(alloc, debugger, lines),
+        Question::Marks => put_marks(debugger, lines),
+        Question::Help => put_text(HELP, lines),
+        Question::Quit => Ok(()),
+    }
+}
+
+/// The state as `hek run --state` prints it.
+fn put_state(alloc: Global, debugger: &Debugger, lines: &mut Vec<u8>) -> Result<(), NoMemory> {
+    let machine = debugger.machine();
+    let clock = clock_line(alloc, machine.clock())?;
+    lines.extend_from_slice(clock.as_slice())?;
+    let state = state_lines(alloc, debugger.schedule(), machine)?;
+    lines.extend_from_slice(state.as_slice())?;
+    Ok(())
+}
+
+fn put_one_txn(
+    schedule: &Schedule,
+    machine: &Machine,
+    t: TxnId,
+    lines: &mut Vec<u8>,
+) -> Result<(), NoMemory> {
+    if t.number() == 0 || t.number() > schedule.txn_count() as u64 {
+        return Ok(());
+    }
+    put_txn(schedule, machine, t, lines)
+}
+
+fn put_one_version(machine: &Machine, v: VersionId, lines: &mut Vec<u8>) -> Result<(), NoMemory> {
+    if v.index() < machine.versions() as u64 {
+        return put_version(machine, v, lines);
+    }
+    put_none("version ", v.index(), lines)
+}
+
+/// That there is nothing of this number.
+fn put_none(label: &str, number: u64, lines: &mut Vec<u8>) -> Result<(), NoMemory> {
+    put_text(label, lines)?;
+    put_number(number, lines)?;
+    put_text(": none\n", lines)
+}
+
+/// The versions of a key, oldest first.
+fn put_key(machine: &Machine, key: u64, lines: &mut Vec<u8>) -> Result<(), NoMemory> {
+    let mut is_there = false;
+    for index in 0..machine.versions() {
+        let v = VersionId::new(index as u64);
+        if machine.key_of(v) == Some(key) {
+            put_version(machine, v, lines)?;
+            is_there = true;
+        }
+    }
+    if is_there {
+        return Ok(());
+    }
+    put_none("key ", key, lines)
+}
+
+#[tactic(auto, using(hek_asm::proofs::RowLemmas::steps_declared))]
+fn put_steps(alloc: Global, debugger: &Debugger, lines: &mut Vec<u8>) -> Result<(), NoMemory> {
+    let schedule = debugger.schedule();
+    // Each step is one of this schedule.
+    let _ = schedule.buckets();
+    put_round(alloc, schedule, schedule.steps(), debugger.at(), lines)
+}
+
+/// The steps round a position, each with its number, and a mark at the one that is next.
+fn put_round(
+    alloc: Global,
+    schedule: &Schedule,
+    steps: &[Event],
+    at: u64,
+    lines: &mut Vec<u8>,
+) -> Result<(), NoMemory>
+    requires { AllByRecursion (NamesDeclared (length schedule.now.txns)) steps.now }
+{
+    let last = at.saturating_add(ROUND).min(steps.len() as u64);
+    for place in at.saturating_sub(ROUND)..last {
+        let front = if place == at { "=> " } else { "   " };
+        put_text(front, lines)?;
+        put_step(alloc, schedule, place + 1, &steps[place as usize], lines)?;
+    }
+    if last == at {
+        return put_text("=> end\n", lines);
+    }
+    Ok(())
+}
+
+/// A step behind its number.
+fn put_step(
+    alloc: Global,
+    schedule: &Schedule,
+    number: u64,
+    event: &Event,
+    lines: &mut Vec<u8>,
+) -> Result<(), NoMemory>
+    requires { NamesDeclared (length schedule.now.txns) event.now }
+{
+    put_number(number, lines)?;
+    let mut sink = FromWrite::new(mem::replace(lines, Vec::new(alloc)));
+    if write_step(schedule, event, &mut sink).is_err() {
+        return Err(NoMemory);
+    }
+    *lines = sink.into_inner();
+    put_text("\n", lines)
+}
+
+/// Each breakpoint and watch, as the command that set it says it.
+fn put_marks(debugger: &Debugger, lines: &mut Vec<u8>) -> Result<(), NoMemory> {
+    let marks = debugger.marks();
+    if marks.is_empty() {
+        return put_text("none\n", lines);
+    }
+    for place in 0..marks.len() {
+        put_number(place as u64 + 1, lines)?;
+        put_mark(debugger.schedule(), marks[place], lines)?;
+        put_text("\n", lines)?;
+    }
+    Ok(())
+}
+
+fn put_mark(schedule: &Schedule, mark: Mark, lines: &mut Vec<u8>) -> Result<(), NoMemory> {
+    match mark {
+        Mark::At(position) => put_numbered(" break at ", position, lines),
+        Mark::OnEvent(kind) => put_named(" break event ", kind.word(), lines),
+        Mark::OnTxn(t) => put_of_txn(schedule, " break txn ", t, lines),
+        Mark::WatchBegin(v) => put_numbered(" watch begin ", v.index(), lines),
+        Mark::WatchEnd(v) => put_numbered(" watch end ", v.index(), lines),
+        Mark::WatchWaits(t) => put_of_txn(schedule, " watch waits ", t, lines),
+    }
+}
+
+fn put_numbered(label: &str, number: u64, lines: &mut Vec<u8>) -> Result<(), NoMemory> {
+    put_text(label, lines)?;
+    put_number(number, lines)
+}
+
+fn put_named(label: &str, name: &str, lines: &mut Vec<u8>) -> Result<(), NoMemory> {
+    put_text(label, lines)?;
+    put_text(name, lines)
+}
+
+fn put_of_txn(
+    schedule: &Schedule,
+    label: &str,
+    t: TxnId,
+    lines: &mut Vec<u8>,
+) -> Result<(), NoMemory> {
+    put_text(label, lines)?;
+    put_name(schedule, t, lines)
+}

@@ -1,0 +1,71 @@
+//! What a session is asked beside the debugger's commands.
+use hek_rules::{Schedule, TxnId, VersionId, next_word, number};
+
+/// A question to a session. None of them changes where the debugger stands.
+#[derive(Clone, Copy, Debug, PartialEq, Eq)]
+pub(crate) enum Question {
+    /// The whole state of the machine.
+    State,
+    Txn(TxnId),
+    Version(VersionId),
+    /// The versions of a key.
+    Key(u64),
+    /// The steps round the position.
+    Steps,
+    /// The breakpoints and watches.
+    Marks,
+    Help,
+    /// Whether that's all.
+    Quit,
+}
+
+/// The question that a line is, over the names of a schedule, if it is one.
+pub(crate) fn read_question(schedule: &Schedule, line: &[u8]) -> Option<Question> {
+    let (word, rest) = next_word(line)?;
+    if word == b"show".as_slice() {
+        return shown(schedule, rest);
+    }
+    let question = alone(word)?;
+    match next_word(rest) {
+        Some(_) => None,
+        None => Some(question),
+    }
+}
+
+/// The question that is one word.
+fn alone(word: &[u8]) -> Option<Question> {
+    if word == b"list".as_slice() {
+        return Some(Question::Steps);
+    }
+    if word == b"marks".as_slice() {
+        return Some(Question::Marks);
+    }
+    if word == b"help".as_slice() {
+        return Some(Question::Help);
+    }
+    if word == b"quit".as_slice() {
+        return Some(Question::Quit);
+    }
+    None
+}
+
+/// What the words behind `show` ask for.
+fn shown(schedule: &Schedule, line: &[u8]) -> Option<Question> {
+    let Some((what, rest)) = next_word(line) else {
+        return Some(Question::State);
+    };
+    let (operand, rest) = next_word(rest)?;
+    if next_word(rest).is_some() {
+        return None;
+    }
+    if what == b"txn".as_slice() {
+        return Some(Question::Txn(schedule.id_of(operand)?));
+    }
+    if what == b"version".as_slice() {
+        return Some(Question::Version(VersionId::new(number(operand)?)));
+    }
+    if what == b"key".as_slice() {
+        return Some(Question::Key(number(operand)?));
+    }
+    None
+}
