@@ -112,6 +112,15 @@ impl EndWord {
         }
     }
 
+    /// The word of a number that is known to be one. It costs nothing, where [`EndWord::read`] looks at each field.
+    #[tactic(auto, using(crate::specs::WordLemmas::end_number_record, crate::specs::WordLemmas::end_record_number))]
+    pub fn from_bits(number: u64) -> EndWord
+        requires { (w : EndRecord) × IsEnd w × (end_number w ≡ number) }
+        ensures { IsEnd result × (end_number result ≡ number) }
+    {
+        EndWord { number }
+    }
+
     /// The number of the word.
     #[tactic(auto, using(crate::specs::WordLemmas::end_number_record))]
     pub fn bits(self) -> u64

@@ -1,0 +1,74 @@
+/* The two words of a version of MV/L, as hek_word reads and changes them.
+ *
+ * A function takes words as numbers and keeps nothing. None asks anything of its caller: of a number that is no word, or a
+ * change that its lock doesn't allow, it says so. Changes aren't atomic: an engine loads a word, computes the new one, and
+ * exchanges the two.
+ */
+#ifndef HEK_H
+#define HEK_H
+
+#include <stdbool.h>
+#include <stdint.h>
+
+#ifdef __cplusplus
+extern "C" {
+#endif
+
+/* No time: what hek_begin_time and hek_end_time answer where the word holds none. */
+#define HEK_NO_TIME UINT64_MAX
+
+/* Begin words: a time, 0 to 2^63 - 1, or a transaction, 1 to 2^54 - 2. */
+
+bool hek_is_begin(uint64_t number);
+uint64_t hek_begin_time(uint64_t number); /* HEK_NO_TIME: none */
+uint64_t hek_begin_txn(uint64_t number);  /* 0: none */
+
+/* End words: a time, 0 to 2^63 - 1, or a record lock. The time 2^63 - 1 is infinity, the word of the latest version while
+ * nobody holds it. Of a number that is no End word there is no time, reader, writer or flag. */
+
+bool hek_is_end(uint64_t number);
+uint64_t hek_end_time(uint64_t number);  /* HEK_NO_TIME: none */
+uint64_t hek_readers(uint64_t number);   /* ReadLockCount, 0 to 255 */
+uint64_t hek_writer(uint64_t number);    /* WriteLock; 0: none */
+bool hek_no_more_reads(uint64_t number); /* NoMoreReadLocks */
+
+/* Changes of a record lock: the new word, which is never 0, or 0 where the number is no End word or the change isn't
+ * allowed. */
+
+uint64_t hek_infinity(void);
+
+/* Not of a time before infinity, nor of a lock with NoMoreReadLocks or 255 readers. */
+uint64_t hek_add_reader(uint64_t number);
+
+/* Not of a word without reader. Where the last reader goes, the new word is infinity, or its writer stands alone in it
+ * under NoMoreReadLocks, and waits for no reader of this version any more. */
+uint64_t hek_drop_reader(uint64_t number);
+
+/* Not of a time before infinity or a lock with a writer, nor for a txn beside 1 to 2^54 - 2. */
+uint64_t hek_take_writer(uint64_t number, uint64_t txn);
+
+/* Not of a word without writer. NoMoreReadLocks goes with it. */
+uint64_t hek_clear_writer(uint64_t number);
+
+enum hek_status {
+    HEK_RELEASED = 0,
+    HEK_NO_READER = 1, /* the word has no reader */
+    HEK_BAD_WAITS = 2, /* the last reader goes under a writer that is said to wait for nobody */
+    HEK_NO_WORD = 3    /* the number is no End word */
+};
+
+struct hek_release {
+    uint64_t word;
+    uint64_t waits;
+    uint32_t status;
+};
+
+/* Gives up one read lock of a word whose writer waits for so many others. Word and waits are the new ones where it is
+ * released, else those that were given. The waits fall by one where the last reader goes under a writer. */
+struct hek_release hek_release(uint64_t number, uint64_t waits);
+
+#ifdef __cplusplus
+}
+#endif
+
+#endif

@@ -1,0 +1,25 @@
+//! The words, and the seats of the threads that share them.
+ghost use Rattle.std.specs.Prelude.{◌≡◌, ◌<◌, []};
+
+use crate::rule::Counted;
+use crate::view::{Change, View};
+use atomic_table::Table;
+use std::alloc::Global;
+
+/// Record locks that threads share. Each is infinity, the word of a version that nobody holds, or a lock; its
+/// ReadLockCount is the number of seats that hold its read token, and its WriteLock the ID under which a seat holds its
+/// write token.
+#[derive(Drop)]
+pub struct LiveWords {
+    pub(crate) table: Table<Change, View, usize, Counted, Global>,
+    ghost counted: { table.shared.key ≡ table.shared.table_id.words },
+    ghost some: { 0 < table.shared.table_id.words },
+}
+
+/// What one thread steps on the words with, and the tokens that it holds, in no bytes at all. A seat that is let go keeps
+/// its tokens for ever.
+#[derive(Drop)]
+pub struct Seat {
+    pub(crate) seat: atomic_table::Seat<Change, View>,
+    ghost bare: { seat.me.1 ≡ [] },
+}

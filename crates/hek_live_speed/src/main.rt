@@ -1,0 +1,44 @@
+//! Prints how fast read tokens are taken and given up: by one thread, beside the same steps on raw words, and by more
+//! threads, on one word and on words of their own. Its argument is how often each thread does so. Times go to standard
+//! error, so that standard output says the same at any speed.
+#![tactic(auto)]
+
+ghost use Rattle.std.specs.Prelude.{◌≤◌, IfOk};
+
+mod alone;
+mod crowd;
+mod rate;
+
+use std::env;
+use std::env::Env;
+use std::io;
+
+/// Enough for the gate.
+const TURNS: u64 = 1_000;
+
+/// No thread makes more turns than so many.
+const MOST_TURNS: u64 = 1_000_000_000;
+
+// The argument, if there is one.
+fn given_turns<R: Env + Alloc>(rt: &R) -> io::Result<u64>
+    ensures { IfOk result (λ turns. turns ≤ 1000000000) }
+{
+    let Some(word) = env::args(rt)?.nth(1) else {
+        return Ok(TURNS);
+    };
+    match word.parse::<u64>() {
+        Ok(turns) if turns <= MOST_TURNS => Ok(turns),
+        _ => Err(io::ErrorKind::InvalidInput.into()),
+    }
+}
+
+fn main(rt: HostRuntime) -> io::Result<()> {
+    let turns = given_turns(&rt)?;
+    println!(rt; "{turns} turns of each thread")?;
+    alone::compare(&rt, rt.alloc(), turns)?;
+    for threads in [2, 4, 8] {
+        crowd::measure(&rt, rt.alloc(), threads, 0, turns)?;
+        crowd::measure(&rt, rt.alloc(), threads, crowd::APART, turns)?;
+    }
+    Ok(())
+}

@@ -1,0 +1,138 @@
+/* An engine's own lock words beside the proved ones of hek_c. It checks rows worked by hand, and says at last how many there
+ * were, or which failed. Its exit status is 0 where all held. */
+#include "hek.h"
+
+#include <inttypes.h>
+#include <stddef.h>
+#include <stdio.h>
+
+static int rows = 0;
+static int failures = 0;
+
+static void is(const char *what, uint64_t number, uint64_t got, uint64_t want) {
+    rows++;
+    if (got != want) {
+        failures++;
+        printf("%s of %016" PRIX64 ": %016" PRIX64 " and not %016" PRIX64 "\n", what, number, got, want);
+    }
+}
+
+/* What an End word says. */
+struct reading {
+    uint64_t number;
+    bool is_end, is_begin;
+    uint64_t end_time, readers, writer;
+    bool no_more_reads;
+    uint64_t begin_time, begin_txn;
+};
+
+static const struct reading readings[] = {
+    /* locks: readers, writer, flag */
+    {0x8040000000000002, true, false, HEK_NO_TIME, 1, 2, false, HEK_NO_TIME, 0},
+    {0xC000000000000002, true, false, HEK_NO_TIME, 0, 2, true, HEK_NO_TIME, 0},
+    {0xBFFFFFFFFFFFFFFF, true, false, HEK_NO_TIME, 255, 0, false, HEK_NO_TIME, 0},
+    {0x807FFFFFFFFFFFFF, true, false, HEK_NO_TIME, 1, 0, false, HEK_NO_TIME, 0},
+    /* a writer without readers has the number of a Begin word that names it */
+    {0x8000000000000002, true, true, HEK_NO_TIME, 0, 2, false, HEK_NO_TIME, 2},
+    /* times */
+    {0x0000000000000002, true, true, 2, 0, 0, false, 2, 0},
+    {0x7FFFFFFFFFFFFFFF, true, true, 0x7FFFFFFFFFFFFFFF, 0, 0, false, 0x7FFFFFFFFFFFFFFF, 0},
+    /* no words: a lock without holder, all ones, a writer 0 */
+    {0x803FFFFFFFFFFFFF, false, false, HEK_NO_TIME, 0, 0, false, HEK_NO_TIME, 0},
+    {0xFFFFFFFFFFFFFFFF, false, false, HEK_NO_TIME, 0, 0, false, HEK_NO_TIME, 0},
+    {0x8040000000000000, false, false, HEK_NO_TIME, 0, 0, false, HEK_NO_TIME, 0},
+};
+
+static void check_readings(void) {
+    for (size_t i = 0; i < sizeof readings / sizeof readings[0]; i++) {
+        const struct reading *r = &readings[i];
+        is("is_end", r->number, hek_is_end(r->number), r->is_end);
+        is("is_begin", r->number, hek_is_begin(r->number), r->is_begin);
+        is("end_time", r->number, hek_end_time(r->number), r->end_time);
+        is("readers", r->number, hek_readers(r->number), r->readers);
+        is("writer", r->number, hek_writer(r->number), r->writer);
+        is("no_more_reads", r->number, hek_no_more_reads(r->number), r->no_more_reads);
+        is("begin_time", r->number, hek_begin_time(r->number), r->begin_time);
+        is("begin_txn", r->number, hek_begin_txn(r->number), r->begin_txn);
+    }
+}
+
+static const struct release {
+    uint64_t number, waits;
+    struct hek_release want;
+} releases[] = {
+    {0x8040000000000002, 1, {0xC000000000000002, 0, HEK_RELEASED}},
+    {0x8080000000000002, 1, {0x8040000000000002, 1, HEK_RELEASED}},
+    {0x80BFFFFFFFFFFFFF, 0, {0x807FFFFFFFFFFFFF, 0, HEK_RELEASED}},
+    {0x807FFFFFFFFFFFFF, 0, {0x7FFFFFFFFFFFFFFF, 0, HEK_RELEASED}},
+    {0x8000000000000002, 0, {0x8000000000000002, 0, HEK_NO_READER}},
+    {0x7FFFFFFFFFFFFFFF, 0, {0x7FFFFFFFFFFFFFFF, 0, HEK_NO_READER}},
+    {0x8040000000000002, 0, {0x8040000000000002, 0, HEK_BAD_WAITS}},
+    {0x803FFFFFFFFFFFFF, 1, {0x803FFFFFFFFFFFFF, 1, HEK_NO_WORD}},
+    {0xFFFFFFFFFFFFFFFF, 1, {0xFFFFFFFFFFFFFFFF, 1, HEK_NO_WORD}},
+};
+
+static void check_releases(void) {
+    for (size_t i = 0; i < sizeof releases / sizeof releases[0]; i++) {
+        const struct release *r = &releases[i];
+        struct hek_release got = hek_release(r->number, r->waits);
+        is("released word", r->number, got.word, r->want.word);
+        is("waits", r->number, got.waits, r->want.waits);
+        is("status", r->number, got.status, r->want.status);
+    }
+}
+
+/* What changes an End word to what; 0: not allowed. */
+static const struct change {
+    uint64_t number, add_reader, drop_reader, take_writer_2, clear_writer;
+} changes[] = {
+    {0x7FFFFFFFFFFFFFFF, 0x807FFFFFFFFFFFFF, 0, 0x8000000000000002, 0},
+    {0x807FFFFFFFFFFFFF, 0x80BFFFFFFFFFFFFF, 0x7FFFFFFFFFFFFFFF, 0x8040000000000002, 0},
+    {0x8040000000000002, 0x8080000000000002, 0xC000000000000002, 0, 0x807FFFFFFFFFFFFF},
+    {0x8000000000000002, 0x8040000000000002, 0, 0, 0x7FFFFFFFFFFFFFFF},
+    {0xC000000000000002, 0, 0, 0, 0x7FFFFFFFFFFFFFFF},
+    {0xBFFFFFFFFFFFFFFF, 0, 0xBFBFFFFFFFFFFFFF, 0xBFC0000000000002, 0},
+    {0x0000000000000002, 0, 0, 0, 0},
+    {0x803FFFFFFFFFFFFF, 0, 0, 0, 0},
+};
+
+static void check_changes(void) {
+    is("infinity", 0, hek_infinity(), 0x7FFFFFFFFFFFFFFF);
+    for (size_t i = 0; i < sizeof changes / sizeof changes[0]; i++) {
+        const struct change *r = &changes[i];
+        is("add_reader", r->number, hek_add_reader(r->number), r->add_reader);
+        is("drop_reader", r->number, hek_drop_reader(r->number), r->drop_reader);
+        is("take_writer", r->number, hek_take_writer(r->number, 2), r->take_writer_2);
+        is("take_writer 0", r->number, hek_take_writer(r->number, 0), 0);
+        is("take_writer 2^54 - 1", r->number, hek_take_writer(r->number, 0x003FFFFFFFFFFFFF), 0);
+        is("clear_writer", r->number, hek_clear_writer(r->number), r->clear_writer);
+    }
+}
+
+/* An engine's own word, packed by its own macros, beside the proved one. */
+#define LOCK (1ULL << 63)
+#define READER (1ULL << 54)
+#define NOBODY ((1ULL << 54) - 1)
+
+static uint64_t engine_add_reader(uint64_t word) {
+    return word & LOCK ? word + READER : LOCK + READER + NOBODY;
+}
+
+static void check_engine(void) {
+    uint64_t word = hek_infinity();
+    for (int reader = 1; reader <= 255; reader++) {
+        is("the engine's reader", word, engine_add_reader(word), hek_add_reader(word));
+        word = engine_add_reader(word);
+    }
+    is("the full word", word, word, 0xBFFFFFFFFFFFFFFF);
+    is("a reader more", word, hek_add_reader(word), 0);
+}
+
+int main(void) {
+    check_readings();
+    check_releases();
+    check_changes();
+    check_engine();
+    printf("%d rows, %d failed\n", rows, failures);
+    return failures == 0 ? 0 : 1;
+}
