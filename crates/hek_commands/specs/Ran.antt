@@ -37,6 +37,11 @@ world_after p es = run (opening_of p 1) es
 abbrev pub clock_text : ℕ → List ℕ
 clock_text clock = codes "clock " ++ decimal clock ++ 10 ∷ []
 
+-- the line of a clock was written behind them, and then some bytes
+pub record TellsClock (clock : ℕ) (before after : Option (List ℕ)) : Type 0 where
+  pub more : List ℕ
+  pub written : Appends before after (clock_text clock ++ more)
+
 -- the trace of a schedule's first steps was written behind them, then the line of the clock after these, and then some bytes
 pub record ShowsState (plan : Plan) (limit : Option ℕ) (before after : Option (List ℕ)) : Type 0 where
   pub more : List ℕ

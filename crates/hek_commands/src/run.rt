@@ -3,12 +3,13 @@ ghost use Rattle.std.specs.Prelude.{◌≡◌, ◌++◌, length, IfOk, IfErr, On
 ghost use Rattle.std.specs.List.{All, AllByRecursion};
 ghost use Rattle.std.specs.Io.KnownBytes.{Appends};
 ghost use Rattle.hek_rules.specs.Run.{run as run_of};
+ghost use Rattle.hek_rules.specs.World.{World};
 ghost use Rattle.hek_laws.specs.Runs.{IsPlaced};
 ghost use Rattle.hek_asm.specs.Trace.{NamesDeclared, trace_line};
 ghost use Rattle.hek_machine.specs.Stands.{StandsFor};
 ghost use Rattle.hek_machine.specs.Observed.{opening_of};
 ghost use Rattle.hek_commands.specs.Judged.{PrintFails, IsStop};
-ghost use Rattle.hek_commands.specs.Ran.{Runs, RunsTo, ShowsState, trace_of, first_of};
+ghost use Rattle.hek_commands.specs.Ran.{Runs, RunsTo, ShowsState, TellsClock, trace_of, trace_of_steps, first_of};
 
 use crate::fault::HekFault;
 use crate::lines::{send, send_if_many};
@@ -23,7 +24,6 @@ use std::mem;
 
 /// Runs the steps of the schedule that a file says, and writes their trace as it goes. The answer is the exit status.
 /// After a fault the lines of the steps before it may have been written.
-#[tactic(auto, using(hek_asm::proofs::RowLemmas::steps_declared, hek_machine::proofs::PlacedSteps::steps_placed))]
 pub fn run_command<'a, R: Read + Drop, W: Write>(
     alloc: Global,
     file: ScheduleFile<R>,
@@ -32,10 +32,24 @@ pub fn run_command<'a, R: Read + Drop, W: Write>(
     ensures { MatchResult result (λ status. (status ≡ 0) × Runs R.remaining file (W.contents out.old) (W.contents out.new)) (PrintFails R.remaining file) }
 {
     let schedule = schedule_in(alloc, file)?;
+    write_run(alloc, &schedule, out)?;
+    Ok(0)
+}
+
+/// The same for a schedule.
+#[tactic(auto, using(hek_asm::proofs::RowLemmas::steps_declared, hek_machine::proofs::PlacedSteps::steps_placed))]
+fn write_run<'a, W: Write>(
+    alloc: Global,
+    schedule: &Schedule,
+    out: &mut W,
+) -> Result<(), HekFault<'a>>
+    ensures written { OnOk result (Appends (W.contents out.old) (W.contents out.new) (trace_of_steps schedule.now)) }
+    ensures stops { IfErr result IsStop }
+{
     // There is a bucket, and each step is one of this schedule.
     let _ = schedule.buckets();
-    let _machine = write_run(alloc, &schedule, schedule.steps(), out)?;
-    Ok(0)
+    let mut machine = Machine::load(alloc, schedule)?;
+    write_steps(alloc, schedule, &mut machine, schedule.steps(), out)
 }
 
 /// Runs the first steps of the schedule that a file says, as many as `limit` says or all of them, and writes their trace, the
@@ -66,11 +80,25 @@ fn write_state<'a, W: Write>(
     // There is a bucket, and each step is one of this schedule.
     let _ = schedule.buckets();
     let steps = first_steps(schedule.steps(), limit);
-    let machine = write_run(alloc, schedule, steps, out)?;
+    let mut machine = Machine::load(alloc, schedule)?;
+    write_steps(alloc, schedule, &mut machine, steps, out)?;
+    write_machine(alloc, schedule, &machine, out)
+}
+
+/// Writes the clock of a machine, and the rest of its state.
+fn write_machine<'a, W: Write>(
+    alloc: Global,
+    schedule: &Schedule,
+    machine: &Machine,
+    out: &mut W,
+) -> Result<(), HekFault<'a>>
+    ensures written { IfOk result (λ _. (w : World) → StandsFor machine.now w → TellsClock w.clock (W.contents out.old) (W.contents out.new)) }
+    ensures stops { IfErr result IsStop }
+{
     let clock = machine.clock();
     let mut line = clock_line(alloc, clock)?;
     send(&mut line, out)?;
-    let mut lines = state_lines(alloc, schedule, &machine)?;
+    let mut lines = state_lines(alloc, schedule, machine)?;
     send(&mut lines, out)
 }
 
@@ -90,20 +118,22 @@ fn first_steps(steps: &[Event], limit: Option<u64>) -> &[Event]
     }
 }
 
-/// Runs steps on the rows and transactions of a schedule, and writes their trace. The answer is the machine after them.
-fn write_run<'a, W: Write>(
+/// Does steps on a machine that stands before the first event, and writes their trace.
+fn write_steps<'a, W: Write>(
     alloc: Global,
     schedule: &Schedule,
+    machine: &mut Machine,
     steps: &[Event],
     out: &mut W,
-) -> Result<Machine, HekFault<'a>>
+) -> Result<(), HekFault<'a>>
+    requires opens { StandsFor machine.old (opening_of schedule.now 1) }
+    requires buckets { length machine.old.buckets ≡ schedule.now.buckets }
     requires placed { All (IsPlaced schedule.now.buckets) steps.now }
     requires declared { AllByRecursion (NamesDeclared (length schedule.now.txns)) steps.now }
-    ensures stands { IfOk result (λ m. StandsFor m (run_of (opening_of schedule.now 1) steps.now)) }
+    ensures stands { OnOk result (StandsFor machine.new (run_of (opening_of schedule.now 1) steps.now)) }
     ensures written { OnOk result (Appends (W.contents out.old) (W.contents out.new) (trace_of schedule.now steps.now)) }
     ensures stops { IfErr result IsStop }
 {
-    let mut machine = Machine::load(alloc, schedule)?;
     let mut lines = Vec::new(alloc);
     for place in 0..steps.len() {
         let event = &steps[place];
@@ -111,8 +141,7 @@ fn write_run<'a, W: Write>(
         put_line(alloc, schedule, place as u64 + 1, event, &reply, &mut lines)?;
         send_if_many(&mut lines, out)?;
     }
-    send(&mut lines, out)?;
-    Ok(machine)
+    send(&mut lines, out)
 }
 
 /// The line of an event and its reply comes behind the lines.

@@ -5,7 +5,7 @@ use Rattle.hek_machine.specs.Observed.{opening_of}
 use Rattle.hek_commands.specs.Ran.{trace_of}
 use Rattle.hek_commands.specs.Sent.{Passes}
 use Rattle.hek_commands.proofs.Stepping.{to_come}
-use Rattle.hek_commands.proofs.run.write_run.Given as goal
+use Rattle.hek_commands.proofs.run.write_steps.Given as goal
 
 -- the machine stands for the world after the steps so far; what is written, the lines gathered and those to come are the trace
 abbrev pub invariant-loop-place : goal.invariant-loop-place

@@ -6,7 +6,7 @@ use Rattle.hek_commands.specs.Ran.{trace_of}
 use Rattle.hek_commands.specs.Sent.{Passes}
 use Rattle.hek_commands.proofs.Sending.{passes-on, passes-line, passes-end}
 use Rattle.hek_commands.proofs.Stepping.{to_come, next_line, none_to_come}
-use Rattle.hek_commands.proofs.run.write_run.Goals as goal
+use Rattle.hek_commands.proofs.run.write_steps.Goals as goal
 
 pub loop-place-preserved : goal.loop-place-preserved
 loop-place-preserved g c =
