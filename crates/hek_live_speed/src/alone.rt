@@ -78,18 +78,21 @@ fn time_raw<R: Clock>(rt: &R, turns: u64) -> io::Result<(u64, Duration)> {
     Ok((done, start.elapsed(rt)?))
 }
 
-/// Prints how many turns of calls and of raw steps were made, and how fast.
+/// Prints how many turns of calls and of raw steps were made in all rounds, and how fast.
 pub fn compare<R: Clock + Print + Eprint>(rt: &R, alloc: Global, turns: u64) -> io::Result<()> {
     let mut calls = Duration::MAX;
     let mut raw = Duration::MAX;
+    let mut all_calls: u64 = 0;
+    let mut all_raw: u64 = 0;
     for _ in 0..ROUNDS {
         let (done, time) = time_calls(rt, alloc, turns)?;
-        println!(rt; "one thread, calls: {done}")?;
+        all_calls = all_calls.wrapping_add(done);
         calls = least(calls, time);
         let (done, time) = time_raw(rt, turns)?;
-        println!(rt; "one thread, raw steps: {done}")?;
+        all_raw = all_raw.wrapping_add(done);
         raw = least(raw, time);
     }
+    println!(rt; "one thread: {all_calls}, raw steps {all_raw}")?;
     let calls = per_second(turns, calls);
     let raw = per_second(turns, raw);
     eprintln!(rt; "one thread: {calls} a second, raw steps {raw}")?;

@@ -9,9 +9,8 @@ mod alone;
 mod crowd;
 mod rate;
 
-use std::env;
 use std::env::Env;
-use std::io;
+use std::{env, io};
 
 /// Enough for the gate.
 const TURNS: u64 = 1_000;
