@@ -3,7 +3,7 @@ ghost use Rattle.std.specs.Prelude.{◌≡◌, ◌<◌, ◌≤◌, false};
 ghost use Rattle.hek_live.specs.Tokens.{reads_at};
 ghost use Rattle.hek_live.specs.Ends.{words_of, table_of, seat_table, view_of};
 
-use crate::rate::{least, per_second};
+use crate::rate::{least, report};
 use hek_live::{DropRead, LiveWords, Seat, TryRead};
 use std::alloc::Global;
 use std::io;
@@ -78,20 +78,20 @@ fn time_raw<R: Clock>(rt: &R, turns: u64) -> io::Result<(u64, Duration)> {
     Ok((done, start.elapsed(rt)?))
 }
 
-/// Prints how many turns of calls and of raw steps were made, and how fast.
-pub fn compare<R: Clock + Print + Eprint>(rt: &R, alloc: Global, turns: u64) -> io::Result<()> {
+/// Measures calls and raw steps, reports both, and answers how many turns were made in all.
+pub fn compare<R: Clock + Eprint>(rt: &R, alloc: Global, turns: u64) -> io::Result<u64> {
     let mut calls = Duration::MAX;
     let mut raw = Duration::MAX;
+    let mut all: u64 = 0;
     for _ in 0..ROUNDS {
         let (done, time) = time_calls(rt, alloc, turns)?;
-        println!(rt; "one thread, calls: {done}")?;
+        all = all.wrapping_add(done);
         calls = least(calls, time);
         let (done, time) = time_raw(rt, turns)?;
-        println!(rt; "one thread, raw steps: {done}")?;
+        all = all.wrapping_add(done);
         raw = least(raw, time);
     }
-    let calls = per_second(turns, calls);
-    let raw = per_second(turns, raw);
-    eprintln!(rt; "one thread: {calls} a second, raw steps {raw}")?;
-    Ok(())
+    report(rt, 1, "live words", turns, calls)?;
+    report(rt, 1, "raw words", turns, raw)?;
+    Ok(all)
 }

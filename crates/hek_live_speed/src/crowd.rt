@@ -3,13 +3,12 @@ ghost use Rattle.std.specs.Prelude.{◌≡◌, ◌<◌, ◌≤◌, true, false};
 ghost use Rattle.hek_live.specs.Tokens.{newcomer, reads_at};
 ghost use Rattle.hek_live.specs.Ends.{words_of, table_of, seat_table, view_of};
 
-use crate::rate::per_second;
 use hek_live::{DropRead, LiveWords, Seat, TryRead, tokens_follow_replies};
 use std::alloc::{AllocError, Global};
 use std::io;
 use std::rt::Clock;
 use std::thread::{Threads, map_vec};
-use std::time::Instant;
+use std::time::{Duration, Instant};
 
 /// Room for 8 words that are so far apart.
 const WORDS: usize = 128;
@@ -127,14 +126,14 @@ fn readers<'a>(
     Ok(all)
 }
 
-/// Prints how many turns so many threads made, and how fast, on words that lie `apart`; on one word, where that is 0.
-pub fn measure<R: Threads + Sync + Clock + Print + Eprint>(
+/// How many turns so many threads made on words that lie `apart`, or on one word where that is 0; and in what time.
+pub fn measure<R: Threads + Sync + Clock>(
     rt: &R,
     alloc: Global,
     threads: usize,
     apart: usize,
     turns: u64,
-) -> io::Result<()>
+) -> io::Result<(u64, Duration)>
     requires few { (threads ≤ 8) × (apart ≤ 16) }
     requires turns { turns ≤ 1000000000 }
 {
@@ -145,17 +144,13 @@ pub fn measure<R: Threads + Sync + Clock + Print + Eprint>(
     let start = Instant::now(rt)?;
     let done = map_vec(rt, readers, &|reader| turns_of_reader(reader, turns))?;
     let time = start.elapsed(rt)?;
-    let place = if apart == 0 {
-        "one word"
-    } else {
-        "words of their own"
-    };
+    Ok((sum(done.as_slice()), time))
+}
+
+fn sum(numbers: &[u64]) -> u64 {
     let mut all: u64 = 0;
-    for done in &done {
-        all = all.wrapping_add(*done);
+    for number in numbers {
+        all = all.wrapping_add(*number);
     }
-    println!(rt; "{threads} threads on {place}: {all}")?;
-    let rate = per_second(all, time);
-    eprintln!(rt; "{threads} threads on {place}: {rate} a second")?;
-    Ok(())
+    all
 }

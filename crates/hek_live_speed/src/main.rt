@@ -9,9 +9,9 @@ mod alone;
 mod crowd;
 mod rate;
 
-use std::env;
+use rate::report;
 use std::env::Env;
-use std::io;
+use std::{env, io};
 
 /// Enough for the gate.
 const TURNS: u64 = 1_000;
@@ -34,11 +34,14 @@ fn given_turns<R: Env + Alloc>(rt: &R) -> io::Result<u64>
 
 fn main(rt: HostRuntime) -> io::Result<()> {
     let turns = given_turns(&rt)?;
-    println!(rt; "{turns} turns of each thread")?;
-    alone::compare(&rt, rt.alloc(), turns)?;
+    let mut all = alone::compare(&rt, rt.alloc(), turns)?;
     for threads in [2, 4, 8] {
-        crowd::measure(&rt, rt.alloc(), threads, 0, turns)?;
-        crowd::measure(&rt, rt.alloc(), threads, crowd::APART, turns)?;
+        let (done, time) = crowd::measure(&rt, rt.alloc(), threads, 0, turns)?;
+        report(&rt, threads, "one word", done, time)?;
+        all = all.wrapping_add(done);
+        let (done, time) = crowd::measure(&rt, rt.alloc(), threads, crowd::APART, turns)?;
+        report(&rt, threads, "words of their own", done, time)?;
+        all = all.wrapping_add(done);
     }
-    Ok(())
+    println!(rt; "{all} turns")
 }

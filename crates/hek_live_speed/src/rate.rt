@@ -1,4 +1,5 @@
 //! Times and rates.
+use std::io;
 use std::time::Duration;
 
 pub fn least(one: Duration, other: Duration) -> Duration {
@@ -6,10 +7,22 @@ pub fn least(one: Duration, other: Duration) -> Duration {
 }
 
 /// So many turns in that time, by the second.
-pub fn per_second(turns: u64, time: Duration) -> u128 {
+fn per_second(turns: u64, time: Duration) -> u128 {
     let nanoseconds = time.as_nanos();
     if nanoseconds == 0 {
         return 0;
     }
     u128::from(turns) * 1_000_000_000 / nanoseconds
+}
+
+/// Prints to standard error how fast so many turns were made by so many threads.
+pub fn report<R: Eprint>(
+    rt: &R,
+    threads: usize,
+    place: &str,
+    turns: u64,
+    time: Duration,
+) -> io::Result<()> {
+    let rate = per_second(turns, time);
+    eprintln!(rt; "threads {threads}, {place}: {rate} turns a second")
 }
