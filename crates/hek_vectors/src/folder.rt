@@ -18,7 +18,7 @@ impl Count {
         }
     }
 
-    fn add(&mut self, differs: bool) {
+    pub fn add(&mut self, differs: bool) {
         self.vectors = self.vectors.saturating_add(1);
         self.differ = self.differ.saturating_add(u64::from(differs));
     }

@@ -1,13 +1,18 @@
 //! The gate's stored runs: each schedule of the folders that the arguments name is assembled, run and checked, and
-//! compared with what is stored of it.
+//! compared with what is stored of it; and the debugger's commands in the folder `debug` are held against what they print.
 #![tactic(auto)]
 
 mod folder;
+mod sessions;
 
 use folder::{Count, compare_folder};
 use hek_stored::Fault;
+use sessions::compare_sessions;
 use std::env;
 use std::process::ExitCode;
+
+/// The folder of debugger sessions.
+const SESSIONS: &str = "debug";
 
 fn main(rt: HostRuntime) -> ExitCode {
     match compare_all(&rt) {
@@ -23,7 +28,10 @@ fn main(rt: HostRuntime) -> ExitCode {
 fn compare_all(rt: &HostRuntime) -> Result<Count, Fault> {
     let mut count = Count::new();
     for folder in env::args(rt)?.skip(1) {
-        compare_folder(rt, folder.as_str(), &mut count)?;
+        match folder.as_str() {
+            SESSIONS => compare_sessions(rt, SESSIONS, &mut count)?,
+            folder => compare_folder(rt, folder, &mut count)?,
+        }
     }
     println!(rt; "{count}")?;
     Ok(count)
