@@ -141,7 +141,8 @@ fn write_steps<'a, W: Write>(
         put_line(alloc, schedule, place as u64 + 1, event, &reply, &mut lines)?;
         send_if_many(&mut lines, out)?;
     }
-    send(&mut lines, out)
+    send(&mut lines, out)?;
+    Ok(())
 }
 
 /// The line of an event and its reply comes behind the lines.
