@@ -5,7 +5,7 @@ use hek_rules::TxnId;
 use hek_word::EndWord;
 use std::test::Fail;
 
-// A reader, a writer over it, and the last reader who leaves.
+// A reader, a writer over it, and the last reader who leaves; at last the writer's seat is joined to the reader's.
 #[test]
 fn a_reader_under_a_writer(rt: HostRuntime) -> Result<(), Fail> {
     let (words, mut s) = made(&rt, rt.alloc(), 1);
@@ -27,24 +27,12 @@ fn a_reader_under_a_writer(rt: HostRuntime) -> Result<(), Fail> {
         panic!(rt; "no writer")
     };
     is(&rt, holds, TxnId::new(2));
-    is(&rt, words.drop_write(&mut r, 0), DropWrite::Dropped);
-    is(&rt, words.look(&mut s, 0).bits(), 0x7FFF_FFFF_FFFF_FFFF);
-    Ok(())
-}
-
-// A seat that has given its tokens up is joined to another.
-#[test]
-fn a_seat_is_joined(rt: HostRuntime) {
-    let (words, mut s) = made(&rt, rt.alloc(), 1);
-    let mut r = words.split(&mut s);
-    let TryWrite::Written(0) = words.try_write(&mut r, 0, TxnId::new(2)) else {
-        panic!(rt; "not written")
-    };
     let DropWrite::Dropped = words.drop_write(&mut r, 0) else {
         panic!(rt; "not dropped")
     };
     words.join(&mut s, r);
-    is(&rt, words.look(&mut s, 0), EndWord::infinity());
+    is(&rt, words.look(&mut s, 0).bits(), 0x7FFF_FFFF_FFFF_FFFF);
+    Ok(())
 }
 
 // A seat that is let go keeps its tokens, so each turn adds a reader.
