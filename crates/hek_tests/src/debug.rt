@@ -11,7 +11,7 @@ fn id(number: u64) -> TxnId {
 }
 
 fn add_txn(rt: &impl Abort, schedule: &mut Schedule, name: &str) {
-    holds(rt, schedule.txn_fits(name));
+    assert!(rt; schedule.txn_fits(name));
     schedule
         .add_txn(name, Level::Repeatable)
         .expect(rt, "no memory");
@@ -19,14 +19,14 @@ fn add_txn(rt: &impl Abort, schedule: &mut Schedule, name: &str) {
 
 fn add_step(rt: &impl Abort, schedule: &mut Schedule, event: Event) {
     let (asked, added) = (event, event);
-    holds(rt, schedule.step_fits(asked));
+    assert!(rt; schedule.step_fits(asked));
     schedule.add_step(added).expect(rt, "no memory");
 }
 
 // a reads 10, b writes over it and waits, and a's release ends the wait.
 fn reader_then_writer(rt: &impl Abort, alloc: Global) -> Schedule {
     let mut schedule = Schedule::new(alloc, 1);
-    holds(rt, schedule.row_fits(10));
+    assert!(rt; schedule.row_fits(10));
     schedule.add_row(10, 100).expect(rt, "no memory");
     add_txn(rt, &mut schedule, "a");
     add_txn(rt, &mut schedule, "b");
