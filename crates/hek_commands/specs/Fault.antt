@@ -6,7 +6,7 @@ use Rattle.hek_asm.specs.declared.fault.TraceFault.TheVariants as trace
 use Rattle.hek_image.specs.declared.fault.LoadFault.{LoadFault}
 use Rattle.hek_image.specs.declared.fault.LoadFault.TheVariants as load
 use Rattle.hek_commands.specs.declared.fault.HekFault.{HekFault}
-use Rattle.hek_commands.specs.declared.fault.HekFault.TheVariants.{BadArgument, NotAWord, NoReader, BadWaits, Line, Image, TraceLine, NotText, CannotRead, CannotWrite, NoMemory}
+use Rattle.hek_commands.specs.declared.fault.HekFault.TheVariants.{BadArgument, NotAWord, NoReader, BadWaits, Line, Image, TraceLine, NoWorker, Mismatch, NotText, CannotRead, CannotWrite, NoMemory}
 
 -- the exit status at a fault
 abbrev pub status_of : HekFault → ℕ
@@ -17,6 +17,8 @@ status_of BadWaits = 1
 status_of (Line number kind) = 1
 status_of (Image fault) = 1
 status_of (TraceLine number) = 1
+status_of NoWorker = 1
+status_of (Mismatch worker) = 1
 status_of NotText = 1
 status_of (CannotRead file) = 1
 status_of CannotWrite = 1

@@ -30,6 +30,12 @@ pub enum HekFault<'a> {
     /// The first line that no trace has there, by its number.
     #[error("hek: trace line {0}")]
     TraceLine(u64),
+    /// A worker's thread that can't be started.
+    #[error("hek: threads: no worker")]
+    NoWorker,
+    /// A worker, by its number, whose replies don't fit.
+    #[error("hek: threads: mismatch {0}")]
+    Mismatch(u64),
     #[error("hek: not text")]
     NotText,
     /// A file, by its name on the command line, that can't be opened or read.
@@ -54,6 +60,8 @@ impl HekFault<'_> {
             | HekFault::Line { .. }
             | HekFault::Image(_)
             | HekFault::TraceLine(_)
+            | HekFault::NoWorker
+            | HekFault::Mismatch(_)
             | HekFault::NotText
             | HekFault::CannotRead(_)
             | HekFault::CannotWrite

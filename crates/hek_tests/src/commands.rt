@@ -237,7 +237,7 @@ fn refuses_arguments_that_are_no_text(rt: HostRuntime) -> Result<(), Fail> {
     let mut faults = Vec::new(rt.alloc());
     let created = RefCell::new(None);
     let disk = MemoryDisk::new(rt.alloc(), &[], &created);
-    let status = program(&system, &disk, b"".as_slice(), &mut out, &mut faults);
+    let status = program(&system, &rt, &disk, b"".as_slice(), &mut out, &mut faults);
     is(&rt, status, 2);
     is(&rt, out.as_slice(), b"".as_slice());
     is(&rt, faults.as_slice(), b"hek: bad argument\n".as_slice());
@@ -284,6 +284,8 @@ const FAULTS: &[(HekFault<'static>, u8, &str)] = &[
     ),
     (HekFault::Image(LoadFault::Read), 1, "hek: image: 6 Read\n"),
     (HekFault::TraceLine(2), 1, "hek: trace line 2\n"),
+    (HekFault::NoWorker, 1, "hek: threads: no worker\n"),
+    (HekFault::Mismatch(2), 1, "hek: threads: mismatch 2\n"),
     (HekFault::NotText, 1, "hek: not text\n"),
     (HekFault::CannotRead("x.hek"), 1, "hek: cannot read x.hek\n"),
     (HekFault::CannotWrite, 1, "hek: cannot write\n"),
