@@ -6,6 +6,8 @@ mod benchmarks;
 #[cfg(test)]
 mod books;
 #[cfg(test)]
+mod commands;
+#[cfg(test)]
 mod crowds;
 #[cfg(test)]
 mod memory;
