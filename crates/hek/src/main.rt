@@ -7,6 +7,7 @@ use std::process::ExitCode;
 fn main(rt: HostRuntime) -> ExitCode {
     let status = program(
         &rt,
+        &rt,
         &SystemDisk::new(&rt),
         rt.stdin(),
         &mut rt.stdout(),

@@ -30,6 +30,8 @@ enum Form {
     Flag,
     /// `--name N`.
     Number,
+    /// `--name N`, which has to be there.
+    NeededNumber,
 }
 
 const FILE: ArgumentText = ArgumentText {
@@ -153,7 +155,27 @@ const DEBUG: CommandText = CommandText {
     ],
 };
 
-const COMMANDS: &[CommandText] = &[RELEASE, WORD, ASM, DIS, RUN, DEBUG, CHECK];
+const THREADS: CommandText = CommandText {
+    name: "threads",
+    about: "Runs each transaction of a schedule in a thread of its own, and prints the history",
+    example: "Example:\n  hek threads --text first.txt --turns 5\nWhere first.txt has the lines\n  buckets 1\n  row 10 100\n  txn a repeatable\n  a read 10\nit prints the trace of a whole run of a, from begin to end. What it prints is a trace for hek check. With --repeat 100 it runs 100 times, and prints how many different outcomes there were, and each with how often it was seen.",
+    arguments: &[
+        FILE,
+        TEXT,
+        ArgumentText {
+            name: "turns",
+            help: "how often a transaction that waits looks again, 0 to 1000000",
+            form: Form::NeededNumber,
+        },
+        ArgumentText {
+            name: "repeat",
+            help: "runs N times, 1 to 1000000, and prints the outcomes",
+            form: Form::Number,
+        },
+    ],
+};
+
+const COMMANDS: &[CommandText] = &[RELEASE, WORD, ASM, DIS, RUN, DEBUG, CHECK, THREADS];
 
 /// Reads the words of a command line, the program's name first.
 pub fn read_words<'a, S: AsStr>(alloc: Global, words: &'a [S]) -> Result<ArgMatches<'a>, Error> {
@@ -193,5 +215,6 @@ fn argument_of<'a>(alloc: Global, text: &ArgumentText) -> Arg<'a> {
         Form::Words => argument.required(true).num_args(1..),
         Form::Flag => argument.long(text.name).action(ArgAction::SetTrue),
         Form::Number => argument.long(text.name).value_name("N"),
+        Form::NeededNumber => argument.long(text.name).value_name("N").required(true),
     }
 }

@@ -9,23 +9,35 @@ use hek_commands::{
 };
 use hek_debug_commands::{debug_command, debug_session};
 use hek_rules::number;
+use hek_threads_command::{repeat_command, threads_command};
 use std::alloc::Global;
 use std::convert::AsStr;
 use std::env;
 use std::env::Env;
 use std::io::{ErrorKind, IsTerminal, Read, Write};
+use std::sync::Wait;
+use std::thread::Threads;
 
-/// Does what the program's arguments ask for, with the files of `disk`, reads `input` where they say `-`, writes to `out`
-/// and `faults`, and answers the exit status: 0, or 1 after a fault, or 2 for a bad command line.
+/// Does what the program's arguments ask for, with the files of `disk` and the threads of `system`, reads `input` where they
+/// say `-`, writes to `out` and `faults`, and answers the exit status: 0, or 1 after a fault, or 2 for a bad command line.
 pub fn program<
     R: Env + Alloc<A = Global>,
+    T: Threads + Wait + Sync,
     D: Disk,
     I: Read + IsTerminal + Drop,
     W: Write,
     E: Write,
->(rt: &R, disk: &D, input: I, out: &mut W, faults: &mut E) -> u8 {
+>(rt: &R, system: &T, disk: &D, input: I, out: &mut W, faults: &mut E) -> u8 {
     match words_of(rt) {
-        Ok(words) => answer(rt.alloc(), words.as_slice(), disk, input, out, faults),
+        Ok(words) => answer_in_threads(
+            system,
+            rt.alloc(),
+            words.as_slice(),
+            disk,
+            input,
+            out,
+            faults,
+        ),
         Err(fault) => report(fault, faults),
     }
 }
@@ -44,7 +56,7 @@ fn fault_of<'a>(kind: ErrorKind) -> HekFault<'a> {
     }
 }
 
-/// Does what these words ask for, the program's name first.
+/// Does what these words ask for, the program's name first, without threads: no worker can be started.
 pub fn answer<S: AsStr, D: Disk, I: Read + IsTerminal + Drop, W: Write, E: Write>(
     alloc: Global,
     words: &[S],
@@ -58,6 +70,29 @@ pub fn answer<S: AsStr, D: Disk, I: Read + IsTerminal + Drop, W: Write, E: Write
         Err(error) => return refuse(&error, out, faults),
     };
     match run(alloc, &matches, disk, input, out, faults) {
+        Ok(status) => status,
+        Err(fault) => report(fault, faults),
+    }
+}
+
+/// The same, with the threads of a system.
+pub fn answer_in_threads<
+    T: Threads + Wait + Sync,
+    S: AsStr,
+    D: Disk,
+    I: Read + IsTerminal + Drop,
+    W: Write,
+    E: Write,
+>(system: &T, alloc: Global, words: &[S], disk: &D, input: I, out: &mut W, faults: &mut E) -> u8 {
+    let matches = match read_words(alloc, words) {
+        Ok(matches) => matches,
+        Err(error) => return refuse(&error, out, faults),
+    };
+    let result = match matches.subcommand() {
+        Some(("threads", found)) => threads(system, alloc, found, disk, input, out),
+        _ => run(alloc, &matches, disk, input, out, faults),
+    };
+    match result {
         Ok(status) => status,
         Err(fault) => report(fault, faults),
     }
@@ -99,6 +134,7 @@ fn run<'a, D: Disk, I: Read + IsTerminal + Drop, W: Write, E: Write>(
         Some(("run", found)) => run_schedule(alloc, found, disk, input, out),
         Some(("debug", found)) => debug(alloc, found, disk, input, out, faults),
         Some(("check", found)) => check(alloc, found, disk, input, out),
+        Some(("threads", _)) => Err(HekFault::NoWorker),
         _ => Err(HekFault::BadArgument),
     }
 }
@@ -192,6 +228,38 @@ fn check<'a, D: Disk, I: Read + Drop, W: Write>(
     let trace = read_text(alloc, open(disk, &mut input, name)?, name)?;
     let why = found.get_flag("why");
     check_command(alloc, file, trace.as_slice(), why, out)
+}
+
+/// The most turns, and the most runs.
+const MOST: u64 = 1_000_000;
+
+fn threads<'a, T: Threads + Wait + Sync, D: Disk, I: Read + Drop, W: Write>(
+    system: &T,
+    alloc: Global,
+    found: &ArgMatches<'a>,
+    disk: &D,
+    input: I,
+    out: &mut W,
+) -> Result<u8, HekFault<'a>> {
+    let mut input = Some(input);
+    let turns = count_from(text(found, "turns")?, 0)?;
+    let times = match found.get_str("repeat") {
+        None => None,
+        Some(text) => Some(count_from(text, 1)?),
+    };
+    let file = schedule_file(alloc, found, disk, &mut input)?;
+    match times {
+        None => threads_command(system, alloc, file, turns, out),
+        Some(times) => repeat_command(system, alloc, file, turns, times, out),
+    }
+}
+
+/// The number that a text says, from `least` to 1,000,000.
+fn count_from<'a>(text: &str, least: u64) -> Result<u64, HekFault<'a>> {
+    match number(text.as_bytes()) {
+        Some(count) if least <= count && count <= MOST => Ok(count),
+        _ => Err(HekFault::BadArgument),
+    }
 }
 
 /// The schedule file that the words name, a text where they say `--text`.

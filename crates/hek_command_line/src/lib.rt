@@ -5,5 +5,5 @@ mod arguments;
 mod command_line;
 mod disk;
 
-pub use command_line::{answer, program};
+pub use command_line::{answer, answer_in_threads, program};
 pub use disk::{Disk, SystemDisk};

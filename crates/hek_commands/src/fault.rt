@@ -33,6 +33,12 @@ pub enum HekFault<'a> {
     /// The first line that is no command of the debugger, by its number.
     #[error("hek: command line {0}")]
     CommandLine(u64),
+    /// A worker's thread that can't be started.
+    #[error("hek: threads: no worker")]
+    NoWorker,
+    /// A worker, by its number, whose replies don't fit.
+    #[error("hek: threads: mismatch {0}")]
+    Mismatch(u64),
     #[error("hek: not text")]
     NotText,
     /// A file, by its name on the command line, that can't be opened or read.
@@ -58,6 +64,8 @@ impl HekFault<'_> {
             | HekFault::Image(_)
             | HekFault::TraceLine(_)
             | HekFault::CommandLine(_)
+            | HekFault::NoWorker
+            | HekFault::Mismatch(_)
             | HekFault::NotText
             | HekFault::CannotRead(_)
             | HekFault::CannotWrite

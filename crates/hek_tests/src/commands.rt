@@ -253,6 +253,7 @@ fn refuses_arguments_that_are_no_text(rt: HostRuntime) -> Result<(), Fail> {
     let disk = MemoryDisk::new(rt.alloc(), &[], &created);
     let status = program(
         &system,
+        &rt,
         &disk,
         Typed::new(b"", false),
         &mut out,
@@ -305,6 +306,8 @@ const FAULTS: &[(HekFault<'static>, u8, &str)] = &[
     (HekFault::Image(LoadFault::Read), 1, "hek: image: 6 Read\n"),
     (HekFault::TraceLine(2), 1, "hek: trace line 2\n"),
     (HekFault::CommandLine(2), 1, "hek: command line 2\n"),
+    (HekFault::NoWorker, 1, "hek: threads: no worker\n"),
+    (HekFault::Mismatch(2), 1, "hek: threads: mismatch 2\n"),
     (HekFault::NotText, 1, "hek: not text\n"),
     (HekFault::CannotRead("x.hek"), 1, "hek: cannot read x.hek\n"),
     (HekFault::CannotWrite, 1, "hek: cannot write\n"),

@@ -1,0 +1,21 @@
+//! One transaction a thread, each event in one hold of one lock, with the history that the lock keeps.
+#![tactic(auto)]
+
+mod book;
+mod entry;
+mod laws;
+mod parts;
+mod room;
+mod runner;
+mod shared;
+mod stage;
+mod worker;
+
+pub use book::Book;
+pub use entry::{Entry, Part, ThreadFault};
+pub use laws::none_refused;
+pub use parts::compare;
+pub use runner::{Report, run_workers};
+pub use shared::Shared;
+pub use stage::{Position, Stage};
+pub use worker::Gate;

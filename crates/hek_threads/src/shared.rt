@@ -1,0 +1,63 @@
+ghost use Rattle.std.specs.Prelude.{◌≡◌, ◌<◌, IfOk};
+
+use crate::book::Book;
+use crate::entry::ThreadFault;
+use hek_rules::{Event, Reply, TxnId};
+use std::sync::{Mutex, Wait};
+
+/// A book that threads share.
+#[derive(Drop)]
+pub struct Shared<'a> {
+    book: Mutex<Book<'a>>,
+}
+
+impl<'a> Shared<'a> {
+    /// The lock, with the book in it.
+    pub fn new(book: Book<'a>) -> Shared<'a> {
+        Shared {
+            book: Mutex::new(book),
+        }
+    }
+
+    /// One event in one hold of the lock, and the number of its entry, from 1. Mismatch where the worker may not make it, as
+    /// `Book::may_step` tells.
+    pub fn step<R: Wait>(
+        &self,
+        rt: &R,
+        worker: TxnId,
+        event: Event,
+    ) -> Result<(u64, Reply), ThreadFault>
+        ensures { IfOk result (λ r. 0 < r.0) }
+    {
+        self.book.lock(rt).attempt(worker, event)
+    }
+
+    /// The book, once no thread has it.
+    pub fn into_book(self) -> Book<'a> {
+        let Shared { book } = self;
+        book.into_inner()
+    }
+}
+
+/// What takes one event at a time, in one hold of a lock. A worker is generic over it: a scope's
+/// closure has no proof where it captures a type that names a lifetime.
+pub trait Steps {
+    fn step_once<R: Wait>(
+        &self,
+        rt: &R,
+        worker: TxnId,
+        event: Event,
+    ) -> Result<(u64, Reply), ThreadFault>
+        ensures { IfOk result (λ r. 0 < r.0) };
+}
+
+impl<'a> Steps for Shared<'a> {
+    fn step_once<R: Wait>(
+        &self,
+        rt: &R,
+        worker: TxnId,
+        event: Event,
+    ) -> Result<(u64, Reply), ThreadFault> {
+        self.step(rt, worker, event)
+    }
+}

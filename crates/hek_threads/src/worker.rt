@@ -1,0 +1,61 @@
+ghost use Rattle.std.specs.Prelude.{◌≡◌, IfOk};
+ghost use Rattle.hek_threads.specs.Grammar.{IsTranscript, work_of};
+
+use crate::entry::{Part, ThreadFault};
+use crate::shared::Steps;
+use crate::stage::{Position, Stage, is_work};
+use hek_rules::{Event, TxnId};
+use std::alloc::Global;
+use std::sync::Wait;
+
+/// What holds workers back.
+pub trait Gate {
+    /// Is called before each event of a worker, outside the lock. `nth` counts that worker's events from 1, `detect` too.
+    fn before(&self, worker: TxnId, nth: u64);
+}
+
+// The reads and writes of one transaction.
+fn own_work(alloc: Global, worker: TxnId, steps: &[Event]) -> Result<Vec<Event>, ThreadFault>
+    ensures { IfOk result (λ v. v.items ≡ work_of worker steps.now) }
+{
+    Ok(
+        steps
+            .iter()
+            .copied()
+            .filter(|step| is_work(worker, *step))
+            .collect(alloc)?,
+    )
+}
+
+/// Runs one transaction to its end.
+pub(crate) fn work<S: Steps, G: Gate, R: Wait>(
+    rt: &R,
+    alloc: Global,
+    shared: &S,
+    worker: TxnId,
+    steps: &[Event],
+    turns: u64,
+    gate: &G,
+) -> Result<Part, ThreadFault>
+    ensures { IfOk result (λ p. IsTranscript worker (work_of worker steps.now) turns p) }
+{
+    let own = own_work(alloc, worker, steps)?;
+    let mut done = Vec::new(alloc);
+    let mut at = Position::begin(turns);
+    for _ in rt.forever() {
+        if at.stage == Stage::Ended {
+            return Ok(Part::of(done));
+        }
+        done.reserve(1)?;
+        let event = at.event(worker, own.as_slice());
+        gate.before(worker, done.len() as u64 + 1);
+        let made = event;
+        let (_, reply) = shared.step_once(rt, worker, made)?;
+        let Some(next) = at.after(worker, own.as_slice(), &reply) else {
+            return Err(ThreadFault::Mismatch(worker));
+        };
+        done.push_reserved((event, reply));
+        at = next;
+    }
+    unreachable!()
+}

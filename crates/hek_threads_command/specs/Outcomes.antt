@@ -1,0 +1,18 @@
+-- What a run in threads comes to.
+use Rattle.std.specs.Prelude.{ℕ, List, [], ◌∷◌}
+use Rattle.hek_rules.specs.declared.event.Cause.TheVariants as cause
+use Rattle.hek_rules.specs.declared.event.Event.{Event}
+use Rattle.hek_rules.specs.declared.reply.Reply.{Reply}
+use Rattle.hek_rules.specs.declared.reply.Reply.TheVariants.{Nothing, Committed, Failed, Aborted}
+
+-- how a transaction ends with a reply, or else later on
+abbrev pub ends_with : Reply → Reply → Reply
+ends_with Committed later = Committed
+ends_with (Aborted why) later = Aborted why
+ends_with Failed later = Aborted cause.Asked
+ends_with r later = later
+
+-- how it ends by these events and replies
+abbrev pub end_of : List (Event × Reply) → Reply
+end_of [] = Nothing
+end_of (x ∷ xs) = ends_with x.1 (end_of xs)

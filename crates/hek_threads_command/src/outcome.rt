@@ -1,0 +1,108 @@
+//! What a run came to: who committed, who aborted and why, the rows at the end, and the checker's verdict.
+ghost use Rattle.std.specs.Prelude.{◌≡◌, IfOk};
+ghost use Rattle.hek_rules.specs.declared.serial.Verdict.TheVariants as verdict;
+ghost use Rattle.hek_threads.specs.History.{IsSerial};
+ghost use Rattle.hek_threads_command.specs.Threaded.{HasRun};
+ghost use Rattle.hek_threads_command.specs.Outcomes.{end_of};
+
+use hek_asm::write_reply;
+use hek_rules::{Cause, FromWrite, NoMemory, Reply, Schedule, Transcript, TxnId, Verdict};
+use hek_serial::check;
+use hek_threads::{Entry, Part, Report};
+use std::alloc::Global;
+use std::io::Write;
+
+/// A run's outcome as text: each transaction by name, and how it ended; the committed rows; the checker's verdict on the
+/// history, which is `serial` since every history is.
+pub(crate) fn outcome_text(
+    alloc: Global,
+    schedule: &Schedule,
+    report: Report,
+) -> Result<Vec<u8>, NoMemory>
+    requires { HasRun schedule.now report.history.items }
+{
+    let Report {
+        machine,
+        history,
+        transcripts,
+    } = report;
+    let mut text = Vec::new(alloc);
+    put_ends(alloc, schedule, transcripts.as_slice(), &mut text)?;
+    put_reply(alloc, &Reply::Rows(machine.rows()?), &mut text)?;
+    let verdict = judge(alloc, schedule, history)?;
+    put_verdict(verdict, &mut text)?;
+    Ok(text)
+}
+
+fn put_ends(
+    alloc: Global,
+    schedule: &Schedule,
+    parts: &[Part],
+    text: &mut Vec<u8>,
+) -> Result<(), NoMemory> {
+    for place in 0..schedule.txn_count() {
+        let name = schedule.name_of(TxnId::new(place as u64 + 1));
+        text.extend_from_slice(name.as_bytes())?;
+        text.push(b' ')?;
+        if let Some(part) = parts.get(place) {
+            put_reply(alloc, &end_of(part), text)?;
+        }
+        text.extend_from_slice(b"; ")?;
+    }
+    Ok(())
+}
+
+/// How a worker's transaction ended: Committed, or Aborted with the cause.
+fn end_of(part: &Part) -> Reply
+    ensures { result ≡ end_of part.now }
+{
+    let mut rest = part.as_slice();
+    while let Some(((_, reply), later)) = rest.split_first() {
+        match reply {
+            Reply::Committed => return Reply::Committed,
+            Reply::Aborted(cause) => return Reply::Aborted(*cause),
+            Reply::Failed => return Reply::Aborted(Cause::Asked),
+            _ => rest = later,
+        }
+    }
+    Reply::Nothing
+}
+
+/// The words of a reply come behind the text.
+fn put_reply(alloc: Global, reply: &Reply, text: &mut Vec<u8>) -> Result<(), NoMemory> {
+    let mut sink = FromWrite::new(Vec::new(alloc));
+    if write_reply(reply, &mut sink).is_err() {
+        return Err(NoMemory);
+    }
+    let words = sink.into_inner();
+    text.extend_from_slice(words.as_slice())?;
+    Ok(())
+}
+
+/// The checker's verdict on a history that is serial.
+fn judge(alloc: Global, schedule: &Schedule, history: Vec<Entry>) -> Result<Verdict, NoMemory>
+    requires { IsSerial schedule.now history.items }
+    ensures { IfOk result (λ v. v ≡ verdict.Serial) }
+{
+    let mut told = Transcript::new(alloc, schedule)?;
+    for entry in history {
+        let Entry {
+            worker: _,
+            event,
+            reply,
+        } = entry;
+        told.push(event, reply)?;
+    }
+    check(alloc, &told)
+}
+
+fn put_verdict(verdict: Verdict, text: &mut Vec<u8>) -> Result<(), NoMemory> {
+    let written = match verdict {
+        Verdict::Serial => write!(text, "; serial"),
+        Verdict::NotSerial(number) => write!(text, "; not serial {number}"),
+    };
+    match written {
+        Ok(()) => Ok(()),
+        Err(_) => Err(NoMemory),
+    }
+}

@@ -1,0 +1,103 @@
+//! Many runs in threads, and how many different outcomes they have.
+ghost use Rattle.std.specs.Prelude.{◌≡◌, MatchResult, IfErr};
+ghost use Rattle.hek_commands.specs.Judged.{FileGives};
+ghost use Rattle.hek_threads_command.specs.Threaded.{IsRunFault, IsStop, ThreadsFail};
+
+use crate::outcome::outcome_text;
+use crate::threads::report_of;
+use hek_commands::{HekFault, ScheduleFile, schedule_in, send};
+use hek_rules::{NoMemory, Schedule};
+use std::alloc::Global;
+use std::collections::BTreeMap;
+use std::io;
+use std::io::{Read, Write};
+use std::sync::Wait;
+use std::thread::Threads;
+
+/// How often each outcome was seen.
+type Outcomes = BTreeMap<Vec<u8>, u64>;
+
+/// Runs each transaction of the schedule that a file says, so many times, and writes how many different outcomes there
+/// were, and each with how often it was seen. The answer is the exit status. Nothing is written before the last run is over.
+#[tactic(auto, using(crate::proofs::Histories::stop_fails))]
+pub fn repeat_command<'a, T: Threads + Wait + Sync, R: Read + Drop, W: Write>(
+    rt: &T,
+    alloc: Global,
+    file: ScheduleFile<R>,
+    turns: u64,
+    times: u64,
+    out: &mut W,
+) -> Result<u8, HekFault<'a>>
+    ensures { MatchResult result (λ status. (status ≡ 0) × ((plan : _) × FileGives R.remaining file plan)) (ThreadsFail R.remaining file) }
+{
+    let schedule = schedule_in(alloc, file)?;
+    write_outcomes(rt, alloc, &schedule, turns, times, out)?;
+    Ok(0)
+}
+
+/// The same for a schedule.
+fn write_outcomes<'a, T: Threads + Wait + Sync, W: Write>(
+    rt: &T,
+    alloc: Global,
+    schedule: &Schedule,
+    turns: u64,
+    times: u64,
+    out: &mut W,
+) -> Result<(), HekFault<'a>>
+    ensures { IfErr result IsStop }
+{
+    let outcomes = outcomes_of(rt, alloc, schedule, turns, times)?;
+    let mut text = outcome_lines(alloc, &outcomes, times)?;
+    send(&mut text, out)
+}
+
+/// The outcomes of so many runs.
+fn outcomes_of<'a, T: Threads + Wait + Sync>(
+    rt: &T,
+    alloc: Global,
+    schedule: &Schedule,
+    turns: u64,
+    times: u64,
+) -> Result<Outcomes, HekFault<'a>>
+    ensures { IfErr result IsRunFault }
+{
+    let mut outcomes = BTreeMap::new(alloc);
+    for _ in 0..times {
+        let report = report_of(rt, alloc, schedule, turns)?;
+        let outcome = outcome_text(alloc, schedule, report)?;
+        count_one(&mut outcomes, outcome)?;
+    }
+    Ok(outcomes)
+}
+
+/// The outcome was seen once more.
+fn count_one(outcomes: &mut Outcomes, outcome: Vec<u8>) -> Result<(), NoMemory> {
+    match outcomes.entry(outcome) {
+        Ok(entry) => {
+            let count = entry.or_insert(0);
+            *count = count.saturating_add(1);
+            Ok(())
+        }
+        Err(_) => Err(NoMemory),
+    }
+}
+
+/// How many outcomes there are, and a line for each.
+fn outcome_lines(alloc: Global, outcomes: &Outcomes, times: u64) -> Result<Vec<u8>, NoMemory> {
+    let mut text = Vec::new(alloc);
+    match put_lines(outcomes, times, &mut text) {
+        Ok(()) => Ok(text),
+        Err(_) => Err(NoMemory),
+    }
+}
+
+fn put_lines(outcomes: &Outcomes, times: u64, text: &mut Vec<u8>) -> io::Result<()> {
+    let count = outcomes.len();
+    writeln!(text, "outcomes {count}; runs {times}")?;
+    for (outcome, count) in outcomes.iter() {
+        write!(text, "{count} ")?;
+        text.write_all(outcome.as_slice())?;
+        writeln!(text)?;
+    }
+    Ok(())
+}

@@ -1,0 +1,17 @@
+//! Tests of workers in threads.
+#![tactic(auto)]
+
+#[cfg(test)]
+mod benchmarks;
+#[cfg(test)]
+mod books;
+#[cfg(test)]
+mod commands;
+#[cfg(test)]
+mod crowds;
+#[cfg(test)]
+mod memory;
+#[cfg(test)]
+mod pace;
+#[cfg(test)]
+mod scene;
