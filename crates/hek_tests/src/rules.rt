@@ -51,21 +51,21 @@ fn events_have_kinds(rt: HostRuntime) {
     ];
     for (event, word, opcode, operands, first, second) in rows {
         let kind = event.kind();
-        is(&rt, kind.word(), word);
-        is(&rt, EventKind::named(word.as_bytes()), Some(kind));
-        is(&rt, kind.opcode(), opcode);
-        is(&rt, EventKind::coded(opcode), Some(kind));
-        is(&rt, kind.operand_count(), operands);
-        is(&rt, event.txn(), Some(a));
-        is(&rt, event.first(), first);
-        is(&rt, event.second(), second);
-        is(&rt, kind.event(a, first, second), event);
+        assert_eq!(rt; kind.word(), word);
+        assert_eq!(rt; EventKind::named(word.as_bytes()), Some(kind));
+        assert_eq!(rt; kind.opcode(), opcode);
+        assert_eq!(rt; EventKind::coded(opcode), Some(kind));
+        assert_eq!(rt; kind.operand_count(), operands);
+        assert_eq!(rt; event.txn(), Some(a));
+        assert_eq!(rt; event.first(), first);
+        assert_eq!(rt; event.second(), second);
+        assert_eq!(rt; kind.event(a, first, second), event);
     }
-    is(&rt, Event::Detect.txn(), None);
-    is(&rt, EventKind::Detect.event(a, 5, 6), Event::Detect);
-    is(&rt, EventKind::coded(14), Some(EventKind::Detect));
-    is(&rt, EventKind::coded(0), None);
-    is(&rt, EventKind::named(b"snapshot"), None);
+    assert_eq!(rt; Event::Detect.txn(), None);
+    assert_eq!(rt; EventKind::Detect.event(a, 5, 6), Event::Detect);
+    assert_eq!(rt; EventKind::coded(14), Some(EventKind::Detect));
+    assert_eq!(rt; EventKind::coded(0), None);
+    assert_eq!(rt; EventKind::named(b"snapshot"), None);
 }
 
 fn replies(alloc: Global) -> Result<Vec<Reply>, AllocError> {

@@ -86,9 +86,10 @@ fn waits_for_a(rt: &impl Abort, buckets: &Buckets, txns: &mut Txns) {
     reserve_waiter(rt, txns, a);
     let held = bucket(rt, buckets, 0);
     let b = declared(rt, txns, B);
-    is(rt, txns.count(), 3);
+    // What is asserted here the call below asks for.
+    assert_eq!(rt; txns.count(), 3);
     assert!(rt; txns.waits(b) < 1_000);
-    is(rt, buckets.holders(held), [a].as_slice());
+    assert_eq!(rt; buckets.holders(held), [a].as_slice());
     wait_for_holders(buckets, txns, held, b);
 }
 
