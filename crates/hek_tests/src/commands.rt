@@ -129,7 +129,7 @@ const REFUSED: &[Row<'static>] = &[
     Row {
         words: &["hek", "reelase", "8040000000000002", "1"],
         status: 2,
-        faults: "error: unrecognized subcommand 'reelase'\n\n  tip: a similar subcommand exists: 'release'\n\nUsage: hek <COMMAND>\n\nFor more information, try '--help'.\n",
+        faults: "error: unrecognized subcommand 'reelase'\n\n  tip: some similar subcommands exist: 'threads', 'release'\n\nUsage: hek <COMMAND>\n\nFor more information, try '--help'.\n",
         ..QUIET
     },
     Row {
