@@ -110,6 +110,7 @@ fn put_name(schedule: &Schedule, t: TxnId, lines: &mut Vec<u8>) -> Result<(), No
     let level = match schedule.level_of(t) {
         Level::Serializable => "serializable",
         Level::Repeatable => "repeatable",
+        Level::Snapshot => "snapshot",
     };
     put(write!(lines, "txn {number} {name}: {level}"))
 }
