@@ -28,8 +28,9 @@ pub fn checkers_agree(
     Ok(true)
 }
 
-/// The steps of a schedule with these replies, where the one at a place, if there is one, is another.
-fn changed_at(
+/// The steps of a schedule with these replies, where the one at a place, if there is one, is another: of a value that was
+/// found, one more.
+pub fn changed_at(
     alloc: Global,
     schedule: &Schedule,
     replies: &[Reply],

@@ -1,12 +1,11 @@
 //! A vector beside what is stored of it.
 ghost use Rattle.std.specs.Prelude.{◌≡◌, ◌↔◌, length, IfOk, IsTrue};
 ghost use Rattle.hek_asm.specs.Trace.{trace};
-ghost use Rattle.hek_image.specs.Schedules.{image};
 ghost use Rattle.hek_machine.specs.Steps.{told_of};
 
-use crate::agreement::checkers_agree;
+use crate::agreement::{changed_at, checkers_agree};
 use crate::faults::Fault;
-use crate::files::{Stored, Summary};
+use crate::files::{Raised, Stored, Summary};
 use hek_asm::{assemble_text, canonical, write_trace};
 use hek_image::{load_image, write_image};
 use hek_machine::run;
@@ -31,6 +30,9 @@ pub enum Difference {
     Trace,
     #[error("the verdict differs")]
     Verdict,
+    /// That of the trace with a value raised.
+    #[error("the verdict on the raised trace differs")]
+    Raised,
     /// The checker and the plain one, on that trace or on it with a reply changed.
     #[error("the verdicts of two checkers differ")]
     Checkers,
@@ -54,16 +56,25 @@ pub fn compare(
             return Ok(Some(Difference::Schedule));
         }
     }
-    compare_run(alloc, &schedule, stored.trace.as_slice(), summary.verdict)
+    compare_run(alloc, &schedule, stored.trace.as_slice(), summary)
 }
 
-/// Whether these bytes are what a schedule is written as.
-fn is_image_of(alloc: Global, bytes: &[u8], schedule: &Schedule) -> Result<bool, WriteFault>
-    ensures { IfOk result (λ same. IsTrue same ↔ (image schedule.now ≡ bytes.now)) }
-{
+/// Where the version of an image stands: its low byte.
+const VERSION_AT: usize = 5;
+
+/// Whether these bytes are the image of a schedule, of version 2 as it is written, or of version 1, which differs in the
+/// version alone.
+fn is_image_of(alloc: Global, bytes: &[u8], schedule: &Schedule) -> Result<bool, WriteFault> {
     let mut sink = MemorySink::new(alloc, usize::MAX, usize::MAX);
     write_image(schedule, &mut sink)?;
-    Ok(sink.bytes() == bytes)
+    Ok(sink.bytes() == bytes || is_older(bytes, sink.bytes()))
+}
+
+/// Whether an image of version 1 is the other one but for the version.
+fn is_older(bytes: &[u8], newer: &[u8]) -> bool {
+    bytes.get(VERSION_AT) == Some(&1)
+        && bytes.get(..VERSION_AT) == newer.get(..VERSION_AT)
+        && bytes.get(VERSION_AT + 1..) == newer.get(VERSION_AT + 1..)
 }
 
 /// Whether a schedule is loaded from these bytes whose canonical text is that of this one. They come a few at a time.
@@ -80,20 +91,38 @@ fn compare_run(
     alloc: Global,
     schedule: &Schedule,
     trace: &[u8],
-    verdict: Verdict,
+    summary: &Summary,
 ) -> Result<Option<Difference>, Fault> {
     let _buckets = schedule.buckets();
     let ran = run(alloc, schedule, schedule.steps())?;
     if !is_trace_of(alloc, trace, schedule, ran.replies.as_slice())? {
         return Ok(Some(Difference::Trace));
     }
-    if check(alloc, &transcript(alloc, schedule, &ran.replies)?)? != verdict {
+    if check(alloc, &transcript(alloc, schedule, &ran.replies)?)? != summary.verdict {
         return Ok(Some(Difference::Verdict));
+    }
+    if !is_judged_raised(alloc, schedule, ran.replies.as_slice(), summary.raised)? {
+        return Ok(Some(Difference::Raised));
     }
     if !checkers_agree(alloc, schedule, &ran.replies)? {
         return Ok(Some(Difference::Checkers));
     }
     Ok(None)
+}
+
+/// Whether the checker says what is stored of the steps with the reply of a line raised, if that is stored.
+fn is_judged_raised(
+    alloc: Global,
+    schedule: &Schedule,
+    replies: &[Reply],
+    raised: Option<Raised>,
+) -> Result<bool, NoMemory> {
+    let Some(raised) = raised else {
+        return Ok(true);
+    };
+    let place = raised.line.saturating_sub(1);
+    let changed = changed_at(alloc, schedule, replies, place)?;
+    Ok(check(alloc, &changed)? == raised.verdict)
 }
 
 /// Whether these bytes are the trace of a schedule's steps with these replies.

@@ -2,36 +2,71 @@
 use hek_rules::Verdict;
 use std::fmt;
 
-/// A line of SUMMARY: the vector's name, its number of steps, and what the checker says of its trace.
+/// A line of a trace, from 1, and what the checker says of the trace where the value found there is one more.
+#[derive(Clone, Copy, Debug, PartialEq, Eq)]
+pub struct Raised {
+    pub line: usize,
+    pub verdict: Verdict,
+}
+
+/// A line of SUMMARY: the vector's name, its number of steps, what the checker says of its trace, and for some also what it
+/// says of the trace with one value raised.
 #[derive(Clone, Copy, Debug, PartialEq, Eq)]
 pub struct Summary<'a> {
     pub name: &'a str,
     pub steps: usize,
     pub verdict: Verdict,
+    pub raised: Option<Raised>,
 }
 
 impl<'a> Summary<'a> {
-    /// The line `NAME STEPS serial`, or `NAME STEPS not serial PLACE`.
+    /// The line `NAME STEPS VERDICT`, or `NAME STEPS VERDICT; line LINE raised by one: VERDICT`. A verdict is `serial` or
+    /// `not serial PLACE`.
     pub fn read(line: &'a str) -> Option<Summary<'a>> {
         let (name, rest) = line.split_once(' ')?;
-        let (steps, verdict) = rest.split_once(' ')?;
+        let (steps, verdicts) = rest.split_once(' ')?;
+        let (verdict, raised) = match verdicts.split_once("; ") {
+            None => (verdicts, None),
+            Some((verdict, raised)) => (verdict, Some(read_raised(raised)?)),
+        };
         Some(Summary {
             name,
             steps: steps.parse().ok()?,
             verdict: read_verdict(verdict)?,
+            raised,
         })
     }
 }
 
-/// `STEPS steps, serial`, or `STEPS steps, not serial PLACE`.
+/// `STEPS steps, VERDICT`.
 impl fmt::Display for Summary<'_> {
     fn fmt<W: fmt::Write>(&self, f: &mut fmt::Formatter<W>) -> fmt::Result {
-        write!(f, "{} steps, ", self.steps)?;
-        match self.verdict {
+        write!(f, "{} steps, {}", self.steps, Shown(self.verdict))?;
+        match self.raised {
+            None => Ok(()),
+            Some(raised) => write!(f, "; line {} raised: {}", raised.line, Shown(raised.verdict)),
+        }
+    }
+}
+
+/// A verdict as text: `serial`, or `not serial PLACE`.
+struct Shown(Verdict);
+
+impl fmt::Display for Shown {
+    fn fmt<W: fmt::Write>(&self, f: &mut fmt::Formatter<W>) -> fmt::Result {
+        match self.0 {
             Verdict::Serial => f.write_str("serial"),
             Verdict::NotSerial(place) => write!(f, "not serial {place}"),
         }
     }
+}
+
+fn read_raised(text: &str) -> Option<Raised> {
+    let (line, verdict) = text.strip_prefix("line ")?.split_once(" raised by one: ")?;
+    Some(Raised {
+        line: line.parse().ok()?,
+        verdict: read_verdict(verdict)?,
+    })
 }
 
 fn read_verdict(text: &str) -> Option<Verdict> {

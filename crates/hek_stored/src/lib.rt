@@ -10,4 +10,4 @@ mod plain;
 
 pub use comparison::{Difference, compare};
 pub use faults::Fault;
-pub use files::{Stored, Summary};
+pub use files::{Raised, Stored, Summary};

@@ -2,7 +2,7 @@ mod benchmarks;
 
 use crate::asserts::is_at;
 use hek_rules::Verdict;
-use hek_stored::{Difference, Stored, Summary, compare};
+use hek_stored::{Difference, Raised, Stored, Summary, compare};
 use std::alloc::Global;
 use std::process::Abort;
 
@@ -20,6 +20,18 @@ fn reads_lines_of_a_summary(rt: HostRuntime) {
             (steps, verdict),
         );
     }
+    let line = "s-01 66 serial; line 42 raised by one: not serial 42";
+    let summary = Summary::read(line).expect(&rt, "a summary");
+    let raised = Raised {
+        line: 42,
+        verdict: Verdict::NotSerial(42),
+    };
+    is_at(
+        &rt,
+        line,
+        (summary.verdict, summary.raised),
+        (Verdict::Serial, Some(raised)),
+    );
     for line in [
         "",
         "a",
@@ -28,6 +40,7 @@ fn reads_lines_of_a_summary(rt: HostRuntime) {
         "a 1 serious",
         "a 1 not serial",
         "a 1 not serial x",
+        "a 1 serial; line 2",
     ] {
         assert!(rt; Summary::read(line).is_none(), "at {line}");
     }

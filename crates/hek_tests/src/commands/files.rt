@@ -357,8 +357,9 @@ fn tells_of_devices_that_fail(rt: HostRuntime) {
     assert_broken_text(&rt, rt.alloc(), "in");
 }
 
-// A row, and transactions of both levels.
-const BOTH: &[u8] = b"buckets 1\nrow 10 100\ntxn a serializable\ntxn b repeatable\n";
+// A row, and transactions of the three levels.
+const BOTH: &[u8] =
+    b"buckets 1\nrow 10 100\ntxn a serializable\ntxn b repeatable\ntxn c snapshot\n";
 
 // What `hek check --text` says of a trace over that schedule.
 fn assert_checks(
@@ -415,6 +416,16 @@ const CHECKED: &[(&[u8], u8, &str)] = &[
         1,
         "not serial 2\n",
     ),
+    (
+        b"1 c begin -> began 1\n2 b begin -> began 2\n3 b update 10 200 -> done\n4 b finish -> ready\n5 b precommit -> precommitted 3\n6 b commit -> committed\n7 c read 10 -> found 100\n8 c finish -> ready\n9 c precommit -> precommitted 4\n10 c commit -> committed\n",
+        0,
+        "serial\n",
+    ),
+    (
+        b"1 c begin -> began 1\n2 b begin -> began 2\n3 b update 10 200 -> done\n4 b finish -> ready\n5 b precommit -> precommitted 3\n6 b commit -> committed\n7 c read 10 -> found 200\n8 c finish -> ready\n9 c precommit -> precommitted 4\n10 c commit -> committed\n",
+        1,
+        "not serial 7\n",
+    ),
 ];
 
 #[test]
@@ -427,7 +438,7 @@ fn checks(rt: HostRuntime) -> Result<(), Fail> {
 
 const TRACE_FAULTS: &[(&[u8], &str)] = &[
     (b"1 a commit -> committed", "hek: trace line 1\n"),
-    (b"1 c commit -> committed\n", "hek: trace line 1\n"),
+    (b"1 d commit -> committed\n", "hek: trace line 1\n"),
     (
         b"1 a commit -> committed\n3 a commit -> committed\n",
         "hek: trace line 2\n",
