@@ -44,7 +44,12 @@ impl fmt::Display for Summary<'_> {
         write!(f, "{} steps, {}", self.steps, Shown(self.verdict))?;
         match self.raised {
             None => Ok(()),
-            Some(raised) => write!(f, "; line {} raised: {}", raised.line, Shown(raised.verdict)),
+            Some(raised) => write!(
+                f,
+                "; line {} raised: {}",
+                raised.line,
+                Shown(raised.verdict)
+            ),
         }
     }
 }
