@@ -6,6 +6,7 @@ pub mod Whole
 pub mod Wide
 pub mod Readers
 pub mod Distinct
+pub mod Levels
 pub mod ImageAgain
 pub mod Taken
 pub mod ImageBack

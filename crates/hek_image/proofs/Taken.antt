@@ -1,7 +1,7 @@
 -- What a reader took from the front.
 use Rattle.std.proofs.Common.{◌≡◌, ℕ, zero, suc, ◌+◌, Bool, true, false, cond, List, [], ◌∷◌, ◌++◌, length, take, drop, Result, Ok, Err, refl, sym, ap, subst, ◌∙◌, append_assoc, arith, inl, inr}
 use Rattle.std.specs.Int.{Width, w8, byte_len, from_be_bytes, to_be_bytes}
-use Rattle.std.specs.List.{flat_map}
+use Rattle.std.specs.List.{AllByRecursion, flat_map}
 use Rattle.std.proofs.lemmas.Bool.{cases_lt, lt-ltb, le-ltb}
 use Rattle.std.proofs.lemmas.List.{take-append-drop, length-take}
 use Rattle.hek_rules.specs.Plan.{Plan}
@@ -96,19 +96,19 @@ unfolding number_within
 within_ok low high w p n q e = checked_ok (number_at w) (is_within low high) p n q e
 
 -- ---- items, one after another
-module _ {X : Type 0} (item : Plan → Reader Plan) (bytes : X → List ℕ) (add : Plan → X → Plan)
-    (gives : (plan : Plan) (p : Place) (after : Plan) (q : Place) → IsBytes p.rest → item plan p ≡ gave after q → (x : X) × (after ≡ add plan x) × Took p (bytes x) q) where
+module _ {X : Type 0} (item : Plan → Reader Plan) (bytes : X → List ℕ) (add : Plan → X → Plan) (Fits : X → Type 0)
+    (gives : (plan : Plan) (p : Place) (after : Plan) (q : Place) → IsBytes p.rest → item plan p ≡ gave after q → (x : X) × (after ≡ add plan x) × Took p (bytes x) q × Fits x) where
   abbrev pub all_added : Plan → List X → Plan
   all_added p [] = p
   all_added p (x ∷ xs) = all_added (add p x) xs
 
-  pub times_ok : (n : ℕ) (plan : Plan) (p : Place) (after : Plan) (q : Place) → IsBytes p.rest → times n item plan p ≡ gave after q → (xs : List X) × (length xs ≡ n) × (after ≡ all_added plan xs) × Took p (flat_map bytes xs) q
+  pub times_ok : (n : ℕ) (plan : Plan) (p : Place) (after : Plan) (q : Place) → IsBytes p.rest → times n item plan p ≡ gave after q → (xs : List X) × (length xs ≡ n) × (after ≡ all_added plan xs) × Took p (flat_map bytes xs) q × AllByRecursion Fits xs
   unfolding times
   times_ok zero plan p after q fits e =
       let same = gave_is plan after p q e in
-      ([], refl, sym same.0, subst (λ (z : Place). Took p [] z) same.1 (took_none p fits))
+      ([], refl, sym same.0, subst (λ (z : Place). Took p [] z) same.1 (took_none p fits), tt)
   times_ok (suc n) plan p after q fits e =
       let b = then_ok (item plan p) (times n item) after q e in
       let one = gives plan p b.0 b.1 fits b.2 in
       let rest = times_ok n b.0 b.1 after q one.2.bytes b.3 in
-      (one.0 ∷ rest.0, ap suc rest.1, rest.2 ∙ ap (λ (z : Plan). all_added z rest.0) one.1, took_then p b.1 q (bytes one.0) (flat_map bytes rest.0) one.2 rest.3)
+      (one.0 ∷ rest.0, ap suc rest.1, rest.2 ∙ ap (λ (z : Plan). all_added z rest.0) one.1, took_then p b.1 q (bytes one.0) (flat_map bytes rest.0) one.2 rest.3, (one.3, rest.4))

@@ -1,5 +1,5 @@
 -- An image is of at most 22,083,414 bytes, and more bytes behind change only Short.
-use Rattle.std.proofs.Common.{◌≡◌, ℕ, zero, suc, ◌<◌, ◌≤◌, Bool, true, false, List, [], ◌++◌, length, Result, Ok, Err, refl, sym, ap, subst, ◌∙◌, arith, inl, inr, length-append}
+use Rattle.std.proofs.Common.{◌≡◌, ℕ, zero, suc, ◌+◌, ◌<◌, ◌≤◌, Bool, true, false, List, [], ◌++◌, length, Result, Ok, Err, refl, sym, ap, subst, ◌∙◌, arith, inl, inr, length-append}
 use Rattle.std.specs.Prelude.{◌==◌}
 use Rattle.std.specs.Int.{w8, w16, w32, w64}
 use Rattle.std.proofs.lemmas.Bool.{cases_Bool, eqb-true, ne_eqb}
@@ -7,7 +7,7 @@ use Rattle.std.proofs.lemmas.List.{append-nil}
 use Rattle.hek_rules.specs.Plan.{Plan}
 use Rattle.hek_image.specs.declared.fault.LoadFault.{LoadFault}
 use Rattle.hek_image.specs.declared.fault.LoadFault.TheVariants as load
-use Rattle.hek_image.specs.Loading.{Place, Counts, row_at, txn_at, kind_at, step_at, magic_at, version_at, header_at, plan_at, ended, loading}
+use Rattle.hek_image.specs.Loading.{Place, Header, row_at, txn_at, kind_at, step_at, magic_at, version_at, header_at, plan_at, ended, loading}
 use Rattle.hek_image.specs.Gives.{FieldGives, LoadGives, settled}
 use Rattle.hek_image.proofs.Steady.{IsSteady, Agrees, FaultAgrees, Any, wider, bytes_steady, value_steady, both_steady, checked_steady, required_steady, times_steady, number_steady, within_steady}
 
@@ -15,9 +15,9 @@ row_steady : (plan : Plan) → IsSteady Any 16 (row_at plan)
 unfolding row_at
 row_steady plan = both_steady Any Any 8 8 _ _ (checked_steady Any Any 8 _ _ (λ k any e. tt) (number_steady w64)) (λ key any. both_steady Any Any 8 0 _ _ (number_steady w64) (λ v any2. value_steady Any _ tt))
 
-txn_steady : (plan : Plan) → IsSteady Any 34 (txn_at plan)
+txn_steady : (version : ℕ) (plan : Plan) → IsSteady Any 34 (txn_at version plan)
 unfolding txn_at
-txn_steady plan = both_steady (λ n. n ≤ 2) Any 1 33 _ _ (within_steady 1 2 w8) (λ level low.
+txn_steady version plan = both_steady (λ n. n ≤ version + 1) Any 1 33 _ _ (within_steady 1 (version + 1) w8) (λ level low.
     both_steady (λ n. n ≤ 32) Any 1 32 _ _ (within_steady 1 32 w8) (λ len high.
     both_steady Any Any 32 0 _ _ (checked_steady Any Any 32 _ _ (λ w any e. tt) (wider Any len 32 _ high (bytes_steady len))) (λ name any. value_steady Any _ tt)))
 
@@ -40,7 +40,7 @@ version_steady : IsSteady Any 2 version_at
 unfolding version_at
 version_steady = required_steady Any Any 2 _ _ load.BadVersion (λ C D d. d) (λ x any e. tt) (number_steady w16)
 
-record AreFew (head : Plan × Counts) : Type 0 where
+record AreFew (head : Plan × Header) : Type 0 where
   pub rows : head.1.rows ≤ 65536
   pub txns : head.1.txns ≤ 1024
   pub steps : head.1.steps ≤ 1000000
@@ -61,7 +61,7 @@ plan_steady : IsSteady Any longest plan_at
 unfolding plan_at
 plan_steady = both_steady AreFew Any 22 22083392 _ _ header_steady (λ head few.
     both_steady Any Any 1048576 21034816 _ _ (times_steady 16 head.1.rows 65536 row_at head.0 few.rows row_steady) (λ plan any.
-    both_steady Any Any 34816 21000000 _ _ (times_steady 34 head.1.txns 1024 txn_at plan few.txns txn_steady) (λ full any2.
+    both_steady Any Any 34816 21000000 _ _ (times_steady 34 head.1.txns 1024 (txn_at head.1.version) plan few.txns (txn_steady head.1.version)) (λ full any2.
     times_steady 21 head.1.steps 1000000 step_at full few.steps step_steady)))
 
 -- what bytes give, and what they give with more behind them

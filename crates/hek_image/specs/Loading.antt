@@ -3,7 +3,7 @@ use Rattle.std.specs.Prelude.{ℕ, zero, suc, ◌+◌, Bool, true, false, ◌&&�
 use Rattle.std.specs.Int.{Width, w8, w16, w32, w64, byte_len, from_be_bytes}
 use Rattle.std.specs.Str.{bytes_eq}
 use Rattle.hek_rules.specs.declared.event.Level.{Level}
-use Rattle.hek_rules.specs.declared.event.Level.TheVariants.{Serializable, Repeatable}
+use Rattle.hek_rules.specs.declared.event.Level.TheVariants.{Serializable, Repeatable, Snapshot}
 use Rattle.hek_rules.specs.declared.kind.EventKind.{EventKind}
 use Rattle.hek_rules.specs.declared.kind.EventKind.TheVariants as kind
 use Rattle.hek_rules.specs.Name.{is_name}
@@ -67,14 +67,15 @@ row_at plan = both (checked (number_at w64) (λ k. not (has_key plan k))) (λ ke
     value (record plan { rows = plan.rows ++ (key, v) ∷ [] })))
 
 abbrev pub level_coded : ℕ → Level
-level_coded n = if n == 1 then Serializable else Repeatable
+level_coded n = if n == 1 then Serializable else if n == 2 then Repeatable else Snapshot
 
 -- a name that is new
 abbrev pub is_new_name : Plan → List ℕ → Bool
 is_new_name plan w = is_name w && not (has_name plan w)
 
-unfoldable pub txn_at : Plan → Reader Plan
-txn_at plan = both (number_within 1 2 w8) (λ level.
+-- version 1 has two levels, version 2 has three
+unfoldable pub txn_at : ℕ → Plan → Reader Plan
+txn_at version plan = both (number_within 1 (version + 1) w8) (λ level.
     both (number_within 1 32 w8) (λ len.
     both (checked (bytes_at len) (is_new_name plan)) (λ name.
     value (record plan { txns = plan.txns ++ (name, level_coded level) ∷ [] }))))
@@ -117,8 +118,9 @@ times zero item plan p = Ok (plan, p)
 times (suc n) item plan p = then_read (item plan p) (times n item)
 
 -- ---- the whole
--- how many rows, transactions and steps there are
-pub record Counts : Type 0 where
+-- the version, and how many rows, transactions and steps there are
+pub record Header : Type 0 where
+  pub version : ℕ
   pub rows : ℕ
   pub txns : ℕ
   pub steps : ℕ
@@ -126,23 +128,27 @@ pub record Counts : Type 0 where
 unfoldable pub magic_at : Reader (List ℕ)
 magic_at = required (bytes_at 4) (λ m. bytes_eq m magic) BadMagic
 
-unfoldable pub version_at : Reader ℕ
-version_at = required (number_at w16) (λ n. n == 1) BadVersion
+-- 1 and 2
+abbrev pub is_version : ℕ → Bool
+is_version n = is_within 1 2 n
 
-unfoldable pub header_at : Reader (Plan × Counts)
+unfoldable pub version_at : Reader ℕ
+version_at = required (number_at w16) is_version BadVersion
+
+unfoldable pub header_at : Reader (Plan × Header)
 header_at = both magic_at (λ m.
     both version_at (λ version.
     both (number_within 1 1024 w32) (λ buckets.
     both (number_within 0 65536 w32) (λ rows.
     both (number_within 0 1024 w32) (λ txns.
     both (number_within 0 1000000 w32) (λ steps.
-    value (record { buckets = buckets; rows = []; txns = []; steps = [] }, record { rows = rows; txns = txns; steps = steps })))))))
+    value (record { buckets = buckets; rows = []; txns = []; steps = [] }, record { version = version; rows = rows; txns = txns; steps = steps })))))))
 
 -- all but the end
 unfoldable pub plan_at : Reader Plan
 plan_at = both header_at (λ head.
     both (times head.1.rows row_at head.0) (λ plan.
-    both (times head.1.txns txn_at plan) (λ full.
+    both (times head.1.txns (txn_at head.1.version) plan) (λ full.
     times head.1.steps step_at full)))
 
 abbrev pub ended : Result (Plan × Place) LoadFault → Result Plan LoadFault

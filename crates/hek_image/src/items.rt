@@ -31,22 +31,27 @@ fn row_at<'a>(schedule: &mut Schedule, place: Place<'a>) -> Result<Place<'a>, Lo
 fn level_coded(byte: u8) -> Level
     ensures { result ≡ level_coded byte }
 {
-    if byte == 1 {
-        Level::Serializable
-    } else {
-        Level::Repeatable
+    match byte {
+        1 => Level::Serializable,
+        2 => Level::Repeatable,
+        _ => Level::Snapshot,
     }
 }
 
-// A transaction, which is added.
+// A transaction of an image of this version, which is added.
 #[tactic(auto, unfolding(crate::specs::Loading::txn_at, crate::specs::Loading::checked, crate::specs::Loading::both))]
-fn txn_at<'a>(schedule: &mut Schedule, place: Place<'a>) -> Result<Place<'a>, LoadFault>
-    requires { length schedule.old.txns < 1024 }
-    ensures gives { FieldGives (λ p. (schedule.new, place_of p)) result (txn_at schedule.old (place_of place.entry)) }
+fn txn_at<'a>(
+    version: u8,
+    schedule: &mut Schedule,
+    place: Place<'a>,
+) -> Result<Place<'a>, LoadFault>
+    requires known { version ≤ 2 }
+    requires room { length schedule.old.txns < 1024 }
+    ensures gives { FieldGives (λ p. (schedule.new, place_of p)) result (txn_at version schedule.old (place_of place.entry)) }
     ensures len { OnOk result (length schedule.new.txns ≡ length schedule.old.txns + 1) }
     ensures steps { OnOk result (schedule.new.steps ≡ schedule.old.steps) }
 {
-    let (level, after) = u8_within(1, 2, place)?;
+    let (level, after) = u8_within(1, version + 1, place)?;
     let (len, name_place) = u8_within(1, 32, after)?;
     let (name, after) = bytes_at(len as usize, name_place)?;
     let Some(name) = name_text(name) else {
@@ -186,17 +191,19 @@ pub(crate) fn rows_at<'a>(
 }
 
 pub(crate) fn txns_at<'a>(
+    version: u8,
     schedule: &mut Schedule,
     count: u32,
     place: Place<'a>,
 ) -> Result<Place<'a>, LoadFault>
-    requires { length schedule.old.txns + count ≤ 1024 }
-    ensures gives { FieldGives (λ p. (schedule.new, place_of p)) result (times count txn_at schedule.old (place_of place.entry)) }
+    requires known { version ≤ 2 }
+    requires room { length schedule.old.txns + count ≤ 1024 }
+    ensures gives { FieldGives (λ p. (schedule.new, place_of p)) result (times count (txn_at version) schedule.old (place_of place.entry)) }
     ensures steps { OnOk result (schedule.new.steps ≡ schedule.old.steps) }
 {
     let mut place = place;
     for _ in 0..count {
-        match txn_at(schedule, place) {
+        match txn_at(version, schedule, place) {
             Ok(after) => place = after,
             Err(fault) => return Err(fault),
         }

@@ -1,7 +1,8 @@
 //! Laws of images.
 ghost use Rattle.hek_image.specs.Laws.{ImagesAreExact};
 
-/// A schedule is loaded from its image, and what loads is the image of the schedule that it gives.
+/// A schedule is loaded from its image, and from its version 1 image if it has one; what loads is one of the two images of the
+/// schedule that it gives.
 pub fn images_are_exact()
     ensures { ImagesAreExact }
 {}

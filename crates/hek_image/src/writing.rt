@@ -1,4 +1,4 @@
-//! The image of a schedule.
+//! The image of a schedule, in the newest version of the format.
 ghost use Rattle.std.specs.Prelude.{◌≡◌, ◌++◌, ◌∷◌, [], ◌<◌, ◌^◌, false, length, IsTrue, OnOk, is_err, unwrap_or, IfSome};
 ghost use Rattle.std.specs.List.{flat_map, AllByRecursion};
 ghost use Rattle.std.specs.Int.{w16, w32, w64, to_be_bytes};
@@ -37,16 +37,16 @@ fn put_u64<S: Sink>(number: u64, sink: &mut S) -> Result<(), WriteFault>
 
 fn put_magic<S: Sink>(sink: &mut S) -> Result<(), WriteFault>
     requires { S.failed sink.old ≡ false }
-    ensures ok { OnOk result (IsTrue (S.tells sink.old) → S.holds sink.new ≡ S.holds sink.old ++ (magic ++ to_be_bytes w16 1)) }
+    ensures ok { OnOk result (IsTrue (S.tells sink.old) → S.holds sink.new ≡ S.holds sink.old ++ (magic ++ to_be_bytes w16 2)) }
     ensures tells { IsTrue (S.tells sink.old) → IsTrue (S.tells sink.new) }
     ensures fails { S.failed sink.new ≡ is_err result }
 {
-    put_all(sink, b"HKSC\x00\x01".as_slice())
+    put_all(sink, b"HKSC\x00\x02".as_slice())
 }
 
 fn put_front<S: Sink>(buckets: u32, sink: &mut S) -> Result<(), WriteFault>
     requires { S.failed sink.old ≡ false }
-    ensures ok { OnOk result (IsTrue (S.tells sink.old) → S.holds sink.new ≡ S.holds sink.old ++ front_bytes buckets) }
+    ensures ok { OnOk result (IsTrue (S.tells sink.old) → S.holds sink.new ≡ S.holds sink.old ++ front_bytes 2 buckets) }
     ensures tells { IsTrue (S.tells sink.old) → IsTrue (S.tells sink.new) }
     ensures fails { S.failed sink.new ≡ is_err result }
 {
@@ -82,6 +82,7 @@ fn level_byte(level: Level) -> u8
     match level {
         Level::Serializable => 1,
         Level::Repeatable => 2,
+        Level::Snapshot => 3,
     }
 }
 
@@ -159,7 +160,7 @@ fn put_steps<S: Sink>(schedule: &Schedule, sink: &mut S) -> Result<(), WriteFaul
     Ok(())
 }
 
-/// Writes the image of a schedule. After a fault nothing is known of how much went out.
+/// Writes the version 2 image of a schedule. After a fault nothing is known of how much went out.
 #[tactic(auto, using(crate::proofs::StepLemmas::short_names, crate::proofs::StepLemmas::short_txns))]
 pub fn write_image<S: Sink>(schedule: &Schedule, sink: &mut S) -> Result<(), WriteFault>
     requires { S.failed sink.old ≡ false }

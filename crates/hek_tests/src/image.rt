@@ -9,11 +9,11 @@ use std::time::Instant;
 
 // `buckets 4`, `row 10 100`, `txn a serializable`, `a read 10`
 const VECTOR: [u8; 62] =
-    *b"\x48\x4B\x53\x43\x00\x01\x00\x00\x00\x04\x00\x00\x00\x01\x00\x00\x00\x01\x00\x00\x00\x01\x00\x00\x00\x00\x00\x00\x00\x0A\x00\x00\x00\x00\x00\x00\x00\x64\x01\x01\x61\x02\x00\x00\x00\x01\x00\x00\x00\x00\x00\x00\x00\x0A\x00\x00\x00\x00\x00\x00\x00\x00";
+    *b"\x48\x4B\x53\x43\x00\x02\x00\x00\x00\x04\x00\x00\x00\x01\x00\x00\x00\x01\x00\x00\x00\x01\x00\x00\x00\x00\x00\x00\x00\x0A\x00\x00\x00\x00\x00\x00\x00\x64\x01\x01\x61\x02\x00\x00\x00\x01\x00\x00\x00\x00\x00\x00\x00\x0A\x00\x00\x00\x00\x00\x00\x00\x00";
 
 // `buckets 1`
 const SMALLEST: [u8; 22] =
-    *b"HKSC\x00\x01\x00\x00\x00\x01\x00\x00\x00\x00\x00\x00\x00\x00\x00\x00\x00\x00";
+    *b"HKSC\x00\x02\x00\x00\x00\x01\x00\x00\x00\x00\x00\x00\x00\x00\x00\x00\x00\x00";
 
 fn add_row(rt: &impl Abort, schedule: &mut Schedule, key: u64, value: u64) {
     assert!(rt; schedule.row_fits(key));
@@ -31,11 +31,19 @@ fn add_step(rt: &impl Abort, schedule: &mut Schedule, event: Event) {
     assert!(rt; schedule.add_step(step).is_ok());
 }
 
-// The schedule of the vector.
-fn small(rt: &impl Abort, alloc: Global) -> Schedule {
+// The vector with another version and another level byte.
+fn vector(version: u8, level: u8) -> [u8; 62] {
+    let mut bytes = VECTOR;
+    bytes[5] = version;
+    bytes[38] = level;
+    bytes
+}
+
+// The schedule of the vector, with this level.
+fn small(rt: &impl Abort, alloc: Global, level: Level) -> Schedule {
     let mut schedule = Schedule::new(alloc, 4);
     add_row(rt, &mut schedule, 10, 100);
-    add_txn(rt, &mut schedule, "a", Level::Serializable);
+    add_txn(rt, &mut schedule, "a", level);
     add_step(rt, &mut schedule, Event::Read(TxnId::new(1), 10));
     schedule
 }
@@ -51,16 +59,67 @@ fn fault_of(alloc: Global, bytes: &[u8], ending: Ending) -> Option<LoadFault> {
     load(alloc, bytes, 7, ending).err()
 }
 
+// These bytes, which come in pieces, are the image of this schedule, which is written as those.
+fn assert_loads(
+    rt: &impl Abort,
+    alloc: Global,
+    bytes: &[u8],
+    piece: usize,
+    schedule: &Schedule,
+    written: &[u8],
+)
+    requires { 0 < piece }
+{
+    let loaded = load(alloc, bytes, piece, Ending::Ends).expect(rt, "a schedule");
+    assert!(rt; loaded.same(schedule), "in pieces of {piece}");
+    let mut sink = MemorySink::new(alloc, 62, piece);
+    is(rt, write_image(&loaded, &mut sink), Ok(()));
+    is(rt, sink.bytes(), written);
+}
+
 #[test]
 fn loads_and_writes_the_vector(rt: HostRuntime) {
-    let schedule = small(&rt, rt.alloc());
+    let schedule = small(&rt, rt.alloc(), Level::Serializable);
     for piece in [1usize, 5, 62, 100] {
         assert!(rt; piece > 0);
-        let loaded = load(rt.alloc(), &VECTOR, piece, Ending::Ends).expect(&rt, "a schedule");
-        assert!(rt; loaded.same(&schedule), "in pieces of {piece}");
-        let mut sink = MemorySink::new(rt.alloc(), 62, piece);
-        is(&rt, write_image(&loaded, &mut sink), Ok(()));
-        is(&rt, sink.bytes(), VECTOR.as_slice());
+        assert_loads(&rt, rt.alloc(), &VECTOR, piece, &schedule, &VECTOR);
+    }
+}
+
+// What is loaded from a version 1 image is written as a version 2 one.
+#[test]
+fn loads_both_versions(rt: HostRuntime) {
+    for (version, byte, level) in [
+        (1u8, 0x01u8, Level::Serializable),
+        (1, 0x02, Level::Repeatable),
+        (2, 0x01, Level::Serializable),
+        (2, 0x02, Level::Repeatable),
+        (2, 0x03, Level::Snapshot),
+    ] {
+        let schedule = small(&rt, rt.alloc(), level);
+        let bytes = vector(version, byte);
+        let written = vector(2, byte);
+        assert_loads(&rt, rt.alloc(), &bytes, 7, &schedule, &written);
+    }
+}
+
+#[test]
+fn refuses_other_versions_and_levels(rt: HostRuntime) {
+    for (version, byte, fault) in [
+        (0u8, 0x01u8, LoadFault::BadVersion),
+        (3, 0x01, LoadFault::BadVersion),
+        (1, 0x00, LoadFault::BadField(38)),
+        (1, 0x03, LoadFault::BadField(38)),
+        (2, 0x00, LoadFault::BadField(38)),
+        (2, 0x04, LoadFault::BadField(38)),
+    ] {
+        let bytes = vector(version, byte);
+        is_at(
+            &rt,
+            (version, byte),
+            fault_of(rt.alloc(), &bytes, Ending::Ends),
+            Some(fault),
+        );
     }
 }
 
@@ -68,12 +127,14 @@ fn loads_and_writes_the_vector(rt: HostRuntime) {
 fn refuses_changed_bytes(rt: HostRuntime) {
     for (place, byte, fault) in [
         (61usize, 0x01, LoadFault::BadField(54)),
-        (38, 0x03, LoadFault::BadField(38)),
+        (38, 0x04, LoadFault::BadField(38)),
         (41, 0x00, LoadFault::BadField(41)),
         (41, 0x0F, LoadFault::BadField(41)),
         (45, 0x02, LoadFault::BadField(42)),
         (45, 0x00, LoadFault::BadField(42)),
-        (5, 0x02, LoadFault::BadVersion),
+        (5, 0x00, LoadFault::BadVersion),
+        (5, 0x03, LoadFault::BadVersion),
+        (4, 0x01, LoadFault::BadVersion),
         (0, 0x47, LoadFault::BadMagic),
         (9, 0x00, LoadFault::BadField(6)),
         (8, 0x05, LoadFault::BadField(6)),
@@ -161,7 +222,7 @@ fn stops_at_the_longest_image(rt: HostRuntime) {
 
 #[test]
 fn tells_that_an_image_could_not_be_written(rt: HostRuntime) {
-    let schedule = small(&rt, rt.alloc());
+    let schedule = small(&rt, rt.alloc(), Level::Serializable);
     for room in [0usize, 1, 21, 22, 40, 61] {
         let mut sink = MemorySink::new(rt.alloc(), room, 5);
         is_at(

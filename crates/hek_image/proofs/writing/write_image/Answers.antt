@@ -16,6 +16,6 @@ returns-clause-ok g c =
     let told1 = front.tells told in
     let told2 = counts.tells told1 in
     let told3 = rows.tells told2 in
-    five_parts _ _ _ _ _ _ (front_bytes c.buckets.result) (count_bytes p) (flat_map row_bytes p.rows) (flat_map txn_bytes p.txns) (flat_map step_bytes p.steps)
+    five_parts _ _ _ _ _ _ (front_bytes 2 c.buckets.result) (count_bytes p) (flat_map row_bytes p.rows) (flat_map txn_bytes p.txns) (flat_map step_bytes p.steps)
     (front.ok told) (counts.ok told1) (rows.ok told2) (txns.ok told3) (last (txns.tells told3)))
     c.put_steps.ensures.ok)
