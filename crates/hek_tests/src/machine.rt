@@ -9,4 +9,5 @@ mod runs;
 mod scene;
 mod script;
 mod shown;
+mod snapshots;
 mod waits;
