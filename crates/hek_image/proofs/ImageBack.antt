@@ -20,11 +20,8 @@ use Rattle.hek_image.specs.Schedules.{magic, front_bytes, count_bytes, row_bytes
 use Rattle.hek_image.specs.Loading.{Place, Header, checked, bytes_at, number_at, number_within, is_within, row_at, txn_at, is_new_name, level_coded, kind_at, is_opcode, step_at, txn_fits, first_fits, second_fits, times, magic_at, is_version, version_at, header_at, plan_at, ended, loading}
 use Rattle.hek_image.proofs.Wide.{wide16, wide32, wide64}
 use Rattle.hek_image.proofs.Levels.{LevelFits, LevelsFit, two_versions, level_back, old_levels_fit}
+use Rattle.hek_image.proofs.Steady.{Any}
 use Rattle.hek_image.proofs.Taken.{Took, took_then, gave, gave_is, both_ok, checked_ok, required_ok, bytes_ok, number_ok, byte_ok, within_ok, all_added, times_ok}
-
--- of a row or a step nothing more is known
-abbrev Any : {X : Type 0} → X → Type 0
-Any x = Unit {0}
 
 -- ---- rows
 abbrev with_row : Plan → ℕ × ℕ → Plan
