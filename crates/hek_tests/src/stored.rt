@@ -50,7 +50,7 @@ const TEXT: &str = "buckets 4\nrow 10 100\ntxn a serializable\na read 10\n";
 
 const TRACE: &[u8] = b"1 a read 10 -> refused 2 NotBegun\n";
 
-// The image of the text.
+// The version 1 image of the text.
 const IMAGE: [u8; 62] = [
     0x48, 0x4B, 0x53, 0x43, 0x00, 0x01, 0x00, 0x00, 0x00, 0x04, 0x00, 0x00, 0x00, 0x01, 0x00, 0x00,
     0x00, 0x01, 0x00, 0x00, 0x00, 0x01, 0x00, 0x00, 0x00, 0x00, 0x00, 0x00, 0x00, 0x0A, 0x00, 0x00,
@@ -70,8 +70,11 @@ fn stored(rt: &impl Abort, alloc: Global, text: &str, trace: &[u8], image: &[u8]
 fn tells_the_first_difference(rt: HostRuntime) {
     let mut image = IMAGE;
     image[37] = 0x65;
+    let mut newer = IMAGE;
+    newer[5] = 2;
     for (line, trace, image, wanted) in [
         ("v 1 serial", TRACE, &IMAGE, None),
+        ("v 1 serial", TRACE, &newer, None),
         ("v 2 serial", TRACE, &IMAGE, Some(Difference::Steps)),
         ("v 1 serial", TRACE, &image, Some(Difference::Image)),
         (

@@ -85,11 +85,11 @@ impl<'a> Disk for MemoryDisk<'a> {
 
 // The image of `buckets 1`.
 const SMALLEST: [u8; 22] =
-    *b"HKSC\x00\x01\x00\x00\x00\x01\x00\x00\x00\x00\x00\x00\x00\x00\x00\x00\x00\x00";
+    *b"HKSC\x00\x02\x00\x00\x00\x01\x00\x00\x00\x00\x00\x00\x00\x00\x00\x00\x00\x00";
 
 // The image of the text below.
 const IMAGE: [u8; 62] =
-    *b"\x48\x4B\x53\x43\x00\x01\x00\x00\x00\x04\x00\x00\x00\x01\x00\x00\x00\x01\x00\x00\x00\x01\x00\x00\x00\x00\x00\x00\x00\x0A\x00\x00\x00\x00\x00\x00\x00\x64\x01\x01\x61\x02\x00\x00\x00\x01\x00\x00\x00\x00\x00\x00\x00\x0A\x00\x00\x00\x00\x00\x00\x00\x00";
+    *b"\x48\x4B\x53\x43\x00\x02\x00\x00\x00\x04\x00\x00\x00\x01\x00\x00\x00\x01\x00\x00\x00\x01\x00\x00\x00\x00\x00\x00\x00\x0A\x00\x00\x00\x00\x00\x00\x00\x64\x01\x01\x61\x02\x00\x00\x00\x01\x00\x00\x00\x00\x00\x00\x00\x0A\x00\x00\x00\x00\x00\x00\x00\x00";
 
 const TEXT: &str = "buckets 4\nrow 10 100\ntxn a serializable\na read 10\n";
 
@@ -202,15 +202,30 @@ const IMAGES: &[(&[u8], (u8, &str, &str))] = &[
 
 const CHANGES: &[(usize, u8, &str)] = &[
     (61, 1, "hek: image: 4 BadField at 54\n"),
-    (38, 3, "hek: image: 4 BadField at 38\n"),
+    (38, 4, "hek: image: 4 BadField at 38\n"),
     (41, 0, "hek: image: 4 BadField at 41\n"),
     (45, 2, "hek: image: 4 BadField at 42\n"),
-    (5, 2, "hek: image: 2 BadVersion\n"),
+    (5, 0, "hek: image: 2 BadVersion\n"),
+    (5, 3, "hek: image: 2 BadVersion\n"),
     (0, 0x47, "hek: image: 1 BadMagic\n"),
+];
+
+// Bytes of which another schedule is the image, or another image that of the same: the version, and the level.
+const OTHERS: &[(usize, u8, &str)] = &[
+    (5, 1, TEXT),
+    (
+        38,
+        2,
+        "buckets 4\nrow 10 100\ntxn a repeatable\na read 10\n",
+    ),
+    (38, 3, "buckets 4\nrow 10 100\ntxn a snapshot\na read 10\n"),
 ];
 
 #[test]
 fn disassembles(rt: HostRuntime) -> Result<(), Fail> {
+    for &(place, byte, text) in OTHERS {
+        assert_disassembles(&rt, rt.alloc(), &changed(place, byte), (0, text, ""))?;
+    }
     for &(image, said) in IMAGES {
         assert_disassembles(&rt, rt.alloc(), image, said)?;
     }
