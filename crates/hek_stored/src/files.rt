@@ -55,6 +55,7 @@ impl fmt::Display for Summary<'_> {
 }
 
 /// A verdict as text: `serial`, or `not serial PLACE`.
+#[derive(Clone, Copy)]
 struct Shown(Verdict);
 
 impl fmt::Display for Shown {
