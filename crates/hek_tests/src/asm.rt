@@ -67,7 +67,7 @@ fn finds_the_first_fault(rt: HostRuntime) {
             3,
             AsmKind::NameTwice,
         ),
-        ("buckets 1\ntxn a snapshot", 2, AsmKind::BadWord),
+        ("buckets 1\ntxn a snapshots", 2, AsmKind::BadWord),
         ("buckets 1\ntxn A repeatable", 2, AsmKind::BadWord),
         ("buckets 1\ntxn row repeatable", 2, AsmKind::BadWord),
         ("buckets 1\ntxn a repeatable\nrow 1 1", 3, AsmKind::BadWord),
