@@ -78,7 +78,7 @@ const WORD: CommandText = CommandText {
 const ASM: CommandText = CommandText {
     name: "asm",
     about: "Makes the image of a schedule text",
-    example: "Example:\n  hek asm first.txt first.hek\nWhere first.txt has the line `buckets 1`, first.hek gets the 22 bytes of its image.",
+    example: "Example:\n  hek asm first.hek first.img\nWhere first.hek has the line `buckets 1`, first.img gets the 22 bytes of its image.",
     arguments: &[
         ArgumentText {
             name: "FILE",
@@ -96,14 +96,14 @@ const ASM: CommandText = CommandText {
 const DIS: CommandText = CommandText {
     name: "dis",
     about: "Prints the canonical text of a schedule",
-    example: "Example:\n  hek dis first.hek\nWhere first.hek is the image of a schedule with one bucket and nothing else, it prints\n  buckets 1",
+    example: "Example:\n  hek dis first.img\nWhere first.img is the image of a schedule with one bucket and nothing else, it prints\n  buckets 1",
     arguments: &[FILE, TEXT],
 };
 
 const RUN: CommandText = CommandText {
     name: "run",
     about: "Runs the steps of a schedule, and prints each with its reply",
-    example: "Example:\n  hek run --text first.txt\nWhere first.txt has the lines\n  buckets 1\n  row 10 100\n  txn a serializable\n  a begin\n  a read 10\nit prints\n  1 a begin -> began 1\n  2 a read 10 -> found 100\nWith --state it goes on with the clock, the versions, the transactions and the locked buckets.",
+    example: "Example:\n  hek run --text first.hek\nWhere first.hek has the lines\n  buckets 1\n  row 10 100\n  txn a serializable\n  a begin\n  a read 10\nit prints\n  1 a begin -> began 1\n  2 a read 10 -> found 100\nWith --state it goes on with the clock, the versions, the transactions and the locked buckets.",
     arguments: &[
         FILE,
         TEXT,
@@ -123,7 +123,7 @@ const RUN: CommandText = CommandText {
 const CHECK: CommandText = CommandText {
     name: "check",
     about: "Says whether a trace is serial",
-    example: "Example:\n  hek check first.hek trace.txt\nIt prints `serial` where the committed transactions can stand one after another, by end time, and else\n  not serial 2\nwith the number of the first event at fault, and status 1.",
+    example: "Example:\n  hek check first.img trace.txt\nIt prints `serial` where the committed transactions can stand one after another, by end time, and else\n  not serial 2\nwith the number of the first event at fault, and status 1.",
     arguments: &[
         FILE,
         ArgumentText {
@@ -143,7 +143,7 @@ const CHECK: CommandText = CommandText {
 const DEBUG: CommandText = CommandText {
     name: "debug",
     about: "Does the steps of a schedule one by one, up to breakpoints and watches, and back",
-    example: "Commands, one a line:\n  step N             N steps\n  run                steps until a breakpoint or a watch fits\n  back N             N steps back\n  break at N         stops after step N\n  break event EVENT  stops after each event of a kind, as update\n  break txn NAME     stops after each event of a transaction\n  watch begin V      stops where the Begin word of version V changes\n  watch end V        the same for its End word\n  watch waits NAME   stops where the number that a transaction waits for changes\n  clear              forgets all breakpoints and watches\nWithout COMMANDS they are read from standard input, and each is answered at once; there `help` lists them, with the questions that only such a session has.\n\nExample:\n  hek debug --text first.txt\nWhere first.txt has the lines\n  buckets 1\n  row 10 100\n  txn a serializable\n  a begin\n  a read 10\nthe commands\n  watch end 0\n  run\nare answered with\n  at 0 set 1\n  1 end 0 7FFFFFFFFFFFFFFF\n  at 2 break 1 -> found 100\n  1 end 0 807FFFFFFFFFFFFF",
+    example: "Commands, one a line:\n  step N             N steps\n  run                steps until a breakpoint or a watch fits\n  back N             N steps back\n  break at N         stops after step N\n  break event EVENT  stops after each event of a kind, as update\n  break txn NAME     stops after each event of a transaction\n  watch begin V      stops where the Begin word of version V changes\n  watch end V        the same for its End word\n  watch waits NAME   stops where the number that a transaction waits for changes\n  clear              forgets all breakpoints and watches\nWithout COMMANDS they are read from standard input, and each is answered at once; there `help` lists them, with the questions that only such a session has.\n\nExample:\n  hek debug --text first.hek\nWhere first.hek has the lines\n  buckets 1\n  row 10 100\n  txn a serializable\n  a begin\n  a read 10\nthe commands\n  watch end 0\n  run\nare answered with\n  at 0 set 1\n  1 end 0 7FFFFFFFFFFFFFFF\n  at 2 break 1 -> found 100\n  1 end 0 807FFFFFFFFFFFFF",
     arguments: &[
         FILE,
         ArgumentText {
@@ -158,7 +158,7 @@ const DEBUG: CommandText = CommandText {
 const THREADS: CommandText = CommandText {
     name: "threads",
     about: "Runs each transaction of a schedule in a thread of its own, and prints the history",
-    example: "Example:\n  hek threads --text first.txt --turns 5\nWhere first.txt has the lines\n  buckets 1\n  row 10 100\n  txn a repeatable\n  a read 10\nit prints the trace of a whole run of a, from begin to end. What it prints is a trace for hek check. With --repeat 100 it runs 100 times, and prints how many different outcomes there were, and each with how often it was seen.",
+    example: "Example:\n  hek threads --text first.hek --turns 5\nWhere first.hek has the lines\n  buckets 1\n  row 10 100\n  txn a repeatable\n  a read 10\nit prints the trace of a whole run of a, from begin to end. What it prints is a trace for hek check. With --repeat 100 it runs 100 times, and prints how many different outcomes there were, and each with how often it was seen.",
     arguments: &[
         FILE,
         TEXT,
@@ -175,6 +175,9 @@ const THREADS: CommandText = CommandText {
     ],
 };
 
+/// What `hek --version` says behind the name.
+const VERSION: &str = "0.2.0";
+
 const COMMANDS: &[CommandText] = &[RELEASE, WORD, ASM, DIS, RUN, DEBUG, CHECK, THREADS];
 
 /// Reads the words of a command line, the program's name first.
@@ -188,9 +191,10 @@ fn hek<'a>(alloc: Global) -> Result<Command<'a>, AllocError> {
         commands.push(command(alloc, text)?)?;
     }
     Command::new(alloc, "hek")
+        .version(VERSION)
         .about("The reference machine of pessimistic multiversion locking, step by step")
         .after_help(
-            "Examples:\n  hek run --text first.txt\nruns a schedule, and prints each step with its reply\n  hek release 8040000000000002 1\nprints the word and the waits that are left:\n  C000000000000002 0\n  hek asm first.txt first.hek\n  hek dis first.hek\nmake the image of a schedule's text, and print it as text again\n  hek check first.hek trace.txt\nsays whether a trace over it is serial",
+            "Examples:\n  hek run --text first.hek\nruns a schedule, and prints each step with its reply\n  hek release 8040000000000002 1\nprints the word and the waits that are left:\n  C000000000000002 0\n  hek asm first.hek first.img\n  hek dis first.img\nmake the image of a schedule's text, and print it as text again\n  hek check first.img trace.txt\nsays whether a trace over it is serial",
         )
         .subcommand_required(true)
         .subcommands(commands)

@@ -148,6 +148,7 @@ fn refuses_command_lines(rt: HostRuntime) -> Result<(), Fail> {
 
 const HELPS: &[(&[&str], &str)] = &[
     (&["hek", "--help"], "hek release 8040000000000002 1"),
+    (&["hek", "--version"], "hek 0.2.0\n"),
     (
         &["hek", "release", "--help"],
         "hek release 8040000000000002 1",
@@ -156,10 +157,10 @@ const HELPS: &[(&[&str], &str)] = &[
         &["hek", "word", "--help"],
         "hek word 8040000000000002 0000000000000007",
     ),
-    (&["hek", "asm", "--help"], "hek asm first.txt first.hek"),
-    (&["hek", "dis", "--help"], "hek dis first.hek"),
+    (&["hek", "asm", "--help"], "hek asm first.hek first.img"),
+    (&["hek", "dis", "--help"], "hek dis first.img"),
     (&["hek", "debug", "--help"], "watch waits NAME"),
-    (&["hek", "check", "--help"], "hek check first.hek trace.txt"),
+    (&["hek", "check", "--help"], "hek check first.img trace.txt"),
 ];
 
 // The program's name alone is no command.
