@@ -4,11 +4,13 @@ use Rattle.std.specs.Prelude.{◌==◌}
 use Rattle.std.specs.Int.{w8, w16, w32, w64}
 use Rattle.std.proofs.lemmas.Bool.{cases_Bool, eqb-true, ne_eqb}
 use Rattle.std.proofs.lemmas.List.{append-nil}
-use Rattle.hek_rules.specs.Plan.{Plan}
+use Rattle.hek_rules.specs.Plan.{Plan, IsPlan}
 use Rattle.hek_image.specs.declared.fault.LoadFault.{LoadFault}
 use Rattle.hek_image.specs.declared.fault.LoadFault.TheVariants as load
 use Rattle.hek_image.specs.Loading.{Place, Header, row_at, txn_at, kind_at, step_at, magic_at, version_at, header_at, plan_at, ended, loading}
+use Rattle.hek_image.specs.Schedules.{image, image_in}
 use Rattle.hek_image.specs.Gives.{FieldGives, LoadGives, settled}
+use Rattle.hek_image.proofs.ImageAgain.{image_again}
 use Rattle.hek_image.proofs.Steady.{IsSteady, Agrees, FaultAgrees, Any, wider, bytes_steady, value_steady, both_steady, checked_steady, required_steady, times_steady, number_steady, within_steady}
 
 row_steady : (plan : Plan) → IsSteady Any 16 (row_at plan)
@@ -122,3 +124,7 @@ answered whole bytes more false (Err load.BadMagic) parts ends h = whole_fault l
 answered whole bytes more false (Err load.BadVersion) parts ends h = whole_fault load.BadVersion whole bytes more parts h
 answered whole bytes more false (Err (load.BadField n)) parts ends h = whole_fault (load.BadField n) whole bytes more parts h
 answered whole bytes more false (Err load.Trailing) parts ends h = whole_fault load.Trailing whole bytes more parts h
+
+-- ---- how long an image is, of any version, since two differ in the version field alone
+pub image_bounded : (version : ℕ) (p : Plan) → IsPlan p → length (image_in version p) ≤ longest
+image_bounded version p is = whole_plan p (image p) [] (image_again p is)

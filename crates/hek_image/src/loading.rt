@@ -109,7 +109,8 @@ fn settled(judged: Result<Schedule, LoadFault>, failed: bool) -> Result<Schedule
 }
 
 /// The schedule of which the bytes of a source are, to their end, the version 2 image or the version 1 image, else the first
-/// fault. It takes at most one byte more than the longest image has.
+/// fault. It takes at most one byte more than the longest image has: `taken` counts them by what the source has left, so it
+/// speaks of sources that tell their bytes.
 pub fn load_image<S: Source>(alloc: Global, source: &mut S) -> Result<Schedule, LoadFault>
     requires { S.failed source.old ≡ false }
     ensures gives { IsTrue (S.tells source.old) → LoadGives (λ s. s) result (loading (S.left source.old)) }
