@@ -1,7 +1,7 @@
 -- One more row, and the edges of all rows.
 use Rattle.std.proofs.Common.{ℕ, zero, suc, ◌≡◌, ◌+◌, ◌<◌, ◌≤◌, Bool, true, false, ◌&&◌, eqb, List, [], ◌∷◌, ◌++◌, length, get_or, slice_get, Vec, Global, Option, Some, None, refl, sym, ap, ◌∙◌, subst, inl, inr, ◌⊎◌, arith}
 use Rattle.std.specs.List.{All}
-use Rattle.std.proofs.lemmas.Bool.{cases_Bool, cases_lt, eq-eqb}
+use Rattle.std.proofs.lemmas.Bool.{cases_Bool, cases_lt, eq-eqb, and_parts}
 use Rattle.std.proofs.lemmas.List.Folds.{list_any_at}
 use Rattle.std.proofs.lemmas.Option.{same_Some, slice_get-get_or, slice_get_past}
 use Rattle.hek_rules.specs.Listing.{is_among}
@@ -16,11 +16,11 @@ no_edge : (a b c d : Bool) → b ≡ false → (a && b && c && d) ≡ false
 no_edge true b c d e = rw e refl
 no_edge false b c d e = refl
 
-first_of : (a b c d : Bool) → (a && b && c && d) ≡ true → a ≡ true
+pub first_of : (a b c d : Bool) → (a && b && c && d) ≡ true → a ≡ true
 first_of true b c d e = refl
 first_of false b c d e = cc
 
-second_of : (a b c d : Bool) → (a && b && c && d) ≡ true → b ≡ true
+pub second_of : (a b c d : Bool) → (a && b && c && d) ≡ true → b ≡ true
 second_of true true c d e = refl
 second_of true false c d e = cc
 second_of false b c d e = cc
@@ -41,13 +41,16 @@ edge_to s x u t e = second_of (is_node x u) (is_node x t) _ _ e
 past_is_none : (ts : List Txn) (i : ℕ) → slice_get ts i ≡ None → is_active (txn_in ts (suc i)).state ≡ false
 past_is_none ts i e = rw e refl
 
-pub node_below : (x : TxnTable) (u : ℕ) → is_node x u ≡ true → u < length x.cores + 1
-node_below x zero e = omega arith
-node_below x (suc i) e =
-    elim (cases_lt i (length x.cores)) [
+pub active_below : (ts : List Txn) (u : ℕ) → is_active (txn_in ts u).state ≡ true → u < length ts + 1
+active_below ts zero e = omega arith
+active_below ts (suc i) e =
+    elim (cases_lt i (length ts)) [
       | inl lt ↦ omega arith
-      | inr ge ↦ (let none : is_active (txn_in x.cores (suc i)).state ≡ false = past_is_none x.cores i (slice_get_past x.cores i ge) in cc)
+      | inr ge ↦ (let none : is_active (txn_in ts (suc i)).state ≡ false = past_is_none ts i (slice_get_past ts i ge) in cc)
     ]
+
+pub node_below : (x : TxnTable) (u : ℕ) → is_node x u ≡ true → u < length x.cores + 1
+node_below x u e = active_below x.cores u (and_parts _ _ (and_parts _ _ e).0).0
 
 among_at : (xs : List ℕ) (i d : ℕ) → i < length xs → is_among xs (get_or xs i d) ≡ true
 among_at xs i d lt = list_any_at (λ (m : ℕ). eqb m (get_or xs i d)) xs i d lt (eq-eqb (get_or xs i d) (get_or xs i d) refl)

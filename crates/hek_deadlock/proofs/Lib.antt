@@ -5,3 +5,4 @@ pub mod GraphRows
 pub mod Waiting
 pub mod Shown
 pub mod Short
+pub mod WorldWalks

@@ -1,4 +1,4 @@
--- The victim is a declared transaction that has finished and waits.
+-- The victim is a declared transaction that has finished and waits, and the one of closed walks.
 use Rattle.std.proofs.Common.{ℕ, zero, suc, ◌≡◌, ◌+◌, ◌<◌, true, List, [], ◌∷◌, length, Option, Some, None, refl, sym, subst, arith}
 use Rattle.std.specs.Option.{IfSome}
 use Rattle.std.proofs.lemmas.Bool.{and_parts, ltb-true}
@@ -6,10 +6,11 @@ use Rattle.hek_rules.specs.declared.event.State.{State}
 use Rattle.hek_rules.specs.declared.event.State.TheVariants.{NotBegun, Active, Preparing, Committed, Aborted, Terminated}
 use Rattle.hek_rules.specs.Walks.{IsClosedWalk, JoinsBelow}
 use Rattle.hek_rules.specs.World.{txn_in, is_active}
-use Rattle.hek_rules.proofs.VictimLaw.{victim_found}
+use Rattle.hek_rules.proofs.VictimLaw.{victim_found, none_found}
 use Rattle.hek_store.specs.Stored.{Stored}
 use Rattle.hek_txn.specs.TxnTable.{TxnTable, waits_of}
 use Rattle.hek_deadlock.specs.Edges.{is_node, is_edge, victim_in, IsWaiting}
+use Rattle.hek_deadlock.specs.Victims.{IsVictimOrNone}
 use Rattle.hek_deadlock.proofs.GraphRows.{node_below, edge_from, edge_to}
 
 active_is : (s : State) → is_active s ≡ true → s ≡ Active
@@ -51,3 +52,7 @@ pub victim_waits : (s : Stored) (x : TxnTable) (answer : Option (ℕ × List ℕ
 victim_waits s x None e = tt
 victim_waits s x (Some a) e =
     node_waits x a.0 (first_is_node s x a.0 a.1 (victim_found (is_edge s x) (length x.cores + 1) (joins s x) a.0 a.1 (sym e)).closed)
+
+pub victim_of_walks : (s : Stored) (x : TxnTable) (answer : Option (ℕ × List ℕ)) → answer ≡ victim_in s x → IsVictimOrNone (is_edge s x) answer
+victim_of_walks s x None e = none_found (is_edge s x) (length x.cores + 1) (joins s x) (sym e)
+victim_of_walks s x (Some a) e = victim_found (is_edge s x) (length x.cores + 1) (joins s x) a.0 a.1 (sym e)

@@ -1,3 +1,4 @@
 pub mod Edges
 pub mod Rows
 pub mod Shown
+pub mod Victims

@@ -1,6 +1,7 @@
 //! The victim among transactions that wait for one another.
 ghost use Rattle.std.specs.Prelude.{◌≡◌, ◌≤◌, length, IfOk, IfSome};
-ghost use Rattle.hek_deadlock.specs.Edges.{victim_in, IsWaiting};
+ghost use Rattle.hek_deadlock.specs.Edges.{is_edge, victim_in, IsWaiting};
+ghost use Rattle.hek_deadlock.specs.Victims.{IsVictimOrNone};
 
 use crate::graph::wait_graph;
 use crate::search::find_victim;
@@ -18,6 +19,7 @@ pub fn detect(
     txns: &Txns,
 ) -> Result<Option<(TxnId, Members)>, NoMemory>
     ensures victim { IfOk result (λ answer. answer ≡ victim_in store.now txns.now) }
+    ensures walks { IfOk result (IsVictimOrNone (is_edge store.now txns.now)) }
     ensures waiting { IfOk result (λ answer. IfSome answer (λ a. IsWaiting txns.now a.0)) }
     ensures short { IfOk result (λ answer. IfSome answer (λ a. length a.1 ≤ length txns.now.cores)) }
 {

@@ -1,14 +1,17 @@
 -- An image is of at most 22,083,414 bytes, and more bytes behind change only Short.
-use Rattle.std.proofs.Common.{◌≡◌, ℕ, zero, suc, ◌+◌, ◌<◌, ◌≤◌, Bool, true, false, List, [], ◌++◌, length, Result, Ok, Err, refl, sym, ap, subst, ◌∙◌, arith, inl, inr, length-append}
+use Rattle.std.proofs.Common.{◌≡◌, ℕ, zero, suc, ◌+◌, ◌-◌, ◌<◌, ◌≤◌, Bool, true, false, List, [], ◌++◌, length, take, Result, Ok, Err, refl, sym, ap, subst, ◌∙◌, arith, inl, inr, length-append}
 use Rattle.std.specs.Prelude.{◌==◌}
 use Rattle.std.specs.Int.{w8, w16, w32, w64}
 use Rattle.std.proofs.lemmas.Bool.{cases_Bool, eqb-true, ne_eqb}
 use Rattle.std.proofs.lemmas.List.{append-nil}
-use Rattle.hek_rules.specs.Plan.{Plan}
+use Rattle.std.proofs.Math.Seq.{take-append_seam}
+use Rattle.hek_rules.specs.Plan.{Plan, IsPlan}
 use Rattle.hek_image.specs.declared.fault.LoadFault.{LoadFault}
 use Rattle.hek_image.specs.declared.fault.LoadFault.TheVariants as load
 use Rattle.hek_image.specs.Loading.{Place, Header, row_at, txn_at, kind_at, step_at, magic_at, version_at, header_at, plan_at, ended, loading}
-use Rattle.hek_image.specs.Gives.{FieldGives, LoadGives, settled}
+use Rattle.hek_image.specs.Schedules.{image, image_in}
+use Rattle.hek_image.specs.Gives.{FieldGives, LoadGives, IsOpen, given_between, settled}
+use Rattle.hek_image.proofs.ImageAgain.{image_again}
 use Rattle.hek_image.proofs.Steady.{IsSteady, Agrees, FaultAgrees, Any, wider, bytes_steady, value_steady, both_steady, checked_steady, required_steady, times_steady, number_steady, within_steady}
 
 row_steady : (plan : Plan) → IsSteady Any 16 (row_at plan)
@@ -122,3 +125,31 @@ answered whole bytes more false (Err load.BadMagic) parts ends h = whole_fault l
 answered whole bytes more false (Err load.BadVersion) parts ends h = whole_fault load.BadVersion whole bytes more parts h
 answered whole bytes more false (Err (load.BadField n)) parts ends h = whole_fault (load.BadField n) whole bytes more parts h
 answered whole bytes more false (Err load.Trailing) parts ends h = whole_fault load.Trailing whole bytes more parts h
+
+-- ---- what a source gave before it failed
+pub given_is : (whole bytes more : List ℕ) → whole ≡ bytes ++ more → given_between whole more ≡ bytes
+given_is whole bytes more parts =
+    let count : length whole - length more ≡ length bytes = omega (arith, ap length parts, length-append bytes more) in
+    ap (λ (n : ℕ). take n whole) count ∙ ap (take (length bytes)) parts ∙ take-append_seam bytes more
+
+pub read_is_open : (bytes : List ℕ) (failed : Bool) (judged : Result Plan LoadFault) → FieldGives (λ s. s) judged (loading bytes) → settled judged failed ≡ Err load.Read → IsOpen (loading bytes)
+read_is_open bytes true (Ok p) h e = subst IsOpen (sym h) tt
+read_is_open bytes true (Err load.Short) h e = subst IsOpen (sym h) tt
+read_is_open bytes true (Err load.Read) h e = absurd h
+read_is_open bytes true (Err load.NoMemory) h e = absurd cc
+read_is_open bytes true (Err load.BadMagic) h e = absurd cc
+read_is_open bytes true (Err load.BadVersion) h e = absurd cc
+read_is_open bytes true (Err (load.BadField n)) h e = absurd cc
+read_is_open bytes true (Err load.Trailing) h e = absurd cc
+read_is_open bytes false (Ok p) h e = absurd cc
+read_is_open bytes false (Err load.Short) h e = absurd cc
+read_is_open bytes false (Err load.Read) h e = absurd h
+read_is_open bytes false (Err load.NoMemory) h e = absurd cc
+read_is_open bytes false (Err load.BadMagic) h e = absurd cc
+read_is_open bytes false (Err load.BadVersion) h e = absurd cc
+read_is_open bytes false (Err (load.BadField n)) h e = absurd cc
+read_is_open bytes false (Err load.Trailing) h e = absurd cc
+
+-- ---- how long an image is, of any version, since two differ in the version field alone
+pub image_bounded : (version : ℕ) (p : Plan) → IsPlan p → length (image_in version p) ≤ longest
+image_bounded version p is = whole_plan p (image p) [] (image_again p is)

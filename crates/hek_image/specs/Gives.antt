@@ -1,5 +1,5 @@
 -- What a function answered is what the definition gives, unless memory ran out or the source failed.
-use Rattle.std.specs.Prelude.{◌≡◌, Bool, true, false, Result, Ok, Err}
+use Rattle.std.specs.Prelude.{◌≡◌, ℕ, ◌-◌, Bool, true, false, List, length, take, Result, Ok, Err}
 use Rattle.hek_image.specs.declared.fault.LoadFault.{LoadFault}
 use Rattle.hek_image.specs.declared.fault.LoadFault.TheVariants as load
 
@@ -18,6 +18,7 @@ abbrev pub FieldGives : {X Y : Type 0} → (X → Y) → Result X LoadFault → 
 FieldGives view (Ok x) given = given ≡ Ok (view x)
 FieldGives view (Err e) given = FieldFails e given
 
+-- a fault of all bytes of a source: Read says nothing of them, since what would have followed isn't known
 abbrev pub LoadFails : {Y : Type 0} → LoadFault → Result Y LoadFault → Type 0
 LoadFails load.NoMemory given = Unit {0}
 LoadFails load.Read given = Unit {0}
@@ -49,3 +50,13 @@ FaultFits other failed = Unit {0}
 abbrev pub AnswerFits : {X : Type 0} → Result X LoadFault → Bool → Type 0
 AnswerFits (Ok x) failed = failed ≡ false
 AnswerFits (Err e) failed = FaultFits e failed
+
+-- the bytes that a source gave between having these left and having those left
+abbrev pub given_between : List ℕ → List ℕ → List ℕ
+given_between before after = take (length before - length after) before
+
+-- bytes without a fault but that they may end too early
+abbrev pub IsOpen : {Y : Type 0} → Result Y LoadFault → Type 0
+IsOpen (Ok y) = Unit {0}
+IsOpen (Err load.Short) = Unit {0}
+IsOpen (Err other) = ⊥

@@ -1,8 +1,9 @@
 //! A schedule from one of its images.
-ghost use Rattle.std.specs.Prelude.{◌≡◌, ◌+◌, ◌≤◌, length, false, IfOk, IsTrue};
+ghost use Rattle.std.specs.Prelude.{◌≡◌, ◌+◌, ◌≤◌, length, false, IfOk, IsTrue, Err};
 ghost use Rattle.hek_image.specs.Loading.{magic_at, version_at, header_at, loading};
-ghost use Rattle.hek_image.specs.Gives.{FieldFails, FieldGives, LoadFails, LoadGives, AnswerFits, settled};
+ghost use Rattle.hek_image.specs.Gives.{FieldFails, FieldGives, LoadFails, LoadGives, AnswerFits, IsOpen, given_between, settled};
 ghost use Rattle.hek_image.specs.Places.{place_of};
+ghost use Rattle.hek_image.specs.declared.fault.LoadFault.TheVariants as load;
 
 use crate::fault::LoadFault;
 use crate::fields::{bytes_at, u16_at, u32_within};
@@ -109,12 +110,15 @@ fn settled(judged: Result<Schedule, LoadFault>, failed: bool) -> Result<Schedule
 }
 
 /// The schedule of which the bytes of a source are, to their end, the version 2 image or the version 1 image, else the first
-/// fault. It takes at most one byte more than the longest image has.
+/// fault. It takes at most one byte more than the longest image has: `taken` counts them by what the source has left, so it
+/// speaks of sources that tell their bytes. Where the source fails, a fault of the bytes that it gave before is told, and Read
+/// only where they have none but that more would have to follow, or could.
 pub fn load_image<S: Source>(alloc: Global, source: &mut S) -> Result<Schedule, LoadFault>
     requires { S.failed source.old ≡ false }
     ensures gives { IsTrue (S.tells source.old) → LoadGives (λ s. s) result (loading (S.left source.old)) }
     ensures taken { IsTrue (S.tells source.old) → length (S.left source.old) ≤ 22083415 + length (S.left source.new) }
     ensures fits { AnswerFits result (S.failed source.new) }
+    ensures read { IsTrue (S.tells source.old) → result ≡ Err load.Read → IsOpen (loading (given_between (S.left source.old) (S.left source.new))) }
 {
     let gathered = gather(alloc, source, LIMIT)?;
     settled(judge(alloc, gathered.bytes.as_slice()), gathered.failed)

@@ -7,7 +7,8 @@ use Rattle.hek_store.specs.Stored.{Stored}
 use Rattle.hek_txn.specs.TxnTable.{TxnTable}
 use Rattle.hek_deadlock.specs.Edges.{is_edge, victim_in, IsWaiting}
 use Rattle.hek_deadlock.specs.Rows.{waits}
-use Rattle.hek_deadlock.proofs.Waiting.{victim_waits}
+use Rattle.hek_deadlock.specs.Victims.{IsVictimOrNone}
+use Rattle.hek_deadlock.proofs.Waiting.{victim_waits, victim_of_walks}
 use Rattle.hek_deadlock.proofs.Short.{victim_short}
 use Rattle.hek_deadlock.proofs.detector.detect.Goals as goal
 
@@ -17,6 +18,13 @@ same_victim s x found rows same count edges =
     ap (λ (r : List (Vec ℕ Global)). victim_of (waits r) (length r)) same
     ∙ ap (λ (n : ℕ). victim_of (waits rows) n) count
     ∙ victim_of-agree (waits rows) (is_edge s x) (length x.cores + 1) edges
+
+pub returns-clause-walks : goal.returns-clause-walks
+returns-clause-walks c =
+    let same = same_victim c.args.store.now c.args.txns.now c.deref.result.now c.in_ok-rows.rows.items c.deref.ensures.value c.in_ok-rows.ensures.count c.in_ok-rows.ensures.edges in
+    IfOk-weaker c.find_victim.result (λ answer. answer ≡ victim_of (waits c.deref.result.now) (length c.deref.result.now)) (IsVictimOrNone (is_edge c.args.store.now c.args.txns.now))
+    (λ answer e. victim_of_walks c.args.store.now c.args.txns.now answer (e ∙ same))
+    c.find_victim.ensures
 
 pub returns-clause-waiting : goal.returns-clause-waiting
 returns-clause-waiting c =

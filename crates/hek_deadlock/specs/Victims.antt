@@ -1,0 +1,19 @@
+-- The victim in the words of walks: what an answer says, and that the victim of a world is this one, with no premise.
+use Rattle.std.specs.Prelude.{ℕ, ◌≡◌, ◌↔◌, Bool, List, Option, Some, None}
+use Rattle.hek_rules.specs.Walks.{IsClosedWalk, IsVictim}
+use Rattle.hek_rules.specs.WaitGraph.{is_edge, victim}
+use Rattle.hek_rules.specs.World.{World}
+
+abbrev pub HasNoClosedWalk : (ℕ → ℕ → Bool) → Type 0
+HasNoClosedWalk edge = (u : ℕ) (walk : List ℕ) → IsClosedWalk edge u walk → ⊥
+
+-- an answer: the victim with its cycle, or none where no walk is closed
+abbrev pub IsVictimOrNone : (ℕ → ℕ → Bool) → Option (ℕ × List ℕ) → Type 0
+IsVictimOrNone edge None = HasNoClosedWalk edge
+IsVictimOrNone edge (Some found) = IsVictim edge found.0 found.1
+
+abbrev pub VictimIsOfWalks : Type 0
+VictimIsOfWalks = (w : World) (u : ℕ) (cycle : List ℕ) → (victim w ≡ Some (u, cycle)) ↔ IsVictim (is_edge w) u cycle
+
+abbrev pub NoneIsOfWalks : Type 0
+NoneIsOfWalks = (w : World) → (victim w ≡ None) ↔ HasNoClosedWalk (is_edge w)
