@@ -12,7 +12,7 @@ use std::thread::Threads;
 use std::time::{Clock, Instant};
 
 /// Of so many rounds the fastest is told.
-const ROUNDS: u64 = 5;
+const ROUNDS: u64 = 3;
 
 fn add_rows(rt: &impl Abort, from: &Schedule, to: &mut Schedule) {
     for place in 0..from.row_count() {
@@ -132,7 +132,7 @@ fn tells_the_cost_of_an_event(rt: HostRuntime) -> Result<(), Fail> {
         (2, 64, 2_048),
         (4, 64, 1_024),
         (64, 64, 64),
-        (1, 8_192, 8_192),
+        (1, 8_192, 1_024),
     ] {
         let (run, book, lock, workers) = tell(&rt, rt.alloc(), scene);
         let _ = eprintln!(rt;
