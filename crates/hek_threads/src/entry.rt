@@ -1,5 +1,6 @@
 //! What a run of workers gives, and what a worker keeps.
 ghost use Rattle.std.specs.Prelude.{◌≡◌};
+ghost use Rattle.hek_threads.specs.declared.entry.ThreadFault.TheVariants as threads;
 
 use hek_rules::{Event, NoMemory, Reply, TxnId};
 use std::alloc::{AllocError, AllocFailed};
@@ -57,18 +58,24 @@ pub enum ThreadFault {
 }
 
 impl From<NoMemory> for ThreadFault {
+    ghost from_gives = { λ _ e. e ≡ threads.NoMemory };
+
     fn from(_e: NoMemory) -> ThreadFault {
         ThreadFault::NoMemory
     }
 }
 
 impl From<AllocError> for ThreadFault {
+    ghost from_gives = { λ _ e. e ≡ threads.NoMemory };
+
     fn from(_e: AllocError) -> ThreadFault {
         ThreadFault::NoMemory
     }
 }
 
 impl<T: Drop> From<AllocFailed<T>> for ThreadFault {
+    ghost from_gives = { λ _ e. e ≡ threads.NoMemory };
+
     fn from(_e: AllocFailed<T>) -> ThreadFault {
         ThreadFault::NoMemory
     }

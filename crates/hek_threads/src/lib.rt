@@ -13,7 +13,10 @@ mod worker;
 
 pub use book::Book;
 pub use entry::{Entry, Part, ThreadFault};
-pub use laws::none_refused;
+pub use laws::{
+    begin_first_end_last, committed_where_full, none_refused, reads_and_writes_in_order,
+    transcripts_are_lawful, transcripts_have_three_forms, waits_use_turns,
+};
 pub use parts::compare;
 pub use runner::{Report, run_workers};
 pub use shared::Shared;

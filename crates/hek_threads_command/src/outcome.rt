@@ -1,9 +1,9 @@
 //! What a run came to: who committed, who aborted and why, the rows at the end, and the checker's verdict.
-ghost use Rattle.std.specs.Prelude.{◌≡◌, IfOk};
+ghost use Rattle.std.specs.Prelude.{◌≡◌, ◌++◌, ℕ, List, IfOk};
 ghost use Rattle.hek_rules.specs.declared.serial.Verdict.TheVariants as verdict;
 ghost use Rattle.hek_threads.specs.History.{IsSerial};
 ghost use Rattle.hek_threads_command.specs.Threaded.{HasRun};
-ghost use Rattle.hek_threads_command.specs.Outcomes.{end_of};
+ghost use Rattle.hek_threads_command.specs.Outcomes.{end_of, verdict_text};
 
 use hek_asm::write_reply;
 use hek_rules::{Cause, FromWrite, NoMemory, Reply, Schedule, Transcript, TxnId, Verdict};
@@ -20,6 +20,7 @@ pub(crate) fn outcome_text(
     report: Report,
 ) -> Result<Vec<u8>, NoMemory>
     requires { HasRun schedule.now report.history.items }
+    ensures { IfOk result (λ text. (before : List ℕ) × (text.items ≡ before ++ verdict_text verdict.Serial)) }
 {
     let Report {
         machine,
@@ -96,7 +97,10 @@ fn judge(alloc: Global, schedule: &Schedule, history: Vec<Entry>) -> Result<Verd
     check(alloc, &told)
 }
 
-fn put_verdict(verdict: Verdict, text: &mut Vec<u8>) -> Result<(), NoMemory> {
+/// The verdict comes behind the text.
+fn put_verdict(verdict: Verdict, text: &mut Vec<u8>) -> Result<(), NoMemory>
+    ensures { IfOk result (λ _. text.new.items ≡ text.old.items ++ verdict_text verdict) }
+{
     let written = match verdict {
         Verdict::Serial => write!(text, "; serial"),
         Verdict::NotSerial(number) => write!(text, "; not serial {number}"),
