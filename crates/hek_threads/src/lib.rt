@@ -17,5 +17,5 @@ pub use laws::none_refused;
 pub use parts::compare;
 pub use runner::{Report, run_workers};
 pub use shared::Shared;
-pub use stage::{Position, Stage};
+pub use stage::{Position, Stage, is_work};
 pub use worker::Gate;
