@@ -14,3 +14,10 @@ pub record IsSame (x y : Found) : Type 0 where
   pub ends : x.ends ≡ y.ends
   pub rows : x.rows ≡ y.rows
   pub serial : x.serial ≡ y.serial
+
+-- an outcome, how many orders have it, in how many of them one waited, and the first
+pub record Line : Type 0 where
+  pub outcome : Found
+  pub orders : ℕ
+  pub waited : ℕ
+  pub first : List ℕ

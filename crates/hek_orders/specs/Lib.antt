@@ -3,3 +3,5 @@ pub mod Falls
 pub mod Moves
 pub mod Found
 pub mod Outcomes
+pub mod Tallies
+pub mod Wholes

@@ -13,6 +13,6 @@ pub use fault::OrderFault;
 pub use moves::{Form, Moves, first_order, moves_of, order_count};
 pub use order::next_order;
 pub use outcome::{Ending, Outcome, outcome_of};
-pub use play::{Play, play};
+pub use play::{Play, play_order};
 pub use tally::{Row, Tally};
 pub use whole::{Watch, play_all};

@@ -1,5 +1,5 @@
 //! The moves of transactions, and the orders that they can come in.
-ghost use Rattle.std.specs.Prelude.{◌≡◌, IfOk, IsTrue, length};
+ghost use Rattle.std.specs.Prelude.{◌≡◌, ◌+◌, ◌++◌, IfOk, OnOk, length, replicate};
 ghost use Rattle.hek_orders.specs.Moves.{AreMoves, counts_of, last_moves, fails, first_of};
 ghost use Rattle.hek_threads.specs.Grammar.{work_of};
 
@@ -115,14 +115,28 @@ pub fn first_order(alloc: Global, moves: &[Moves], form: Form) -> Result<Vec<Txn
     let mut rest = moves;
     let mut number = 1;
     while let Some((first, later)) = rest.split_first() {
-        let count = first.work().len() + form.last_moves();
-        for _ in 0..count {
-            order.push(TxnId::new(number))?;
-        }
+        let count = move_count(first, form);
+        push_times(&mut order, TxnId::new(number), count)?;
         rest = later;
         number += 1;
     }
     Ok(order)
+}
+
+fn push_times(order: &mut Vec<TxnId>, txn: TxnId, count: usize) -> Result<(), NoMemory>
+    ensures { OnOk result (order.new.items ≡ order.old.items ++ replicate count txn) }
+{
+    for _ in 0..count {
+        order.push(txn)?;
+    }
+    Ok(())
+}
+
+/// How many moves a transaction has.
+fn move_count(of_one: &Moves, form: Form) -> usize
+    ensures { result ≡ length of_one.now.events + last_moves form }
+{
+    of_one.work().len() + form.last_moves()
 }
 
 /// How many orders there are; None where the number is 2^64 or more, or passes it on the way.
@@ -130,7 +144,7 @@ pub fn order_count(moves: &[Moves], form: Form) -> Option<u64> {
     let mut count = 1u64;
     let mut length = 0u64;
     for of_one in moves {
-        let many = of_one.work().len().checked_add(form.last_moves())? as u64;
+        let many = move_count(of_one, form) as u64;
         for place in 1..=many {
             length = length.checked_add(1)?;
             count = count.checked_mul(length)? / place;

@@ -68,11 +68,20 @@ impl Outcome {
     pub fn same(&self, other: &Outcome) -> bool
         ensures { IsTrue result ↔ IsSame self.now other.now }
     {
-        self.serial == other.serial && self.ends == other.ends && self.rows.same(&other.rows)
+        let serial = self.serial == other.serial;
+        let ends = same_ends(self.ends.as_slice(), other.ends.as_slice());
+        let rows = self.rows.same(&other.rows);
+        serial && ends && rows
     }
 }
 
 ghost use Rattle.hek_orders.specs.Found.{IsSame};
+
+fn same_ends(ends: &[Ending], others: &[Ending]) -> bool
+    ensures { IsTrue result ↔ (ends.now ≡ others.now) }
+{
+    ends == others
+}
 
 /// What a play came to.
 pub fn outcome_of(alloc: Global, schedule: &Schedule, play: Play) -> Result<Outcome, NoMemory>

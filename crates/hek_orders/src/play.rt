@@ -62,7 +62,7 @@ impl Place {
 /// first move of a transaction. A last move that waits is asked again after each move of another, in the order of the
 /// declarations, as long as one of them gets on; where all that have begun and not ended wait, there is a `detect`. Who is
 /// aborted gives everything back at once, and its remaining moves do nothing.
-pub fn play(
+pub fn play_order(
     alloc: Global,
     schedule: &Schedule,
     moves: &[Moves],
