@@ -1,1 +1,3 @@
 pub mod Successors
+pub mod Histories
+pub mod Tallies

@@ -1,5 +1,5 @@
 -- What a history comes to.
-use Rattle.std.specs.Prelude.{ℕ, suc, zero, ◌≡◌, ◌+◌, ◌↔◌, Bool, true, false, ◌==◌, ◌||◌, if◌then◌else◌, IsTrue, List, [], ◌∷◌, length, map}
+use Rattle.std.specs.Prelude.{ℕ, suc, zero, ◌≡◌, ◌+◌, ◌↔◌, Bool, true, false, ◌==◌, ◌||◌, if◌then◌else◌, IsTrue, List, [], ◌∷◌, ◌++◌, length, map}
 use Rattle.hek_rules.specs.declared.event.Cause.TheVariants as cause
 use Rattle.hek_rules.specs.declared.event.Event.{Event}
 use Rattle.hek_rules.specs.declared.event.Level.{Level}
@@ -32,10 +32,10 @@ abbrev pub end_in : ℕ → List Entry → Ending
 end_in t [] = ending.Unended
 end_in t (x ∷ xs) = if x.worker == t then ends_with x.reply (end_in t xs) else end_in t xs
 
--- how so many transactions end, from the one behind t on
-abbrev pub ends_in : ℕ → ℕ → List Entry → List Ending
-ends_in t zero xs = []
-ends_in t (suc n) xs = end_in (t + 1) xs ∷ ends_in (t + 1) n xs
+-- how so many transactions end, that of ID 1 first
+abbrev pub ends_upto : ℕ → List Entry → List Ending
+ends_upto zero xs = []
+ends_upto (suc n) xs = ends_upto n xs ++ end_in (n + 1) xs ∷ []
 
 abbrev pub is_wait : Reply → Bool
 is_wait (reply.Waiting n) = true
@@ -56,7 +56,7 @@ told_as_serializable p xs = at_level Serializable (told_by p xs)
 
 -- the outcome of a history
 pub record IsOutcomeOf (p : Plan) (history : List Entry) (o : Found) : Type 0 where
-  pub ends : o.ends ≡ ends_in 0 (length p.txns) history
+  pub ends : o.ends ≡ ends_upto (length p.txns) history
   pub rows : o.rows ≡ committed_rows (run (opening_of p 1) (events_of history))
   pub serial : IsTrue o.serial ↔ IsVerdict (told_as_serializable p history) Serial
   pub waited : o.waited ≡ waits_in history

@@ -1,7 +1,7 @@
 //! What an order comes to: how each transaction ended, the rows at the end, and the checker's verdict.
 ghost use Rattle.std.specs.Prelude.{◌≡◌, ◌↔◌, IfOk, IsTrue, length};
 ghost use Rattle.hek_threads.specs.History.{Replays};
-ghost use Rattle.hek_orders.specs.Outcomes.{IsOutcomeOf, end_in, ends_in, told_as_serializable, waits_in};
+ghost use Rattle.hek_orders.specs.Outcomes.{IsOutcomeOf, end_in, ends_upto, told_as_serializable, waits_in};
 
 use crate::play::Play;
 use hek_rules::{
@@ -80,7 +80,19 @@ ghost use Rattle.hek_orders.specs.Found.{IsSame};
 fn same_ends(ends: &[Ending], others: &[Ending]) -> bool
     ensures { IsTrue result ↔ (ends.now ≡ others.now) }
 {
-    ends == others
+    let mut rest = ends;
+    let mut others_rest = others;
+    while let Some((end, later)) = rest.split_first() {
+        let Some((other, others_later)) = others_rest.split_first() else {
+            return false;
+        };
+        if *end != *other {
+            return false;
+        }
+        rest = later;
+        others_rest = others_later;
+    }
+    others_rest.is_empty()
 }
 
 /// What a play came to.
@@ -102,7 +114,7 @@ pub fn outcome_of(alloc: Global, schedule: &Schedule, play: Play) -> Result<Outc
 }
 
 fn ends_of(alloc: Global, count: usize, history: &[Entry]) -> Result<Vec<Ending>, NoMemory>
-    ensures { IfOk result (λ ends. ends.items ≡ ends_in 0 count history.now) }
+    ensures { IfOk result (λ ends. ends.items ≡ ends_upto count history.now) }
 {
     let mut ends = Vec::with_capacity(alloc, count)?;
     for place in 0..count {
