@@ -1,7 +1,7 @@
 //! All orders, one after another.
 ghost use Rattle.std.specs.Prelude.{◌≡◌, IfOk, OnOk};
 ghost use Rattle.hek_orders.specs.Found.{Found};
-ghost use Rattle.hek_orders.specs.Tallies.{IsNoted, IsPlayed};
+ghost use Rattle.hek_orders.specs.Tallies.{Goes, IsNoted, IsPlayed};
 ghost use Rattle.hek_orders.specs.Wholes.{IsWhole};
 
 use crate::fault::OrderFault;
@@ -35,22 +35,42 @@ pub fn play_all<W: Watch>(
     let mut order = first_order(alloc, moves.as_slice(), form)?;
     let mut tally = Tally::new(alloc);
     for number in 0..u64::MAX {
-        if from <= number && number < to {
-            play_one(
-                alloc,
-                schedule,
-                moves.as_slice(),
-                form,
-                order.as_slice(),
-                &mut tally,
-                watch,
-            )?;
-        }
+        let part = from <= number && number < to;
+        play_if(
+            alloc,
+            schedule,
+            moves.as_slice(),
+            form,
+            part,
+            order.as_slice(),
+            &mut tally,
+            watch,
+        )?;
         if !next_order(order.as_mut_slice()) {
             return Ok(tally);
         }
     }
     Err(OrderFault::TooMany)
+}
+
+/// Plays one order, and notes its outcome, where it is in the part.
+fn play_if<W: Watch>(
+    alloc: Global,
+    schedule: &Schedule,
+    moves: &[Moves],
+    form: Form,
+    part: bool,
+    order: &[TxnId],
+    tally: &mut Tally,
+    watch: &mut W,
+) -> Result<(), OrderFault>
+    ensures { OnOk result (Goes schedule.now part order.now tally.old tally.new) }
+{
+    if part {
+        play_one(alloc, schedule, moves, form, order, tally, watch)
+    } else {
+        Ok(())
+    }
 }
 
 /// Plays one order, and notes its outcome.
