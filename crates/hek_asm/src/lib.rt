@@ -17,5 +17,6 @@ pub use fault::{AsmFault, AsmKind, TraceFault};
 pub use laws::{canonical_text_is_exact, traces_are_exact};
 pub use reading::read_trace;
 pub use reply::write_reply;
-pub use schedule_text::canonical;
+pub use line::level_named;
+pub use schedule_text::{canonical, level_word};
 pub use trace::{write_line, write_step, write_trace};

@@ -1,5 +1,5 @@
 -- All orders, one after another.
-use Rattle.std.proofs.Common.{◌≡◌, ℕ, suc, zero, ◌+◌, ◌<◌, ◌≤◌, Bool, true, false, List, [], ◌∷◌, ◌++◌, length, get_or, refl, ap, sym, subst, ◌∙◌, inl, inr, arith, replicate}
+use Rattle.std.proofs.Common.{◌≡◌, ℕ, suc, zero, ◌+◌, ◌<◌, ◌≤◌, Bool, true, false, List, [], ◌∷◌, ◌++◌, length, get_or, refl, ap, sym, subst, ◌∙◌, inl, inr, arith, replicate, take}
 use Rattle.std.specs.Prelude.{◌⊎◌, slice_index, map}
 use Rattle.std.specs.List.{AllByRecursion}
 use Rattle.hek_rules.specs.Plan.{Plan}
@@ -146,3 +146,15 @@ at_last p form from to number moves order was rows h g last = record {
   };
   tally = (was, h.tally, goes_at p from to (length h.past) number order was rows h.count g);
 }
+
+pub front_of : (new rest : List ℕ) (n : ℕ) → n ≡ length new → take n (new ++ rest) ≡ new
+front_of [] rest zero e = refl
+front_of [] rest (suc n) e = absurd (omega arith)
+front_of (x ∷ new) rest zero e = absurd (omega arith)
+front_of (x ∷ new) rest (suc n) e = ap (λ (l : List ℕ). x ∷ l) (front_of new rest n (omega arith))
+
+-- what an event of the walk did, by the test and the slice that it was given
+pub goes_with : (p : Plan) (from to number : ℕ) (part : Bool) (order slice : List ℕ) (was rows : List Line) → part ≡ is_between from to number → slice ≡ order
+    → Goes p part slice was rows → Goes p (is_between from to number) order was rows
+goes_with p from to number part order slice was rows e is g =
+    subst (λ (b : Bool). Goes p b order was rows) e (subst (λ (o : List ℕ). Goes p part o was rows) is g)

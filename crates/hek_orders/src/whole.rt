@@ -1,7 +1,8 @@
 //! All orders, one after another.
-ghost use Rattle.std.specs.Prelude.{◌≡◌, IfOk, OnOk};
+ghost use Rattle.std.specs.Prelude.{◌≡◌, IfOk, MatchBool, OnOk};
 ghost use Rattle.hek_orders.specs.Found.{Found};
-ghost use Rattle.hek_orders.specs.Tallies.{Goes, IsNoted, IsPlayed};
+ghost use Rattle.hek_orders.specs.Tallies.{Goes, IsNoted, IsPlayed, is_between};
+ghost use Rattle.hek_orders.specs.Orders.{IsLast, IsNext};
 ghost use Rattle.hek_orders.specs.Wholes.{IsWhole};
 
 use crate::fault::OrderFault;
@@ -35,7 +36,7 @@ pub fn play_all<W: Watch>(
     let mut order = first_order(alloc, moves.as_slice(), form)?;
     let mut tally = Tally::new(alloc);
     for number in 0..u64::MAX {
-        let part = from <= number && number < to;
+        let part = is_between(from, to, number);
         play_if(
             alloc,
             schedule,
@@ -46,11 +47,25 @@ pub fn play_all<W: Watch>(
             &mut tally,
             watch,
         )?;
-        if !next_order(order.as_mut_slice()) {
+        if !advance(&mut order) {
             return Ok(tally);
         }
     }
     Err(OrderFault::TooMany)
+}
+
+/// Whether a number is in a range.
+fn is_between(from: u64, to: u64, number: u64) -> bool
+    ensures { result ≡ is_between from to number }
+{
+    from <= number && number < to
+}
+
+/// The next order, if there is one.
+fn advance(order: &mut Vec<TxnId>) -> bool
+    ensures { MatchBool result (IsNext order.old.items order.new.items) (IsLast order.old.items) }
+{
+    next_order(order.as_mut_slice())
 }
 
 /// Plays one order, and notes its outcome, where it is in the part.
