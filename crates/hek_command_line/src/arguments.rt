@@ -30,6 +30,8 @@ enum Form {
     Flag,
     /// `--name N`.
     Number,
+    /// `--name VALUE`, with the word that stands for the value.
+    Value(&'static str),
     /// `--name N`, which has to be there.
     NeededNumber,
 }
@@ -175,7 +177,56 @@ const THREADS: CommandText = CommandText {
     ],
 };
 
-const COMMANDS: &[CommandText] = &[RELEASE, WORD, ASM, DIS, RUN, DEBUG, CHECK, THREADS];
+const LEVEL: ArgumentText = ArgumentText {
+    name: "level",
+    help: "takes all transactions as serializable or as repeatable",
+    form: Form::Value("L"),
+};
+
+const PERMUTE: CommandText = CommandText {
+    name: "permute",
+    about: "Plays every order of a schedule's moves, and counts the outcomes",
+    example: "A transaction's moves are its reads and writes, in the order of the file, and one last move that ends it. Each order of the moves of all transactions is run from the start.\n\nExample:\n  hek permute --text two.txt\nWhere two.txt has the lines\n  buckets 1\n  row 10 100\n  txn a repeatable\n  txn b repeatable\n  a update 10 1\n  b update 10 2\nit prints\n  orders 6 outcomes 4\n  2 a committed; b aborted conflict; rows 10=1; serial; waited 0; first a b a b\n  2 a aborted conflict; b committed; rows 10=2; serial; waited 0; first b a a b\n  1 a committed; b committed; rows 10=2; serial; waited 0; first a a b b\n  1 a committed; b committed; rows 10=1; serial; waited 0; first b b a a\nThe verdict takes all transactions as serializable. `hek permute --text two.txt --order \"a b a b\"` prints the events of that order as a schedule.",
+    arguments: &[
+        FILE,
+        TEXT,
+        LEVEL,
+        ArgumentText {
+            name: "split",
+            help: "finish and precommit are a move of their own",
+            form: Form::Flag,
+        },
+        ArgumentText {
+            name: "limit",
+            help: "plays N orders at most, else none (100000)",
+            form: Form::Number,
+        },
+        ArgumentText {
+            name: "part",
+            help: "plays the Kth of N equal parts of the orders",
+            form: Form::Value("K/N"),
+        },
+        ArgumentText {
+            name: "each",
+            help: "prints a line for each order",
+            form: Form::Flag,
+        },
+        ArgumentText {
+            name: "order",
+            help: "prints the events of one order as a schedule: a name for each move",
+            form: Form::Value("NAMES"),
+        },
+        ArgumentText {
+            name: "levels",
+            help: "prints the outcomes at each level, side by side",
+            form: Form::Flag,
+        },
+    ],
+};
+
+const COMMANDS: &[CommandText] = &[
+    RELEASE, WORD, ASM, DIS, RUN, DEBUG, CHECK, THREADS, PERMUTE,
+];
 
 /// Reads the words of a command line, the program's name first.
 pub fn read_words<'a, S: AsStr>(alloc: Global, words: &'a [S]) -> Result<ArgMatches<'a>, Error> {
@@ -215,6 +266,7 @@ fn argument_of<'a>(alloc: Global, text: &ArgumentText) -> Arg<'a> {
         Form::Words => argument.required(true).num_args(1..),
         Form::Flag => argument.long(text.name).action(ArgAction::SetTrue),
         Form::Number => argument.long(text.name).value_name("N"),
+        Form::Value(value) => argument.long(text.name).value_name(value),
         Form::NeededNumber => argument.long(text.name).value_name("N").required(true),
     }
 }

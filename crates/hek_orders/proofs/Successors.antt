@@ -226,5 +226,5 @@ turned_next old front tail place j x y up is long turn at_x at_y last back =
     let y_is : y ≡ slice_index tail j = at_y ∙ get_or_default_zero tail j y last.within in
     let made : Turns x tail (slice_index tail j) (reverse (set tail j x)) = turns x tail j falls last in
     let meets : Turns (slice_index front place) tail y up =
-      subst (λ (n : ℕ). Turns n tail y up) x_is (subst (λ (n : ℕ). Turns x tail n up) (sym y_is) (subst (λ (l : List ℕ). Turns x tail (slice_index tail j) l) (sym back) made)) in
+    subst (λ (n : ℕ). Turns n tail y up) x_is (subst (λ (n : ℕ). Turns x tail n up) (sym y_is) (subst (λ (l : List ℕ). Turns x tail (slice_index tail j) l) (sym back) made)) in
     subst (λ (xs : List ℕ). IsNext xs (set front place y ++ up)) (sym is) (is_next front tail place y up long meets)

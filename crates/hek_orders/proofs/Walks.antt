@@ -128,7 +128,7 @@ at_next p form from to number moves order new was rows h g next = record {
   below = (next.behind, all_below order new h.past next.behind h.below);
   falling = (h.below, h.falling);
   complete = λ q a b. here_or_before (first_in form moves) order h.past q h.complete a
-    (λ behind. next.first q (alike_to (first_in form moves) order q h.alike a) behind b) (compared q order);
+      (λ behind. next.first q (alike_to (first_in form moves) order q h.alike a) behind b) (compared q order);
   tally = (was, h.tally, goes_at p from to (length h.past) number order was rows h.count g);
 }
 
@@ -142,7 +142,7 @@ at_last p form from to number moves order was rows h g last = record {
     sound = (h.alike, h.sound);
     falling = (h.below, h.falling);
     complete = λ q a. here_or_before (first_in form moves) order h.past q h.complete a
-      (λ behind. last.none q (alike_to (first_in form moves) order q h.alike a) behind) (compared q order);
+        (λ behind. last.none q (alike_to (first_in form moves) order q h.alike a) behind) (compared q order);
   };
   tally = (was, h.tally, goes_at p from to (length h.past) number order was rows h.count g);
 }

@@ -79,7 +79,13 @@ pub fn moves_of(alloc: Global, schedule: &Schedule) -> Result<Vec<Moves>, NoMemo
 fn own_work(alloc: Global, txn: TxnId, steps: &[Event]) -> Result<Vec<Event>, NoMemory>
     ensures { IfOk result (λ v. v.items ≡ work_of txn steps.now) }
 {
-    Ok(steps.iter().copied().filter(|step| is_work(txn, *step)).collect(alloc)?)
+    Ok(
+        steps
+            .iter()
+            .copied()
+            .filter(|step| is_work(txn, *step))
+            .collect(alloc)?,
+    )
 }
 
 // Whether a transaction has a step `fail`.

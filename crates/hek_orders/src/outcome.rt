@@ -4,9 +4,7 @@ ghost use Rattle.hek_threads.specs.History.{Replays};
 ghost use Rattle.hek_orders.specs.Outcomes.{IsOutcomeOf, end_in, ends_upto, told_as_serializable, waits_in};
 
 use crate::play::Play;
-use hek_rules::{
-    Cause, Level, NoMemory, Pairs, Reply, Schedule, Transcript, TxnId, Verdict,
-};
+use hek_rules::{Cause, Level, NoMemory, Pairs, Reply, Schedule, Transcript, TxnId, Verdict};
 use hek_serial::check_at;
 use hek_threads::Entry;
 use std::alloc::Global;

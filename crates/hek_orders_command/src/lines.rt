@@ -19,7 +19,11 @@ pub(crate) fn put_outcome(
         text.extend_from_slice(b"; ")?;
     }
     put_reply(alloc, &Reply::Rows(outcome.rows().copy()?), text)?;
-    let verdict = if outcome.serial() { "; serial" } else { "; not serial" };
+    let verdict = if outcome.serial() {
+        "; serial"
+    } else {
+        "; not serial"
+    };
     text.extend_from_slice(verdict.as_bytes())?;
     Ok(())
 }

@@ -53,7 +53,7 @@ pub(crate) fn fault_of<'a>(fault: OrderFault) -> HekFault<'a> {
     match fault {
         OrderFault::NoMemory => HekFault::NoMemory,
         OrderFault::Mismatch | OrderFault::TooMany => HekFault::Mismatch(0),
-        OrderFault::Stopped => HekFault::CannotWrite,
+        OrderFault::Stopped => HekFault::NoMemory,
     }
 }
 

@@ -6,4 +6,4 @@ use Rattle.hek_orders.proofs.outcome.told_of.Goals as goal
 pub returns : goal.returns
 returns c =
     whole c.args.schedule.now c.args.history.items (into_iter_items c.loop-entry.entry-iterator) c.loop-entry.told c.loop-entry.invariant
-      (omega (arith, c.loop-entry.entry-iterator.rest.ok, c.in-None.ensures.steps.0))
+    (omega (arith, c.loop-entry.entry-iterator.rest.ok, c.in-None.ensures.steps.0))
