@@ -125,7 +125,7 @@ const RUN: CommandText = CommandText {
 const CHECK: CommandText = CommandText {
     name: "check",
     about: "Says whether a trace is serial",
-    example: "Example:\n  hek check first.hek trace.txt\nIt prints `serial` where the committed transactions can stand one after another, by end time, and else\n  not serial 2\nwith the number of the first event at fault, and status 1.",
+    example: "Example:\n  hek check first.hek trace.txt\nIt prints `serial` where the committed transactions can stand one after another, by end time, and else\n  not serial 2\nwith the number of the first event at fault, and status 1. Of a repeatable transaction only the values that it found are judged, so phantoms are serial there.",
     arguments: &[
         FILE,
         ArgumentText {

@@ -44,9 +44,11 @@ fn add_txns<'a>(
 }
 
 fn add_steps<'a>(steps: &[Event], copy: &mut Schedule) -> Result<(), HekFault<'a>> {
-    for &step in steps {
-        if copy.step_fits(step) {
-            copy.add_step(step)?;
+    for step in steps {
+        let tried = *step;
+        let made = *step;
+        if copy.step_fits(tried) {
+            copy.add_step(made)?;
         }
     }
     Ok(())

@@ -5,3 +5,5 @@
 mod commands;
 #[cfg(test)]
 mod orders;
+#[cfg(test)]
+mod speed;
