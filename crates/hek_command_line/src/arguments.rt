@@ -224,9 +224,7 @@ const PERMUTE: CommandText = CommandText {
     ],
 };
 
-const COMMANDS: &[CommandText] = &[
-    RELEASE, WORD, ASM, DIS, RUN, DEBUG, CHECK, THREADS, PERMUTE,
-];
+const COMMANDS: &[CommandText] = &[RELEASE, WORD, ASM, DIS, RUN, DEBUG, CHECK, THREADS, PERMUTE];
 
 /// Reads the words of a command line, the program's name first.
 pub fn read_words<'a, S: AsStr>(alloc: Global, words: &'a [S]) -> Result<ArgMatches<'a>, Error> {

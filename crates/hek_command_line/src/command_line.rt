@@ -3,11 +3,11 @@ use crate::arguments::read_words;
 use crate::disk::{Disk, InputFile, LateFile, open};
 use clap::error::ErrorKind as ClapKind;
 use clap::{ArgMatches, Error};
+use hek_asm::level_named;
 use hek_commands::{
     HekFault, INPUT, ScheduleFile, asm_command, check_command, dis_command, read_text,
     release_command, report, run_command, state_command, word_command,
 };
-use hek_asm::level_named;
 use hek_debug_commands::{debug_command, debug_session};
 use hek_orders::Form;
 use hek_orders_command::{Choice, part_of, permute_command};
@@ -254,7 +254,11 @@ fn permute<'a, D: Disk, I: Read + Drop, W: Write, E: Write>(
 fn choice_of<'a>(found: &ArgMatches<'a>) -> Result<Choice<'a>, HekFault<'a>> {
     Ok(Choice {
         level: level_of(found)?,
-        form: if found.get_flag("split") { Form::Split } else { Form::Whole },
+        form: if found.get_flag("split") {
+            Form::Split
+        } else {
+            Form::Whole
+        },
         limit: limit_of(found)?,
         part: parts_of(found)?,
         each: found.get_flag("each"),
