@@ -137,11 +137,7 @@ const SAYS: &[(&str, Choice<'static>, u8, &str, &str)] = &[
     ),
 ];
 
-fn ran(
-    alloc: Global,
-    text: &str,
-    choice: Choice<'_>,
-) -> Result<(u8, String, String), AllocError> {
+fn ran(alloc: Global, text: &str, choice: Choice<'_>) -> Result<(u8, String, String), AllocError> {
     let mut out = Vec::new(alloc);
     let mut faults = Vec::new(alloc);
     let bytes = Vec::from_slice(alloc, text.as_bytes())?;

@@ -45,7 +45,11 @@ fn finds_the_next_order(rt: HostRuntime) -> Result<(), Fail> {
 const COUNTS: &[(&str, Option<u64>, Option<u64>)] = &[
     ("buckets 1\n", Some(1), Some(1)),
     ("buckets 1\ntxn a repeatable\n", Some(1), Some(1)),
-    ("buckets 1\ntxn a repeatable\ntxn b repeatable\n", Some(2), Some(6)),
+    (
+        "buckets 1\ntxn a repeatable\ntxn b repeatable\n",
+        Some(2),
+        Some(6),
+    ),
     (
         "buckets 1\ntxn a repeatable\ntxn b repeatable\na read 1\na read 2\na update 1 1\nb read 1\nb read 2\nb update 2 1\na begin\n",
         Some(70),
