@@ -30,6 +30,8 @@ enum Form {
     Flag,
     /// `--name N`.
     Number,
+    /// `--name VALUE`, with the word that stands for the value.
+    Value(&'static str),
     /// `--name N`, which has to be there.
     NeededNumber,
 }
@@ -123,7 +125,7 @@ const RUN: CommandText = CommandText {
 const CHECK: CommandText = CommandText {
     name: "check",
     about: "Says whether a trace is serial",
-    example: "Example:\n  hek check first.img trace.txt\nIt prints `serial` where the committed transactions can stand one after another, by end time, and else\n  not serial 2\nwith the number of the first event at fault, and status 1.",
+    example: "Example:\n  hek check first.img trace.txt\nIt prints `serial` where the committed transactions can stand one after another, by end time, and else\n  not serial 2\nwith the number of the first event at fault, and status 1. Of a repeatable transaction only the values that it found are judged, so phantoms are serial there.",
     arguments: &[
         FILE,
         ArgumentText {
@@ -175,10 +177,57 @@ const THREADS: CommandText = CommandText {
     ],
 };
 
+const LEVEL: ArgumentText = ArgumentText {
+    name: "level",
+    help: "takes all transactions as serializable, repeatable or snapshot",
+    form: Form::Value("L"),
+};
+
+const PERMUTE: CommandText = CommandText {
+    name: "permute",
+    about: "Plays every order of a schedule's moves, and counts the outcomes",
+    example: "A transaction's moves are its reads and writes, in the order of the file, and one last move that ends it. Each order of the moves of all transactions is run from the start.\n\nExample:\n  hek permute --text two.hek\nWhere two.hek has the lines\n  buckets 1\n  row 10 100\n  txn a repeatable\n  txn b repeatable\n  a update 10 1\n  b update 10 2\nit prints\n  orders 6 outcomes 4\n  2 a committed; b aborted conflict; rows 10=1; serial; waited 0; first a b a b\n  2 a aborted conflict; b committed; rows 10=2; serial; waited 0; first b a a b\n  1 a committed; b committed; rows 10=2; serial; waited 0; first a a b b\n  1 a committed; b committed; rows 10=1; serial; waited 0; first b b a a\nThe verdict takes all transactions as serializable. `hek permute --text two.hek --order \"a b a b\"` prints the events of that order as a schedule.",
+    arguments: &[
+        FILE,
+        TEXT,
+        LEVEL,
+        ArgumentText {
+            name: "split",
+            help: "finish and precommit are a move of their own",
+            form: Form::Flag,
+        },
+        ArgumentText {
+            name: "limit",
+            help: "plays N orders at most, else none (100000)",
+            form: Form::Number,
+        },
+        ArgumentText {
+            name: "part",
+            help: "plays the Kth of N equal parts of the orders",
+            form: Form::Value("K/N"),
+        },
+        ArgumentText {
+            name: "each",
+            help: "prints a line for each order",
+            form: Form::Flag,
+        },
+        ArgumentText {
+            name: "order",
+            help: "prints the events of one order as a schedule: a name for each move",
+            form: Form::Value("NAMES"),
+        },
+        ArgumentText {
+            name: "levels",
+            help: "prints the outcomes at each level, side by side",
+            form: Form::Flag,
+        },
+    ],
+};
+
 /// What `hek --version` says behind the name.
 const VERSION: &str = "0.2.0";
 
-const COMMANDS: &[CommandText] = &[RELEASE, WORD, ASM, DIS, RUN, DEBUG, CHECK, THREADS];
+const COMMANDS: &[CommandText] = &[RELEASE, WORD, ASM, DIS, RUN, DEBUG, CHECK, THREADS, PERMUTE];
 
 /// Reads the words of a command line, the program's name first.
 pub fn read_words<'a, S: AsStr>(alloc: Global, words: &'a [S]) -> Result<ArgMatches<'a>, Error> {
@@ -219,6 +268,7 @@ fn argument_of<'a>(alloc: Global, text: &ArgumentText) -> Arg<'a> {
         Form::Words => argument.required(true).num_args(1..),
         Form::Flag => argument.long(text.name).action(ArgAction::SetTrue),
         Form::Number => argument.long(text.name).value_name("N"),
+        Form::Value(value) => argument.long(text.name).value_name(value),
         Form::NeededNumber => argument.long(text.name).value_name("N").required(true),
     }
 }

@@ -3,12 +3,15 @@ use crate::arguments::read_words;
 use crate::disk::{Disk, InputFile, LateFile, open};
 use clap::error::ErrorKind as ClapKind;
 use clap::{ArgMatches, Error};
+use hek_asm::level_named;
 use hek_commands::{
     HekFault, INPUT, ScheduleFile, asm_command, check_command, dis_command, read_text,
     release_command, report, run_command, state_command, word_command,
 };
 use hek_debug_commands::{debug_command, debug_session};
-use hek_rules::number;
+use hek_orders::Form;
+use hek_orders_command::{Choice, part_of, permute_command};
+use hek_rules::{Level, number};
 use hek_threads_command::{repeat_command, threads_command};
 use std::alloc::Global;
 use std::convert::AsStr;
@@ -134,6 +137,7 @@ fn run<'a, D: Disk, I: Read + IsTerminal + Drop, W: Write, E: Write>(
         Some(("run", found)) => run_schedule(alloc, found, disk, input, out),
         Some(("debug", found)) => debug(alloc, found, disk, input, out, faults),
         Some(("check", found)) => check(alloc, found, disk, input, out),
+        Some(("permute", found)) => permute(alloc, found, disk, input, out, faults),
         Some(("threads", _)) => Err(HekFault::NoWorker),
         _ => Err(HekFault::BadArgument),
     }
@@ -228,6 +232,64 @@ fn check<'a, D: Disk, I: Read + Drop, W: Write>(
     let trace = read_text(alloc, open(disk, &mut input, name)?, name)?;
     let why = found.get_flag("why");
     check_command(alloc, file, trace.as_slice(), why, out)
+}
+
+/// The most orders, where the words give none.
+const MOST_ORDERS: u64 = 100_000;
+
+fn permute<'a, D: Disk, I: Read + Drop, W: Write, E: Write>(
+    alloc: Global,
+    found: &ArgMatches<'a>,
+    disk: &D,
+    input: I,
+    out: &mut W,
+    faults: &mut E,
+) -> Result<u8, HekFault<'a>> {
+    let mut input = Some(input);
+    let choice = choice_of(found)?;
+    let file = schedule_file(alloc, found, disk, &mut input)?;
+    permute_command(alloc, file, choice, out, faults)
+}
+
+fn choice_of<'a>(found: &ArgMatches<'a>) -> Result<Choice<'a>, HekFault<'a>> {
+    Ok(Choice {
+        level: level_of(found)?,
+        form: if found.get_flag("split") {
+            Form::Split
+        } else {
+            Form::Whole
+        },
+        limit: limit_of(found)?,
+        part: parts_of(found)?,
+        each: found.get_flag("each"),
+        order: found.get_str("order"),
+        levels: found.get_flag("levels"),
+    })
+}
+
+/// The level that the words give with `--level`.
+fn level_of<'a>(found: &ArgMatches<'a>) -> Result<Option<Level>, HekFault<'a>> {
+    match found.get_str("level") {
+        None => Ok(None),
+        Some(word) => match level_named(word.as_bytes()) {
+            Some(level) => Ok(Some(level)),
+            None => Err(HekFault::BadArgument),
+        },
+    }
+}
+
+fn limit_of<'a>(found: &ArgMatches<'a>) -> Result<u64, HekFault<'a>> {
+    match found.get_str("limit") {
+        None => Ok(MOST_ORDERS),
+        Some(word) => number(word.as_bytes()).ok_or(HekFault::BadArgument),
+    }
+}
+
+fn parts_of<'a>(found: &ArgMatches<'a>) -> Result<(u64, u64), HekFault<'a>> {
+    match found.get_str("part") {
+        None => Ok((1, 1)),
+        Some(word) => part_of(word).ok_or(HekFault::BadArgument),
+    }
 }
 
 /// The most turns, and the most runs.

@@ -20,5 +20,5 @@ pub use laws::{
 pub use parts::compare;
 pub use runner::{Report, run_workers};
 pub use shared::Shared;
-pub use stage::{Position, Stage};
+pub use stage::{Position, Stage, is_work};
 pub use worker::Gate;

@@ -1,0 +1,4 @@
+pub mod Successors
+pub mod Histories
+pub mod Tallies
+pub mod Walks

@@ -1,0 +1,43 @@
+-- Orders of moves: lists of transactions, compared as the words of a dictionary are.
+use Rattle.std.specs.Prelude.{ℕ, ◌≡◌, ◌<◌, ◌==◌, ◌⊎◌, List, [], ◌∷◌, count_by}
+use Rattle.std.specs.List.{AllByRecursion}
+
+-- before ys in the dictionary
+abbrev pub IsBelow : List ℕ → List ℕ → Type 0
+IsBelow xs [] = ⊥
+IsBelow [] (y ∷ ys) = Unit {0}
+IsBelow (x ∷ xs) (y ∷ ys) = (x < y) ⊎ ((x ≡ y) × IsBelow xs ys)
+
+-- how often a transaction stands in an order
+abbrev pub times : ℕ → List ℕ → ℕ
+times t xs = count_by (λ u. u == t) xs
+
+-- each transaction stands in both equally often
+abbrev pub AreAlike : List ℕ → List ℕ → Type 0
+AreAlike xs ys = (t : ℕ) → times t xs ≡ times t ys
+
+-- of the orders that are like the old one, the new one is the first that comes behind it
+pub record IsNext (old new : List ℕ) : Type 0 where
+  pub alike : AreAlike old new
+  pub behind : IsBelow old new
+  pub first : (q : List ℕ) → AreAlike old q → IsBelow old q → IsBelow q new → ⊥
+
+-- none that is like it comes behind it
+pub record IsLast (old : List ℕ) : Type 0 where
+  pub none : (q : List ℕ) → AreAlike old q → IsBelow old q → ⊥
+
+-- an order is among these
+abbrev pub IsAmong : List ℕ → List (List ℕ) → Type 0
+IsAmong o [] = ⊥
+IsAmong o (q ∷ qs) = (o ≡ q) ⊎ IsAmong o qs
+
+-- each is below the one before it in the list
+abbrev pub AreFalling : List (List ℕ) → Type 0
+AreFalling [] = Unit {0}
+AreFalling (q ∷ qs) = AllByRecursion (λ o. IsBelow o q) qs × AreFalling qs
+
+-- all orders that are like the first, each once, the last first
+pub record AreAll (first : List ℕ) (orders : List (List ℕ)) : Type 0 where
+  pub sound : AllByRecursion (AreAlike first) orders
+  pub falling : AreFalling orders
+  pub complete : (o : List ℕ) → AreAlike first o → IsAmong o orders

@@ -1,0 +1,18 @@
+//! Every order of a schedule's moves: each is played on a machine of its own, and the outcomes are counted.
+#![tactic(auto)]
+
+mod fault;
+mod moves;
+mod order;
+mod outcome;
+mod play;
+mod tally;
+mod whole;
+
+pub use fault::OrderFault;
+pub use moves::{Form, Moves, first_order, moves_of, order_count};
+pub use order::next_order;
+pub use outcome::{Ending, Outcome, outcome_of};
+pub use play::{Play, play_order};
+pub use tally::{Row, Tally};
+pub use whole::{Watch, play_all};

@@ -1,0 +1,55 @@
+//! Schedules made of schedules: at another level, or with other steps.
+use hek_commands::HekFault;
+use hek_rules::{Event, Level, Schedule, TxnId};
+use std::alloc::Global;
+
+/// The schedule with its transactions at this level, or at their own, and with these steps.
+pub(crate) fn schedule_with<'a>(
+    alloc: Global,
+    schedule: &Schedule,
+    level: Option<Level>,
+    steps: &[Event],
+) -> Result<Schedule, HekFault<'a>> {
+    let mut copy = Schedule::new(alloc, schedule.buckets().clamp(1, 1_024));
+    add_rows(schedule, &mut copy)?;
+    add_txns(schedule, level, &mut copy)?;
+    add_steps(steps, &mut copy)?;
+    Ok(copy)
+}
+
+fn add_rows<'a>(schedule: &Schedule, copy: &mut Schedule) -> Result<(), HekFault<'a>> {
+    for place in 0..schedule.row_count() {
+        let (key, value) = schedule.row(place);
+        if copy.row_fits(key) {
+            copy.add_row(key, value)?;
+        }
+    }
+    Ok(())
+}
+
+fn add_txns<'a>(
+    schedule: &Schedule,
+    level: Option<Level>,
+    copy: &mut Schedule,
+) -> Result<(), HekFault<'a>> {
+    for place in 0..schedule.txn_count() {
+        let txn = TxnId::new(place as u64 + 1);
+        let name = schedule.name_of(txn);
+        let level = level.unwrap_or(schedule.level_of(txn));
+        if copy.txn_fits(name) {
+            copy.add_txn(name, level)?;
+        }
+    }
+    Ok(())
+}
+
+fn add_steps<'a>(steps: &[Event], copy: &mut Schedule) -> Result<(), HekFault<'a>> {
+    for step in steps {
+        let tried = *step;
+        let made = *step;
+        if copy.step_fits(tried) {
+            copy.add_step(made)?;
+        }
+    }
+    Ok(())
+}

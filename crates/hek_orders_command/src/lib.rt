@@ -1,0 +1,12 @@
+//! The command `permute`: every order of a schedule's moves, and what they come to.
+#![tactic(auto)]
+
+mod choice;
+mod leveled;
+mod lines;
+mod one;
+mod permute;
+mod table;
+
+pub use choice::{Choice, part_of};
+pub use permute::permute_command;
