@@ -1,5 +1,6 @@
 //! Words in one thread.
-use crate::support::{is, made};
+use crate::support::made;
+use hek_asserts::is;
 use hek_live::{DropRead, DropWrite, TryRead, TryWrite};
 use hek_rules::TxnId;
 use hek_word::EndWord;

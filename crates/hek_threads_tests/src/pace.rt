@@ -1,5 +1,6 @@
 //! Two workers that a gate holds in step.
-use crate::scene::{holds, is, scene};
+use crate::scene::scene;
+use hek_asserts::{holds, is};
 use hek_rules::TxnId;
 use hek_threads::{Entry, Gate, run_workers};
 use std::process::Abort;

@@ -1,0 +1,11 @@
+//! Tests of texts, images and the program's commands, over what they make public.
+#![tactic(auto)]
+
+#[cfg(test)]
+mod asm;
+#[cfg(test)]
+mod commands;
+#[cfg(test)]
+mod image;
+#[cfg(test)]
+mod stored;
