@@ -1,7 +1,7 @@
 ghost use Rattle.std.specs.Prelude.{◌<◌, length};
 ghost use Rattle.hek_txn.specs.TxnTable.{Declared};
 
-use hek_asserts::is;
+use crate::asserts::is;
 use hek_buckets::Buckets;
 use hek_rules::{Level, Schedule, TxnId};
 use hek_txn::Txns;

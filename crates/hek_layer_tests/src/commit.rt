@@ -5,7 +5,7 @@ ghost use Rattle.hek_rules.specs.World.{txn_in};
 ghost use Rattle.hek_txn.specs.TxnTable.{Declared, dependents_of, write_set_of};
 ghost use Rattle.hek_commit.specs.Stamped.{CanStamp};
 
-use hek_asserts::is;
+use crate::asserts::is;
 use hek_commit::{abort, commit, depend, end, precommit, stamp_next};
 use hek_rules::{Cause, Level, Reply, Schedule, State, Time, TxnId, VersionId, WriteEntry};
 use hek_store::{Store, Version};

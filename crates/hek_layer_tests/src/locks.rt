@@ -5,7 +5,7 @@ ghost use Rattle.hek_store.specs.Stored.{version_at};
 ghost use Rattle.hek_txn.specs.TxnTable.{Declared, read_set_of, waits_of};
 ghost use Rattle.hek_locks.specs.Locked.{KnowsWriter, CanFree, CanWait, CanTell, cleared_word, cleared_waits, to_write};
 
-use hek_asserts::is;
+use crate::asserts::is;
 use hek_locks::{
     can_read_lock, can_write_lock, clear_write, cleared, is_stale, read_lock, release_read,
     write_lock,

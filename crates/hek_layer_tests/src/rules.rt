@@ -3,7 +3,7 @@ mod schedule;
 mod text;
 mod transcript;
 
-use hek_asserts::{is, is_at};
+use crate::asserts::{is, is_at};
 use hek_rules::{
     Cause, Event, EventKind, Level, Members, Pairs, Refusal, Reply, Time, TxnId, VersionId, number,
 };

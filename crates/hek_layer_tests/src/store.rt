@@ -1,6 +1,6 @@
 ghost use Rattle.std.specs.Prelude.{◌≡◌, ◌<◌, length};
 
-use hek_asserts::is;
+use crate::asserts::is;
 use hek_rules::{Schedule, Time, TxnId, VersionId};
 use hek_store::{Store, Version};
 use hek_word::{BeginWord, EndWord};

@@ -1,6 +1,6 @@
 ghost use Rattle.hek_txn.specs.TxnTable.{Declared};
 
-use hek_asserts::is;
+use crate::asserts::is;
 use hek_rules::{Cause, Level, Schedule, State, Time, TxnId};
 use hek_txn::{EntryList, Txns};
 use std::alloc::Global;

@@ -3,7 +3,7 @@ ghost use Rattle.hek_rules.specs.World.{is_present as present};
 ghost use Rattle.hek_txn.specs.TxnTable.{Declared};
 ghost use Rattle.hek_visible.specs.Seen.{NamesCreator, NamesWriter};
 
-use hek_asserts::is_at;
+use crate::asserts::is_at;
 use hek_rules::{BeginRecord, Cause, Level, Schedule, Sight, State, Time, TxnId, VersionId};
 use hek_store::Store;
 use hek_txn::Txns;

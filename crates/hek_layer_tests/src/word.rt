@@ -1,6 +1,6 @@
 mod weak;
 
-use hek_asserts::{is, is_at};
+use crate::asserts::{is, is_at};
 use hek_rules::{Time, TxnId};
 use hek_word::{BeginWord, Dropped, EndWord, ReleaseFault, release_word};
 use std::test::Fail;

@@ -1,6 +1,5 @@
 //! Words in one thread.
-use crate::support::made;
-use hek_asserts::is;
+use crate::support::{is, made};
 use hek_live::{DropRead, DropWrite, TryRead, TryWrite};
 use hek_rules::TxnId;
 use hek_word::EndWord;

@@ -4,8 +4,7 @@ ghost use Rattle.hek_rules.specs.Words.{IsTxn};
 ghost use Rattle.hek_live.specs.Tokens.{newcomer};
 ghost use Rattle.hek_live.specs.Ends.{words_of, table_of, seat_table, view_of};
 
-use crate::support::made;
-use hek_asserts::is;
+use crate::support::{is, made};
 use hek_live::{DropWrite, LiveWords, Seat, TryWrite};
 use hek_rules::TxnId;
 use hek_word::EndWord;

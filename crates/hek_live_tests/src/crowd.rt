@@ -2,9 +2,8 @@
 ghost use Rattle.std.specs.Prelude.{◌≡◌, ◌<◌, true};
 ghost use Rattle.hek_live.specs.Ends.{words_of, table_of, seat_table, view_of};
 
-use crate::support::made;
+use crate::support::{is, made};
 use crate::worker::{WORDS, Worker, start};
-use hek_asserts::is;
 use hek_live::{LiveWords, Seat};
 use hek_rules::TxnId;
 use hek_word::EndWord;

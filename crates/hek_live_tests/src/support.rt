@@ -5,7 +5,13 @@ ghost use Rattle.hek_live.specs.Ends.{words_of, table_of, seat_table, view_of};
 
 use hek_live::{LiveWords, Seat};
 use std::alloc::Global;
+use std::fmt::Debug;
 use std::process::Abort;
+
+/// The two are equal.
+pub fn is<T: PartialEq + Debug + Drop>(rt: &impl Abort, got: T, want: T) {
+    assert!(rt; got == want, "{got:?} and not {want:?}");
+}
 
 /// So many words, and the seat that makes the others. A call that was refused memory is made again.
 pub fn made(rt: &impl Abort, alloc: Global, n: usize) -> (LiveWords, Seat)

@@ -1,5 +1,5 @@
 //! Sessions over a reader and a writer that waits for it, and over many steps. The stops were worked out by hand.
-use hek_asserts::{holds, is, is_at};
+use crate::asserts::{holds, is, is_at};
 use hek_debug::Reason::*;
 use hek_debug::{Command, CommandFault, Debugger, Mark, Reason, Stop, read_commands};
 use hek_rules::{Event, Level, Reply, Schedule, TxnId, VersionId};

@@ -3,7 +3,7 @@ mod explained;
 mod scene;
 mod worked;
 
-use hek_asserts::is;
+use crate::asserts::is;
 use hek_rules::{Event, Level, NoMemory, Refusal, Reply, Time, Transcript, Verdict};
 use hek_serial::check;
 use scene::{a, b, c, commits, listed, opening, tell, unknown};

@@ -2,8 +2,8 @@ ghost use Rattle.std.specs.Prelude.{◌≡◌, false};
 
 mod reading;
 
+use crate::asserts::{is, is_at};
 use hek_asm::{AsmFault, AsmKind, assemble_text, canonical, write_reply, write_trace};
-use hek_asserts::{is, is_at};
 use hek_rules::{
     Cause, Level, Members, MemorySink, NoMemory, Pairs, Refusal, Reply, Schedule, Time, TxnId,
     VersionId, WriteFault,

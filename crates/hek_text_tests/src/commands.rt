@@ -7,9 +7,9 @@ mod runs;
 mod states;
 mod typed;
 
+use crate::asserts::is;
 use files::MemoryDisk;
 use hek_asm::AsmKind;
-use hek_asserts::is;
 use hek_command_line::{answer, program};
 use hek_commands::{HekFault, report};
 use hek_image::LoadFault;

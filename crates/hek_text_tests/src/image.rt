@@ -1,6 +1,6 @@
 ghost use Rattle.std.specs.Prelude.{◌<◌};
 
-use hek_asserts::{is, is_at};
+use crate::asserts::{is, is_at};
 use hek_image::{LoadFault, load_image, write_image};
 use hek_rules::{Ending, Event, Level, MemorySink, MemorySource, Schedule, TxnId, WriteFault};
 use std::alloc::Global;

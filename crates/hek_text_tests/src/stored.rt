@@ -1,6 +1,6 @@
 mod benchmarks;
 
-use hek_asserts::is_at;
+use crate::asserts::is_at;
 use hek_rules::Verdict;
 use hek_stored::{Difference, Raised, Stored, Summary, compare};
 use std::alloc::Global;

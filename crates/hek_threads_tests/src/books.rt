@@ -1,6 +1,5 @@
 //! One event at a time, and transcripts that were changed.
-use crate::scene::{Open, id, scene};
-use hek_asserts::is;
+use crate::scene::{Open, id, is, scene};
 use hek_rules::{Event, Reply};
 use hek_threads::{Book, Part, Report, Shared, ThreadFault, compare, run_workers};
 use std::alloc::Global;

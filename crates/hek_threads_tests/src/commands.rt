@@ -1,5 +1,5 @@
 //! The command `threads`.
-use hek_asserts::{holds, is};
+use crate::scene::{holds, is};
 use hek_command_line::{Disk, answer_in_threads};
 use std::alloc::{AllocError, Global};
 use std::io;

@@ -1,6 +1,5 @@
 //! Many workers, again and again.
-use crate::scene::{Open, assert_serial, crowd, scene};
-use hek_asserts::is;
+use crate::scene::{Open, assert_serial, crowd, is, scene};
 use hek_rules::{Reply, Schedule};
 use hek_threads::{Report, run_workers};
 use std::alloc::Global;

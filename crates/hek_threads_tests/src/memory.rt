@@ -1,7 +1,6 @@
 //! Memory that is refused to a worker. In the gate it is there; who runs this test with an allocation that fails, one after
 //! another, sees that at most one worker stops before its end.
-use crate::scene::crowd;
-use hek_asserts::is;
+use crate::scene::{crowd, is};
 use hek_rules::TxnId;
 use hek_threads::{Gate, ThreadFault, run_workers};
 use std::sync::atomic::{AtomicU64, Ordering};

@@ -1,6 +1,5 @@
 //! Two workers that a gate holds in step.
-use crate::scene::scene;
-use hek_asserts::{holds, is};
+use crate::scene::{holds, is, scene};
 use hek_rules::TxnId;
 use hek_threads::{Entry, Gate, run_workers};
 use std::process::Abort;

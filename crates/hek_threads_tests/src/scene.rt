@@ -1,13 +1,23 @@
 //! Schedules, and what holds in a test.
 use hek_asm::assemble_text;
-use hek_asserts::is;
 use hek_rules::{Reply, Schedule, Transcript, TxnId, Verdict};
 use hek_serial::check;
 use hek_threads::{Gate, Report};
 use std::alloc::Global;
+use std::fmt::Debug;
 use std::io::Write;
 use std::process::Abort;
 use std::{io, str};
+
+/// The two are equal.
+pub fn is<T: PartialEq + Debug + Drop>(rt: &impl Abort, got: T, want: T) {
+    assert!(rt; got == want, "{got:?} and not {want:?}");
+}
+
+/// It holds.
+pub fn holds(rt: &impl Abort, fact: bool) {
+    assert!(rt; fact);
+}
 
 pub fn id(number: u64) -> TxnId {
     TxnId::new(number)

@@ -4,7 +4,7 @@ ghost use Rattle.std.specs.List.{All};
 ghost use Rattle.hek_txn.specs.TxnTable.{Declared, waits_of, waiting_list_of};
 
 use super::{A, B, bucket, declared, id, loaded, locks, small};
-use hek_asserts::is;
+use crate::asserts::is;
 use hek_buckets::{Buckets, impose_wait, release_waiter, wait_for_holders};
 use hek_rules::TxnId;
 use hek_txn::Txns;

@@ -1,4 +1,4 @@
-use hek_asserts::is;
+use crate::asserts::is;
 use hek_rules::{
     Ending, FromRead, FromWrite, MemorySink, MemorySource, Sink, Source, WriteFault, put_all,
 };

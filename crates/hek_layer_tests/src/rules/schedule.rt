@@ -1,4 +1,4 @@
-use hek_asserts::is;
+use crate::asserts::is;
 use hek_rules::{Event, Level, MAX_ROWS, MAX_STEPS, MAX_TXNS, Schedule, TxnId};
 use std::alloc::Global;
 use std::process::Abort;

@@ -1,4 +1,4 @@
-use hek_asserts::is;
+use crate::asserts::is;
 use hek_rules::{Event, Level, Reply, Schedule, Time, Transcript, TxnId};
 
 #[test]

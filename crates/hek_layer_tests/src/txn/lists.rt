@@ -1,6 +1,6 @@
 //! The lists of a transaction: pushed twice, found, told in order of entry, and taken out.
 use super::{A, B, assert_same_lists, copied, declared, id, loaded};
-use hek_asserts::is;
+use crate::asserts::is;
 use hek_rules::{VersionId, WriteEntry};
 
 #[test]

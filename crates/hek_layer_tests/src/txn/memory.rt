@@ -1,7 +1,7 @@
 //! Growths that are refused: the transactions are as before, and the call made again succeeds. Of so many members as
 //! there is no memory for, each reserve is refused always; run with each allocation failing in turn, the others are too.
 use super::{A, assert_same, copied, declared, loaded};
-use hek_asserts::is;
+use crate::asserts::is;
 use hek_rules::VersionId;
 use hek_txn::{copied_lists, empty_lists};
 

@@ -4,7 +4,7 @@
 ghost use Rattle.std.specs.Prelude.{◌≡◌, ◌+◌, IfOk};
 ghost use Rattle.hek_rules.specs.Words.{readers_of};
 
-use hek_asserts::is;
+use crate::asserts::is;
 use hek_rules::Dropped;
 use hek_word::{EndWord, ReleaseFault, release_word};
 

@@ -1,10 +1,10 @@
 //! What a scene must show.
+use crate::asserts::is;
 use crate::machine::scene::{Scene, declared, version};
 use crate::machine::script::{Written, ids, pushed};
 use crate::machine::shown::{
     bucket_list, dependents, lock_list, read_list, rows, waiting_list, write_list,
 };
-use hek_asserts::is;
 use hek_rules::{VersionId, WriteEntry};
 use std::alloc::Global;
 use std::process::Abort;

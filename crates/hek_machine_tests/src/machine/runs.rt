@@ -2,6 +2,7 @@
 ghost use Rattle.std.specs.List.{All};
 ghost use Rattle.hek_laws.specs.Runs.{IsPlaced};
 
+use crate::asserts::is;
 use crate::machine::scene::{
     A, B, Scene, assert_placed, declared, id, loaded, schedule_of, version,
 };
@@ -12,7 +13,6 @@ use crate::machine::script::{
     Act, Moment, Opening, REPEATABLE, SERIALIZABLE, Wanted, event_of, play, reply_of,
 };
 use crate::machine::shown::assert_same;
-use hek_asserts::is;
 use hek_machine::{Machine, Trace, run, run_at};
 use hek_rules::{Event, Level, Refusal, Reply, Schedule, State, Time};
 use std::alloc::Global;

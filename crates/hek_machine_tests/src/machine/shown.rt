@@ -1,6 +1,6 @@
 //! What machines show, and whether two show the same.
+use crate::asserts::is;
 use crate::machine::scene::declared;
-use hek_asserts::is;
 use hek_machine::Machine;
 use hek_rules::{Pairs, TxnId, VersionId, WriteEntry};
 use std::process::Abort;

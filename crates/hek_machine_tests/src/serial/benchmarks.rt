@@ -1,6 +1,6 @@
 //! The time of the check on a long transcript.
+use crate::asserts::is;
 use crate::serial::scene::{opening, xor_shift};
-use hek_asserts::is;
 use hek_rules::{Event, Level, NoMemory, Pairs, Reply, Time, Transcript, TxnId, Verdict};
 use hek_serial::check;
 use std::alloc::Global;

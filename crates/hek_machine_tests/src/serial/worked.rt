@@ -1,6 +1,6 @@
 //! Verdicts on worked runs of the machine, from the description of the scheme.
+use crate::asserts::is;
 use crate::serial::scene::{a, b, c, listed, opening, tell};
-use hek_asserts::is;
 use hek_rules::{
     Cause, Event, Level, Members, NoMemory, Reply, Time, Transcript, TxnId, Verdict, VersionId,
 };

@@ -1,7 +1,7 @@
 //! Traces read back.
 use super::{STEPS, TRACE, assembled, replies};
+use crate::asserts::{is, is_at};
 use hek_asm::{AsmFault, TraceFault, assemble_text, read_trace};
-use hek_asserts::{is, is_at};
 use hek_rules::{Cause, Event, Pairs, Refusal, Reply, Time, Transcript, TxnId, VersionId};
 use std::alloc::Global;
 use std::process::Abort;

@@ -2,7 +2,7 @@
 use super::files::MemoryDisk;
 use super::rows::{QUIET, Row, assert_rows};
 use super::typed::Typed;
-use hek_asserts::is;
+use crate::asserts::is;
 use hek_command_line::answer;
 use std::cell::RefCell;
 use std::test::Fail;

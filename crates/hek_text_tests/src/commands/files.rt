@@ -1,7 +1,7 @@
 //! The commands over files: `asm` and `dis`.
 use super::ran_in;
 use super::rows::{QUIET, Row, assert_created, assert_rows, assert_said, assert_says};
-use hek_asserts::is;
+use crate::asserts::is;
 use hek_command_line::Disk;
 use hek_commands::{HekFault, ScheduleFile, asm_command, dis_command, read_text};
 use hek_image::LoadFault;

@@ -1,6 +1,6 @@
 //! The command `run` with the state of the machine, and the command `check` with the reason.
 use super::rows::{QUIET, Row, assert_rows};
-use hek_asserts::is;
+use crate::asserts::is;
 use hek_commands::{HekFault, ScheduleFile, run_command};
 use std::alloc::{AllocError, Global};
 use std::io;

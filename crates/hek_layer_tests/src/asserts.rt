@@ -1,16 +1,14 @@
 //! What holds in a test. A helper's call costs a proof a tenth of what an assertion in the test itself does.
-#![tactic(auto)]
-
 use std::fmt::Debug;
 use std::process::Abort;
 
 /// The two are equal.
-pub fn is<T: PartialEq + Debug + Drop>(rt: &impl Abort, got: T, want: T) {
+pub(crate) fn is<T: PartialEq + Debug + Drop>(rt: &impl Abort, got: T, want: T) {
     assert!(rt; got == want, "{got:?} and not {want:?}");
 }
 
 /// The two are equal, in this row of a table.
-pub fn is_at<P: Debug + Drop, T: PartialEq + Debug + Drop>(
+pub(crate) fn is_at<P: Debug + Drop, T: PartialEq + Debug + Drop>(
     rt: &impl Abort,
     row: P,
     got: T,
@@ -20,6 +18,6 @@ pub fn is_at<P: Debug + Drop, T: PartialEq + Debug + Drop>(
 }
 
 /// It holds.
-pub fn holds(rt: &impl Abort, fact: bool) {
+pub(crate) fn holds(rt: &impl Abort, fact: bool) {
     assert!(rt; fact);
 }
