@@ -224,10 +224,30 @@ const PERMUTE: CommandText = CommandText {
     ],
 };
 
+const PAGE: CommandText = CommandText {
+    name: "page",
+    about: "Writes a schedule's run as a page for a browser",
+    example: "Example:\n  hek page --text first.hek > first.html\nThe page shows each step with its reply, and the versions, transactions and locks at each position. It needs no network and no other file. It has at most 2000 steps; of a longer schedule --from and --to say which.",
+    arguments: &[
+        FILE,
+        TEXT,
+        ArgumentText {
+            name: "from",
+            help: "begins at step N, else at the first",
+            form: Form::Number,
+        },
+        ArgumentText {
+            name: "to",
+            help: "ends at step N, else at the last",
+            form: Form::Number,
+        },
+    ],
+};
+
 /// What `hek --version` says behind the name.
 const VERSION: &str = "0.2.0";
 
-const COMMANDS: &[CommandText] = &[RELEASE, WORD, ASM, DIS, RUN, DEBUG, CHECK, THREADS, PERMUTE];
+const COMMANDS: &[CommandText] = &[RELEASE, WORD, ASM, DIS, RUN, DEBUG, CHECK, THREADS, PERMUTE, PAGE];
 
 /// Reads the words of a command line, the program's name first.
 pub fn read_words<'a, S: AsStr>(alloc: Global, words: &'a [S]) -> Result<ArgMatches<'a>, Error> {

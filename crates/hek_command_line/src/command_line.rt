@@ -11,6 +11,7 @@ use hek_commands::{
 use hek_debug_commands::{debug_command, debug_session};
 use hek_orders::Form;
 use hek_orders_command::{Choice, part_of, permute_command};
+use hek_page::{Part, page_command};
 use hek_rules::{Level, number};
 use hek_threads_command::{repeat_command, threads_command};
 use std::alloc::Global;
@@ -138,6 +139,7 @@ fn run<'a, D: Disk, I: Read + IsTerminal + Drop, W: Write, E: Write>(
         Some(("debug", found)) => debug(alloc, found, disk, input, out, faults),
         Some(("check", found)) => check(alloc, found, disk, input, out),
         Some(("permute", found)) => permute(alloc, found, disk, input, out, faults),
+        Some(("page", found)) => page(alloc, found, disk, input, out, faults),
         Some(("threads", _)) => Err(HekFault::NoWorker),
         _ => Err(HekFault::BadArgument),
     }
@@ -176,7 +178,7 @@ fn run_schedule<'a, D: Disk, I: Read + Drop, W: Write>(
     out: &mut W,
 ) -> Result<u8, HekFault<'a>> {
     let mut input = Some(input);
-    let limit = state_at(found)?;
+    let limit = number_of(found, "state-at")?;
     let file = schedule_file(alloc, found, disk, &mut input)?;
     if limit.is_some() || found.get_flag("state") {
         state_command(alloc, file, limit, out)
@@ -185,9 +187,9 @@ fn run_schedule<'a, D: Disk, I: Read + Drop, W: Write>(
     }
 }
 
-/// The number of steps that the words give with `--state-at`.
-fn state_at<'a>(found: &ArgMatches<'a>) -> Result<Option<u64>, HekFault<'a>> {
-    match found.get_str("state-at") {
+/// The number that the words give with an option, if they do.
+fn number_of<'a>(found: &ArgMatches<'a>, name: &str) -> Result<Option<u64>, HekFault<'a>> {
+    match found.get_str(name) {
         None => Ok(None),
         Some(text) => match number(text.as_bytes()) {
             Some(count) => Ok(Some(count)),
@@ -216,6 +218,31 @@ fn debug<'a, D: Disk, I: Read + IsTerminal + Drop, W: Write, E: Write>(
             let typed = open(disk, &mut input, INPUT)?;
             debug_session(alloc, file, typed, prompts, out, faults)
         }
+    }
+}
+
+fn page<'a, D: Disk, I: Read + Drop, W: Write, E: Write>(
+    alloc: Global,
+    found: &ArgMatches<'a>,
+    disk: &D,
+    input: I,
+    out: &mut W,
+    faults: &mut E,
+) -> Result<u8, HekFault<'a>> {
+    let mut input = Some(input);
+    let part = Part {
+        from: step_of(found, "from")?,
+        to: step_of(found, "to")?,
+    };
+    let file = schedule_file(alloc, found, disk, &mut input)?;
+    page_command(alloc, file, part, out, faults)
+}
+
+/// The number of a step that the words give with an option, if they do: from 1.
+fn step_of<'a>(found: &ArgMatches<'a>, name: &str) -> Result<Option<u64>, HekFault<'a>> {
+    match number_of(found, name)? {
+        Some(0) => Err(HekFault::BadArgument),
+        step => Ok(step),
     }
 }
 

@@ -9,21 +9,28 @@ use Rattle.hek_rules.specs.World.{World}
 use Rattle.hek_rules.specs.Run.{run, transcript}
 use Rattle.hek_asm.specs.Trace.{trace}
 use Rattle.hek_machine.specs.Observed.{opening_of}
+use Rattle.hek_machine.specs.Steps.{HasNoFaults}
 use Rattle.hek_commands.specs.declared.schedule_file.ScheduleFile.{ScheduleFile}
 use Rattle.hek_commands.specs.Judged.{FileGives}
 
--- the trace of these steps: each with the reply that the rule table gives, from the opening world of a schedule on
+-- the replies that the rule table gives to these steps, from the opening world of a schedule on
+abbrev pub replies_to : Plan → List Event → List Reply
+replies_to p es = map (λ (x : Event × Reply). x.1) (transcript (opening_of p 1) es)
+
+-- the trace of these steps
 abbrev pub trace_of : Plan → List Event → List ℕ
-trace_of p es = trace p es (map (λ (x : Event × Reply). x.1) (transcript (opening_of p 1) es))
+trace_of p es = trace p es (replies_to p es)
 
 abbrev pub trace_of_steps : Plan → List ℕ
 trace_of_steps p = trace_of p p.steps
 
--- it was written behind the bytes that a writer held, where they are known
+-- it was written behind the bytes that a writer held, where they are known; and no event of a declared transaction in it is at fault
+-- where the committed ones run one after another, by end time
 pub record Runs {R : Type 0} (left : R → Option (List ℕ)) (said : ScheduleFile R) (before after : Option (List ℕ)) : Type 0 where
   pub plan : Plan
   pub is : FileGives left said plan
   pub written : Appends before after (trace_of_steps plan)
+  pub serial : HasNoFaults plan plan.steps (replies_to plan plan.steps)
 
 -- so many steps at the front, or all of them
 abbrev pub first_of : Option ℕ → List Event → List Event

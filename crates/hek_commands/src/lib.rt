@@ -20,5 +20,5 @@ pub use lines::send;
 pub use release::release_command;
 pub use run::{run_command, state_command};
 pub use schedule_file::{ScheduleFile, read_text, schedule_in};
-pub use state::{clock_line, put_txn, put_version, state_lines};
+pub use state::{clock_line, put_bucket, put_txn, put_version, state_lines};
 pub use word::{INPUT, word_command};

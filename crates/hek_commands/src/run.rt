@@ -8,8 +8,9 @@ ghost use Rattle.hek_laws.specs.Runs.{IsPlaced};
 ghost use Rattle.hek_asm.specs.Trace.{NamesDeclared, trace_line};
 ghost use Rattle.hek_machine.specs.Stands.{StandsFor};
 ghost use Rattle.hek_machine.specs.Observed.{opening_of};
+ghost use Rattle.hek_machine.specs.Steps.{HasNoFaults};
 ghost use Rattle.hek_commands.specs.Judged.{PrintFails, IsStop};
-ghost use Rattle.hek_commands.specs.Ran.{Runs, RunsTo, ShowsState, TellsClock, trace_of, trace_of_steps, first_of};
+ghost use Rattle.hek_commands.specs.Ran.{Runs, RunsTo, ShowsState, TellsClock, trace_of, trace_of_steps, replies_to, first_of};
 
 use crate::fault::HekFault;
 use crate::lines::{send, send_if_many};
@@ -22,7 +23,8 @@ use std::alloc::Global;
 use std::io::{Read, Write};
 use std::mem;
 
-/// Runs the steps of the schedule that a file says, and writes their trace as it goes. The answer is the exit status.
+/// Runs the steps of the schedule that a file says, and writes their trace as it goes. The answer is the exit status. The
+/// replies are serial: the committed transactions could have run one after another, by end time.
 /// After a fault the lines of the steps before it may have been written.
 pub fn run_command<'a, R: Read + Drop, W: Write>(
     alloc: Global,
@@ -37,13 +39,14 @@ pub fn run_command<'a, R: Read + Drop, W: Write>(
 }
 
 /// The same for a schedule.
-#[tactic(auto, using(hek_asm::proofs::RowLemmas::steps_declared, hek_machine::proofs::PlacedSteps::steps_placed))]
+#[tactic(auto, using(hek_asm::proofs::RowLemmas::steps_declared, hek_machine::proofs::PlacedSteps::steps_placed, hek_machine::proofs::RunRows::run_has_no_faults))]
 fn write_run<'a, W: Write>(
     alloc: Global,
     schedule: &Schedule,
     out: &mut W,
 ) -> Result<(), HekFault<'a>>
     ensures written { OnOk result (Appends (W.contents out.old) (W.contents out.new) (trace_of_steps schedule.now)) }
+    ensures serial { OnOk result (HasNoFaults schedule.now schedule.now.steps (replies_to schedule.now schedule.now.steps)) }
     ensures stops { IfErr result IsStop }
 {
     // There is a bucket, and each step is one of this schedule.

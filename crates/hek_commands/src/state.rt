@@ -226,8 +226,8 @@ fn put_txns(label: &str, txns: &[TxnId], lines: &mut Vec<u8>) -> Result<(), NoMe
     Ok(())
 }
 
-// A bucket that nobody locks has no line.
-fn put_bucket(machine: &Machine, bucket: u64, lines: &mut Vec<u8>) -> Result<(), NoMemory>
+/// The line of a bucket comes behind the lines: its locks and who holds them. A bucket that nobody locks has no line.
+pub fn put_bucket(machine: &Machine, bucket: u64, lines: &mut Vec<u8>) -> Result<(), NoMemory>
     requires { bucket < length machine.now.buckets }
 {
     let count = machine.lock_count(bucket);

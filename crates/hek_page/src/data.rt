@@ -1,0 +1,135 @@
+//! The data of a page: the state before its first step, the trace of its steps, and what each changed.
+use crate::look::{Changes, Look};
+use hek_asm::write_line;
+use hek_machine::Machine;
+use hek_rules::{Event, FromWrite, NoMemory, Reply, Schedule, Transcript, Verdict};
+use hek_serial::check;
+use serde_json::{Value, json};
+use std::alloc::{AllocError, Global};
+use std::str;
+
+/// The steps that a page shows: those behind the first ones that are done before it, up to the last.
+#[derive(Clone, Copy)]
+pub(crate) struct Shown {
+    pub done: usize,
+    pub last: usize,
+}
+
+/// What is gathered while the steps run.
+#[derive(Drop)]
+struct Gathered {
+    look: Look,
+    told: Transcript,
+    trace: Vec<u8>,
+    steps: Vec<Value>,
+}
+
+/// The data of a page over a machine that stands before the first step.
+pub(crate) fn data_of(
+    alloc: Global,
+    schedule: &Schedule,
+    machine: &mut Machine,
+    shown: Shown,
+) -> Result<Value, NoMemory> {
+    let mut gathered = Gathered {
+        look: Look::new(alloc),
+        told: Transcript::new(alloc, schedule)?,
+        trace: Vec::new(alloc),
+        steps: Vec::new(alloc),
+    };
+    let steps = schedule.steps();
+    for event in steps.iter().take(shown.done) {
+        let reply = machine.step(*event)?;
+        gathered.told.push(*event, reply)?;
+    }
+    let opening = gathered.look.changes(alloc, schedule, machine)?;
+    show_steps(alloc, schedule, machine, shown, &mut gathered)?;
+    whole(alloc, &opening, shown.done, gathered)
+}
+
+/// Does the steps that the page shows.
+fn show_steps(
+    alloc: Global,
+    schedule: &Schedule,
+    machine: &mut Machine,
+    shown: Shown,
+    gathered: &mut Gathered,
+) -> Result<(), NoMemory> {
+    for place in shown.done..shown.last {
+        if let Some(event) = schedule.steps().get(place) {
+            show_step(alloc, schedule, machine, place as u64 + 1, *event, gathered)?;
+        }
+    }
+    Ok(())
+}
+
+fn show_step(
+    alloc: Global,
+    schedule: &Schedule,
+    machine: &mut Machine,
+    number: u64,
+    event: Event,
+    gathered: &mut Gathered,
+) -> Result<(), NoMemory> {
+    let reply = machine.step(event)?;
+    put_line(alloc, schedule, number, event, &reply, &mut gathered.trace)?;
+    let changes = gathered.look.changes(alloc, schedule, machine)?;
+    gathered.steps.push(step_value(alloc, &changes)?)?;
+    gathered.told.push(event, reply)
+}
+
+/// The line of a step with its reply comes behind the trace.
+fn put_line(
+    alloc: Global,
+    schedule: &Schedule,
+    number: u64,
+    event: Event,
+    reply: &Reply,
+    trace: &mut Vec<u8>,
+) -> Result<(), NoMemory> {
+    let mut sink = FromWrite::new(Vec::new(alloc));
+    match write_line(schedule, number, event, reply, &mut sink) {
+        Ok(()) => {
+            let line = sink.into_inner();
+            trace.extend_from_slice(line.as_slice())?;
+            Ok(())
+        }
+        Err(_) => Err(NoMemory),
+    }
+}
+
+fn step_value(alloc: Global, changes: &Changes) -> Result<Value, AllocError> {
+    let lines = text_of(changes.lines.as_slice());
+    let gone = text_of(changes.gone.as_slice());
+    json!(in alloc; {"changed": lines, "gone": gone})
+}
+
+/// All lines of the page's data are ASCII: names are of small letters, digits and underscores.
+fn text_of(bytes: &[u8]) -> &str {
+    str::from_utf8(bytes).unwrap_or("")
+}
+
+/// The whole of it. The fault is the number of the first event that isn't serial, or 0.
+fn whole(
+    alloc: Global,
+    opening: &Changes,
+    done: usize,
+    gathered: Gathered,
+) -> Result<Value, NoMemory> {
+    let Gathered {
+        told,
+        trace,
+        steps,
+        ..
+    } = gathered;
+    let fault = match check(alloc, &told)? {
+        Verdict::Serial => 0,
+        Verdict::NotSerial(number) => number,
+    };
+    let opening = text_of(opening.lines.as_slice());
+    let trace = text_of(trace.as_slice());
+    let steps = Value::Array(steps);
+    let value =
+        json!(in alloc; {"done": done as u64, "opening": opening, "trace": trace, "steps": steps, "fault": fault})?;
+    Ok(value)
+}
