@@ -253,12 +253,22 @@ fn hek<'a>(alloc: Global) -> Result<Command<'a>, AllocError> {
 fn command<'a>(alloc: Global, text: &CommandText) -> Result<Command<'a>, AllocError> {
     let mut arguments = Vec::new(alloc);
     for argument in text.arguments {
-        arguments.push(argument_of(alloc, argument))?;
+        let rivals = rivals_of(argument.name);
+        arguments.push(argument_of(alloc, argument).conflicts_with_all(rivals)?)?;
     }
     Command::new(alloc, text.name)
         .about(text.about)
         .after_help(text.example)
         .args(arguments)
+}
+
+/// The arguments that an argument can't stand beside.
+fn rivals_of(name: &str) -> &'static [&'static str] {
+    match name {
+        "order" => &["each", "levels", "part"],
+        "levels" => &["each", "level"],
+        _ => &[],
+    }
 }
 
 fn argument_of<'a>(alloc: Global, text: &ArgumentText) -> Arg<'a> {

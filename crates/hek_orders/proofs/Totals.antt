@@ -8,14 +8,13 @@ use Rattle.hek_rules.proofs.Mapped.{get_or-slice_get}
 use Rattle.hek_orders.specs.Found.{Found, Line}
 use Rattle.hek_orders.specs.Tallies.{IsNoted, IsCounted, IsAdded, more, row_of, total, one_if, is_between}
 
-
 counted_total : (old new : List Line) (o : Found) → IsCounted old new o → total new ≡ total old + 1
 counted_total old new o c =
     let was : Line = c.found.row in
     let low : c.place < length old = slice_get_within old c.place was c.found.is in
     let here : get_or old c.place was ≡ was = get_or-slice_get old c.place was c.found.is in
     let set : total (slice_set old c.place (more was o.waited)) + (get_or old c.place was).orders ≡ total old + (was.orders + 1) =
-        sum_by-set (λ (r : Line). r.orders) old c.place (more was o.waited) was low in
+    sum_by-set (λ (r : Line). r.orders) old c.place (more was o.waited) was low in
     let same : (get_or old c.place was).orders ≡ was.orders = ap (λ (r : Line). r.orders) here in
     let is : total new ≡ total (slice_set old c.place (more was o.waited)) = ap total c.counted in
     omega arith

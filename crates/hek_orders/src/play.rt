@@ -62,11 +62,7 @@ impl Place {
                 }
             }
             (Form::Split, Stage::Releasing(false)) => {
-                if fails {
-                    Stage::GivingUp
-                } else {
-                    stage
-                }
+                if fails { Stage::GivingUp } else { stage }
             }
             _ => stage,
         }
