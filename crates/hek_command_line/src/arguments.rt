@@ -48,6 +48,12 @@ const TEXT: ArgumentText = ArgumentText {
     form: Form::Flag,
 };
 
+const LEVEL: ArgumentText = ArgumentText {
+    name: "level",
+    help: "takes all transactions as serializable, repeatable or snapshot",
+    form: Form::Value("L"),
+};
+
 const RELEASE: CommandText = CommandText {
     name: "release",
     about: "Gives up one read lock of an End word",
@@ -125,7 +131,7 @@ const RUN: CommandText = CommandText {
 const CHECK: CommandText = CommandText {
     name: "check",
     about: "Says whether a trace is serial",
-    example: "Example:\n  hek check first.img trace.txt\nIt prints `serial` where the committed transactions can stand one after another, by end time, and else\n  not serial 2\nwith the number of the first event at fault, and status 1. Of a repeatable transaction only the values that it found are judged, so phantoms are serial there.",
+    example: "Example:\n  hek check first.img trace.txt\nIt prints `serial` where the committed transactions can stand one after another, by end time, and else\n  not serial 2\nwith the number of the first event at fault, and status 1. Each transaction is judged by its own level: of a repeatable one only the values and pairs that it found, so phantoms are serial there; of a snapshot one the reads as of its begin. `--level serializable` judges all as serializable.",
     arguments: &[
         FILE,
         ArgumentText {
@@ -134,6 +140,7 @@ const CHECK: CommandText = CommandText {
             form: Form::Word,
         },
         TEXT,
+        LEVEL,
         ArgumentText {
             name: "why",
             help: "says what the first event at fault would have been answered",
@@ -175,12 +182,6 @@ const THREADS: CommandText = CommandText {
             form: Form::Number,
         },
     ],
-};
-
-const LEVEL: ArgumentText = ArgumentText {
-    name: "level",
-    help: "takes all transactions as serializable, repeatable or snapshot",
-    form: Form::Value("L"),
 };
 
 const PERMUTE: CommandText = CommandText {
@@ -272,12 +273,22 @@ fn hek<'a>(alloc: Global) -> Result<Command<'a>, AllocError> {
 fn command<'a>(alloc: Global, text: &CommandText) -> Result<Command<'a>, AllocError> {
     let mut arguments = Vec::new(alloc);
     for argument in text.arguments {
-        arguments.push(argument_of(alloc, argument))?;
+        let rivals = rivals_of(argument.name);
+        arguments.push(argument_of(alloc, argument).conflicts_with_all(rivals)?)?;
     }
     Command::new(alloc, text.name)
         .about(text.about)
         .after_help(text.example)
         .args(arguments)
+}
+
+/// The arguments that an argument can't stand beside.
+fn rivals_of(name: &str) -> &'static [&'static str] {
+    match name {
+        "order" => &["each", "levels", "part"],
+        "levels" => &["each", "level"],
+        _ => &[],
+    }
 }
 
 fn argument_of<'a>(alloc: Global, text: &ArgumentText) -> Arg<'a> {

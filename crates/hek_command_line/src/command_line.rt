@@ -254,11 +254,12 @@ fn check<'a, D: Disk, I: Read + Drop, W: Write>(
     out: &mut W,
 ) -> Result<u8, HekFault<'a>> {
     let mut input = Some(input);
+    let level = level_of(found)?;
     let file = schedule_file(alloc, found, disk, &mut input)?;
     let name = text(found, "TRACE")?;
     let trace = read_text(alloc, open(disk, &mut input, name)?, name)?;
     let why = found.get_flag("why");
-    check_command(alloc, file, trace.as_slice(), why, out)
+    check_command(alloc, file, trace.as_slice(), level, why, out)
 }
 
 /// The most orders, where the words give none.

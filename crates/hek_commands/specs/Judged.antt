@@ -3,6 +3,7 @@ use Rattle.std.specs.Prelude.{◌≡◌, ◌⊎◌, ℕ, ◌-◌, Bool, true, fa
 use Rattle.std.specs.Str.{IsUtf8}
 use Rattle.std.specs.Io.KnownBytes.{Appends}
 use Rattle.std.specs.Fmt.{decimal}
+use Rattle.hek_rules.specs.declared.event.Level.{Level}
 use Rattle.hek_rules.specs.declared.reply.Reply.{Reply}
 use Rattle.hek_rules.specs.declared.serial.Verdict.{Verdict}
 use Rattle.hek_rules.specs.declared.serial.Verdict.TheVariants.{Serial, NotSerial}
@@ -18,6 +19,7 @@ use Rattle.hek_image.specs.Gives.{LoadFails}
 use Rattle.hek_image.specs.Loading.{loading}
 use Rattle.hek_image.specs.Schedules.{image}
 use Rattle.hek_serial.specs.Explained.{reply_at}
+use Rattle.hek_serial.specs.Leveled.{at_level}
 use Rattle.hek_commands.specs.declared.fault.HekFault.{HekFault}
 use Rattle.hek_commands.specs.declared.fault.HekFault.TheVariants.{Line, Image, TraceLine, NotText, CannotRead, CannotWrite, NoMemory}
 use Rattle.hek_commands.specs.declared.schedule_file.ScheduleFile.{ScheduleFile}
@@ -83,8 +85,8 @@ IsStop CannotWrite = Unit {0}
 IsStop other = ⊥
 
 -- why a text isn't a trace over a schedule
+-- why a text isn't the trace of a transcript over a schedule
 abbrev pub TraceTextFails : Plan → List ℕ → HekFault → Type 0
-TraceTextFails plan text NotText = ¬ (IsUtf8 text)
 TraceTextFails plan text (TraceLine number) = StopsAt plan number text
 TraceTextFails plan text NoMemory = Unit {0}
 TraceTextFails plan text other = ⊥
@@ -111,18 +113,24 @@ why_text false told verdict = []
 why_text true told Serial = []
 why_text true told (NotSerial number) = serial_line told number
 
--- the right verdict on the transcript whose trace a text is was written behind them, and why; it is the exit status
-pub record Checks {R : Type 0} (left : R → Option (List ℕ)) (said : ScheduleFile R) (text : List ℕ) (why : Bool) (before after : Option (List ℕ)) (status : ℕ) : Type 0 where
+-- a transcript by each transaction's own level, or with all taken as of one
+abbrev pub judged_as : Option Level → Told → Told
+judged_as None told = told
+judged_as (Some level) told = at_level level told
+
+-- the right verdict at that level on the transcript whose trace a text is was written behind them, and why; it is the exit status
+pub record Checks {R : Type 0} (left : R → Option (List ℕ)) (said : ScheduleFile R) (text : List ℕ) (level : Option Level) (why : Bool) (before after : Option (List ℕ)) (status : ℕ) : Type 0 where
   pub plan : Plan
   pub is : FileGives left said plan
   pub told : Told
   pub read : IsTraceOf plan told text
   pub verdict : Verdict
-  pub right : IsVerdict told verdict
-  pub written : Appends before after (verdict_text verdict ++ why_text why told verdict)
+  pub right : IsVerdict (judged_as level told) verdict
+  pub written : Appends before after (verdict_text verdict ++ why_text why (judged_as level told) verdict)
   pub answer : status ≡ verdict_status verdict
 
 abbrev pub CheckFails : {R : Type 0} → (R → Option (List ℕ)) → ScheduleFile R → List ℕ → HekFault → Type 0
 CheckFails left said text CannotWrite = Unit {0}
 CheckFails left said text NoMemory = Unit {0}
-CheckFails left said text fault = FileFails left said fault ⊎ ((plan : Plan) × FileGives left said plan × TraceTextFails plan text fault)
+CheckFails left said text fault =
+  (¬ (IsUtf8 text) × (fault ≡ NotText)) ⊎ (IsUtf8 text × (FileFails left said fault ⊎ ((plan : Plan) × FileGives left said plan × TraceTextFails plan text fault)))

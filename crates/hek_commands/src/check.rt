@@ -2,36 +2,41 @@
 ghost use Rattle.std.specs.Prelude.{◌≡◌, ◌++◌, ◌∷◌, [], codes, false, is_err, IsTrue, MatchResult, IfOk, IfErr, OnOk};
 ghost use Rattle.std.specs.Io.KnownBytes.{Appends};
 ghost use Rattle.hek_asm.specs.Reading.{IsTraceOf};
-ghost use Rattle.hek_commands.specs.Judged.{TraceTextFails, verdict_text, verdict_status, reply_text, serial_line, why_text, Checks, CheckFails};
+ghost use Rattle.hek_commands.specs.Judged.{TraceTextFails, verdict_text, verdict_status, reply_text, serial_line, why_text, judged_as, Checks, CheckFails};
+ghost use Rattle.hek_rules.specs.Faults.{IsVerdict};
 
 use crate::fault::HekFault;
 use crate::lines::send;
 use crate::schedule_file::{ScheduleFile, schedule_in};
 use hek_asm::{read_trace, write_reply};
 use hek_rules::{
-    FromWrite, NoMemory, Reply, Schedule, Sink, Transcript, Verdict, WriteFault, put_all,
+    FromWrite, Level, NoMemory, Reply, Schedule, Sink, Transcript, Verdict, WriteFault, put_all,
 };
-use hek_serial::{check, serial_reply};
+use hek_serial::{check, check_at, serial_reply, serial_reply_at};
 use std::alloc::Global;
 use std::io::{Read, Write};
 use std::str;
 
 /// Writes the verdict on the transcript whose trace over a file's schedule a text is, and where `why` asks for it what the
-/// event at fault would have been answered in the serial order. The answer is the exit status: 1 where the transcript isn't
-/// serial.
+/// event at fault would have been answered in the serial order. A `level` stands in place of each transaction's own. The
+/// answer is the exit status: 1 where the transcript isn't serial. Bytes that aren't a text are told before a fault of the file.
 pub fn check_command<'a, R: Read + Drop, W: Write>(
     alloc: Global,
     file: ScheduleFile<R>,
     trace: &[u8],
+    level: Option<Level>,
     why: bool,
     out: &mut W,
 ) -> Result<u8, HekFault<'a>>
-    ensures { MatchResult result (Checks R.remaining file trace.now why (W.contents out.old) (W.contents out.new)) (CheckFails R.remaining file trace.now) }
+    ensures { MatchResult result (Checks R.remaining file trace.now level why (W.contents out.old) (W.contents out.new)) (CheckFails R.remaining file trace.now) }
 {
+    let Ok(trace) = str::from_utf8(trace) else {
+        return Err(HekFault::NotText);
+    };
     let schedule = schedule_in(alloc, file)?;
     let transcript = transcript_of_text(alloc, &schedule, trace)?;
-    let verdict = check(alloc, &transcript)?;
-    let mut reason = reason(alloc, why, &transcript, verdict)?;
+    let verdict = verdict_of(alloc, &transcript, level)?;
+    let mut reason = reason(alloc, why, &transcript, level, verdict)?;
     let status = write_verdict(verdict, out)?;
     send(&mut reason, out)?;
     Ok(status)
@@ -41,16 +46,27 @@ pub fn check_command<'a, R: Read + Drop, W: Write>(
 fn transcript_of_text<'a>(
     alloc: Global,
     schedule: &Schedule,
-    text: &[u8],
+    text: &str,
 ) -> Result<Transcript, HekFault<'a>>
     ensures { MatchResult result (λ told. IsTraceOf schedule.now told text.now) (TraceTextFails schedule.now text.now) }
 {
-    let Ok(text) = str::from_utf8(text) else {
-        return Err(HekFault::NotText);
-    };
     match read_trace(alloc, schedule, text) {
         Ok(transcript) => Ok(transcript),
         Err(fault) => Err(HekFault::from(fault)),
+    }
+}
+
+/// The verdict at a level, or at each transaction's own.
+fn verdict_of(
+    alloc: Global,
+    transcript: &Transcript,
+    level: Option<Level>,
+) -> Result<Verdict, NoMemory>
+    ensures { IfOk result (λ verdict. IsVerdict (judged_as level transcript.now) verdict) }
+{
+    match level {
+        None => check(alloc, transcript),
+        Some(level) => check_at(alloc, transcript, level),
     }
 }
 
@@ -73,24 +89,34 @@ fn reason(
     alloc: Global,
     why: bool,
     transcript: &Transcript,
+    level: Option<Level>,
     verdict: Verdict,
 ) -> Result<Vec<u8>, NoMemory>
-    ensures { IfOk result (λ text. text.items ≡ why_text why transcript.now verdict) }
+    ensures { IfOk result (λ text. text.items ≡ why_text why (judged_as level transcript.now) verdict) }
 {
     if !why {
         return Ok(Vec::new(alloc));
     }
     match verdict {
         Verdict::Serial => Ok(Vec::new(alloc)),
-        Verdict::NotSerial(number) => serial_line(alloc, transcript, number),
+        Verdict::NotSerial(number) => serial_line(alloc, transcript, level, number),
     }
 }
 
 /// The line that says what the event with a number would have been answered.
-fn serial_line(alloc: Global, transcript: &Transcript, number: u64) -> Result<Vec<u8>, NoMemory>
-    ensures { IfOk result (λ line. line.items ≡ serial_line transcript.now number) }
+fn serial_line(
+    alloc: Global,
+    transcript: &Transcript,
+    level: Option<Level>,
+    number: u64,
+) -> Result<Vec<u8>, NoMemory>
+    ensures { IfOk result (λ line. line.items ≡ serial_line (judged_as level transcript.now) number) }
 {
-    let reply = serial_reply(alloc, transcript, number.saturating_sub(1) as usize)?;
+    let place = number.saturating_sub(1) as usize;
+    let reply = match level {
+        None => serial_reply(alloc, transcript, place)?,
+        Some(level) => serial_reply_at(alloc, transcript, level, place)?,
+    };
     let mut sink = FromWrite::new(Vec::new(alloc));
     match put_serial_line(&reply, &mut sink) {
         Ok(()) => Ok(sink.into_inner()),

@@ -1,4 +1,6 @@
 pub mod Successors
 pub mod Histories
 pub mod Tallies
+pub mod Plays
+pub mod Totals
 pub mod Walks

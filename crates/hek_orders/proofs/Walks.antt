@@ -1,15 +1,16 @@
 -- All orders, one after another.
 use Rattle.std.proofs.Common.{◌≡◌, ℕ, suc, zero, ◌+◌, ◌<◌, ◌≤◌, Bool, true, false, List, [], ◌∷◌, ◌++◌, length, get_or, refl, ap, sym, subst, ◌∙◌, inl, inr, arith, replicate, take}
-use Rattle.std.specs.Prelude.{◌⊎◌, slice_index, map}
+use Rattle.std.specs.Prelude.{◌⊎◌, ◌-◌, min, slice_index, map}
 use Rattle.std.specs.List.{AllByRecursion}
 use Rattle.hek_rules.specs.Plan.{Plan}
 use Rattle.hek_orders.specs.declared.moves.Form.{Form}
 use Rattle.hek_orders.specs.Found.{Line}
 use Rattle.hek_orders.specs.Moves.{Work, AreMoves, counts_of, first_of}
 use Rattle.hek_orders.specs.Orders.{IsBelow, AreAlike, IsNext, IsLast, IsAmong, AreFalling, AreAll}
-use Rattle.hek_orders.specs.Tallies.{Goes, IsTally, is_between}
+use Rattle.hek_orders.specs.Tallies.{Goes, IsTally, is_between, total, one_if}
 use Rattle.hek_orders.specs.Wholes.{IsWhole, first_in}
 use Rattle.hek_orders.proofs.Successors.{IsRising, least}
+use Rattle.hek_orders.proofs.Totals.{noted_total, next_total, none_yet}
 
 pub below_trans : (a b c : List ℕ) → IsBelow a b → IsBelow b c → IsBelow a c
 below_trans [] [] c h g = absurd h
@@ -84,7 +85,8 @@ pub record IsSoFar (p : Plan) (form : Form) (from to number : ℕ) (moves : List
   pub below : AllByRecursion (λ (q : List ℕ). IsBelow q order) past
   pub falling : AreFalling past
   pub complete : (q : List ℕ) → AreAlike (first_in form moves) q → IsBelow q order → IsAmong q past
-  pub tally : IsTally p from to past rows
+  pub tally : IsTally p form moves from to past rows
+  pub total : total rows ≡ min to number - from
 
 pub at_first : (p : Plan) (form : Form) (from to : ℕ) (moves : List Work) (order : List ℕ) (rows : List Line) → AreMoves p moves
     → order ≡ first_in form moves → rows ≡ [] → IsSoFar p form from to 0 moves order rows
@@ -98,6 +100,7 @@ at_first p form from to moves order rows are is none = record {
   falling = tt;
   complete = λ q a b. absurd (none_below (counts_of form moves) q a (subst (IsBelow q) is b));
   tally = none;
+  total = ap total none ∙ none_yet from to;
 }
 
 all_below : (old new : List ℕ) (past : List (List ℕ)) → IsBelow old new → AllByRecursion (λ (q : List ℕ). IsBelow q old) past → AllByRecursion (λ (q : List ℕ). IsBelow q new) past
@@ -114,11 +117,15 @@ here_or_before first order past q all a not_behind (inr (inr g)) = absurd (not_b
 alike_to : (first order q : List ℕ) → AreAlike first order → AreAlike first q → AreAlike order q
 alike_to first order q a b = λ t. sym (a t) ∙ b t
 
-goes_at : (p : Plan) (from to m n : ℕ) (order : List ℕ) (was rows : List Line) → m ≡ n → Goes p (is_between from to n) order was rows → Goes p (is_between from to m) order was rows
-goes_at p from to m n order was rows e g = subst (λ (k : ℕ). Goes p (is_between from to k) order was rows) (sym e) g
+goes_at : (p : Plan) (form : Form) (works : List Work) (from to m n : ℕ) (order : List ℕ) (was rows : List Line) → m ≡ n → Goes p form works (is_between from to n) order was rows → Goes p form works (is_between from to m) order was rows
+goes_at p form works from to m n order was rows e g = subst (λ (k : ℕ). Goes p form works (is_between from to k) order was rows) (sym e) g
+
+goes_total : (p : Plan) (form : Form) (works : List Work) (part : Bool) (order : List ℕ) (was rows : List Line) → Goes p form works part order was rows → total rows ≡ total was + one_if part
+goes_total p form works true order was rows g = noted_total was rows g.0 order g.2
+goes_total p form works false order was rows g = omega (arith, ap total g)
 
 pub at_next : (p : Plan) (form : Form) (from to number : ℕ) (moves : List Work) (order new : List ℕ) (was rows : List Line) → IsSoFar p form from to number moves order was
-    → Goes p (is_between from to number) order was rows → IsNext order new → IsSoFar p form from to (number + 1) moves new rows
+    → Goes p form moves (is_between from to number) order was rows → IsNext order new → IsSoFar p form from to (number + 1) moves new rows
 at_next p form from to number moves order new was rows h g next = record {
   are = h.are;
   past = order ∷ h.past;
@@ -129,11 +136,12 @@ at_next p form from to number moves order new was rows h g next = record {
   falling = (h.below, h.falling);
   complete = λ q a b. here_or_before (first_in form moves) order h.past q h.complete a
       (λ behind. next.first q (alike_to (first_in form moves) order q h.alike a) behind b) (compared q order);
-  tally = (was, h.tally, goes_at p from to (length h.past) number order was rows h.count g);
+  tally = (was, h.tally, goes_at p form moves from to (length h.past) number order was rows h.count g);
+  total = next_total from to number (total was) (total rows) h.total (goes_total p form moves (is_between from to number) order was rows g);
 }
 
 pub at_last : (p : Plan) (form : Form) (from to number : ℕ) (moves : List Work) (order : List ℕ) (was rows : List Line) → IsSoFar p form from to number moves order was
-    → Goes p (is_between from to number) order was rows → IsLast order → IsWhole p form from to rows
+    → Goes p form moves (is_between from to number) order was rows → IsLast order → IsWhole p form from to rows
 at_last p form from to number moves order was rows h g last = record {
   moves = moves;
   are = h.are;
@@ -144,7 +152,9 @@ at_last p form from to number moves order was rows h g last = record {
     complete = λ q a. here_or_before (first_in form moves) order h.past q h.complete a
         (λ behind. last.none q (alike_to (first_in form moves) order q h.alike a) behind) (compared q order);
   };
-  tally = (was, h.tally, goes_at p from to (length h.past) number order was rows h.count g);
+  tally = (was, h.tally, goes_at p form moves from to (length h.past) number order was rows h.count g);
+  count = next_total from to number (total was) (total rows) h.total (goes_total p form moves (is_between from to number) order was rows g)
+      ∙ ap (λ (n : ℕ). min to (n + 1) - from) (sym h.count);
 }
 
 pub front_of : (new rest : List ℕ) (n : ℕ) → n ≡ length new → take n (new ++ rest) ≡ new
@@ -154,7 +164,7 @@ front_of (x ∷ new) rest zero e = absurd (omega arith)
 front_of (x ∷ new) rest (suc n) e = ap (λ (l : List ℕ). x ∷ l) (front_of new rest n (omega arith))
 
 -- what an event of the walk did, by the test and the slice that it was given
-pub goes_with : (p : Plan) (from to number : ℕ) (part : Bool) (order slice : List ℕ) (was rows : List Line) → part ≡ is_between from to number → slice ≡ order
-    → Goes p part slice was rows → Goes p (is_between from to number) order was rows
-goes_with p from to number part order slice was rows e is g =
-    subst (λ (b : Bool). Goes p b order was rows) e (subst (λ (o : List ℕ). Goes p part o was rows) is g)
+pub goes_with : (p : Plan) (form : Form) (works : List Work) (from to number : ℕ) (part : Bool) (order slice : List ℕ) (was rows : List Line) → part ≡ is_between from to number → slice ≡ order
+    → Goes p form works part slice was rows → Goes p form works (is_between from to number) order was rows
+goes_with p form works from to number part order slice was rows e is g =
+    subst (λ (b : Bool). Goes p form works b order was rows) e (subst (λ (o : List ℕ). Goes p form works part o was rows) is g)

@@ -3,5 +3,7 @@ pub mod Falls
 pub mod Moves
 pub mod Found
 pub mod Outcomes
+pub mod Plays
 pub mod Tallies
+pub mod Places
 pub mod Wholes

@@ -1,5 +1,5 @@
 -- How often each outcome was met.
-use Rattle.std.specs.Prelude.{ℕ, ◌≡◌, ◌+◌, ◌<◌, ◌⊎◌, Bool, true, false, ◌&&◌, cond, nat_le, nat_lt, List, [], ◌∷◌, ◌++◌, length, slice_get, slice_set, Some, sum_by}
+use Rattle.std.specs.Prelude.{ℕ, ◌≡◌, ◌+◌, ◌<◌, ◌⊎◌, Bool, true, false, ◌&&◌, cond, nat_le, nat_lt, List, [], ◌∷◌, ◌++◌, length, reverse, slice_get, slice_set, Some, sum_by}
 use Rattle.hek_rules.specs.Plan.{Plan}
 use Rattle.hek_threads.specs.declared.entry.Entry.{Entry}
 use Rattle.hek_threads.specs.History.{IsHistory, events_of, replies_in}
@@ -7,7 +7,10 @@ use Rattle.hek_rules.specs.declared.event.Event.{Event}
 use Rattle.hek_rules.specs.declared.reply.Reply.{Reply}
 use Rattle.hek_rules.specs.Run.{transcript}
 use Rattle.hek_machine.specs.Observed.{opening_of}
+use Rattle.hek_orders.specs.declared.moves.Form.{Form}
 use Rattle.hek_orders.specs.Found.{Found, IsSame, Line}
+use Rattle.hek_orders.specs.Moves.{Work}
+use Rattle.hek_orders.specs.Plays.{IsPlay}
 use Rattle.hek_orders.specs.Outcomes.{IsOutcomeOf}
 use Rattle.std.specs.Prelude.{map}
 
@@ -51,11 +54,12 @@ IsNoted old new o order = IsCounted old new o ⊎ IsAdded old new o order
 abbrev pub total : List Line → ℕ
 total rows = sum_by (λ r. r.orders) rows
 
--- the outcome is that of a history whose replies are those of the rule table, event by event
-pub record IsPlayed (p : Plan) (o : Found) : Type 0 where
+-- the outcome is that of a play of the order, whose replies are those of the rule table, event by event
+pub record IsPlayed (p : Plan) (form : Form) (works : List Work) (order : List ℕ) (o : Found) : Type 0 where
   pub history : List Entry
   pub formed : IsHistory (length p.txns) history
   pub replies : replies_in history ≡ map (λ (x : Event × Reply). x.1) (transcript (opening_of p 1) (events_of history))
+  pub play : IsPlay form works (reverse order) history
   pub outcome : IsOutcomeOf p history o
 
 -- whether the order with this number, from 0, is in the part
@@ -63,12 +67,12 @@ abbrev pub is_between : ℕ → ℕ → ℕ → Bool
 is_between from to n = nat_le from n && nat_lt n to
 
 -- an order of the part is played and noted, another is passed over
-abbrev pub Goes : Plan → Bool → List ℕ → List Line → List Line → Type 0
-Goes p true order old new = (o : Found) × IsPlayed p o × IsNoted old new o order
-Goes p false order old new = new ≡ old
+abbrev pub Goes : Plan → Form → List Work → Bool → List ℕ → List Line → List Line → Type 0
+Goes p form works true order old new = (o : Found) × IsPlayed p form works order o × IsNoted old new o order
+Goes p form works false order old new = new ≡ old
 
 -- the tally of these orders, of which the last stands first
-abbrev pub IsTally : Plan → ℕ → ℕ → List (List ℕ) → List Line → Type 0
-IsTally p from to [] rows = rows ≡ []
-IsTally p from to (order ∷ past) rows =
-    (was : List Line) × IsTally p from to past was × Goes p (is_between from to (length past)) order was rows
+abbrev pub IsTally : Plan → Form → List Work → ℕ → ℕ → List (List ℕ) → List Line → Type 0
+IsTally p form works from to [] rows = rows ≡ []
+IsTally p form works from to (order ∷ past) rows =
+    (was : List Line) × IsTally p form works from to past was × Goes p form works (is_between from to (length past)) order was rows

@@ -1,11 +1,11 @@
 -- All orders of a schedule's moves, played.
-use Rattle.std.specs.Prelude.{ℕ, ◌≡◌, List, length}
+use Rattle.std.specs.Prelude.{ℕ, ◌≡◌, ◌-◌, min, List, length}
 use Rattle.hek_rules.specs.Plan.{Plan}
 use Rattle.hek_orders.specs.declared.moves.Form.{Form}
 use Rattle.hek_orders.specs.Found.{Line}
 use Rattle.hek_orders.specs.Moves.{Work, AreMoves, counts_of, first_of}
 use Rattle.hek_orders.specs.Orders.{AreAll}
-use Rattle.hek_orders.specs.Tallies.{IsTally}
+use Rattle.hek_orders.specs.Tallies.{IsTally, total}
 
 -- the first order of a schedule's moves
 abbrev pub first_in : Form → List Work → List ℕ
@@ -17,4 +17,5 @@ pub record IsWhole (p : Plan) (form : Form) (from to : ℕ) (rows : List Line) :
   pub are : AreMoves p moves
   pub orders : List (List ℕ)
   pub all : AreAll (first_in form moves) orders
-  pub tally : IsTally p from to orders rows
+  pub tally : IsTally p form moves from to orders rows
+  pub count : total rows ≡ min to (length orders) - from

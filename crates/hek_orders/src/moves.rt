@@ -139,7 +139,7 @@ fn push_times(order: &mut Vec<TxnId>, txn: TxnId, count: usize) -> Result<(), No
 }
 
 /// How many moves a transaction has.
-fn move_count(of_one: &Moves, form: Form) -> usize
+pub(crate) fn move_count(of_one: &Moves, form: Form) -> usize
     ensures { result ≡ length of_one.now.events + last_moves form }
 {
     of_one.work().len() + form.last_moves()

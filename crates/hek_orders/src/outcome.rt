@@ -156,7 +156,8 @@ fn some_waited(history: &[Entry]) -> bool
 
 ghost use Rattle.hek_orders.specs.Outcomes.{is_wait};
 
-fn is_wait(reply: &Reply) -> bool
+/// Whether a transaction is told to wait.
+pub(crate) fn is_wait(reply: &Reply) -> bool
     ensures { result ≡ is_wait reply.now }
 {
     matches!(reply, Reply::Waiting(_) | Reply::WaitingCommits(_))

@@ -1,9 +1,12 @@
 //! One order of moves, played on a machine of its own.
-ghost use Rattle.std.specs.Prelude.{◌≡◌, IfOk};
+ghost use Rattle.std.specs.Prelude.{◌≡◌, ◌+◌, ◌<◌, ◌⊎◌, IfOk, IfSome, OnOk, false, length, reverse, slice_get};
 ghost use Rattle.hek_threads.specs.History.{Replays};
+ghost use Rattle.hek_orders.specs.Plays.{IsPlay, may_go, turned};
+ghost use Rattle.hek_orders.specs.Places.{AllRest, HasCome, IsCounted, IsLater, IsMade, RestBut};
 
 use crate::fault::OrderFault;
-use crate::moves::{Form, Moves};
+use crate::moves::{Form, Moves, move_count};
+use crate::outcome::is_wait;
 use hek_machine::Machine;
 use hek_rules::{Event, NoMemory, Reply, Schedule, TxnId};
 use hek_threads::{Book, Entry, Position, Stage};
@@ -26,34 +29,42 @@ struct Place {
 
 impl Place {
     /// Whether it has begun and not ended.
-    fn is_running(self) -> bool {
+    fn is_running(&self) -> bool {
         self.stage != Stage::Start && self.stage != Stage::Ended
     }
 
     /// Whether its next event belongs to a move that has come. What an aborted transaction gives back belongs to any.
-    fn may_go(self, of_one: &Moves, form: Form) -> bool {
-        let work = of_one.work().len();
+    fn may_go(&self, of_one: &Moves, form: Form) -> bool
+        ensures { result ≡ may_go form of_one.now self.now.moves self.now.stage }
+    {
         match self.stage {
             Stage::Start => self.moves > 0,
             Stage::Working(place) => self.moves > place,
-            Stage::Preparing => self.moves > work,
-            Stage::Releasing(false) => match form {
-                Form::Whole => self.moves > work,
-                Form::Split => self.moves > work && self.moves - work > 1,
-            },
+            Stage::Preparing => self.moves > of_one.work().len(),
+            Stage::Releasing(false) => self.moves >= move_count(of_one, form),
             Stage::Ended => false,
             _ => true,
         }
     }
 
     /// What it does next: where its last move is due, a transaction that fails turns to `fail`.
-    fn next_stage(self, of_one: &Moves, form: Form) -> Stage {
+    fn next_stage(&self, of_one: &Moves, form: Form) -> Stage
+        ensures { result ≡ turned form of_one.now self.now.stage }
+    {
         let fails = of_one.fails();
-        match (form, self.stage) {
-            (Form::Whole, Stage::Working(place)) if fails && place >= of_one.work().len() =>
-                Stage::GivingUp,
-            (Form::Split, Stage::Releasing(false)) if fails => Stage::GivingUp,
-            (_, stage) => stage,
+        let stage = self.stage;
+        match (form, stage) {
+            (Form::Whole, Stage::Working(place)) => {
+                if fails && place >= of_one.work().len() {
+                    Stage::GivingUp
+                } else {
+                    stage
+                }
+            }
+            (Form::Split, Stage::Releasing(false)) => {
+                if fails { Stage::GivingUp } else { stage }
+            }
+            _ => stage,
         }
     }
 }
@@ -69,7 +80,8 @@ pub fn play_order(
     form: Form,
     order: &[TxnId],
 ) -> Result<Play, OrderFault>
-    ensures { IfOk result (λ p. Replays schedule.now p.machine p.history.items) }
+    ensures replays { IfOk result (λ p. Replays schedule.now p.machine p.history.items) }
+    ensures play { IfOk result (λ p. IsPlay form moves.now (reverse order.now) p.history.items) }
 {
     let mut book = Book::load(alloc, schedule)?;
     play_in(alloc, &mut book, moves, form, order)?;
@@ -84,21 +96,23 @@ fn play_in(
     form: Form,
     order: &[TxnId],
 ) -> Result<(), OrderFault>
-    ensures { book.new.plan ≡ book.old.plan }
+    requires { book.old.history ≡ [] }
+    ensures plan { book.new.plan ≡ book.old.plan }
+    ensures play { OnOk result (IsPlay form moves.now (reverse order.now) book.new.history) }
 {
     let mut places = at_start(alloc, moves)?;
     for &mover in order {
-        if one_move(book, moves, form, places.as_mut_slice(), mover)? {
-            settle(book, moves, form, places.as_mut_slice(), mover)?;
-        }
+        one_move(book, moves, form, places.as_mut_slice(), mover)?;
     }
     Ok(())
 }
 
 /// All before their first event.
-fn at_start(alloc: Global, moves: &[Moves]) -> Result<Vec<Place>, NoMemory> {
+fn at_start(alloc: Global, moves: &[Moves]) -> Result<Vec<Place>, NoMemory>
+    ensures { IfOk result (λ places. places.items ≡ replicate (length moves.now) first_place) }
+{
     let mut places = Vec::with_capacity(alloc, moves.len())?;
-    for _ in moves {
+    for _ in 0..moves.len() {
         places.push(Place {
             stage: Stage::Start,
             moves: 0,
@@ -108,27 +122,61 @@ fn at_start(alloc: Global, moves: &[Moves]) -> Result<Vec<Place>, NoMemory> {
     Ok(places)
 }
 
+ghost use Rattle.std.specs.Prelude.{[], replicate};
+ghost use Rattle.hek_orders.specs.Places.{first_place};
+
 /// The place of a transaction in lists of all.
-fn place_of(txn: TxnId) -> usize {
-    txn.number().saturating_sub(1) as usize
+fn place_of(txn: TxnId) -> Result<usize, OrderFault>
+    ensures { IfOk result (λ place. txn ≡ place + 1) }
+{
+    match txn.number().checked_sub(1) {
+        Some(place) => Ok(place as usize),
+        None => Err(OrderFault::Mismatch),
+    }
 }
 
-/// A move of a transaction comes. The answer is whether it had an event to make.
+/// A move of a transaction comes, and what it sets off.
 fn one_move(
     book: &mut Book<'_>,
     moves: &[Moves],
     form: Form,
     places: &mut [Place],
     mover: TxnId,
-) -> Result<bool, OrderFault>
-    ensures { book.new.plan ≡ book.old.plan }
+) -> Result<(), OrderFault>
+    requires { AllRest form moves.now places.old book.old.history }
+    ensures plan { book.new.plan ≡ book.old.plan }
+    ensures rest { OnOk result (AllRest form moves.now places.new book.new.history) }
+    ensures moved { OnOk result (HasMoved mover places.old book.old.history places.new book.new.history) }
 {
-    let Some(place) = places.get_mut(place_of(mover)) else {
+    let runs = count_move(places, mover)?;
+    let _got_on = go_on(book, moves, form, places, mover)?;
+    if runs {
+        settle(book, moves, form, places, mover)
+    } else {
+        Ok(())
+    }
+}
+
+ghost use Rattle.hek_orders.specs.Places.{HasMoved};
+
+/// One more move of a transaction has come. The answer is whether the transaction isn't over.
+fn count_move(places: &mut [Place], mover: TxnId) -> Result<bool, OrderFault>
+    ensures { OnOk result (IsCounted mover places.old places.new) }
+{
+    let at = place_of(mover)?;
+    let Some(place) = places.get(at) else {
         return Err(OrderFault::Mismatch);
     };
-    place.moves = place.moves.saturating_add(1);
+    let Some(moves) = place.moves.checked_add(1) else {
+        return Err(OrderFault::TooMany);
+    };
     let runs = place.stage != Stage::Ended;
-    let _got_on = go_on(book, moves, form, places, mover)?;
+    let counted = Place {
+        stage: place.stage,
+        moves,
+        waits: place.waits,
+    };
+    places[at] = counted;
     Ok(runs)
 }
 
@@ -141,52 +189,76 @@ fn go_on(
     places: &mut [Place],
     txn: TxnId,
 ) -> Result<bool, OrderFault>
-    ensures { book.new.plan ≡ book.old.plan }
+    requires { RestBut form moves.now txn places.old book.old.history }
+    ensures plan { book.new.plan ≡ book.old.plan }
+    ensures rest { OnOk result (AllRest form moves.now places.new book.new.history) }
+    ensures later { OnOk result (IsLater places.old book.old.history places.new book.new.history) }
 {
-    let (Some(of_one), Some(place)) = (moves.get(place_of(txn)), places.get_mut(place_of(txn)))
-    else {
+    let at = place_of(txn)?;
+    let (Some(of_one), Some(place)) = (moves.get(at), places.get(at)) else {
         return Err(OrderFault::Mismatch);
     };
+    let (place, got_on) = go_from(book, of_one, form, txn, *place)?;
+    places[at] = place;
+    Ok(got_on)
+}
+
+/// The place that a transaction comes to from this one, and whether an event was made on the way that it need not wait for.
+fn go_from(
+    book: &mut Book<'_>,
+    of_one: &Moves,
+    form: Form,
+    txn: TxnId,
+    from: Place,
+) -> Result<(Place, bool), OrderFault>
+    ensures plan { book.new.plan ≡ book.old.plan }
+    ensures come { IfOk result (λ r. HasCome form txn of_one.now from r.0 book.old.history book.new.history) }
+{
+    let mut place = from;
     let mut got_on = false;
     for _ in 0..u64::MAX {
         if !place.may_go(of_one, form) {
-            return Ok(got_on);
+            return Ok((place, got_on));
         }
-        match one_event(book, of_one, form, txn, *place)? {
-            Some(stage) => {
-                place.stage = stage;
-                place.waits = false;
-                got_on = true;
-            }
-            None => {
-                place.waits = true;
-                return Ok(got_on);
-            }
+        place = one_event(book, of_one, form, txn, &place)?;
+        if place.waits {
+            return Ok((place, got_on));
         }
+        got_on = true;
     }
     Err(OrderFault::Mismatch)
 }
 
-/// Makes the next event of a transaction. The answer is what it does then, or None where it is told to wait.
+/// Makes the next event of a transaction. The answer is its place then.
 fn one_event(
     book: &mut Book<'_>,
     of_one: &Moves,
     form: Form,
     txn: TxnId,
-    place: Place,
-) -> Result<Option<Stage>, OrderFault>
-    ensures { book.new.plan ≡ book.old.plan }
+    place: &Place,
+) -> Result<Place, OrderFault>
+    ensures plan { book.new.plan ≡ book.old.plan }
+    ensures made { IfOk result (λ q. IsMade form txn of_one.now place.now q book.old.history book.new.history) }
 {
     let at = Position {
         stage: place.next_stage(of_one, form),
         turns: 0,
     };
     let (_, reply) = book.attempt(txn, at.event(txn, of_one.work()))?;
-    if matches!(reply, Reply::Waiting(_) | Reply::WaitingCommits(_)) {
-        return Ok(None);
+    let waits = is_wait(&reply);
+    if waits {
+        return Ok(Place {
+            stage: place.stage,
+            moves: place.moves,
+            waits,
+        });
     }
     match at.after(txn, of_one.work(), &reply) {
-        Some(next) => Ok(Some(next.stage)),
+        Some(next) => Ok(Place {
+            stage: next.stage,
+            moves: place.moves,
+            waits,
+        }),
         None => Err(OrderFault::Mismatch),
     }
 }
@@ -199,7 +271,10 @@ fn settle(
     places: &mut [Place],
     mover: TxnId,
 ) -> Result<(), OrderFault>
-    ensures { book.new.plan ≡ book.old.plan }
+    requires { AllRest form moves.now places.old book.old.history }
+    ensures plan { book.new.plan ≡ book.old.plan }
+    ensures rest { OnOk result (AllRest form moves.now places.new book.new.history) }
+    ensures later { OnOk result (IsLater places.old book.old.history places.new book.new.history) }
 {
     let mut asked = Some(mover);
     for _ in 0..u64::MAX {
@@ -220,7 +295,10 @@ fn ask_again(
     places: &mut [Place],
     asked: Option<TxnId>,
 ) -> Result<bool, OrderFault>
-    ensures { book.new.plan ≡ book.old.plan }
+    requires { AllRest form moves.now places.old book.old.history }
+    ensures plan { book.new.plan ≡ book.old.plan }
+    ensures rest { OnOk result (AllRest form moves.now places.new book.new.history) }
+    ensures later { OnOk result (IsLater places.old book.old.history places.new book.new.history) }
 {
     let mut got_on = false;
     for place in 0..places.len() {
@@ -249,7 +327,10 @@ fn break_deadlock(
     places: &mut [Place],
     mover: TxnId,
 ) -> Result<bool, OrderFault>
-    ensures { book.new.plan ≡ book.old.plan }
+    requires { AllRest form moves.now places.old book.old.history }
+    ensures plan { book.new.plan ≡ book.old.plan }
+    ensures rest { OnOk result (AllRest form moves.now places.new book.new.history) }
+    ensures later { OnOk result (IsLater places.old book.old.history places.new book.new.history) }
 {
     if !all_wait(places) {
         return Ok(false);

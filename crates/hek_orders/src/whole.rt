@@ -79,7 +79,7 @@ fn play_if<W: Watch>(
     tally: &mut Tally,
     watch: &mut W,
 ) -> Result<(), OrderFault>
-    ensures { OnOk result (Goes schedule.now part order.now tally.old tally.new) }
+    ensures { OnOk result (Goes schedule.now form moves.now part order.now tally.old tally.new) }
 {
     if part {
         play_one(alloc, schedule, moves, form, order, tally, watch)
@@ -98,7 +98,7 @@ fn play_one<W: Watch>(
     tally: &mut Tally,
     watch: &mut W,
 ) -> Result<(), OrderFault>
-    ensures { OnOk result ((o : Found) × IsPlayed schedule.now o × IsNoted tally.old tally.new o order.now) }
+    ensures { OnOk result ((o : Found) × IsPlayed schedule.now form moves.now order.now o × IsNoted tally.old tally.new o order.now) }
 {
     let played = play_order(alloc, schedule, moves, form, order)?;
     let outcome = outcome_of(alloc, schedule, played)?;

@@ -17,6 +17,11 @@ const ALL: Choice<'static> = Choice {
     levels: false,
 };
 
+const SPLIT: Choice<'static> = Choice {
+    form: Form::Split,
+    ..ALL
+};
+
 const TWO: &str =
     "buckets 1\nrow 10 100\ntxn a repeatable\ntxn b repeatable\na update 10 1\nb update 10 2\n";
 
@@ -28,6 +33,14 @@ const LOST: &str =
 
 const FUZZY: &str =
     "buckets 2\nrow 10 100\ntxn a serializable\ntxn b serializable\na read 10\na read 10\nb update 10 200\n";
+
+/// b may find what a wrote while a is preparing, and then waits with its commit for a's.
+const DEPENDS: &str =
+    "buckets 2\nrow 10 0\ntxn a repeatable\ntxn b repeatable\na update 10 1\nb read 10\n";
+
+/// The same, and a fails.
+const CASCADES: &str =
+    "buckets 2\nrow 10 0\ntxn a repeatable\ntxn b repeatable\na update 10 1\na fail\nb read 10\n";
 
 /// A schedule, what is asked, and the status, the output and the faults.
 const SAYS: &[(&str, Choice<'static>, u8, &str, &str)] = &[
@@ -133,6 +146,23 @@ const SAYS: &[(&str, Choice<'static>, u8, &str, &str)] = &[
         },
         0,
         "serializable repeatable snapshot\n2 2 2 a committed; b aborted conflict; rows 10=1; serial\n2 2 2 a aborted conflict; b committed; rows 10=2; serial\n1 1 1 a committed; b committed; rows 10=2; serial\n1 1 1 a committed; b committed; rows 10=1; serial\n",
+        "",
+    ),
+    // a waits where its second move comes between b's first and third (12 orders). Where both of its first moves come before b
+    // begins, b finds 1, and waits if its third move comes before a's (1 order).
+    (
+        DEPENDS,
+        SPLIT,
+        0,
+        "orders 20 outcomes 1\n20 a committed; b committed; rows 10=1; serial; waited 13; first a a a b b b\n",
+        "",
+    ),
+    // b finds 1 where it begins between a's second and third move (3 orders).
+    (
+        CASCADES,
+        SPLIT,
+        0,
+        "orders 20 outcomes 2\n17 a aborted asked; b committed; rows 10=0; serial; waited 12; first a a a b b b\n3 a aborted asked; b aborted cascade; rows 10=0; serial; waited 1; first a a b a b b\n",
         "",
     ),
 ];

@@ -2,6 +2,7 @@ ghost use Rattle.std.specs.Prelude.{◌≤◌, length, IfOk};
 
 mod debugs;
 mod files;
+mod permutes;
 mod rows;
 mod runs;
 mod states;
@@ -161,6 +162,10 @@ const HELPS: &[(&[&str], &str)] = &[
     (&["hek", "dis", "--help"], "hek dis first.img"),
     (&["hek", "debug", "--help"], "watch waits NAME"),
     (&["hek", "check", "--help"], "hek check first.img trace.txt"),
+    (
+        &["hek", "permute", "--help"],
+        "hek permute --text two.hek --order",
+    ),
 ];
 
 // The program's name alone is no command.

@@ -1,10 +1,13 @@
 //! The gate's stored runs: each schedule of the folders that the arguments name is assembled, run and checked, and
-//! compared with what is stored of it; and the debugger's commands in the folder `debug` are held against what they print.
+//! compared with what is stored of it; the debugger's commands in the folder `debug` are held against what they print, and the
+//! orders of the schedules in the folder `anomalies` against their outcomes by level.
 #![tactic(auto)]
 
+mod anomalies;
 mod folder;
 mod sessions;
 
+use anomalies::compare_anomalies;
 use folder::{Count, compare_folder};
 use hek_stored::Fault;
 use sessions::compare_sessions;
@@ -13,6 +16,9 @@ use std::process::ExitCode;
 
 /// The folder of debugger sessions.
 const SESSIONS: &str = "debug";
+
+/// The folder of schedules whose orders are played.
+const ANOMALIES: &str = "anomalies";
 
 fn main(rt: HostRuntime) -> ExitCode {
     match compare_all(&rt) {
@@ -30,6 +36,7 @@ fn compare_all(rt: &HostRuntime) -> Result<Count, Fault> {
     for folder in env::args(rt)?.skip(1) {
         match folder.as_str() {
             SESSIONS => compare_sessions(rt, SESSIONS, &mut count)?,
+            ANOMALIES => compare_anomalies(rt, ANOMALIES, &mut count)?,
             folder => compare_folder(rt, folder, &mut count)?,
         }
     }

@@ -181,6 +181,101 @@ const REASONS: &[Row<'static>] = &[
     },
 ];
 
+// b reads a row that a writes and ends before b does.
+const STALE: &[u8] =
+    b"1 b begin -> began 1\n2 a update 10 7 -> done\n3 a precommit -> precommitted 2\n4 a commit -> committed\n5 b read 10 -> found 100\n6 b read 11 -> absent\n7 b precommit -> precommitted 3\n8 b commit -> committed\n";
+
+// b doesn't find a row that is there.
+const UNSEEN: &[u8] =
+    b"1 b begin -> began 1\n2 b read 10 -> absent\n3 b precommit -> precommitted 2\n4 b commit -> committed\n";
+
+const AT_LEVELS: &[Row<'static>] = &[
+    Row {
+        words: &["hek", "check", "--text", "in", "-"],
+        files: BOTH,
+        input: UNSEEN,
+        out: "serial\n",
+        ..QUIET
+    },
+    Row {
+        words: &["hek", "check", "--text", "in", "-", "--level", "repeatable"],
+        files: BOTH,
+        input: UNSEEN,
+        out: "serial\n",
+        ..QUIET
+    },
+    Row {
+        words: &[
+            "hek",
+            "check",
+            "--text",
+            "in",
+            "-",
+            "--level",
+            "serializable",
+            "--why",
+        ],
+        files: BOTH,
+        input: UNSEEN,
+        status: 1,
+        out: "not serial 2\nserial reply: found 100\n",
+        ..QUIET
+    },
+    Row {
+        words: &[
+            "hek",
+            "check",
+            "--text",
+            "in",
+            "-",
+            "--level=snapshot",
+            "--why",
+        ],
+        files: BOTH,
+        input: UNSEEN,
+        status: 1,
+        out: "not serial 2\nserial reply: found 100\n",
+        ..QUIET
+    },
+    Row {
+        words: &["hek", "check", "--text", "in", "-", "--why"],
+        files: BOTH,
+        input: STALE,
+        status: 1,
+        out: "not serial 5\nserial reply: found 7\n",
+        ..QUIET
+    },
+    Row {
+        words: &[
+            "hek",
+            "check",
+            "--text",
+            "in",
+            "-",
+            "--level=snapshot",
+            "--why",
+        ],
+        files: BOTH,
+        input: STALE,
+        out: "serial\n",
+        ..QUIET
+    },
+    Row {
+        words: &["hek", "check", "--text", "in", "-", "--level=all"],
+        files: BOTH,
+        input: STALE,
+        status: 2,
+        faults: "hek: bad argument\n",
+        ..QUIET
+    },
+];
+
+#[test]
+fn checks_at_a_level(rt: HostRuntime) -> Result<(), Fail> {
+    assert_rows(&rt, rt.alloc(), AT_LEVELS)?;
+    Ok(())
+}
+
 #[test]
 fn tells_why_a_trace_is_not_serial(rt: HostRuntime) -> Result<(), Fail> {
     assert_rows(&rt, rt.alloc(), REASONS)?;

@@ -1,6 +1,6 @@
 use Rattle.std.proofs.Common.{subst, List, ℕ}
 use Rattle.std.specs.Io.KnownBytes.{Appends}
-use Rattle.hek_commands.specs.Judged.{verdict_text, why_text}
+use Rattle.hek_commands.specs.Judged.{verdict_text, why_text, judged_as}
 use Rattle.std.proofs.KnownBytes.{Appends-trans}
 use Rattle.hek_commands.proofs.check.check_command.Goals as goal
 
@@ -18,7 +18,7 @@ returns g c =
       read = c.in_ok-transcript.ensures;
       verdict = verdict;
       right = c.in_ok-verdict.ensures;
-      written = Appends-trans held told_verdict after (verdict_text verdict) (why_text c.args.why told verdict) c.in_ok-status.ensures.ok.1
+      written = Appends-trans held told_verdict after (verdict_text verdict) (why_text c.args.why (judged_as c.args.level told) verdict) c.in_ok-status.ensures.ok.1
           (subst (λ (xs : List ℕ). Appends told_verdict after xs) c.in_ok-reason.ensures c.in_ok-send.ensures.written);
       answer = c.in_ok-status.ensures.ok.0;
     }
