@@ -133,4 +133,4 @@ abbrev pub CheckFails : {R : Type 0} → (R → Option (List ℕ)) → ScheduleF
 CheckFails left said text CannotWrite = Unit {0}
 CheckFails left said text NoMemory = Unit {0}
 CheckFails left said text fault =
-  (¬ (IsUtf8 text) × (fault ≡ NotText)) ⊎ (IsUtf8 text × (FileFails left said fault ⊎ ((plan : Plan) × FileGives left said plan × TraceTextFails plan text fault)))
+    (¬ (IsUtf8 text) × (fault ≡ NotText)) ⊎ (IsUtf8 text × (FileFails left said fault ⊎ ((plan : Plan) × FileGives left said plan × TraceTextFails plan text fault)))

@@ -1,4 +1,9 @@
 //! The data of a page: the state before its first step, the trace of its steps, and what each changed.
+ghost use Rattle.std.specs.Prelude.{◌≡◌, length};
+ghost use Rattle.std.specs.List.{All, AllByRecursion};
+ghost use Rattle.hek_laws.specs.Runs.{IsPlaced};
+ghost use Rattle.hek_asm.specs.Trace.{NamesDeclared};
+
 use crate::look::{Changes, Look};
 use hek_asm::write_line;
 use hek_machine::Machine;
@@ -24,41 +29,87 @@ struct Gathered {
     steps: Vec<Value>,
 }
 
-/// The data of a page over a machine that stands before the first step.
-pub(crate) fn data_of(
+/// The data of the page of a schedule.
+#[tactic(auto, using(hek_asm::proofs::RowLemmas::steps_declared, hek_machine::proofs::PlacedSteps::steps_placed))]
+pub(crate) fn data_of(alloc: Global, schedule: &Schedule, shown: Shown) -> Result<Value, NoMemory> {
+    // There is a bucket, and each step is one of this schedule.
+    let _ = schedule.buckets();
+    let mut machine = Machine::load(alloc, schedule)?;
+    gather(alloc, schedule, &mut machine, schedule.steps(), shown)
+}
+
+/// The data of the page of these steps, from a machine that stands before the first.
+fn gather(
     alloc: Global,
     schedule: &Schedule,
     machine: &mut Machine,
+    steps: &[Event],
     shown: Shown,
-) -> Result<Value, NoMemory> {
+) -> Result<Value, NoMemory>
+    requires buckets { length machine.old.buckets ≡ schedule.now.buckets }
+    requires placed { All (IsPlaced schedule.now.buckets) steps.now }
+    requires declared { AllByRecursion (NamesDeclared (length schedule.now.txns)) steps.now }
+{
     let mut gathered = Gathered {
         look: Look::new(alloc),
         told: Transcript::new(alloc, schedule)?,
         trace: Vec::new(alloc),
         steps: Vec::new(alloc),
     };
-    let steps = schedule.steps();
-    for event in steps.iter().take(shown.done) {
-        let reply = machine.step(*event)?;
-        gathered.told.push(*event, reply)?;
-    }
+    pass_steps(schedule, machine, steps, shown, &mut gathered)?;
     let opening = gathered.look.changes(alloc, schedule, machine)?;
-    show_steps(alloc, schedule, machine, shown, &mut gathered)?;
+    show_steps(alloc, schedule, machine, steps, shown, &mut gathered)?;
     whole(alloc, &opening, shown.done, gathered)
 }
 
-/// Does the steps that the page shows.
+/// Does the steps before the page.
+fn pass_steps(
+    schedule: &Schedule,
+    machine: &mut Machine,
+    steps: &[Event],
+    shown: Shown,
+    gathered: &mut Gathered,
+) -> Result<(), NoMemory>
+    requires buckets { length machine.old.buckets ≡ schedule.now.buckets }
+    requires placed { All (IsPlaced schedule.now.buckets) steps.now }
+    ensures buckets { length machine.new.buckets ≡ schedule.now.buckets }
+{
+    for place in 0..steps.len() {
+        if place >= shown.done {
+            break;
+        }
+        let event = steps[place];
+        let reply = machine.step(event)?;
+        gathered.told.push(event, reply)?;
+    }
+    Ok(())
+}
+
+/// Does the steps of the page.
 fn show_steps(
     alloc: Global,
     schedule: &Schedule,
     machine: &mut Machine,
+    steps: &[Event],
     shown: Shown,
     gathered: &mut Gathered,
-) -> Result<(), NoMemory> {
-    for place in shown.done..shown.last {
-        if let Some(event) = schedule.steps().get(place) {
-            show_step(alloc, schedule, machine, place as u64 + 1, *event, gathered)?;
+) -> Result<(), NoMemory>
+    requires buckets { length machine.old.buckets ≡ schedule.now.buckets }
+    requires placed { All (IsPlaced schedule.now.buckets) steps.now }
+    requires declared { AllByRecursion (NamesDeclared (length schedule.now.txns)) steps.now }
+{
+    for place in 0..steps.len() {
+        if place < shown.done || place >= shown.last {
+            continue;
         }
+        show_step(
+            alloc,
+            schedule,
+            machine,
+            place as u64 + 1,
+            steps[place],
+            gathered,
+        )?;
     }
     Ok(())
 }
@@ -70,7 +121,11 @@ fn show_step(
     number: u64,
     event: Event,
     gathered: &mut Gathered,
-) -> Result<(), NoMemory> {
+) -> Result<(), NoMemory>
+    requires placed { IsPlaced (length machine.old.buckets) event }
+    requires declared { NamesDeclared (length schedule.now.txns) event }
+    ensures buckets { length machine.new.buckets ≡ length machine.old.buckets }
+{
     let reply = machine.step(event)?;
     put_line(alloc, schedule, number, event, &reply, &mut gathered.trace)?;
     let changes = gathered.look.changes(alloc, schedule, machine)?;
@@ -86,7 +141,9 @@ fn put_line(
     event: Event,
     reply: &Reply,
     trace: &mut Vec<u8>,
-) -> Result<(), NoMemory> {
+) -> Result<(), NoMemory>
+    requires { NamesDeclared (length schedule.now.txns) event }
+{
     let mut sink = FromWrite::new(Vec::new(alloc));
     match write_line(schedule, number, event, reply, &mut sink) {
         Ok(()) => {

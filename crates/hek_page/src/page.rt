@@ -8,7 +8,6 @@ use crate::frame::{BACK, FRONT, MIDDLE};
 use crate::script::SCRIPT;
 use crate::style::STYLE;
 use hek_commands::{HekFault, ScheduleFile, schedule_in};
-use hek_machine::Machine;
 use hek_rules::Schedule;
 use std::alloc::Global;
 use std::io;
@@ -78,8 +77,7 @@ fn shown_of(part: Part, steps: u64) -> Shown
 fn text_of<'a>(alloc: Global, schedule: &Schedule, shown: Shown) -> Result<String, HekFault<'a>>
     ensures stops { IfErr result IsStop }
 {
-    let mut machine = Machine::load(alloc, schedule)?;
-    let data = data_of(alloc, schedule, &mut machine, shown)?;
+    let data = data_of(alloc, schedule, shown)?;
     data.to_string(alloc).map_err(|_| HekFault::NoMemory)
 }
 

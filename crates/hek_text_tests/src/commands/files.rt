@@ -469,7 +469,7 @@ fn tells_faults_of_traces(rt: HostRuntime) -> Result<(), Fail> {
     Ok(())
 }
 
-const BAD_FILES: &[(&str, &[u8])] = &[("bad", b"HKSB"), ("trace", b"1\n")];
+const BAD_FILES: &[(&str, &[u8])] = &[("bad", b"HKSB"), ("trace", b"1\n"), ("bytes", b"\xFF")];
 
 const FIRST_FAULTS: &[(&[&str], &str)] = &[
     (
@@ -485,6 +485,11 @@ const FIRST_FAULTS: &[(&[&str], &str)] = &[
         "hek: image: 1 BadMagic\n",
     ),
     (&["hek", "check", "-", "-"], "hek: cannot read -\n"),
+    (&["hek", "check", "bad", "bytes"], "hek: not text\n"),
+    (
+        &["hek", "check", "--text", "trace", "bytes"],
+        "hek: not text\n",
+    ),
 ];
 
 #[test]
