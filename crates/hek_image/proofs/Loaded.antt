@@ -1,5 +1,5 @@
 -- What is known of a source's bytes when all but their end was read is what the bytes come to.
-use Rattle.std.proofs.Common.{◌≡◌, ℕ, zero, suc, ◌<◌, ◌≤◌, Bool, false, List, [], ◌++◌, length, Result, Ok, Err, refl, sym, ap, subst, ◌∙◌, arith, inl, inr, ◌⊎◌}
+use Rattle.std.proofs.Common.{◌≡◌, ℕ, ◌<◌, false, List, [], ◌++◌, length, Result, Ok, Err, refl, sym, ap, subst, ◌∙◌, arith, inl, inr, ◌⊎◌}
 use Rattle.std.specs.Prelude.{◌==◌}
 use Rattle.std.proofs.lemmas.Bool.{ne_eqb}
 use Rattle.std.proofs.lemmas.List.{append-nil}
@@ -7,11 +7,12 @@ use Rattle.hek_rules.specs.Plan.{Plan}
 use Rattle.hek_image.specs.declared.fault.LoadFault.{LoadFault}
 use Rattle.hek_image.specs.declared.fault.LoadFault.TheVariants as load
 use Rattle.hek_image.specs.Gives.{LoadFails, LoadGives, IsOpen, given_between}
-use Rattle.hek_image.specs.Loading.{Place, plan_at, ended, loading}
-use Rattle.hek_image.specs.Taking.{Holds, FaultHolds, Takes}
+use Rattle.hek_image.specs.Loading.{Place, Header, header_at, plan_at, ended, loading}
+use Rattle.hek_image.specs.Taking.{FaultHolds, Takes, body_at}
 use Rattle.hek_image.proofs.Taken.{gave}
 use Rattle.hek_image.proofs.Readers.{here}
 use Rattle.hek_image.proofs.Whole.{given_is}
+use Rattle.hek_image.proofs.Takings.{then_fault, then_takes}
 
 of_text : (whole text rest : List ℕ) (r : Result (Plan × Place) LoadFault) → whole ≡ text ++ rest → plan_at (here 0 (text ++ rest)) ≡ r → loading whole ≡ ended r
 unfolding loading
@@ -63,7 +64,7 @@ module _ {X : Type 0} (view : X → Plan × ℕ) (size : ℕ) (whole rest : List
     pub is_open : IsOpen (loading (given_between whole rest))
     is_open = subst (λ (bs : List ℕ). IsOpen (loading bs)) (sym (given_is whole t.text rest t.parts)) (subst IsOpen (sym all_read) tt)
 
--- ---- the end
+    -- one of both
     pub end_loads : {Y : Type 0} (see : Y → Plan) (e : LoadFault) (result : Result Y LoadFault) → result ≡ Err e → (e ≡ load.Trailing) ⊎ (e ≡ load.Read) → (e ≡ load.Trailing → 0 < length rest) → LoadGives see result (loading whole)
     end_loads {Y = Y} see e result is which some = elim which [
       | inl trailing ↦
@@ -71,3 +72,12 @@ module _ {X : Type 0} (view : X → Plan × ℕ) (size : ℕ) (whole rest : List
           subst (λ (s : Result Y LoadFault). LoadGives see s (loading whole)) (sym (is ∙ ap (λ (d : LoadFault). Err d) trailing)) given
       | inr read ↦ subst (λ (s : Result Y LoadFault). LoadGives see s (loading whole)) (sym (is ∙ ap (λ (d : LoadFault). Err d) read)) tt
     ]
+
+-- ---- header and body
+pub header_fault : {X : Type 0} (head : X → (Plan × Header) × ℕ) (e : LoadFault) (whole rest : List ℕ) → Takes head header_at 0 22 (Err e) whole rest → Takes (λ (x : Plan × ℕ). x) plan_at 0 22083414 (Err e) whole rest
+unfolding plan_at
+header_fault head e whole rest t = then_fault head (λ (x : Plan × ℕ). x) header_at _ 0 22 22083414 e (Err e) whole rest (omega arith) refl t
+
+pub body_taken : {X Y : Type 0} (head : X → (Plan × Header) × ℕ) (view : Y → Plan × ℕ) (x : X) (result : Result Y LoadFault) (whole mid rest : List ℕ) → (head x).1 ≡ 22 → Takes head header_at 0 22 (Ok x) whole mid → Takes view (body_at (head x).0) 22 22083392 result mid rest → Takes view plan_at 0 22083414 result whole rest
+unfolding plan_at
+body_taken head view x result whole mid rest place one two = then_takes head view header_at _ (body_at (head x).0) 0 22 22 22083392 22083414 x result whole mid rest (omega arith) place refl one two

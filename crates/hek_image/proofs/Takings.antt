@@ -1,5 +1,5 @@
 -- What is known of a source's bytes, field by field: whatever stands behind them changes nothing.
-use Rattle.std.proofs.Common.{◌≡◌, ℕ, zero, suc, ◌+◌, ◌-◌, ◌*◌, ◌<◌, ◌≤◌, List, [], ◌∷◌, ◌++◌, length, take, Result, Ok, Err, refl, sym, ap, subst, ◌∙◌, append_assoc, arith, inl, inr, ◌⊎◌, length-append}
+use Rattle.std.proofs.Common.{◌≡◌, ℕ, suc, ◌+◌, ◌-◌, ◌*◌, ◌<◌, ◌≤◌, List, [], ◌∷◌, ◌++◌, length, take, Result, Ok, Err, refl, sym, ap, subst, ◌∙◌, append_assoc, arith, inl, inr, ◌⊎◌, length-append}
 use Rattle.std.proofs.Math.Nat.{mul-le-mul_right}
 use Rattle.std.proofs.Math.Seq.{take-append-add}
 use Rattle.std.proofs.lemmas.List.{take-take, take-append-le, take_all}
@@ -10,7 +10,7 @@ use Rattle.hek_image.specs.Gives.{FieldFails}
 use Rattle.std.specs.Int.{w8}
 use Rattle.hek_image.specs.Loading.{Place, Reader, then_read, both, checked, bytes_at, number_at, number_within, times}
 use Rattle.hek_image.specs.Taking.{FaultHolds, Holds, Takes}
-use Rattle.hek_image.proofs.Steady.{IsSteady, Agrees, FaultAgrees, longer}
+use Rattle.hek_image.proofs.Steady.{IsSteady, Agrees}
 use Rattle.hek_image.proofs.Taken.{gave}
 use Rattle.hek_image.proofs.Readers.{here}
 use Rattle.hek_image.proofs.Exact.{IsExact}

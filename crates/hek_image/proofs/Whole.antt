@@ -1,16 +1,15 @@
 -- An image is of at most 22,083,414 bytes, and more bytes behind change only Short.
-use Rattle.std.proofs.Common.{◌≡◌, ℕ, zero, suc, ◌+◌, ◌-◌, ◌<◌, ◌≤◌, Bool, true, false, List, [], ◌++◌, length, take, Result, Ok, Err, refl, sym, ap, subst, ◌∙◌, arith, inl, inr, length-append}
+use Rattle.std.proofs.Common.{◌≡◌, ℕ, zero, suc, ◌+◌, ◌-◌, ◌<◌, ◌≤◌, false, List, [], ◌++◌, length, take, Result, Ok, Err, refl, ap, subst, ◌∙◌, arith, inl, inr, length-append}
 use Rattle.std.specs.Prelude.{◌==◌}
 use Rattle.std.specs.Int.{w8, w16, w32, w64}
 use Rattle.std.proofs.lemmas.Bool.{cases_Bool, eqb-true, ne_eqb}
-use Rattle.std.proofs.lemmas.List.{append-nil}
 use Rattle.std.proofs.Math.Seq.{take-append_seam}
 use Rattle.hek_rules.specs.Plan.{Plan, IsPlan}
 use Rattle.hek_image.specs.declared.fault.LoadFault.{LoadFault}
 use Rattle.hek_image.specs.declared.fault.LoadFault.TheVariants as load
 use Rattle.hek_image.specs.Loading.{Place, Header, row_at, txn_at, kind_at, step_at, magic_at, version_at, header_at, plan_at, ended, loading}
 use Rattle.hek_image.specs.Schedules.{image, image_in}
-use Rattle.hek_image.specs.Gives.{FieldGives, LoadGives, IsOpen, given_between}
+use Rattle.hek_image.specs.Gives.{given_between}
 use Rattle.hek_image.proofs.ImageAgain.{image_again}
 use Rattle.hek_image.proofs.Steady.{IsSteady, Agrees, FaultAgrees, Any, wider, bytes_steady, value_steady, both_steady, checked_steady, required_steady, times_steady, number_steady, within_steady}
 

@@ -1,12 +1,12 @@
 -- What a source gave while fields were read from it, and what is known of them whatever follows.
-use Rattle.std.specs.Prelude.{◌≡◌, ℕ, ◌+◌, ◌<◌, ◌≤◌, List, [], ◌∷◌, ◌++◌, length, Result, Ok, Err}
+use Rattle.std.specs.Prelude.{◌≡◌, ℕ, ◌+◌, ◌≤◌, List, [], ◌∷◌, ◌++◌, length, Result, Ok, Err}
 use Rattle.hek_rules.specs.declared.event.Level.{Level}
 use Rattle.hek_rules.specs.Plan.{Plan}
 use Rattle.hek_image.specs.declared.fault.LoadFault.{LoadFault}
 use Rattle.hek_image.specs.declared.fault.LoadFault.TheVariants as load
 use Rattle.hek_image.specs.declared.item.Item.{Item}
 use Rattle.hek_image.specs.declared.item.Item.TheVariants as item
-use Rattle.hek_image.specs.Loading.{Place, Header, Reader, both, checked, bytes_at, value, is_new_name, row_at, txn_at, step_at, times}
+use Rattle.hek_image.specs.Loading.{Header, Reader, both, checked, bytes_at, value, is_new_name, row_at, txn_at, step_at, times}
 
 -- a fault of a reader r at an offset, where a source gave `text` and `rest` is left: no bytes behind the text change it; the
 -- text ends too early where the source failed, and where it has no more

@@ -1,6 +1,4 @@
-use Rattle.std.proofs.Common.{◌≡◌, ◌+◌, ◌*◌, ◌≤◌, ℕ, Err, Ok, Result, arith, refl, rules}
-use Rattle.hek_rules.specs.Plan.{Plan}
-use Rattle.hek_image.specs.declared.fault.LoadFault.{LoadFault}
+use Rattle.std.proofs.Common.{◌≡◌, ◌*◌, ℕ, Err, arith, refl, rules}
 use Rattle.hek_image.specs.Loading.{row_at, txn_at, step_at, times}
 use Rattle.hek_image.proofs.Takings.{then_fault, then_takes}
 use Rattle.hek_image.proofs.loading.next_body.Goals as goal

@@ -1,4 +1,4 @@
-use Rattle.std.proofs.Common.{◌≡◌, ◌<◌, ◌≤◌, ◌∙◌, ◌++◌, ℕ, List, length, arith, ap, sym, subst, refl, rules}
+use Rattle.std.proofs.Common.{◌≡◌, ◌<◌, ◌≤◌, ◌∙◌, ◌++◌, ℕ, List, length, arith, ap, sym, subst, rules}
 use Rattle.hek_image.specs.declared.fault.LoadFault.{LoadFault}
 use Rattle.hek_image.specs.declared.fault.LoadFault.TheVariants as load
 use Rattle.hek_image.specs.Loading.{header_at}
@@ -7,7 +7,7 @@ use Rattle.hek_image.specs.Gives.{FieldFails}
 use Rattle.hek_image.proofs.Whole.{AreFew, header_steady}
 use Rattle.hek_image.proofs.Readers.{here}
 use Rattle.hek_image.proofs.Exact.{header_exact}
-use Rattle.hek_image.proofs.Takings.{took_value, took_fault, took_end, short_is_less}
+use Rattle.hek_image.proofs.Takings.{took_value, took_fault, short_is_less}
 use Rattle.hek_image.proofs.loading.next_header.Goals as goal
 
 pub returns-in-Ok-clause-takes : goal.returns-in-Ok-clause-takes

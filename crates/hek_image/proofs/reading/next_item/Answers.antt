@@ -1,9 +1,7 @@
-use Rattle.std.proofs.Common.{◌≡◌, ◌<◌, ◌≤◌, ◌∙◌, ◌++◌, ℕ, List, length, take, Result, Err, arith, ap, sym, subst, refl, rules, ◌+◌}
-use Rattle.std.proofs.lemmas.List.{length-take-le}
+use Rattle.std.proofs.Common.{◌≡◌, ◌<◌, ◌≤◌, ◌∙◌, ◌++◌, ℕ, List, length, arith, ap, sym, subst, refl, rules}
 use Rattle.hek_rules.specs.Plan.{Plan}
 use Rattle.hek_image.specs.declared.fault.LoadFault.{LoadFault}
 use Rattle.hek_image.specs.declared.fault.LoadFault.TheVariants as load
-use Rattle.hek_image.specs.Loading.{Place}
 use Rattle.hek_image.specs.Places.{place_of}
 use Rattle.hek_image.specs.Gives.{FieldFails}
 use Rattle.hek_image.specs.Taking.{item_at, item_size}
@@ -11,7 +9,7 @@ use Rattle.hek_image.proofs.Steady.{Any}
 use Rattle.hek_image.proofs.Taken.{gave}
 use Rattle.hek_image.proofs.Readers.{here}
 use Rattle.hek_image.proofs.Exact.{item_steady, item_exact}
-use Rattle.hek_image.proofs.Takings.{took_value, took_fault, took_end, short_is_less}
+use Rattle.hek_image.proofs.Takings.{took_value, took_fault, short_is_less}
 use Rattle.hek_image.proofs.reading.next_item.Goals as goal
 
 pub returns-in-Ok-clause-takes : goal.returns-in-Ok-clause-takes

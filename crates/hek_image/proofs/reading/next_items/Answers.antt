@@ -1,7 +1,7 @@
-use Rattle.std.proofs.Common.{◌≡◌, ◌+◌, ◌-◌, ◌<◌, ◌≤◌, ℕ, arith}
+use Rattle.std.proofs.Common.{◌≡◌, ◌+◌, ◌-◌, ◌≤◌, arith}
 use Rattle.hek_image.specs.Taking.{item_at, item_size}
-use Rattle.hek_image.proofs.Exact.{one_fits, others_fit, none_grown, one_more_grown}
-use Rattle.hek_image.proofs.Takings.{at_first, one_more_taken, fault_of_one, all_taken}
+use Rattle.hek_image.proofs.Exact.{others_fit, one_more_grown}
+use Rattle.hek_image.proofs.Takings.{one_more_taken, fault_of_one, all_taken}
 use Rattle.hek_image.proofs.reading.next_items.Goals as goal
 
 pub returns-in-Err-clause-takes : goal.returns-in-Err-clause-takes

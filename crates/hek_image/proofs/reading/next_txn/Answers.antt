@@ -1,9 +1,7 @@
-use Rattle.std.proofs.Common.{◌≡◌, ◌+◌, ◌≤◌, ℕ, Err, Ok, Result, arith, refl, rules, ap, sym}
+use Rattle.std.proofs.Common.{◌≡◌, ◌+◌, ℕ, Err, arith, refl, rules, ap, sym}
 use Rattle.std.specs.Int.{w8}
 use Rattle.hek_rules.specs.declared.event.Level.{Level}
-use Rattle.hek_rules.specs.Plan.{Plan}
-use Rattle.hek_image.specs.declared.fault.LoadFault.{LoadFault}
-use Rattle.hek_image.specs.Loading.{Reader, number_within, txn_at, level_coded}
+use Rattle.hek_image.specs.Loading.{number_within, txn_at, level_coded}
 use Rattle.hek_image.specs.Taking.{name_at}
 use Rattle.hek_image.proofs.Takings.{then_fault, then_takes}
 use Rattle.hek_image.proofs.reading.next_txn.Goals as goal

@@ -1,4 +1,4 @@
-use Rattle.std.proofs.Common.{◌≡◌, ◌+◌, ◌-◌, ◌<◌, ◌≤◌, ℕ, arith}
+use Rattle.std.proofs.Common.{◌≤◌, arith}
 use Rattle.hek_image.specs.Loading.{txn_at}
 use Rattle.hek_image.proofs.Takings.{one_more_taken, fault_of_one, all_taken}
 use Rattle.hek_image.proofs.reading.next_txns.Goals as goal

@@ -1,4 +1,4 @@
-use Rattle.std.proofs.Common.{◌≡◌, ◌+◌, ◌-◌, ◌*◌, ◌≤◌, false, IsTrue}
+use Rattle.std.proofs.Common.{◌≡◌, ◌+◌, ◌*◌, ◌≤◌, false, IsTrue}
 use Rattle.hek_image.specs.Loading.{txn_at}
 use Rattle.hek_image.specs.Taking.{HasMore}
 use Rattle.hek_image.proofs.Takings.{Ahead}

@@ -1,8 +1,8 @@
-use Rattle.std.proofs.Common.{◌≡◌, ◌+◌, ◌≤◌, ◌∙◌, ℕ, [], Err, Ok, Result, List, length, take, arith, refl, rules, subst, sym, ap}
+use Rattle.std.proofs.Common.{◌≡◌, ◌+◌, ◌≤◌, ◌∙◌, ℕ, Err, Result, length, arith, rules, subst, sym, ap}
 use Rattle.std.specs.Int.{w8}
 use Rattle.hek_image.specs.declared.fault.LoadFault.{LoadFault}
 use Rattle.hek_image.specs.declared.fault.LoadFault.TheVariants as load
-use Rattle.hek_image.specs.Loading.{number_within, number_at}
+use Rattle.hek_image.specs.Loading.{number_within}
 use Rattle.hek_image.specs.Places.{place_of}
 use Rattle.hek_image.specs.Gives.{FieldFails}
 use Rattle.hek_image.specs.Taking.{Takes}
