@@ -18,7 +18,7 @@ use std::alloc::Global;
 use std::convert::AsStr;
 use std::env;
 use std::env::Env;
-use std::io::{ErrorKind, IsTerminal, Read, Write};
+use std::io::{BufReader, ErrorKind, IsTerminal, Read, Write};
 use std::sync::Wait;
 use std::thread::Threads;
 
@@ -352,19 +352,23 @@ fn count_from<'a>(text: &str, least: u64) -> Result<u64, HekFault<'a>> {
     }
 }
 
+/// A file that is read in small pieces.
+type Buffered<I, F> = BufReader<InputFile<I, F>>;
+
 /// The schedule file that the words name, a text where they say `--text`.
 fn schedule_file<'a, D: Disk, I: Read + Drop>(
     alloc: Global,
     found: &ArgMatches<'a>,
     disk: &D,
     input: &mut Option<I>,
-) -> Result<ScheduleFile<InputFile<I, D::Reader>>, HekFault<'a>> {
+) -> Result<ScheduleFile<Buffered<I, D::Reader>>, HekFault<'a>> {
     let name = text(found, "FILE")?;
     let file = open(disk, input, name)?;
     if found.get_flag("text") {
         return Ok(ScheduleFile::Text(read_text(alloc, file, name)?));
     }
-    Ok(ScheduleFile::Image(file))
+    let image = BufReader::new(alloc, file).map_err(|_| HekFault::NoMemory)?;
+    Ok(ScheduleFile::Image(image))
 }
 
 fn text<'a>(found: &ArgMatches<'a>, name: &str) -> Result<&'a str, HekFault<'a>> {

@@ -10,3 +10,6 @@ pub mod Levels
 pub mod ImageAgain
 pub mod Taken
 pub mod ImageBack
+pub mod Exact
+pub mod Takings
+pub mod Loaded

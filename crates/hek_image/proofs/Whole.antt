@@ -1,20 +1,19 @@
 -- An image is of at most 22,083,414 bytes, and more bytes behind change only Short.
-use Rattle.std.proofs.Common.{◌≡◌, ℕ, zero, suc, ◌+◌, ◌-◌, ◌<◌, ◌≤◌, Bool, true, false, List, [], ◌++◌, length, take, Result, Ok, Err, refl, sym, ap, subst, ◌∙◌, arith, inl, inr, length-append}
+use Rattle.std.proofs.Common.{◌≡◌, ℕ, zero, suc, ◌+◌, ◌-◌, ◌<◌, ◌≤◌, false, List, [], ◌++◌, length, take, Result, Ok, Err, refl, ap, subst, ◌∙◌, arith, inl, inr, length-append}
 use Rattle.std.specs.Prelude.{◌==◌}
 use Rattle.std.specs.Int.{w8, w16, w32, w64}
 use Rattle.std.proofs.lemmas.Bool.{cases_Bool, eqb-true, ne_eqb}
-use Rattle.std.proofs.lemmas.List.{append-nil}
 use Rattle.std.proofs.Math.Seq.{take-append_seam}
 use Rattle.hek_rules.specs.Plan.{Plan, IsPlan}
 use Rattle.hek_image.specs.declared.fault.LoadFault.{LoadFault}
 use Rattle.hek_image.specs.declared.fault.LoadFault.TheVariants as load
 use Rattle.hek_image.specs.Loading.{Place, Header, row_at, txn_at, kind_at, step_at, magic_at, version_at, header_at, plan_at, ended, loading}
 use Rattle.hek_image.specs.Schedules.{image, image_in}
-use Rattle.hek_image.specs.Gives.{FieldGives, LoadGives, IsOpen, given_between, settled}
+use Rattle.hek_image.specs.Gives.{given_between}
 use Rattle.hek_image.proofs.ImageAgain.{image_again}
 use Rattle.hek_image.proofs.Steady.{IsSteady, Agrees, FaultAgrees, Any, wider, bytes_steady, value_steady, both_steady, checked_steady, required_steady, times_steady, number_steady, within_steady}
 
-row_steady : (plan : Plan) → IsSteady Any 16 (row_at plan)
+pub row_steady : (plan : Plan) → IsSteady Any 16 (row_at plan)
 unfolding row_at
 row_steady plan = both_steady Any Any 8 8 _ _ (checked_steady Any Any 8 _ _ (λ k any e. tt) (number_steady w64)) (λ key any. both_steady Any Any 8 0 _ _ (number_steady w64) (λ v any2. value_steady Any _ tt))
 
@@ -24,11 +23,11 @@ txn_steady version plan = both_steady (λ n. n ≤ version + 1) Any 1 33 _ _ (wi
     both_steady (λ n. n ≤ 32) Any 1 32 _ _ (within_steady 1 32 w8) (λ len high.
     both_steady Any Any 32 0 _ _ (checked_steady Any Any 32 _ _ (λ w any e. tt) (wider Any len 32 _ high (bytes_steady len))) (λ name any. value_steady Any _ tt)))
 
-kind_steady : IsSteady Any 1 kind_at
+pub kind_steady : IsSteady Any 1 kind_at
 unfolding kind_at
 kind_steady = both_steady Any Any 1 0 _ _ (checked_steady Any Any 1 _ _ (λ k any e. tt) (number_steady w8)) (λ n any. value_steady Any _ tt)
 
-step_steady : (plan : Plan) → IsSteady Any 21 (step_at plan)
+pub step_steady : (plan : Plan) → IsSteady Any 21 (step_at plan)
 unfolding step_at
 step_steady plan = both_steady Any Any 1 20 _ _ kind_steady (λ k any.
     both_steady Any Any 4 16 _ _ (checked_steady Any Any 4 _ _ (λ x any e. tt) (number_steady w32)) (λ t any2.
@@ -43,12 +42,12 @@ version_steady : IsSteady Any 2 version_at
 unfolding version_at
 version_steady = required_steady Any Any 2 _ _ load.BadVersion (λ C D d. d) (λ x any e. tt) (number_steady w16)
 
-record AreFew (head : Plan × Header) : Type 0 where
+pub record AreFew (head : Plan × Header) : Type 0 where
   pub rows : head.1.rows ≤ 65536
   pub txns : head.1.txns ≤ 1024
   pub steps : head.1.steps ≤ 1000000
 
-header_steady : IsSteady AreFew 22 header_at
+pub header_steady : IsSteady AreFew 22 header_at
 unfolding header_at
 header_steady = both_steady Any AreFew 4 18 _ _ magic_steady (λ m any.
     both_steady Any AreFew 2 16 _ _ version_steady (λ v any2.
@@ -60,7 +59,7 @@ header_steady = both_steady Any AreFew 4 18 _ _ magic_steady (λ m any.
 abbrev longest : ℕ
 longest = 22083414
 
-plan_steady : IsSteady Any longest plan_at
+pub plan_steady : IsSteady Any longest plan_at
 unfolding plan_at
 plan_steady = both_steady AreFew Any 22 22083392 _ _ header_steady (λ head few.
     both_steady Any Any 1048576 21034816 _ _ (times_steady 16 head.1.rows 65536 row_at head.0 few.rows row_steady) (λ plan any.
@@ -95,60 +94,14 @@ loading_agrees : (bytes more : List ℕ) → LoadAgrees bytes (loading bytes) (l
 unfolding loading
 loading_agrees bytes more = ended_agrees bytes more _ _ (plan_steady.agrees (record { at = 0; rest = bytes }) more)
 
--- ---- what a source gave, and then the whole
-whole_is : (whole bytes more : List ℕ) → whole ≡ bytes ++ more → more ≡ [] → loading whole ≡ loading bytes
-whole_is whole bytes more e none = ap loading (e ∙ ap (λ (l : List ℕ). bytes ++ l) none ∙ append-nil bytes)
-
--- a fault of the front is the fault of the whole
-whole_fault : (e : LoadFault) (whole bytes more : List ℕ) → whole ≡ bytes ++ more → loading bytes ≡ Err e → FaultAgrees e (length bytes < longest) (loading whole ≡ Err e)
-whole_fault e whole bytes more parts h =
-    let agrees : LoadAgrees bytes (Err e) (loading (bytes ++ more)) = subst (λ (r : Result Plan LoadFault). LoadAgrees bytes r (loading (bytes ++ more))) h (loading_agrees bytes more) in
-    subst (λ (w : List ℕ). FaultAgrees e (length bytes < longest) (loading w ≡ Err e)) (sym parts) agrees
-
 whole_plan : (p : Plan) (bytes more : List ℕ) → loading bytes ≡ Ok p → length bytes ≤ longest
 whole_plan p bytes more h = subst (λ (r : Result Plan LoadFault). LoadAgrees bytes r (loading (bytes ++ more))) h (loading_agrees bytes more)
-
-pub answered : (whole bytes more : List ℕ) (failed : Bool) (judged : Result Plan LoadFault) → whole ≡ bytes ++ more → (failed ≡ false → length bytes < 22083415 → more ≡ []) → FieldGives (λ s. s) judged (loading bytes) → LoadGives (λ s. s) (settled judged failed) (loading whole)
-answered whole bytes more true (Ok p) parts ends h = tt
-answered whole bytes more true (Err load.Short) parts ends h = tt
-answered whole bytes more true (Err load.Read) parts ends h = tt
-answered whole bytes more true (Err load.NoMemory) parts ends h = tt
-answered whole bytes more true (Err load.BadMagic) parts ends h = whole_fault load.BadMagic whole bytes more parts h
-answered whole bytes more true (Err load.BadVersion) parts ends h = whole_fault load.BadVersion whole bytes more parts h
-answered whole bytes more true (Err (load.BadField n)) parts ends h = whole_fault (load.BadField n) whole bytes more parts h
-answered whole bytes more true (Err load.Trailing) parts ends h = whole_fault load.Trailing whole bytes more parts h
-answered whole bytes more false (Ok p) parts ends h = whole_is whole bytes more parts (ends refl (omega (arith, whole_plan p bytes more h))) ∙ h
-answered whole bytes more false (Err load.Short) parts ends h = whole_is whole bytes more parts (ends refl (omega (arith, whole_fault load.Short whole bytes more parts h))) ∙ h
-answered whole bytes more false (Err load.Read) parts ends h = tt
-answered whole bytes more false (Err load.NoMemory) parts ends h = tt
-answered whole bytes more false (Err load.BadMagic) parts ends h = whole_fault load.BadMagic whole bytes more parts h
-answered whole bytes more false (Err load.BadVersion) parts ends h = whole_fault load.BadVersion whole bytes more parts h
-answered whole bytes more false (Err (load.BadField n)) parts ends h = whole_fault (load.BadField n) whole bytes more parts h
-answered whole bytes more false (Err load.Trailing) parts ends h = whole_fault load.Trailing whole bytes more parts h
 
 -- ---- what a source gave before it failed
 pub given_is : (whole bytes more : List ℕ) → whole ≡ bytes ++ more → given_between whole more ≡ bytes
 given_is whole bytes more parts =
     let count : length whole - length more ≡ length bytes = omega (arith, ap length parts, length-append bytes more) in
     ap (λ (n : ℕ). take n whole) count ∙ ap (take (length bytes)) parts ∙ take-append_seam bytes more
-
-pub read_is_open : (bytes : List ℕ) (failed : Bool) (judged : Result Plan LoadFault) → FieldGives (λ s. s) judged (loading bytes) → settled judged failed ≡ Err load.Read → IsOpen (loading bytes)
-read_is_open bytes true (Ok p) h e = subst IsOpen (sym h) tt
-read_is_open bytes true (Err load.Short) h e = subst IsOpen (sym h) tt
-read_is_open bytes true (Err load.Read) h e = absurd h
-read_is_open bytes true (Err load.NoMemory) h e = absurd cc
-read_is_open bytes true (Err load.BadMagic) h e = absurd cc
-read_is_open bytes true (Err load.BadVersion) h e = absurd cc
-read_is_open bytes true (Err (load.BadField n)) h e = absurd cc
-read_is_open bytes true (Err load.Trailing) h e = absurd cc
-read_is_open bytes false (Ok p) h e = absurd cc
-read_is_open bytes false (Err load.Short) h e = absurd cc
-read_is_open bytes false (Err load.Read) h e = absurd h
-read_is_open bytes false (Err load.NoMemory) h e = absurd cc
-read_is_open bytes false (Err load.BadMagic) h e = absurd cc
-read_is_open bytes false (Err load.BadVersion) h e = absurd cc
-read_is_open bytes false (Err (load.BadField n)) h e = absurd cc
-read_is_open bytes false (Err load.Trailing) h e = absurd cc
 
 -- ---- how long an image is, of any version, since two differ in the version field alone
 pub image_bounded : (version : ℕ) (p : Plan) → IsPlan p → length (image_in version p) ≤ longest

@@ -33,13 +33,6 @@ abbrev pub LoadGives : {X Y : Type 0} → (X → Y) → Result X LoadFault → R
 LoadGives view (Ok x) given = given ≡ Ok (view x)
 LoadGives view (Err e) given = LoadFails e given
 
--- a judgement of bytes after which the source may have failed: only a fault that stands before their end is known
-abbrev pub settled : {X : Type 0} → Result X LoadFault → Bool → Result X LoadFault
-settled judged false = judged
-settled (Ok x) true = Err load.Read
-settled (Err load.Short) true = Err load.Read
-settled (Err e) true = Err e
-
 -- Read only where the source has failed, Short only where it has not
 abbrev pub FaultFits : LoadFault → Bool → Type 0
 FaultFits load.Read failed = failed ≡ true

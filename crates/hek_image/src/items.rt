@@ -1,12 +1,14 @@
-//! Rows, transactions and steps of an image, each added to a schedule.
-ghost use Rattle.std.specs.Prelude.{◌≡◌, ◌+◌, ◌<◌, ◌≤◌, length, OnOk, IfOk, IsTrue};
-ghost use Rattle.hek_image.specs.Loading.{row_at, txn_at, step_at, kind_at, times, level_coded, is_detect, is_scan, txn_fits, first_fits, second_fits, checked, number_at};
+//! Rows, names and steps of an image, each added to a schedule.
+ghost use Rattle.std.specs.Prelude.{◌≡◌, ◌+◌, ◌<◌, ◌≤◌, length, OnOk, OnErr, IfOk, IsTrue};
+ghost use Rattle.hek_image.specs.Loading.{row_at, step_at, kind_at, level_coded, is_detect, is_scan, txn_fits, first_fits, second_fits, checked, number_at};
 ghost use Rattle.std.specs.Int.{w32, w64};
 ghost use Rattle.hek_image.specs.Gives.{FieldFails, FieldGives};
 ghost use Rattle.hek_image.specs.Places.{place_of};
+ghost use Rattle.hek_image.specs.Taking.{name_at, item_at, ItemsFit, HasGrown};
 
 use crate::fault::LoadFault;
-use crate::fields::{bytes_at, u8_at, u8_within, u32_at, u64_at};
+use crate::fields::{bytes_at, u8_at, u32_at, u64_at};
+use crate::item::Item;
 use crate::place::Place;
 use hek_rules::{EventKind, Level, Schedule, TxnId, name_text};
 
@@ -18,6 +20,7 @@ fn row_at<'a>(schedule: &mut Schedule, place: Place<'a>) -> Result<Place<'a>, Lo
     ensures len { OnOk result (length schedule.new.rows ≡ length schedule.old.rows + 1) }
     ensures txns { OnOk result (schedule.new.txns ≡ schedule.old.txns) }
     ensures steps { OnOk result (schedule.new.steps ≡ schedule.old.steps) }
+    ensures err { OnErr result (schedule.new ≡ schedule.old) }
 {
     let (key, after) = u64_at(place)?;
     if !schedule.row_fits(key) {
@@ -28,7 +31,7 @@ fn row_at<'a>(schedule: &mut Schedule, place: Place<'a>) -> Result<Place<'a>, Lo
     Ok(after)
 }
 
-fn level_coded(byte: u8) -> Level
+pub(crate) fn level_coded(byte: u8) -> Level
     ensures { result ≡ level_coded byte }
 {
     match byte {
@@ -38,29 +41,29 @@ fn level_coded(byte: u8) -> Level
     }
 }
 
-// A transaction of an image of this version, which is added.
-#[tactic(auto, unfolding(crate::specs::Loading::txn_at, crate::specs::Loading::checked, crate::specs::Loading::both))]
-fn txn_at<'a>(
-    version: u8,
+// The name of a transaction of this level, which is added.
+#[tactic(auto, unfolding(crate::specs::Loading::checked, crate::specs::Loading::both))]
+fn name_at<'a>(
+    level: Level,
+    len: u8,
     schedule: &mut Schedule,
     place: Place<'a>,
 ) -> Result<Place<'a>, LoadFault>
-    requires known { version ≤ 2 }
-    requires room { length schedule.old.txns < 1024 }
-    ensures gives { FieldGives (λ p. (schedule.new, place_of p)) result (txn_at version schedule.old (place_of place.entry)) }
+    requires { length schedule.old.txns < 1024 }
+    ensures gives { FieldGives (λ p. (schedule.new, place_of p)) result (name_at level len schedule.old (place_of place.entry)) }
     ensures len { OnOk result (length schedule.new.txns ≡ length schedule.old.txns + 1) }
+    ensures rows { OnOk result (schedule.new.rows ≡ schedule.old.rows) }
     ensures steps { OnOk result (schedule.new.steps ≡ schedule.old.steps) }
+    ensures err { OnErr result (schedule.new ≡ schedule.old) }
 {
-    let (level, after) = u8_within(1, version + 1, place)?;
-    let (len, name_place) = u8_within(1, 32, after)?;
-    let (name, after) = bytes_at(len as usize, name_place)?;
+    let (name, after) = bytes_at(len as usize, place)?;
     let Some(name) = name_text(name) else {
-        return Err(LoadFault::BadField(name_place.at));
+        return Err(LoadFault::BadField(place.at));
     };
     if !schedule.txn_fits(name) {
-        return Err(LoadFault::BadField(name_place.at));
+        return Err(LoadFault::BadField(place.at));
     }
-    schedule.add_txn(name, level_coded(level))?;
+    schedule.add_txn(name, level)?;
     Ok(after)
 }
 
@@ -160,6 +163,9 @@ fn step_at<'a>(schedule: &mut Schedule, place: Place<'a>) -> Result<Place<'a>, L
     requires { length schedule.old.steps < 1000000 }
     ensures gives { FieldGives (λ p. (schedule.new, place_of p)) result (step_at schedule.old (place_of place.entry)) }
     ensures len { OnOk result (length schedule.new.steps ≡ length schedule.old.steps + 1) }
+    ensures rows { OnOk result (schedule.new.rows ≡ schedule.old.rows) }
+    ensures txns { OnOk result (schedule.new.txns ≡ schedule.old.txns) }
+    ensures err { OnErr result (schedule.new ≡ schedule.old) }
 {
     let (kind, after) = kind_at(place)?;
     let (txn, after) = txn_number_at(schedule, kind, after)?;
@@ -170,61 +176,20 @@ fn step_at<'a>(schedule: &mut Schedule, place: Place<'a>) -> Result<Place<'a>, L
     Ok(after)
 }
 
-pub(crate) fn rows_at<'a>(
+// An item, which is added.
+pub(crate) fn item_at<'a>(
+    item: Item,
     schedule: &mut Schedule,
-    count: u32,
     place: Place<'a>,
 ) -> Result<Place<'a>, LoadFault>
-    requires { length schedule.old.rows + count ≤ 65536 }
-    ensures gives { FieldGives (λ p. (schedule.new, place_of p)) result (times count row_at schedule.old (place_of place.entry)) }
-    ensures txns { OnOk result (schedule.new.txns ≡ schedule.old.txns) }
-    ensures steps { OnOk result (schedule.new.steps ≡ schedule.old.steps) }
+    requires { ItemsFit item 1 schedule.old }
+    ensures gives { FieldGives (λ p. (schedule.new, place_of p)) result (item_at item schedule.old (place_of place.entry)) }
+    ensures grown { OnOk result (HasGrown item 1 schedule.old schedule.new) }
+    ensures err { OnErr result (schedule.new ≡ schedule.old) }
 {
-    let mut place = place;
-    for _ in 0..count {
-        match row_at(schedule, place) {
-            Ok(after) => place = after,
-            Err(fault) => return Err(fault),
-        }
+    match item {
+        Item::Row => row_at(schedule, place),
+        Item::Name(level, len) => name_at(level, len, schedule, place),
+        Item::Step => step_at(schedule, place),
     }
-    Ok(place)
-}
-
-pub(crate) fn txns_at<'a>(
-    version: u8,
-    schedule: &mut Schedule,
-    count: u32,
-    place: Place<'a>,
-) -> Result<Place<'a>, LoadFault>
-    requires known { version ≤ 2 }
-    requires room { length schedule.old.txns + count ≤ 1024 }
-    ensures gives { FieldGives (λ p. (schedule.new, place_of p)) result (times count (txn_at version) schedule.old (place_of place.entry)) }
-    ensures steps { OnOk result (schedule.new.steps ≡ schedule.old.steps) }
-{
-    let mut place = place;
-    for _ in 0..count {
-        match txn_at(version, schedule, place) {
-            Ok(after) => place = after,
-            Err(fault) => return Err(fault),
-        }
-    }
-    Ok(place)
-}
-
-pub(crate) fn steps_at<'a>(
-    schedule: &mut Schedule,
-    count: u32,
-    place: Place<'a>,
-) -> Result<Place<'a>, LoadFault>
-    requires { length schedule.old.steps + count ≤ 1000000 }
-    ensures { FieldGives (λ p. (schedule.new, place_of p)) result (times count step_at schedule.old (place_of place.entry)) }
-{
-    let mut place = place;
-    for _ in 0..count {
-        match step_at(schedule, place) {
-            Ok(after) => place = after,
-            Err(fault) => return Err(fault),
-        }
-    }
-    Ok(place)
 }

@@ -3,11 +3,13 @@
 
 mod fault;
 mod fields;
-mod gather;
+mod item;
 mod items;
 mod laws;
 mod loading;
+mod pieces;
 mod place;
+mod reading;
 mod writing;
 
 pub use fault::LoadFault;

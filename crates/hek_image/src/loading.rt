@@ -1,20 +1,22 @@
 //! A schedule from one of its images.
-ghost use Rattle.std.specs.Prelude.{◌≡◌, ◌+◌, ◌≤◌, length, false, IfOk, IsTrue, Err};
+ghost use Rattle.std.specs.Prelude.{◌≡◌, ◌+◌, ◌≤◌, ◌⊎◌, [], length, false, OnOk, IfOk, IfErr, IsTrue, Err};
 ghost use Rattle.hek_image.specs.Loading.{magic_at, version_at, header_at, loading};
-ghost use Rattle.hek_image.specs.Gives.{FieldFails, FieldGives, LoadFails, LoadGives, AnswerFits, IsOpen, given_between, settled};
-ghost use Rattle.hek_image.specs.Places.{place_of};
+ghost use Rattle.hek_image.specs.Gives.{FieldFails, FieldGives, LoadFails, LoadGives, AnswerFits, IsOpen, given_between};
+ghost use Rattle.hek_image.specs.Places.{place_of, header_of};
+ghost use Rattle.hek_image.specs.Taking.{Takes, body_at};
 ghost use Rattle.hek_image.specs.declared.fault.LoadFault.TheVariants as load;
 
 use crate::fault::LoadFault;
 use crate::fields::{bytes_at, u16_at, u32_within};
-use crate::gather::gather;
-use crate::items::{rows_at, steps_at, txns_at};
+use crate::item::Item;
+use crate::pieces::{ROOM, is_short, take_more};
 use crate::place::Place;
+use crate::reading::{next_items, next_txns};
 use hek_rules::{Schedule, Source};
 use std::alloc::Global;
 
-/// One byte more than the longest image has: 22 of the header, 16 a row, 34 a transaction, 21 a step.
-const LIMIT: usize = 22_083_415;
+/// How many bytes the header has.
+const HEADER: usize = 22;
 
 // The version, and how many rows, transactions and steps there are.
 #[derive(Clone, Copy)]
@@ -50,7 +52,7 @@ fn version_at(place: Place<'_>) -> Result<(u16, Place<'_>), LoadFault>
 
 #[tactic(auto, unfolding(crate::specs::Loading::header_at, crate::specs::Loading::both))]
 fn header_at(alloc: Global, place: Place<'_>) -> Result<(Schedule, Header, Place<'_>), LoadFault>
-    ensures gives { FieldGives (λ x. ((x.0, record { version = x.1.version; rows = x.1.rows; txns = x.1.txns; steps = x.1.steps }), place_of x.2)) result (header_at (place_of place.entry)) }
+    ensures gives { FieldGives (λ x. ((x.0, header_of x.1), place_of x.2)) result (header_at (place_of place.entry)) }
     ensures known { IfOk result (λ x. x.1.version ≤ 2) }
     ensures rows { IfOk result (λ x. (length x.0.rows ≡ 0) × (x.1.rows ≤ 65536)) }
     ensures txns { IfOk result (λ x. (length x.0.txns ≡ 0) × (x.1.txns ≤ 1024)) }
@@ -72,39 +74,68 @@ fn header_at(alloc: Global, place: Place<'_>) -> Result<(Schedule, Header, Place
     Ok((schedule, header, place))
 }
 
-// The schedule that bytes are an image of, or their first fault.
-#[tactic(auto, unfolding(crate::specs::Loading::loading, crate::specs::Loading::plan_at, crate::specs::Loading::both))]
-fn judge(alloc: Global, bytes: &[u8]) -> Result<Schedule, LoadFault>
-    ensures { FieldGives (λ s. s) result (loading bytes.now) }
+// The header that a source begins with, judged with each piece of it that comes.
+fn next_header<S: Source>(alloc: Global, source: &mut S) -> Result<(Schedule, Header), LoadFault>
+    requires { S.failed source.old ≡ false }
+    ensures takes { IsTrue (S.tells source.old) → Takes (λ x. ((x.0, header_of x.1), 22)) header_at 0 22 result (S.left source.old) (S.left source.new) }
+    ensures known { IfOk result (λ x. x.1.version ≤ 2) }
+    ensures rows { IfOk result (λ x. (length x.0.rows ≡ 0) × (x.1.rows ≤ 65536)) }
+    ensures txns { IfOk result (λ x. (length x.0.txns ≡ 0) × (x.1.txns ≤ 1024)) }
+    ensures steps { IfOk result (λ x. (length x.0.steps ≡ 0) × (x.1.steps ≤ 1000000)) }
+    ensures tells { IsTrue (S.tells source.old) → IsTrue (S.tells source.new) }
+    ensures fails { AnswerFits result (S.failed source.new) }
 {
-    let place = Place { at: 0, rest: bytes };
-    let (mut schedule, header, place) = header_at(alloc, place)?;
-    let place = rows_at(&mut schedule, header.rows, place)?;
-    let place = txns_at(header.version, &mut schedule, header.txns, place)?;
-    let place = steps_at(&mut schedule, header.steps, place)?;
-    if !place.rest.is_empty() {
-        return Err(LoadFault::Trailing);
+    let mut buffer = [0u8; ROOM];
+    let mut held = 0;
+    loop {
+        let (bytes, _) = buffer.split_at(held);
+        match header_at(alloc, Place { at: 0, rest: bytes }) {
+            Ok((schedule, header, _)) => return Ok((schedule, header)),
+            Err(fault) => {
+                if !is_short(fault) {
+                    return Err(fault);
+                }
+            }
+        }
+        match take_more(source, &mut buffer, held, HEADER) {
+            Ok(count) => held = count,
+            Err(fault) => return Err(fault),
+        }
     }
-    Ok(schedule)
 }
 
-// What the bytes say, where the source may have failed after them: only a fault that stands before their end is known.
-fn settled(judged: Result<Schedule, LoadFault>, failed: bool) -> Result<Schedule, LoadFault>
-    ensures { result ≡ settled judged failed }
+// All that the header counts. It answers where it ends.
+fn next_body<S: Source>(
+    header: Header,
+    schedule: &mut Schedule,
+    source: &mut S,
+) -> Result<u64, LoadFault>
+    requires works { S.failed source.old ≡ false }
+    requires known { header.version ≤ 2 }
+    requires rows { length schedule.old.rows + header.rows ≤ 65536 }
+    requires txns { length schedule.old.txns + header.txns ≤ 1024 }
+    requires steps { length schedule.old.steps + header.steps ≤ 1000000 }
+    ensures takes { IsTrue (S.tells source.old) → Takes (λ n. (schedule.new, n)) (body_at (schedule.old, header_of header)) 22 22083392 result (S.left source.old) (S.left source.new) }
+    ensures tells { IsTrue (S.tells source.old) → IsTrue (S.tells source.new) }
+    ensures fails { AnswerFits result (S.failed source.new) }
 {
-    match judged {
-        Ok(schedule) => {
-            if failed {
-                return Err(LoadFault::Read);
-            }
-            Ok(schedule)
-        }
-        Err(LoadFault::Short) => {
-            if failed {
-                return Err(LoadFault::Read);
-            }
-            Err(LoadFault::Short)
-        }
+    let at = next_items(Item::Row, header.rows, schedule, HEADER as u64, source)?;
+    let at = next_txns(header.version, header.txns, schedule, at, source)?;
+    next_items(Item::Step, header.steps, schedule, at, source)
+}
+
+// The end of the source.
+fn at_end<S: Source>(source: &mut S) -> Result<(), LoadFault>
+    requires { S.failed source.old ≡ false }
+    ensures end { OnOk result (IsTrue (S.tells source.old) → S.left source.old ≡ []) }
+    ensures trailing { result ≡ Err load.Trailing → IsTrue (S.tells source.old) → length (S.left source.old) ≡ 1 + length (S.left source.new) }
+    ensures read { result ≡ Err load.Read → IsTrue (S.tells source.old) → S.left source.old ≡ S.left source.new }
+    ensures fault { IfErr result (λ e. (e ≡ load.Trailing) ⊎ (e ≡ load.Read)) }
+    ensures fails { AnswerFits result (S.failed source.new) }
+{
+    match take_more(source, &mut [0u8; 1], 0, 1) {
+        Ok(_) => Err(LoadFault::Trailing),
+        Err(LoadFault::Short) => Ok(()),
         Err(fault) => Err(fault),
     }
 }
@@ -120,6 +151,8 @@ pub fn load_image<S: Source>(alloc: Global, source: &mut S) -> Result<Schedule, 
     ensures fits { AnswerFits result (S.failed source.new) }
     ensures read { IsTrue (S.tells source.old) → result ≡ Err load.Read → IsOpen (loading (given_between (S.left source.old) (S.left source.new))) }
 {
-    let gathered = gather(alloc, source, LIMIT)?;
-    settled(judge(alloc, gathered.bytes.as_slice()), gathered.failed)
+    let (mut schedule, header) = next_header(alloc, source)?;
+    next_body(header, &mut schedule, source)?;
+    at_end(source)?;
+    Ok(schedule)
 }

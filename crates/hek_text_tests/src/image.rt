@@ -2,6 +2,7 @@ ghost use Rattle.std.specs.Prelude.{◌<◌};
 
 use crate::asserts::{is, is_at};
 use hek_image::{LoadFault, load_image, write_image};
+use hek_plain_image::gathered_image;
 use hek_rules::{Ending, Event, Level, MemorySink, MemorySource, Schedule, TxnId, WriteFault};
 use std::alloc::Global;
 use std::process::Abort;
@@ -208,16 +209,98 @@ fn tells_where_the_bytes_end(rt: HostRuntime) {
     );
 }
 
-// A source without end is read no further than one byte past the longest image.
-#[test]
-fn stops_at_the_longest_image(rt: HostRuntime) {
-    let mut source = MemorySource::new(&[], 100_000, Ending::Endless);
-    is(
-        &rt,
-        load_image(rt.alloc(), &mut source).err(),
-        Some(LoadFault::BadMagic),
+// How many bytes of an endless source that begins with these are taken, at most 32 at a time, and what is told.
+fn assert_takes(
+    rt: &impl Abort,
+    alloc: Global,
+    bytes: &[u8],
+    piece: usize,
+    taken: u64,
+    fault: LoadFault,
+)
+    requires { 0 < piece }
+{
+    let mut source = MemorySource::new(bytes, piece, Ending::Endless);
+    is_at(rt, piece, load_image(alloc, &mut source).err(), Some(fault));
+    assert!(rt;
+        source.given() <= taken,
+        "{} bytes are taken",
+        source.given()
     );
-    is(&rt, source.given(), 22_083_415);
+}
+
+// A source without end is read no further than the fault wants.
+#[test]
+fn stops_at_a_fault(rt: HostRuntime) {
+    let mut with_bad_step = VECTOR;
+    with_bad_step[41] = 0x00;
+    for piece in [1usize, 3, 7, 100_000] {
+        assert!(rt; piece > 0);
+        assert_takes(&rt, rt.alloc(), b"\x47", piece, 32, LoadFault::BadMagic);
+        assert_takes(&rt, rt.alloc(), &[], piece, 32, LoadFault::BadMagic);
+        assert_takes(&rt, rt.alloc(), &VECTOR, piece, 63, LoadFault::Trailing);
+        assert_takes(
+            &rt,
+            rt.alloc(),
+            &VECTOR[..6],
+            piece,
+            32,
+            LoadFault::BadField(6),
+        );
+        assert_takes(
+            &rt,
+            rt.alloc(),
+            &with_bad_step,
+            piece,
+            62,
+            LoadFault::BadField(41),
+        );
+    }
+}
+
+// The loader, and the plain one that gathers first, answer the same over these bytes, however they end and are cut.
+fn assert_agree(rt: &impl Abort, alloc: Global, bytes: &[u8], piece: usize, ending: Ending)
+    requires { 0 < piece }
+{
+    let mut source = MemorySource::new(bytes, piece, ending);
+    match (
+        load(alloc, bytes, piece, ending),
+        gathered_image(alloc, &mut source),
+    ) {
+        (Ok(loaded), Ok(gathered)) => assert!(rt; loaded.same(&gathered)),
+        (loaded, gathered) => is_at(rt, bytes.len(), loaded.err(), gathered.err()),
+    }
+}
+
+#[test]
+fn agrees_with_a_plain_loader_on_fronts(rt: HostRuntime) {
+    let old = vector(1, 0x02);
+    for len in 0..=62usize {
+        for piece in [1usize, 3, 7, 100] {
+            for ending in [Ending::Ends, Ending::Fails] {
+                assert!(rt; piece > 0);
+                assert_agree(&rt, rt.alloc(), &VECTOR[..len], piece, ending);
+                assert_agree(&rt, rt.alloc(), &old[..len], piece, ending);
+            }
+        }
+    }
+    assert_agree(&rt, rt.alloc(), b"\x47", 100_000, Ending::Endless);
+    assert_agree(&rt, rt.alloc(), &VECTOR, 100_000, Ending::Endless);
+}
+
+// A few changes of each byte: the program hek_hostile tries all.
+#[test]
+fn agrees_with_a_plain_loader_on_changed_bytes(rt: HostRuntime) {
+    for place in 0..62usize {
+        for change in [0x01u8, 0x02, 0x03, 0x10, 0x20, 0x80, 0xFF] {
+            for version in [1u8, 2] {
+                let mut bytes = vector(version, 0x01);
+                assert!(rt; place < 62);
+                bytes[place] ^= change;
+                assert_agree(&rt, rt.alloc(), &bytes, 7, Ending::Ends);
+            }
+        }
+    }
 }
 
 #[test]

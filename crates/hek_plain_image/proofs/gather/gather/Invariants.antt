@@ -1,5 +1,5 @@
 use Rattle.std.proofs.Common.{◌≡◌, ◌≤◌, ◌-◌, ◌++◌, false, length, IsTrue}
-use Rattle.hek_image.proofs.gather.gather.Given as goal
+use Rattle.hek_plain_image.proofs.gather.gather.Given as goal
 
 abbrev pub invariant-loop-chunk : goal.invariant-loop-chunk
 invariant-loop-chunk g l = record {
