@@ -1,5 +1,6 @@
 use Rattle.std.proofs.Common.{subst, List, ℕ}
 use Rattle.std.specs.Io.KnownBytes.{Appends}
+use Rattle.hek_asm.specs.Reading.{IsTraceOf}
 use Rattle.hek_commands.specs.Judged.{verdict_text, why_text, judged_as}
 use Rattle.std.proofs.KnownBytes.{Appends-trans}
 use Rattle.hek_commands.proofs.check.check_command.Goals as goal
@@ -15,7 +16,7 @@ returns g c =
       plan = c.in_ok-schedule.schedule;
       is = c.in_ok-schedule.ensures;
       told = told;
-      read = c.in_ok-transcript.ensures;
+      read = subst (λ (xs : List ℕ). IsTraceOf c.in_ok-schedule.schedule told xs) c.in-Ok.ensures.cases.0 c.in_ok-transcript.ensures;
       verdict = verdict;
       right = c.in_ok-verdict.ensures;
       written = Appends-trans held told_verdict after (verdict_text verdict) (why_text c.args.why (judged_as c.args.level told) verdict) c.in_ok-status.ensures.ok.1
