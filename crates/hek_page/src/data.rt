@@ -78,11 +78,17 @@ fn pass_steps(
         if place >= shown.done {
             break;
         }
-        let event = steps[place];
-        let reply = machine.step(event)?;
-        gathered.told.push(event, reply)?;
+        pass_step(machine, &steps[place], &mut gathered.told)?;
     }
     Ok(())
+}
+
+fn pass_step(machine: &mut Machine, event: &Event, told: &mut Transcript) -> Result<(), NoMemory>
+    requires placed { IsPlaced (length machine.old.buckets) event.now }
+    ensures buckets { length machine.new.buckets ≡ length machine.old.buckets }
+{
+    let reply = machine.step(*event)?;
+    told.push(*event, reply)
 }
 
 /// Does the steps of the page.
@@ -99,17 +105,14 @@ fn show_steps(
     requires declared { AllByRecursion (NamesDeclared (length schedule.now.txns)) steps.now }
 {
     for place in 0..steps.len() {
-        if place < shown.done || place >= shown.last {
+        if place < shown.done {
             continue;
         }
-        show_step(
-            alloc,
-            schedule,
-            machine,
-            place as u64 + 1,
-            steps[place],
-            gathered,
-        )?;
+        if place >= shown.last {
+            break;
+        }
+        let event = steps[place];
+        show_step(alloc, schedule, machine, place as u64 + 1, event, gathered)?;
     }
     Ok(())
 }
@@ -122,9 +125,10 @@ fn show_step(
     event: Event,
     gathered: &mut Gathered,
 ) -> Result<(), NoMemory>
-    requires placed { IsPlaced (length machine.old.buckets) event }
+    requires buckets { length machine.old.buckets ≡ schedule.now.buckets }
+    requires placed { IsPlaced schedule.now.buckets event }
     requires declared { NamesDeclared (length schedule.now.txns) event }
-    ensures buckets { length machine.new.buckets ≡ length machine.old.buckets }
+    ensures buckets { length machine.new.buckets ≡ schedule.now.buckets }
 {
     let reply = machine.step(event)?;
     put_line(alloc, schedule, number, event, &reply, &mut gathered.trace)?;

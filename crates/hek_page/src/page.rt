@@ -7,10 +7,9 @@ use crate::data::{Shown, data_of};
 use crate::frame::{BACK, FRONT, MIDDLE};
 use crate::script::SCRIPT;
 use crate::style::STYLE;
-use hek_commands::{HekFault, ScheduleFile, schedule_in};
-use hek_rules::Schedule;
+use hek_commands::{HekFault, ScheduleFile, schedule_in, send};
+use hek_rules::{NoMemory, Schedule};
 use std::alloc::Global;
-use std::io;
 use std::io::{Read, Write};
 
 /// The most steps of a page.
@@ -55,10 +54,9 @@ fn write_page<'a, W: Write, E: Write>(
         return Ok(1);
     }
     let data = text_of(alloc, schedule, shown)?;
-    match put_page(data.as_str(), out) {
-        Ok(()) => Ok(0),
-        Err(_) => Err(HekFault::CannotWrite),
-    }
+    let mut page = page_of(alloc, data.as_str())?;
+    send(&mut page, out)?;
+    Ok(0)
 }
 
 /// Of so many steps those of a part.
@@ -81,18 +79,14 @@ fn text_of<'a>(alloc: Global, schedule: &Schedule, shown: Shown) -> Result<Strin
     data.to_string(alloc).map_err(|_| HekFault::NoMemory)
 }
 
-/// The data has names of small letters, digits and underscores, and words and numbers of ours: no part of it ends the element
-/// that it stands in, and the script sets it as text.
-fn put_page<W: Write>(data: &str, out: &mut W) -> io::Result<()>
-    ensures { OnOk result (WritesPage (W.contents out.old) (W.contents out.new)) }
-{
-    out.write_all(FRONT.as_bytes())?;
-    out.write_all(STYLE.as_bytes())?;
-    out.write_all(MIDDLE.as_bytes())?;
-    out.write_all(data.as_bytes())?;
-    out.write_all(BACK.as_bytes())?;
-    out.write_all(SCRIPT.as_bytes())?;
-    out.write_all(END.as_bytes())
+/// The page of these data. They have names of small letters, digits and underscores, and words and numbers of ours: no part of
+/// them ends the element that it stands in, and the script sets it as text.
+fn page_of(alloc: Global, data: &str) -> Result<Vec<u8>, NoMemory> {
+    let mut page = Vec::new(alloc);
+    for part in [FRONT, STYLE, MIDDLE, data, BACK, SCRIPT, END] {
+        page.extend_from_slice(part.as_bytes())?;
+    }
+    Ok(page)
 }
 
 const END: &str = "</script>\n</body>\n</html>\n";
