@@ -1,5 +1,7 @@
 ghost use Rattle.std.specs.Prelude.{◌≡◌, ◌<◌, length};
 
+mod flat;
+
 use crate::asserts::is;
 use hek_rules::{Schedule, Time, TxnId, VersionId};
 use hek_store::{Store, Version};
