@@ -1,7 +1,8 @@
 -- Walks by the workers' grammar, and what the events of a play do to them.
-use Rattle.std.proofs.Common.{◌≡◌, ℕ, suc, zero, ◌+◌, ◌<◌, ◌≤◌, Bool, true, false, List, [], ◌∷◌, ◌++◌, length, refl, ap, sym, subst, ◌∙◌, inl, inr, arith, Option, Some, None, append_assoc, IsTrue, map, is_some, replicate}
-use Rattle.std.specs.Prelude.{◌⊎◌, ◌==◌, nat_lt, nat_le, slice_get, slice_set, filter}
-use Rattle.std.proofs.lemmas.List.{map-append, append-nil, length-set, length-replicate}
+use Rattle.std.proofs.Common.{◌≡◌, ℕ, suc, zero, ◌+◌, ◌<◌, ◌≤◌, Bool, true, false, List, [], ◌∷◌, ◌++◌, length, refl, ap, sym, subst, ◌∙◌, inl, inr, arith, Option, Some, None, append_assoc, IsTrue, map, is_some, replicate, reverse, take, get_or, add-one}
+use Rattle.std.specs.Prelude.{Result, Ok, Err, OnOk, ◌⊎◌, ◌==◌, nat_lt, nat_le, slice_get, slice_set, filter}
+use Rattle.std.proofs.lemmas.List.{map-append, append-nil, length-set, length-replicate, reverse-append}
+use Rattle.std.proofs.Math.Seq.{take-suc}
 use Rattle.std.proofs.lemmas.List.Sums.{sum_by-cons}
 use Rattle.std.proofs.lemmas.Option.{slice_get_within}
 use Rattle.std.proofs.lemmas.List.Elements.{filter-append}
@@ -85,12 +86,12 @@ same_some : {X : Type 0} (o : Option X) (x y : X) → o ≡ Some x → o ≡ Som
 same_some o x y h g = cc
 
 -- one event more of a transaction
-made_one : (form : Form) (t : ℕ) (w : Work) (p m q : Place) (old h new : List Entry) → (g : HasGone form t w p m old h) → IsTrue (may_go form w m.moves m.stage)
+pub made_one : (form : Form) (t : ℕ) (w : Work) (p m q : Place) (old h new : List Entry) → (g : HasGone form t w p m old h) → IsTrue (may_go form w m.moves m.stage)
     → IsMade form t w m q h new → HasGone form t w p q old new
 made_one form t w p m q old h new g may d =
     let x : Event × Reply = (event_at t w.events (turned form w m.stage), d.reply) in
     let one : Walks form t w p.moves (standing_of m) (x ∷ []) (standing_of q) =
-    (standing_of q, inr (subst (λ (n : ℕ). IsTrue (may_go form w n m.stage)) g.moves may, refl, d.standing), refl) in
+        (standing_of q, inr (subst (λ (n : ℕ). IsTrue (may_go form w n m.stage)) g.moves may, refl, d.standing), refl) in
     record {
       made = g.made ++ x ∷ [];
       grown = d.entry ∙ ap (λ (ys : List Entry). ys ++ entry_of t x ∷ []) g.grown ∙ append_assoc old (map (entry_of t) g.made) (entry_of t x ∷ [])
@@ -134,11 +135,11 @@ walk_here form works k w v p q r places old new at gw gp gone gv gr =
     let v_is : w ≡ v = same_some (slice_get works k) w v gw gv in
     let r_is : q ≡ r = sym (set_here places k p q r gp gr) in
     let long : Walks form (k + 1) w p.moves at_start (part_of (k + 1) old ++ gone.made) (standing_of q) =
-    walk_on form (k + 1) w p.moves at_start (standing_of p) (standing_of q) (part_of (k + 1) old) gone.made (at.walks k w p gw gp) gone.walk in
+        walk_on form (k + 1) w p.moves at_start (standing_of p) (standing_of q) (part_of (k + 1) old) gone.made (at.walks k w p gw gp) gone.walk in
     let part : Walks form (k + 1) w p.moves at_start (part_of (k + 1) new) (standing_of q) =
-    subst (λ (xs : List (Event × Reply)). Walks form (k + 1) w p.moves at_start xs (standing_of q)) (sym (own_part (k + 1) old new gone.made gone.grown)) long in
+        subst (λ (xs : List (Event × Reply)). Walks form (k + 1) w p.moves at_start xs (standing_of q)) (sym (own_part (k + 1) old new gone.made gone.grown)) long in
     let moved : Walks form (k + 1) w q.moves at_start (part_of (k + 1) new) (standing_of q) =
-    subst (λ (n : ℕ). Walks form (k + 1) w n at_start (part_of (k + 1) new) (standing_of q)) (sym gone.moves) part in
+        subst (λ (n : ℕ). Walks form (k + 1) w n at_start (part_of (k + 1) new) (standing_of q)) (sym gone.moves) part in
     subst (λ (z : Place). Walks form (k + 1) v z.moves at_start (part_of (k + 1) new) (standing_of z)) r_is
     (subst (λ (z : Work). Walks form (k + 1) z q.moves at_start (part_of (k + 1) new) (standing_of q)) v_is moved)
 
@@ -224,6 +225,7 @@ looked form works u r places old new is all = record {
 
 pub looked_later : (u : ℕ) (r : Reply) (places : List Place) (old new : List Entry) → new ≡ old ++ entry_of u (Detect, r) ∷ [] → IsLater places old places new
 looked_later u r places old new is = record { more = entry_of u (Detect, r) ∷ []; grown = is; moves = λ i p g. (p, g, refl) }
+
 
 count_there : (form : Form) (works : List Work) (k i : ℕ) (v : Work) (p r : Place) (places : List Place) (h : List Entry) → AreAt form works places h
     → slice_get places k ≡ Some p → slice_get works i ≡ Some v → slice_get (slice_set places k (record p { moves = p.moves + 1 })) i ≡ Some r
@@ -352,3 +354,20 @@ at_first form works n h places is e none =
       counted = λ i p gp. ap (λ (z : Place). z.moves) (all_first n i first_place p gp);
       play = none;
     })
+
+pub back_more : (xs : List ℕ) (i d : ℕ) → i < length xs → reverse (take (i + 1) xs) ≡ get_or xs i d ∷ reverse (take i xs)
+back_more xs i d h = ap (λ (n : ℕ). reverse (take n xs)) (add-one i) ∙ ap reverse (take-suc xs i d h) ∙ reverse-append (take i xs) (get_or xs i d ∷ [])
+
+-- the walk of a transaction that rests
+pub came_to : (form : Form) (t : ℕ) (w : Work) (p q : Place) (old new : List Entry) → HasGone form t w p q old new → IsResting form w q → HasCome form t w p q old new
+came_to form t w p q old new gone rest = record { gone = gone; rest = rest }
+
+pub moved_if : {A E : Type 0} (r : Result A E) (t : ℕ) (ps qs rs ss : List Place) (h now last : List Entry) → IsCounted t ps qs → IsLater qs h rs now
+    → OnOk r (IsLater rs now ss last) → OnOk r (HasMoved t ps h ss last)
+moved_if (Ok x) t ps qs rs ss h now last c later g = moved t ps qs ss h last c (later_on qs rs ss h now last later g)
+moved_if (Err e) t ps qs rs ss h now last c later g = tt
+
+pub got : {X : Type 0} (xs : List X) (k : ℕ) (x : X) → k < length xs → x ≡ get_or xs k x → slice_get xs k ≡ Some x
+got [] k x h e = absurd (omega arith)
+got (y ∷ ys) zero x h e = ap (λ (z : _). Some z) (sym e)
+got (y ∷ ys) (suc k) x h e = got ys k x (omega arith) e
