@@ -1,5 +1,5 @@
 -- Walks by the workers' grammar, and what the events of a play do to them.
-use Rattle.std.proofs.Common.{◌≡◌, ℕ, suc, zero, ◌+◌, ◌<◌, ◌≤◌, Bool, true, false, List, [], ◌∷◌, ◌++◌, length, refl, ap, sym, subst, ◌∙◌, inl, inr, arith, Option, Some, None, append_assoc, IsTrue, map, is_some, replicate, reverse, take, get_or, add-one}
+use Rattle.std.proofs.Common.{◌≡◌, ℕ, suc, zero, ◌+◌, ◌<◌, Bool, true, false, List, [], ◌∷◌, ◌++◌, length, refl, ap, sym, subst, ◌∙◌, inl, inr, arith, Option, Some, append_assoc, IsTrue, map, is_some, replicate, reverse, take, get_or, add-one}
 use Rattle.std.specs.Prelude.{Result, Ok, Err, OnOk, ◌⊎◌, ◌==◌, nat_lt, nat_le, slice_get, slice_set, filter}
 use Rattle.std.proofs.lemmas.List.{map-append, append-nil, length-set, length-replicate, reverse-append}
 use Rattle.std.proofs.Math.Seq.{take-suc}
@@ -21,7 +21,7 @@ use Rattle.hek_orders.specs.declared.play.Place.{Place}
 use Rattle.hek_orders.specs.Moves.{Work, last_moves}
 use Rattle.hek_orders.specs.Orders.{times}
 use Rattle.hek_orders.specs.Tallies.{one_if}
-use Rattle.hek_orders.specs.Plays.{Standing, at_start, may_go, turned, after_reply, Makes, Walks, AllStand, IsPlay}
+use Rattle.hek_orders.specs.Plays.{Standing, at_start, may_go, turned, Makes, Walks, AllStand, IsPlay}
 use Rattle.hek_orders.specs.Places.{first_place, standing_of, entry_of, IsResting, IsMade, HasGone, HasCome, AreAt, AllRest, RestBut, IsCounted, IsLater, HasMoved, AreCounted}
 
 lt_more : (i n : ℕ) → IsTrue (nat_lt i n) → IsTrue (nat_lt i (n + 1))
@@ -91,7 +91,7 @@ pub made_one : (form : Form) (t : ℕ) (w : Work) (p m q : Place) (old h new : L
 made_one form t w p m q old h new g may d =
     let x : Event × Reply = (event_at t w.events (turned form w m.stage), d.reply) in
     let one : Walks form t w p.moves (standing_of m) (x ∷ []) (standing_of q) =
-        (standing_of q, inr (subst (λ (n : ℕ). IsTrue (may_go form w n m.stage)) g.moves may, refl, d.standing), refl) in
+    (standing_of q, inr (subst (λ (n : ℕ). IsTrue (may_go form w n m.stage)) g.moves may, refl, d.standing), refl) in
     record {
       made = g.made ++ x ∷ [];
       grown = d.entry ∙ ap (λ (ys : List Entry). ys ++ entry_of t x ∷ []) g.grown ∙ append_assoc old (map (entry_of t) g.made) (entry_of t x ∷ [])
@@ -135,11 +135,11 @@ walk_here form works k w v p q r places old new at gw gp gone gv gr =
     let v_is : w ≡ v = same_some (slice_get works k) w v gw gv in
     let r_is : q ≡ r = sym (set_here places k p q r gp gr) in
     let long : Walks form (k + 1) w p.moves at_start (part_of (k + 1) old ++ gone.made) (standing_of q) =
-        walk_on form (k + 1) w p.moves at_start (standing_of p) (standing_of q) (part_of (k + 1) old) gone.made (at.walks k w p gw gp) gone.walk in
+    walk_on form (k + 1) w p.moves at_start (standing_of p) (standing_of q) (part_of (k + 1) old) gone.made (at.walks k w p gw gp) gone.walk in
     let part : Walks form (k + 1) w p.moves at_start (part_of (k + 1) new) (standing_of q) =
-        subst (λ (xs : List (Event × Reply)). Walks form (k + 1) w p.moves at_start xs (standing_of q)) (sym (own_part (k + 1) old new gone.made gone.grown)) long in
+    subst (λ (xs : List (Event × Reply)). Walks form (k + 1) w p.moves at_start xs (standing_of q)) (sym (own_part (k + 1) old new gone.made gone.grown)) long in
     let moved : Walks form (k + 1) w q.moves at_start (part_of (k + 1) new) (standing_of q) =
-        subst (λ (n : ℕ). Walks form (k + 1) w n at_start (part_of (k + 1) new) (standing_of q)) (sym gone.moves) part in
+    subst (λ (n : ℕ). Walks form (k + 1) w n at_start (part_of (k + 1) new) (standing_of q)) (sym gone.moves) part in
     subst (λ (z : Place). Walks form (k + 1) v z.moves at_start (part_of (k + 1) new) (standing_of z)) r_is
     (subst (λ (z : Work). Walks form (k + 1) z q.moves at_start (part_of (k + 1) new) (standing_of q)) v_is moved)
 
@@ -225,7 +225,6 @@ looked form works u r places old new is all = record {
 
 pub looked_later : (u : ℕ) (r : Reply) (places : List Place) (old new : List Entry) → new ≡ old ++ entry_of u (Detect, r) ∷ [] → IsLater places old places new
 looked_later u r places old new is = record { more = entry_of u (Detect, r) ∷ []; grown = is; moves = λ i p g. (p, g, refl) }
-
 
 count_there : (form : Form) (works : List Work) (k i : ℕ) (v : Work) (p r : Place) (places : List Place) (h : List Entry) → AreAt form works places h
     → slice_get places k ≡ Some p → slice_get works i ≡ Some v → slice_get (slice_set places k (record p { moves = p.moves + 1 })) i ≡ Some r

@@ -1,15 +1,15 @@
 -- All orders, one after another.
-use Rattle.std.proofs.Common.{◌≡◌, ℕ, suc, zero, ◌+◌, ◌<◌, ◌≤◌, Bool, true, false, List, [], ◌∷◌, ◌++◌, length, get_or, refl, ap, sym, subst, ◌∙◌, inl, inr, arith, replicate, take}
-use Rattle.std.specs.Prelude.{◌⊎◌, ◌-◌, min, slice_index, map}
+use Rattle.std.proofs.Common.{◌≡◌, ℕ, suc, zero, ◌+◌, ◌<◌, ◌≤◌, Bool, true, false, List, [], ◌∷◌, ◌++◌, length, refl, ap, sym, subst, ◌∙◌, inl, inr, arith, replicate, take}
+use Rattle.std.specs.Prelude.{◌⊎◌, ◌-◌, min, slice_index}
 use Rattle.std.specs.List.{AllByRecursion}
 use Rattle.hek_rules.specs.Plan.{Plan}
 use Rattle.hek_orders.specs.declared.moves.Form.{Form}
 use Rattle.hek_orders.specs.Found.{Line}
 use Rattle.hek_orders.specs.Moves.{Work, AreMoves, counts_of, first_of}
-use Rattle.hek_orders.specs.Orders.{IsBelow, AreAlike, IsNext, IsLast, IsAmong, AreFalling, AreAll}
+use Rattle.hek_orders.specs.Orders.{IsBelow, AreAlike, IsNext, IsLast, IsAmong, AreFalling}
 use Rattle.hek_orders.specs.Tallies.{Goes, IsTally, is_between, total, one_if}
 use Rattle.hek_orders.specs.Wholes.{IsWhole, first_in}
-use Rattle.hek_orders.proofs.Successors.{IsRising, least}
+use Rattle.hek_orders.proofs.Successors.{least}
 use Rattle.hek_orders.proofs.Totals.{noted_total, next_total, none_yet}
 
 pub below_trans : (a b c : List ℕ) → IsBelow a b → IsBelow b c → IsBelow a c

@@ -1,4 +1,4 @@
-use Rattle.std.proofs.Common.{◌≡◌, ap, ◌∙◌, subst, List}
+use Rattle.std.proofs.Common.{ap, ◌∙◌, List}
 use Rattle.hek_orders.specs.Moves.{Work}
 use Rattle.hek_orders.specs.Wholes.{first_in}
 use Rattle.hek_orders.proofs.Walks.{at_first, at_next, at_last, goes_with}
