@@ -1,7 +1,8 @@
 -- Walks by the workers' grammar, and what the events of a play do to them.
-use Rattle.std.proofs.Common.{◌≡◌, ℕ, suc, zero, ◌+◌, ◌<◌, ◌≤◌, Bool, true, false, List, [], ◌∷◌, ◌++◌, length, refl, ap, sym, subst, ◌∙◌, inl, inr, arith, Option, Some, None, append_assoc, IsTrue, map, is_some, replicate}
-use Rattle.std.specs.Prelude.{◌⊎◌, ◌==◌, nat_lt, nat_le, slice_get, slice_set, filter}
-use Rattle.std.proofs.lemmas.List.{map-append, append-nil, length-set, length-replicate}
+use Rattle.std.proofs.Common.{◌≡◌, ℕ, suc, zero, ◌+◌, ◌<◌, Bool, true, false, List, [], ◌∷◌, ◌++◌, length, refl, ap, sym, subst, ◌∙◌, inl, inr, arith, Option, Some, append_assoc, IsTrue, map, is_some, replicate, reverse, take, get_or, add-one}
+use Rattle.std.specs.Prelude.{Result, Ok, Err, OnOk, ◌⊎◌, ◌==◌, nat_lt, nat_le, slice_get, slice_set, filter}
+use Rattle.std.proofs.lemmas.List.{map-append, append-nil, length-set, length-replicate, reverse-append}
+use Rattle.std.proofs.Math.Seq.{take-suc}
 use Rattle.std.proofs.lemmas.List.Sums.{sum_by-cons}
 use Rattle.std.proofs.lemmas.Option.{slice_get_within}
 use Rattle.std.proofs.lemmas.List.Elements.{filter-append}
@@ -20,7 +21,7 @@ use Rattle.hek_orders.specs.declared.play.Place.{Place}
 use Rattle.hek_orders.specs.Moves.{Work, last_moves}
 use Rattle.hek_orders.specs.Orders.{times}
 use Rattle.hek_orders.specs.Tallies.{one_if}
-use Rattle.hek_orders.specs.Plays.{Standing, at_start, may_go, turned, after_reply, Makes, Walks, AllStand, IsPlay}
+use Rattle.hek_orders.specs.Plays.{Standing, at_start, may_go, turned, Makes, Walks, AllStand, IsPlay}
 use Rattle.hek_orders.specs.Places.{first_place, standing_of, entry_of, IsResting, IsMade, HasGone, HasCome, AreAt, AllRest, RestBut, IsCounted, IsLater, HasMoved, AreCounted}
 
 lt_more : (i n : ℕ) → IsTrue (nat_lt i n) → IsTrue (nat_lt i (n + 1))
@@ -85,7 +86,7 @@ same_some : {X : Type 0} (o : Option X) (x y : X) → o ≡ Some x → o ≡ Som
 same_some o x y h g = cc
 
 -- one event more of a transaction
-made_one : (form : Form) (t : ℕ) (w : Work) (p m q : Place) (old h new : List Entry) → (g : HasGone form t w p m old h) → IsTrue (may_go form w m.moves m.stage)
+pub made_one : (form : Form) (t : ℕ) (w : Work) (p m q : Place) (old h new : List Entry) → (g : HasGone form t w p m old h) → IsTrue (may_go form w m.moves m.stage)
     → IsMade form t w m q h new → HasGone form t w p q old new
 made_one form t w p m q old h new g may d =
     let x : Event × Reply = (event_at t w.events (turned form w m.stage), d.reply) in
@@ -352,3 +353,20 @@ at_first form works n h places is e none =
       counted = λ i p gp. ap (λ (z : Place). z.moves) (all_first n i first_place p gp);
       play = none;
     })
+
+pub back_more : (xs : List ℕ) (i d : ℕ) → i < length xs → reverse (take (i + 1) xs) ≡ get_or xs i d ∷ reverse (take i xs)
+back_more xs i d h = ap (λ (n : ℕ). reverse (take n xs)) (add-one i) ∙ ap reverse (take-suc xs i d h) ∙ reverse-append (take i xs) (get_or xs i d ∷ [])
+
+-- the walk of a transaction that rests
+pub came_to : (form : Form) (t : ℕ) (w : Work) (p q : Place) (old new : List Entry) → HasGone form t w p q old new → IsResting form w q → HasCome form t w p q old new
+came_to form t w p q old new gone rest = record { gone = gone; rest = rest }
+
+pub moved_if : {A E : Type 0} (r : Result A E) (t : ℕ) (ps qs rs ss : List Place) (h now last : List Entry) → IsCounted t ps qs → IsLater qs h rs now
+    → OnOk r (IsLater rs now ss last) → OnOk r (HasMoved t ps h ss last)
+moved_if (Ok x) t ps qs rs ss h now last c later g = moved t ps qs ss h last c (later_on qs rs ss h now last later g)
+moved_if (Err e) t ps qs rs ss h now last c later g = tt
+
+pub got : {X : Type 0} (xs : List X) (k : ℕ) (x : X) → k < length xs → x ≡ get_or xs k x → slice_get xs k ≡ Some x
+got [] k x h e = absurd (omega arith)
+got (y ∷ ys) zero x h e = ap (λ (z : _). Some z) (sym e)
+got (y ∷ ys) (suc k) x h e = got ys k x (omega arith) e

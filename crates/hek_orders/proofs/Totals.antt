@@ -1,12 +1,12 @@
 -- How many orders a tally has noted.
-use Rattle.std.proofs.Common.{◌≡◌, ℕ, suc, zero, ◌+◌, ◌-◌, ◌<◌, ◌≤◌, Bool, true, false, List, [], ◌∷◌, ◌++◌, length, get_or, refl, ap, sym, ◌∙◌, inl, inr, arith, Some}
-use Rattle.std.specs.Prelude.{◌⊎◌, ◌&&◌, min, nat_le, nat_lt, slice_get, slice_set}
+use Rattle.std.proofs.Common.{◌≡◌, ℕ, ◌+◌, ◌-◌, ◌<◌, Bool, true, false, List, [], ◌∷◌, length, get_or, refl, ap, sym, ◌∙◌, inl, inr, arith}
+use Rattle.std.specs.Prelude.{min, slice_set}
 use Rattle.std.proofs.lemmas.List.Sums.{sum_by-append, sum_by-set}
 use Rattle.std.proofs.lemmas.Option.{slice_get_within}
 use Rattle.std.proofs.lemmas.Bool.Decides.{nat_tests}
 use Rattle.hek_rules.proofs.Mapped.{get_or-slice_get}
 use Rattle.hek_orders.specs.Found.{Found, Line}
-use Rattle.hek_orders.specs.Tallies.{IsNoted, IsCounted, IsAdded, more, row_of, total, one_if, is_between}
+use Rattle.hek_orders.specs.Tallies.{IsNoted, IsCounted, more, row_of, total, one_if, is_between}
 
 counted_total : (old new : List Line) (o : Found) → IsCounted old new o → total new ≡ total old + 1
 counted_total old new o c =

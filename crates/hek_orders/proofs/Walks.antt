@@ -1,15 +1,15 @@
 -- All orders, one after another.
-use Rattle.std.proofs.Common.{◌≡◌, ℕ, suc, zero, ◌+◌, ◌<◌, ◌≤◌, Bool, true, false, List, [], ◌∷◌, ◌++◌, length, get_or, refl, ap, sym, subst, ◌∙◌, inl, inr, arith, replicate, take}
-use Rattle.std.specs.Prelude.{◌⊎◌, ◌-◌, min, slice_index, map}
+use Rattle.std.proofs.Common.{◌≡◌, ℕ, suc, zero, ◌+◌, ◌<◌, ◌≤◌, Bool, true, false, List, [], ◌∷◌, ◌++◌, length, refl, ap, sym, subst, ◌∙◌, inl, inr, arith, replicate, take}
+use Rattle.std.specs.Prelude.{◌⊎◌, ◌-◌, min, slice_index}
 use Rattle.std.specs.List.{AllByRecursion}
 use Rattle.hek_rules.specs.Plan.{Plan}
 use Rattle.hek_orders.specs.declared.moves.Form.{Form}
 use Rattle.hek_orders.specs.Found.{Line}
 use Rattle.hek_orders.specs.Moves.{Work, AreMoves, counts_of, first_of}
-use Rattle.hek_orders.specs.Orders.{IsBelow, AreAlike, IsNext, IsLast, IsAmong, AreFalling, AreAll}
+use Rattle.hek_orders.specs.Orders.{IsBelow, AreAlike, IsNext, IsLast, IsAmong, AreFalling}
 use Rattle.hek_orders.specs.Tallies.{Goes, IsTally, is_between, total, one_if}
 use Rattle.hek_orders.specs.Wholes.{IsWhole, first_in}
-use Rattle.hek_orders.proofs.Successors.{IsRising, least}
+use Rattle.hek_orders.proofs.Successors.{least}
 use Rattle.hek_orders.proofs.Totals.{noted_total, next_total, none_yet}
 
 pub below_trans : (a b c : List ℕ) → IsBelow a b → IsBelow b c → IsBelow a c
@@ -140,6 +140,9 @@ at_next p form from to number moves order new was rows h g next = record {
   total = next_total from to number (total was) (total rows) h.total (goes_total p form moves (is_between from to number) order was rows g);
 }
 
+one_longer : (order : List ℕ) (past : List (List ℕ)) (number : ℕ) → length past ≡ number → number + 1 ≡ length (order ∷ past)
+one_longer order past number h = omega arith
+
 pub at_last : (p : Plan) (form : Form) (from to number : ℕ) (moves : List Work) (order : List ℕ) (was rows : List Line) → IsSoFar p form from to number moves order was
     → Goes p form moves (is_between from to number) order was rows → IsLast order → IsWhole p form from to rows
 at_last p form from to number moves order was rows h g last = record {
@@ -154,7 +157,7 @@ at_last p form from to number moves order was rows h g last = record {
   };
   tally = (was, h.tally, goes_at p form moves from to (length h.past) number order was rows h.count g);
   count = next_total from to number (total was) (total rows) h.total (goes_total p form moves (is_between from to number) order was rows g)
-      ∙ ap (λ (n : ℕ). min to (n + 1) - from) (sym h.count);
+      ∙ ap (λ (n : ℕ). min to n - from) (one_longer order h.past number h.count);
 }
 
 pub front_of : (new rest : List ℕ) (n : ℕ) → n ≡ length new → take n (new ++ rest) ≡ new
@@ -163,8 +166,9 @@ front_of [] rest (suc n) e = absurd (omega arith)
 front_of (x ∷ new) rest zero e = absurd (omega arith)
 front_of (x ∷ new) rest (suc n) e = ap (λ (l : List ℕ). x ∷ l) (front_of new rest n (omega arith))
 
--- what an event of the walk did, by the test and the slice that it was given
-pub goes_with : (p : Plan) (form : Form) (works : List Work) (from to number : ℕ) (part : Bool) (order slice : List ℕ) (was rows : List Line) → part ≡ is_between from to number → slice ≡ order
-    → Goes p form works part slice was rows → Goes p form works (is_between from to number) order was rows
-goes_with p form works from to number part order slice was rows e is g =
-    subst (λ (b : Bool). Goes p form works b order was rows) e (subst (λ (o : List ℕ). Goes p form works part o was rows) is g)
+-- what an event of the walk did, by the test and the slices that it was given
+pub goes_with : (p : Plan) (form : Form) (works moves : List Work) (from to number : ℕ) (part : Bool) (order slice : List ℕ) (was rows : List Line) → moves ≡ works
+    → part ≡ is_between from to number → slice ≡ order → Goes p form moves part slice was rows → Goes p form works (is_between from to number) order was rows
+goes_with p form works moves from to number part order slice was rows same e is g =
+    subst (λ (ws : List Work). Goes p form ws (is_between from to number) order was rows) same
+    (subst (λ (b : Bool). Goes p form moves b order was rows) e (subst (λ (o : List ℕ). Goes p form moves part o was rows) is g))

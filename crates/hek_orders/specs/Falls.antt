@@ -1,5 +1,5 @@
 -- Where the next order differs from an order.
-use Rattle.std.specs.Prelude.{ℕ, ◌≡◌, ◌+◌, ◌<◌, ◌≤◌, List, length, slice_index}
+use Rattle.std.specs.Prelude.{ℕ, ◌+◌, ◌<◌, ◌≤◌, List, length, slice_index}
 
 -- from a place on no number is above one before it
 abbrev pub FallsFrom : ℕ → List ℕ → Type 0

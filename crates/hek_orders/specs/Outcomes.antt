@@ -1,8 +1,6 @@
 -- What a history comes to.
 use Rattle.std.specs.Prelude.{ℕ, suc, zero, ◌≡◌, ◌+◌, ◌↔◌, Bool, true, false, ◌==◌, ◌||◌, if◌then◌else◌, IsTrue, List, [], ◌∷◌, ◌++◌, length, map}
 use Rattle.hek_rules.specs.declared.event.Cause.TheVariants as cause
-use Rattle.hek_rules.specs.declared.event.Event.{Event}
-use Rattle.hek_rules.specs.declared.event.Level.{Level}
 use Rattle.hek_rules.specs.declared.event.Level.TheVariants.{Serializable}
 use Rattle.hek_rules.specs.declared.reply.Reply.{Reply}
 use Rattle.hek_rules.specs.declared.reply.Reply.TheVariants as reply

@@ -102,9 +102,25 @@ fn play_in(
 {
     let mut places = at_start(alloc, moves)?;
     for &mover in order {
-        one_move(book, moves, form, places.as_mut_slice(), mover)?;
+        move_in(book, moves, form, &mut places, mover)?;
     }
     Ok(())
+}
+
+/// The same as `one_move`, with the places in a vector.
+fn move_in(
+    book: &mut Book<'_>,
+    moves: &[Moves],
+    form: Form,
+    places: &mut Vec<Place>,
+    mover: TxnId,
+) -> Result<(), OrderFault>
+    requires { AllRest form moves.now places.old.items book.old.history }
+    ensures plan { book.new.plan ≡ book.old.plan }
+    ensures rest { OnOk result (AllRest form moves.now places.new.items book.new.history) }
+    ensures moved { OnOk result (HasMoved mover places.old.items book.old.history places.new.items book.new.history) }
+{
+    one_move(book, moves, form, places.as_mut_slice(), mover)
 }
 
 /// All before their first event.

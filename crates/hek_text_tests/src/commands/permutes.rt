@@ -91,7 +91,7 @@ const RIVALS: &[Row<'static>] = &[
             "hek", "permute", "--text", "in", "--each", "--order", "a a b b",
         ],
         status: 2,
-        faults: "error: the argument '--order <NAMES>' cannot be used with '--each'\n\nUsage: hek permute --text --order <NAMES> <FILE>\n\nFor more information, try '--help'.\n",
+        faults: "error: the argument '--each' cannot be used with '--order <NAMES>'\n\nUsage: hek permute --text --each <FILE>\n\nFor more information, try '--help'.\n",
         ..QUIET
     },
     Row {

@@ -1,4 +1,4 @@
-use Rattle.std.proofs.Common.{ℕ, ◌≡◌, ◌<◌, ◌+◌, Some, length}
+use Rattle.std.proofs.Common.{ℕ, ◌≡◌, ◌+◌, Some, length}
 use Rattle.std.specs.Prelude.{slice_get}
 use Rattle.hek_orders.specs.Moves.{Work, work_in}
 use Rattle.hek_orders.proofs.moves.moves_of.Given as goal

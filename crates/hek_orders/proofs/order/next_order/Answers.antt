@@ -1,4 +1,4 @@
-use Rattle.std.proofs.Common.{◌≡◌, refl}
+use Rattle.std.proofs.Common.{refl}
 use Rattle.hek_orders.proofs.Successors.{is_last}
 use Rattle.hek_orders.proofs.order.next_order.Goals as goal
 
