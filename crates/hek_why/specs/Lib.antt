@@ -1,0 +1,3 @@
+pub mod Waited
+pub mod Looks
+pub mod Stops
