@@ -1,3 +1,4 @@
+pub mod Passed
 pub mod Waited
 pub mod Looks
 pub mod Stops

@@ -9,13 +9,14 @@ use Rattle.hek_rules.specs.declared.word.BeginRecord.{BeginRecord}
 use Rattle.hek_rules.specs.declared.word.BeginRecord.TheVariants.{At, By}
 use Rattle.hek_rules.specs.declared.word.EndRecord.{EndRecord}
 use Rattle.hek_rules.specs.declared.word.EndRecord.TheVariants.{Until, Lock}
-use Rattle.hek_rules.specs.World.{World, txn_in, version_in}
+use Rattle.hek_rules.specs.World.{World, txn_in}
 use Rattle.hek_rules.specs.Image.{begin_word, end_word}
 use Rattle.hek_rules.specs.Visibility.{sight}
 use Rattle.hek_rules.specs.Walk.{Judgement, Refuse, Allow, Purpose, read_time, version_judged}
 use Rattle.hek_rules.specs.Walk as walk
 use Rattle.hek_rules.specs.Table.{is_claim}
 use Rattle.hek_machine.specs.Observed.{of_version}
+use Rattle.hek_why.specs.Passed.{passes}
 use Rattle.hek_why.specs.declared.reason.Met.{Met}
 use Rattle.hek_why.specs.declared.reason.Met.TheVariants.{Writer, Creator, EndedAt, MadeAt, Readers}
 use Rattle.hek_why.specs.declared.stops.Aim.{Aim}
@@ -35,20 +36,27 @@ abbrev pub refused_by : Judgement → Option Cause
 refused_by (Refuse cause) = Some cause
 refused_by (Allow effects) = None
 
-abbrev pub stop_or : ℕ → Sight → Option Cause → Option Stop → Option Stop
-stop_or v seen (Some cause) later = Some (record { version = v; sight = seen; cause = cause })
-stop_or v seen None later = later
+abbrev pub stop_by : ℕ → Sight → Option Cause → Option Stop
+stop_by v seen None = None
+stop_by v seen (Some cause) = Some (record { version = v; sight = seen; cause = cause })
 
--- the first version that the rule of walks refuses
+-- where the rule of walks refuses version v
+abbrev pub stop_at : World → ℕ → Purpose → Option ℕ → ℕ → Option Stop
+stop_at w t purpose target v =
+    let seen = sight w t (read_time w t) v in stop_by v seen (refused_by (version_judged w t purpose target v seen))
+
+abbrev pub first_some : Option Stop → Option Stop → Option Stop
+first_some None later = later
+first_some (Some stop) later = Some stop
+
+-- the first version that it refuses
 abbrev pub first_stop : World → ℕ → Purpose → Option ℕ → List ℕ → Option Stop
 first_stop w t purpose target [] = None
-first_stop w t purpose target (v ∷ vs) =
-    let seen = sight w t (read_time w t) v in
-    stop_or v seen (refused_by (version_judged w t purpose target v seen)) (first_stop w t purpose target vs)
+first_stop w t purpose target (v ∷ vs) = first_some (stop_at w t purpose target v) (first_stop w t purpose target vs)
 
 -- the first version that claims the key
 abbrev pub first_claim : World → ℕ → List ℕ → Option ℕ
-first_claim w t vs = find (λ v. is_claim w t (txn_in w.txns t).level (version_in w.versions v).creator) vs
+first_claim w t vs = find (λ v. passes (λ v x. is_claim w t (txn_in w.txns t).level x.creator) v w) vs
 
 -- who or what refuses a lock, by the End word
 abbrev pub met_by : Cause → EndRecord → Met

@@ -5,9 +5,10 @@ use Rattle.std.specs.List.{list_any}
 use Rattle.hek_rules.specs.declared.event.WriteEntry.{WriteEntry}
 use Rattle.hek_rules.specs.declared.event.WriteEntry.TheVariants.{BeginOf, EndOf}
 use Rattle.hek_rules.specs.Listing.{has}
-use Rattle.hek_rules.specs.World.{World, version_in, places, bucket_of}
+use Rattle.hek_rules.specs.World.{World, places, bucket_of}
 use Rattle.hek_rules.specs.Waits.{is_waited_for}
 use Rattle.hek_rules.specs.Image.{bucket_set, write_set}
+use Rattle.hek_why.specs.Passed.{passes}
 use Rattle.hek_why.specs.declared.reason.Reason.{Reason}
 use Rattle.hek_why.specs.declared.reason.Reason.TheVariants.{ReadLocked, Listed, Depends}
 
@@ -38,7 +39,7 @@ depended_on w t = txns_where w (λ u. has w.dependents u t)
 
 -- the entry is of a version that was made, of a key of the bucket
 abbrev pub is_made_in : World → ℕ → WriteEntry → Bool
-is_made_in w b (BeginOf v) = bucket_of w (version_in w.versions v).key == b
+is_made_in w b (BeginOf v) = passes (λ v x. bucket_of w x.key == b) v w
 is_made_in w b (EndOf v) = false
 
 -- the first bucket that h locks and in which u made a version

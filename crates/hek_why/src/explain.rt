@@ -14,7 +14,7 @@ use hek_rules::{Cause, Event, NoMemory, Reply, State, TxnId, VersionId};
 use std::alloc::Global;
 
 /// An event with its reply, between two machines.
-#[derive(Clone, Copy)]
+#[derive(Drop)]
 pub struct Step<'a> {
     pub before: &'a Machine,
     pub event: Event,
@@ -24,7 +24,7 @@ pub struct Step<'a> {
 
 /// Why a step's event is answered as it is. `dooms` has whose aborts have doomed whom before it. There are no reasons where
 /// nothing had to be looked for, as of `began`, `ready` or `committed`.
-pub fn reasons(alloc: Global, step: Step<'_>, dooms: &Dooms) -> Result<Vec<Reason>, NoMemory> {
+pub fn reasons(alloc: Global, step: &Step<'_>, dooms: &Dooms) -> Result<Vec<Reason>, NoMemory> {
     match step.event.txn() {
         Some(t) => reasons_of(alloc, step, t, dooms),
         None => cycle_reasons(alloc, step.before, step.reply),
@@ -33,7 +33,7 @@ pub fn reasons(alloc: Global, step: Step<'_>, dooms: &Dooms) -> Result<Vec<Reaso
 
 fn reasons_of(
     alloc: Global,
-    step: Step<'_>,
+    step: &Step<'_>,
     t: TxnId,
     dooms: &Dooms,
 ) -> Result<Vec<Reason>, NoMemory> {
@@ -48,9 +48,9 @@ fn reasons_of(
     match step.reply {
         Reply::Waiting(_) => wait_reasons(alloc, machine, t),
         Reply::WaitingCommits(_) => commit_reasons(alloc, machine, t),
-        Reply::Aborted(cause) => abort_reasons(alloc, machine, t, step.event, *cause, dooms),
+        Reply::Aborted(cause) => abort_reasons(alloc, machine, t, &step.event, *cause, dooms),
         Reply::Found(_) | Reply::Absent | Reply::Rows(_) | Reply::Exists | Reply::Done => {
-            let versions = walked(alloc, machine, step.event)?;
+            let versions = walked(alloc, machine, &step.event)?;
             looks(alloc, machine, t, versions.as_slice())
         }
         _ => word_reasons(alloc, step),
@@ -65,8 +65,8 @@ fn alone(alloc: Global, reason: Reason) -> Result<Vec<Reason>, NoMemory> {
 }
 
 /// The versions that the walk of an event goes over.
-fn walked(alloc: Global, machine: &Machine, event: Event) -> Result<Vec<VersionId>, NoMemory> {
-    match event {
+fn walked(alloc: Global, machine: &Machine, event: &Event) -> Result<Vec<VersionId>, NoMemory> {
+    match *event {
         Event::Read(_, key)
         | Event::Insert(_, key, _)
         | Event::Update(_, key, _)
@@ -77,10 +77,10 @@ fn walked(alloc: Global, machine: &Machine, event: Event) -> Result<Vec<VersionI
 }
 
 /// What the walk of an event is for.
-fn aim_of(machine: &Machine, t: TxnId, event: Event, vs: &[VersionId]) -> Aim
+fn aim_of(machine: &Machine, t: TxnId, event: &Event, vs: &[VersionId]) -> Aim
     requires { Declared machine.now.txns t }
 {
-    match event {
+    match *event {
         Event::Update(..) | Event::Delete(..) => Aim::ToWrite(last_seen(machine, t, vs)),
         _ => Aim::ToRead,
     }
@@ -91,7 +91,7 @@ fn abort_reasons(
     alloc: Global,
     machine: &Machine,
     t: TxnId,
-    event: Event,
+    event: &Event,
     cause: Cause,
     dooms: &Dooms,
 ) -> Result<Vec<Reason>, NoMemory>
@@ -120,13 +120,13 @@ fn stop_reasons(
     alloc: Global,
     machine: &Machine,
     t: TxnId,
-    event: Event,
+    event: &Event,
     vs: &[VersionId],
 ) -> Result<Vec<Reason>, NoMemory>
     requires { Declared machine.now.txns t }
 {
     let aim = aim_of(machine, t, event, vs);
-    if let Some(stop) = first_stop(machine, t, aim, vs)? {
+    if let Some(stop) = first_stop(machine, t, &aim, vs)? {
         return stopped(
             alloc,
             stop.version,
@@ -198,7 +198,7 @@ fn read_under(
 }
 
 /// The word that an event changed, or left.
-fn word_reasons(alloc: Global, step: Step<'_>) -> Result<Vec<Reason>, NoMemory> {
+fn word_reasons(alloc: Global, step: &Step<'_>) -> Result<Vec<Reason>, NoMemory> {
     match step.reply {
         Reply::ReleasedRead(v, _) | Reply::StampedEnd(v) | Reply::Left(v) => {
             end_reason(alloc, step, *v)
@@ -208,7 +208,7 @@ fn word_reasons(alloc: Global, step: Step<'_>) -> Result<Vec<Reason>, NoMemory> 
     }
 }
 
-fn end_reason(alloc: Global, step: Step<'_>, version: VersionId) -> Result<Vec<Reason>, NoMemory> {
+fn end_reason(alloc: Global, step: &Step<'_>, version: VersionId) -> Result<Vec<Reason>, NoMemory> {
     match (step.before.end_word(version), step.after.end_word(version)) {
         (Some(before), Some(after)) => alone(
             alloc,
@@ -224,7 +224,7 @@ fn end_reason(alloc: Global, step: Step<'_>, version: VersionId) -> Result<Vec<R
 
 fn begin_reason(
     alloc: Global,
-    step: Step<'_>,
+    step: &Step<'_>,
     version: VersionId,
 ) -> Result<Vec<Reason>, NoMemory> {
     match (

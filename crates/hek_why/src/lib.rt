@@ -4,6 +4,7 @@
 mod dooms;
 mod explain;
 mod facts;
+mod kept;
 mod met;
 mod reason;
 mod refused;

@@ -1,6 +1,7 @@
 //! What refuses a lock, and whom a transaction meets where it is stopped.
 ghost use Rattle.std.specs.Prelude.{◌≡◌, IfOk};
-ghost use Rattle.hek_rules.specs.Locks.{no_read_lock, no_write_lock};
+ghost use Rattle.hek_rules.specs.World.{is_made_by, version_in};
+ghost use Rattle.hek_rules.specs.Locks.{reads_freely, no_read_lock, no_write_lock};
 ghost use Rattle.hek_locks.specs.Locked.{is_stale, cleared_word, refusal, write_refusal};
 ghost use Rattle.hek_txn.specs.TxnTable.{Declared};
 ghost use Rattle.hek_machine.specs.Judged.{IsShown};
@@ -68,11 +69,26 @@ fn write_refusal(word: EndWord) -> Option<Cause>
 }
 
 /// Whether a transaction made a version.
-fn is_own(machine: &Machine, t: TxnId, v: VersionId) -> bool {
+fn is_own(machine: &Machine, t: TxnId, v: VersionId) -> bool
+    ensures { IsShown machine.now (λ w. is_made_by t (version_in w.versions v).creator) result }
+{
     match machine.begin_word(v) {
         None => false,
-        Some(word) => word.txn() == Some(t),
+        Some(word) => match word.content() {
+            BeginRecord::At(_) => false,
+            BeginRecord::By(u) => u.number() == t.number(),
+        },
     }
+}
+
+/// Whether a transaction needs no read lock of a version: it made it, or read-locks it already.
+fn reads_freely(machine: &Machine, t: TxnId, v: VersionId) -> Result<bool, NoMemory>
+    requires { Declared machine.now.txns t }
+    ensures { IfOk result (IsShown machine.now (λ w. reads_freely w t v)) }
+{
+    let own = is_own(machine, t, v);
+    let locked = reads(machine, t, v)?;
+    Ok(own || locked)
 }
 
 /// What refuses a transaction a read lock of a version, if something does.
@@ -84,7 +100,7 @@ pub(crate) fn no_read_lock(
     requires { Declared machine.now.txns t }
     ensures { IfOk result (IsShown machine.now (λ w. no_read_lock w t v)) }
 {
-    if is_own(machine, t, v) || reads(machine, t, v)? {
+    if reads_freely(machine, t, v)? {
         return Ok(None);
     }
     match machine.end_word(v) {
@@ -110,13 +126,12 @@ fn met_by(cause: Cause, word: EndWord) -> Met
     if cause == Cause::ReadersFull {
         return Met::Readers;
     }
-    match word.content() {
-        EndRecord::Until(time) => Met::EndedAt(time),
-        EndRecord::Lock {
-            writer: Some(u),
-            ..
-        } => Met::Writer(u),
-        EndRecord::Lock { writer: None, .. } => Met::Readers,
+    if let Some(time) = word.time() {
+        return Met::EndedAt(time);
+    }
+    match word.writer() {
+        Some(u) => Met::Writer(u),
+        None => Met::Readers,
     }
 }
 

@@ -5,7 +5,8 @@ ghost use Rattle.hek_rules.specs.World.{txn_in};
 ghost use Rattle.hek_rules.specs.Table.{is_claim};
 ghost use Rattle.hek_txn.specs.TxnTable.{Declared};
 ghost use Rattle.hek_machine.specs.Judged.{IsShown};
-ghost use Rattle.hek_why.specs.Stops.{purpose_of, target_of, refused_by, first_stop, first_claim};
+ghost use Rattle.hek_why.specs.Passed.{passes};
+ghost use Rattle.hek_why.specs.Stops.{purpose_of, target_of, refused_by, stop_by, stop_at, first_stop, first_claim};
 
 use crate::facts::{end_of, has_finished, is_listed, read_time, state_of};
 use crate::met::{no_read_lock, no_write_lock};
@@ -33,13 +34,13 @@ pub(crate) struct Stop {
 fn lock_refused(
     machine: &Machine,
     t: TxnId,
-    aim: Aim,
+    aim: &Aim,
     v: VersionId,
 ) -> Result<Option<Cause>, NoMemory>
     requires { Declared machine.now.txns t }
-    ensures { IfOk result (IsShown machine.now (λ w. refused_by (lock_judged w t (purpose_of aim) (target_of aim) v))) }
+    ensures { IfOk result (IsShown machine.now (λ w. refused_by (lock_judged w t (purpose_of aim.now) (target_of aim.now) v))) }
 {
-    match aim {
+    match *aim {
         Aim::ToRead => match machine.level(t) {
             Level::Snapshot => Ok(None),
             Level::Serializable | Level::Repeatable => no_read_lock(machine, t, v),
@@ -70,17 +71,40 @@ fn wait_refused(machine: &Machine, t: TxnId, u: TxnId) -> Result<Option<Cause>, 
 fn refused_at(
     machine: &Machine,
     t: TxnId,
-    aim: Aim,
+    aim: &Aim,
     v: VersionId,
-    sight: Sight,
+    sight: &Sight,
 ) -> Result<Option<Cause>, NoMemory>
     requires { Declared machine.now.txns t }
-    ensures { IfOk result (IsShown machine.now (λ w. refused_by (version_judged w t (purpose_of aim) (target_of aim) v sight))) }
+    ensures { IfOk result (IsShown machine.now (λ w. refused_by (version_judged w t (purpose_of aim.now) (target_of aim.now) v sight.now))) }
 {
-    match sight {
+    match *sight {
         Sight::Seen | Sight::SeenIf(_) => lock_refused(machine, t, aim, v),
         Sight::Hidden | Sight::HiddenIf(_) => Ok(None),
         Sight::HiddenActive(u) => wait_refused(machine, t, u),
+    }
+}
+
+/// The stop at a version, if the walk is refused there.
+fn stop_at(machine: &Machine, t: TxnId, aim: &Aim, v: VersionId) -> Result<Option<Stop>, NoMemory>
+    requires { Declared machine.now.txns t }
+    ensures { IfOk result (IsShown machine.now (λ w. stop_at w t (purpose_of aim.now) (target_of aim.now) v)) }
+{
+    let sight = see(machine, t, v);
+    let refused = refused_at(machine, t, aim, v, &sight)?;
+    Ok(stop_by(v, sight, refused))
+}
+
+fn stop_by(version: VersionId, sight: Sight, refused: Option<Cause>) -> Option<Stop>
+    ensures { result ≡ stop_by version sight refused }
+{
+    match refused {
+        None => None,
+        Some(cause) => Some(Stop {
+            version,
+            sight,
+            cause,
+        }),
     }
 }
 
@@ -88,21 +112,16 @@ fn refused_at(
 pub(crate) fn first_stop(
     machine: &Machine,
     t: TxnId,
-    aim: Aim,
+    aim: &Aim,
     vs: &[VersionId],
 ) -> Result<Option<Stop>, NoMemory>
     requires { Declared machine.now.txns t }
-    ensures { IfOk result (IsShown machine.now (λ w. first_stop w t (purpose_of aim) (target_of aim) vs.now)) }
+    ensures { IfOk result (IsShown machine.now (λ w. first_stop w t (purpose_of aim.now) (target_of aim.now) vs.now)) }
 {
     for v in vs {
-        let version = *v;
-        let sight = see(machine, t, version);
-        if let Some(cause) = refused_at(machine, t, aim, version, sight)? {
-            return Ok(Some(Stop {
-                version,
-                sight,
-                cause,
-            }));
+        let stop = stop_at(machine, t, aim, *v)?;
+        if stop.is_some() {
+            return Ok(stop);
         }
     }
     Ok(None)
@@ -132,16 +151,25 @@ fn is_claim(machine: &Machine, t: TxnId, begin: BeginWord) -> bool
     }
 }
 
+/// Whether there is such a version.
+fn claims(machine: &Machine, t: TxnId, v: VersionId) -> bool
+    requires { Declared machine.now.txns t }
+    ensures { IsShown machine.now (λ w. passes (λ v x. is_claim w t (txn_in w.txns t).level x.creator) v w) result }
+{
+    match machine.begin_word(v) {
+        None => false,
+        Some(begin) => is_claim(machine, t, begin),
+    }
+}
+
 /// The first of these versions that claims the key of an insert.
 pub(crate) fn first_claim(machine: &Machine, t: TxnId, vs: &[VersionId]) -> Option<VersionId>
     requires { Declared machine.now.txns t }
     ensures { IsShown machine.now (λ w. first_claim w t vs.now) result }
 {
     for v in vs {
-        if let Some(begin) = machine.begin_word(*v) {
-            if is_claim(machine, t, begin) {
-                return Some(*v);
-            }
+        if claims(machine, t, *v) {
+            return Some(*v);
         }
     }
     None

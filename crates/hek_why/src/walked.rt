@@ -1,15 +1,38 @@
 //! The versions that an event's walk goes over, and what is seen of them.
-ghost use Rattle.std.specs.Prelude.{◌≡◌, IfOk, map};
+ghost use Rattle.std.specs.Prelude.{◌≡◌, ◌==◌, IfOk};
+ghost use Rattle.hek_rules.specs.World.{bucket_of};
+ghost use Rattle.hek_rules.specs.Visibility.{is_seen};
 ghost use Rattle.hek_rules.specs.Walk.{of_key, of_bucket, seen_of, last};
 ghost use Rattle.hek_txn.specs.TxnTable.{Declared};
 ghost use Rattle.hek_machine.specs.Judged.{IsShown};
+ghost use Rattle.hek_why.specs.Passed.{passes};
 ghost use Rattle.hek_why.specs.Looks.{looks};
 
+use crate::kept::keep_if;
 use crate::reason::Reason;
 use crate::see::see;
 use hek_machine::Machine;
 use hek_rules::{NoMemory, Sight, TxnId, VersionId};
 use std::alloc::Global;
+
+fn is_of_key(machine: &Machine, key: u64, v: VersionId) -> bool
+    ensures { IsShown machine.now (λ w. passes (λ v x. x.key == key) v w) result }
+{
+    machine.key_of(v) == Some(key)
+}
+
+/// Whether a version is of a key of a bucket.
+#[tactic(auto, using(crate::proofs::Sounds::buckets_above))]
+pub(crate) fn is_of_bucket(machine: &Machine, bucket: u64, v: VersionId) -> bool
+    ensures { IsShown machine.now (λ w. passes (λ v x. bucket_of w x.key == bucket) v w) result }
+{
+    // There is a bucket.
+    let _ = machine.clock();
+    match machine.key_of(v) {
+        None => false,
+        Some(key) => key % machine.buckets() == bucket,
+    }
+}
 
 /// The versions of a key, in order of creation.
 pub(crate) fn versions_of(
@@ -22,9 +45,7 @@ pub(crate) fn versions_of(
     let mut versions = Vec::new(alloc);
     for index in 0..machine.versions() {
         let v = VersionId::new(index as u64);
-        if machine.key_of(v) == Some(key) {
-            versions.push(v)?;
-        }
+        keep_if(is_of_key(machine, key, v), v, &mut versions)?;
     }
     Ok(versions)
 }
@@ -40,22 +61,14 @@ pub(crate) fn versions_in(
     let mut versions = Vec::new(alloc);
     for index in 0..machine.versions() {
         let v = VersionId::new(index as u64);
-        if bucket_at(machine, v) == Some(bucket) {
-            versions.push(v)?;
-        }
+        keep_if(is_of_bucket(machine, bucket, v), v, &mut versions)?;
     }
     Ok(versions)
 }
 
-/// The bucket of a version's key. None past the last version.
-pub(crate) fn bucket_at(machine: &Machine, v: VersionId) -> Option<u64> {
-    match machine.key_of(v) {
-        None => None,
-        Some(key) => key.checked_rem(machine.buckets()),
-    }
-}
-
-fn is_seen(sight: Sight) -> bool {
+fn is_seen(sight: Sight) -> bool
+    ensures { result ≡ is_seen sight }
+{
     matches!(sight, Sight::Seen | Sight::SeenIf(_))
 }
 
