@@ -177,6 +177,17 @@ pub fn wait_reasons(alloc: Global, machine: &Machine, u: TxnId) -> Result<Vec<Re
     Ok(list)
 }
 
+/// That a commit depends on each of these.
+fn depends(alloc: Global, txns: &[TxnId]) -> Result<Vec<Reason>, NoMemory>
+    ensures { IfOk result (λ list. list.items ≡ map (λ u. Reason.Depends u) txns.now) }
+{
+    let mut list = Vec::new(alloc);
+    for u in txns {
+        list.push(Reason::Depends(*u))?;
+    }
+    Ok(list)
+}
+
 /// The transactions on which the commit of t depends, by ID (section 2 of the paper: commit dependencies). They are as many
 /// as its CommitDepCounter says.
 pub fn commit_reasons(alloc: Global, machine: &Machine, t: TxnId) -> Result<Vec<Reason>, NoMemory>
@@ -185,9 +196,6 @@ pub fn commit_reasons(alloc: Global, machine: &Machine, t: TxnId) -> Result<Vec<
     ensures number { IfOk result (λ list. IsShown machine.now (λ w. commit_dep_counter w t) (length list.items)) }
 {
     let txns = depended_on(alloc, machine, t)?;
-    let mut list = Vec::new(alloc);
-    for u in txns.as_slice() {
-        list.push(Reason::Depends(*u))?;
-    }
+    let list = depends(alloc, txns.as_slice())?;
     Ok(list)
 }

@@ -22,7 +22,6 @@ fn is_of_key(machine: &Machine, key: u64, v: VersionId) -> bool
 }
 
 /// Whether a version is of a key of a bucket.
-#[tactic(auto, using(crate::proofs::Sounds::buckets_above))]
 pub(crate) fn is_of_bucket(machine: &Machine, bucket: u64, v: VersionId) -> bool
     ensures { IsShown machine.now (λ w. passes (λ v x. bucket_of w x.key == bucket) v w) result }
 {
