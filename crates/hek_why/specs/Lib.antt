@@ -2,3 +2,4 @@ pub mod Passed
 pub mod Waited
 pub mod Looks
 pub mod Stops
+pub mod Explained

@@ -1,5 +1,12 @@
 //! The reasons of a reply.
+ghost use Rattle.std.specs.Prelude.{◌≡◌, [], ◌∷◌, IfOk, IfSome, map};
+ghost use Rattle.hek_rules.specs.Events.{txn_of};
+ghost use Rattle.hek_rules.specs.Listing.{firsts_of};
+ghost use Rattle.hek_rules.specs.World.{txn_in};
 ghost use Rattle.hek_txn.specs.TxnTable.{Declared};
+ghost use Rattle.hek_machine.specs.Judged.{IsShown};
+ghost use Rattle.hek_why.specs.Stops.{purpose_of, target_of, first_claim};
+ghost use Rattle.hek_why.specs.Explained.{walked, purpose_in, target_in, stopped_by, claimed_in, stops_in, abort_in, AreReasons};
 
 use crate::dooms::Dooms;
 use crate::facts::state_of;
@@ -24,7 +31,9 @@ pub struct Step<'a> {
 
 /// Why a step's event is answered as it is. `dooms` has whose aborts have doomed whom before it. There are no reasons where
 /// nothing had to be looked for, as of `began`, `ready` or `committed`.
-pub fn reasons(alloc: Global, step: &Step<'_>, dooms: &Dooms) -> Result<Vec<Reason>, NoMemory> {
+pub fn reasons(alloc: Global, step: &Step<'_>, dooms: &Dooms) -> Result<Vec<Reason>, NoMemory>
+    ensures { IfOk result (λ list. IfSome (txn_of step.now.event) (λ t. AreReasons step.now.before.now dooms.now t step.now.event step.now.reply.now list.items)) }
+{
     match step.event.txn() {
         Some(t) => reasons_of(alloc, step, t, dooms),
         None => cycle_reasons(alloc, step.before, step.reply),
@@ -36,7 +45,9 @@ fn reasons_of(
     step: &Step<'_>,
     t: TxnId,
     dooms: &Dooms,
-) -> Result<Vec<Reason>, NoMemory> {
+) -> Result<Vec<Reason>, NoMemory>
+    ensures { IfOk result (λ list. AreReasons step.now.before.now dooms.now t step.now.event step.now.reply.now list.items) }
+{
     let machine = step.before;
     if let Reply::Refused(refusal) = step.reply {
         let reason = refusal_reason(machine, t, step.event.kind(), *refusal)?;
@@ -58,14 +69,18 @@ fn reasons_of(
 }
 
 /// A list of one reason.
-fn alone(alloc: Global, reason: Reason) -> Result<Vec<Reason>, NoMemory> {
+fn alone(alloc: Global, reason: Reason) -> Result<Vec<Reason>, NoMemory>
+    ensures { IfOk result (λ list. list.items ≡ reason ∷ []) }
+{
     let mut list = Vec::new(alloc);
     list.push(reason)?;
     Ok(list)
 }
 
 /// The versions that the walk of an event goes over.
-fn walked(alloc: Global, machine: &Machine, event: &Event) -> Result<Vec<VersionId>, NoMemory> {
+fn walked(alloc: Global, machine: &Machine, event: &Event) -> Result<Vec<VersionId>, NoMemory>
+    ensures { IfOk result (λ vs. IsShown machine.now (λ w. walked w event.now) vs.items) }
+{
     match *event {
         Event::Read(_, key)
         | Event::Insert(_, key, _)
@@ -79,6 +94,8 @@ fn walked(alloc: Global, machine: &Machine, event: &Event) -> Result<Vec<Version
 /// What the walk of an event is for.
 fn aim_of(machine: &Machine, t: TxnId, event: &Event, vs: &[VersionId]) -> Aim
     requires { Declared machine.now.txns t }
+    ensures purpose { purpose_of result ≡ purpose_in event.now }
+    ensures target { IsShown machine.now (λ w. target_in w t event.now vs.now) (target_of result) }
 {
     match *event {
         Event::Update(..) | Event::Delete(..) => Aim::ToWrite(last_seen(machine, t, vs)),
@@ -96,6 +113,7 @@ fn abort_reasons(
     dooms: &Dooms,
 ) -> Result<Vec<Reason>, NoMemory>
     requires { Declared machine.now.txns t }
+    ensures { IfOk result (λ list. IsShown machine.now (λ w. abort_in w dooms.now t event.now cause (txn_in w.txns t).state) list.items) }
 {
     if let State::Aborted(before) = state_of(machine, t) {
         return alone(alloc, Reason::AbortedBefore(before));
@@ -107,9 +125,19 @@ fn abort_reasons(
     stop_reasons(alloc, machine, t, event, versions.as_slice())
 }
 
-fn doom_reasons(alloc: Global, t: TxnId, dooms: &Dooms) -> Result<Vec<Reason>, NoMemory> {
+fn doom_reasons(alloc: Global, t: TxnId, dooms: &Dooms) -> Result<Vec<Reason>, NoMemory>
+    ensures { IfOk result (λ list. list.items ≡ map (λ u. Reason.DoomedBy u) (firsts_of dooms.now t)) }
+{
+    let txns = dooms.of(alloc, t)?;
+    let list = doomed_by(alloc, txns.as_slice())?;
+    Ok(list)
+}
+
+fn doomed_by(alloc: Global, txns: &[TxnId]) -> Result<Vec<Reason>, NoMemory>
+    ensures { IfOk result (λ list. list.items ≡ map (λ u. Reason.DoomedBy u) txns.now) }
+{
     let mut list = Vec::new(alloc);
-    for u in dooms.of(alloc, t)?.as_slice() {
+    for u in txns {
         list.push(Reason::DoomedBy(*u))?;
     }
     Ok(list)
@@ -124,16 +152,28 @@ fn stop_reasons(
     vs: &[VersionId],
 ) -> Result<Vec<Reason>, NoMemory>
     requires { Declared machine.now.txns t }
+    ensures { IfOk result (λ list. IsShown machine.now (λ w. stops_in w t event.now vs.now) list.items) }
 {
     let aim = aim_of(machine, t, event, vs);
-    if let Some(stop) = first_stop(machine, t, &aim, vs)? {
-        return stopped(
-            alloc,
-            stop.version,
-            stop.cause,
-            met_at(machine, stop.version, stop.sight, stop.cause),
-        );
+    match first_stop(machine, t, &aim, vs)? {
+        Some(stop) => {
+            let met = met_at(machine, stop.version, stop.sight, stop.cause);
+            stopped(alloc, stop.version, stop.cause, met)
+        }
+        None => claim_reasons(alloc, machine, t, vs),
     }
+}
+
+/// Which of these versions claims the key of an insert.
+fn claim_reasons(
+    alloc: Global,
+    machine: &Machine,
+    t: TxnId,
+    vs: &[VersionId],
+) -> Result<Vec<Reason>, NoMemory>
+    requires { Declared machine.now.txns t }
+    ensures { IfOk result (λ list. IsShown machine.now (λ w. claimed_in w (first_claim w t vs.now)) list.items) }
+{
     match first_claim(machine, t, vs) {
         Some(v) => stopped(alloc, v, Cause::Conflict, made_by(machine, v)),
         None => Ok(Vec::new(alloc)),
@@ -145,17 +185,19 @@ fn stopped(
     version: VersionId,
     cause: Cause,
     met: Option<Met>,
-) -> Result<Vec<Reason>, NoMemory> {
+) -> Result<Vec<Reason>, NoMemory>
+    ensures { IfOk result (λ list. list.items ≡ stopped_by version cause met) }
+{
     match met {
         None => Ok(Vec::new(alloc)),
-        Some(met) => alone(
-            alloc,
-            Reason::Stopped {
+        Some(met) => {
+            let reason = Reason::Stopped {
                 version,
                 cause,
                 met,
-            },
-        ),
+            };
+            alone(alloc, reason)
+        }
     }
 }
 
