@@ -70,7 +70,7 @@ fn tell_from(
         reply: &reply,
         after: machine,
     };
-    put_extras(alloc, telling, step, lines)?;
+    put_extras(alloc, telling, &step, lines)?;
     telling.dooms.note(before, event, &reply)
 }
 
@@ -99,7 +99,7 @@ fn put_line(
 fn put_extras(
     alloc: Global,
     telling: &Telling<'_>,
-    step: Step<'_>,
+    step: &Step<'_>,
     lines: &mut Vec<u8>,
 ) -> Result<(), NoMemory> {
     if telling.extras.why {
