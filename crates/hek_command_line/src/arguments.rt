@@ -111,7 +111,7 @@ const DIS: CommandText = CommandText {
 const RUN: CommandText = CommandText {
     name: "run",
     about: "Runs the steps of a schedule, and prints each with its reply",
-    example: "Example:\n  hek run --text first.hek\nWhere first.hek has the lines\n  buckets 1\n  row 10 100\n  txn a serializable\n  a begin\n  a read 10\nit prints\n  1 a begin -> began 1\n  2 a read 10 -> found 100\nWith --state it goes on with the clock, the versions, the transactions and the locked buckets.",
+    example: "Example:\n  hek run --text first.hek\nWhere first.hek has the lines\n  buckets 1\n  row 10 100\n  txn a serializable\n  a begin\n  a read 10\nit prints\n  1 a begin -> began 1\n  2 a read 10 -> found 100\nWith --state it goes on with the clock, the versions, the transactions and the locked buckets. With --why the reasons of each reply stand under its line, with --changes what it changed, each behind two spaces.",
     arguments: &[
         FILE,
         TEXT,
@@ -125,7 +125,28 @@ const RUN: CommandText = CommandText {
             help: "stops after N steps, and prints the state there",
             form: Form::Number,
         },
+        WHY,
+        CHANGES,
     ],
+};
+
+const WHY: ArgumentText = ArgumentText {
+    name: "why",
+    help: "prints the reasons of each reply under its line",
+    form: Form::Flag,
+};
+
+const CHANGES: ArgumentText = ArgumentText {
+    name: "changes",
+    help: "prints what each step changed under its line",
+    form: Form::Flag,
+};
+
+const DRIVE: CommandText = CommandText {
+    name: "drive",
+    about: "Does the events that are typed, one a line, and answers each at once",
+    example: "Events are lines as the steps of a schedule, as `a read 10`; the rows and transactions are those of FILE, whose own steps play no part. A line that is no event is answered by `? line 2: 2 BadWord`, and changes nothing.\n\nExample:\n  hek drive --text first.hek\nWhere first.hek has the lines\n  buckets 1\n  row 10 100\n  txn a serializable\nthe lines\n  a begin\n  a read 10\nare answered with\n  1 a begin -> began 1\n  2 a read 10 -> found 100",
+    arguments: &[FILE, TEXT, WHY, CHANGES],
 };
 
 const CHECK: CommandText = CommandText {
@@ -248,7 +269,9 @@ const PAGE: CommandText = CommandText {
 /// What `hek --version` says behind the name.
 const VERSION: &str = "0.2.0";
 
-const COMMANDS: &[CommandText] = &[RELEASE, WORD, ASM, DIS, RUN, DEBUG, CHECK, THREADS, PERMUTE, PAGE];
+const COMMANDS: &[CommandText] = &[
+    RELEASE, WORD, ASM, DIS, RUN, DRIVE, DEBUG, CHECK, THREADS, PERMUTE, PAGE,
+];
 
 /// Reads the words of a command line, the program's name first.
 pub fn read_words<'a, S: AsStr>(alloc: Global, words: &'a [S]) -> Result<ArgMatches<'a>, Error> {

@@ -14,6 +14,7 @@ use hek_orders_command::{Choice, part_of, permute_command};
 use hek_page::{Part, page_command};
 use hek_rules::{Level, number};
 use hek_threads_command::{repeat_command, threads_command};
+use hek_why_command::{Extras, drive_command, explain_command};
 use std::alloc::Global;
 use std::convert::AsStr;
 use std::env;
@@ -136,6 +137,7 @@ fn run<'a, D: Disk, I: Read + IsTerminal + Drop, W: Write, E: Write>(
         Some(("asm", found)) => asm(alloc, found, disk, input),
         Some(("dis", found)) => dis(alloc, found, disk, input, out),
         Some(("run", found)) => run_schedule(alloc, found, disk, input, out),
+        Some(("drive", found)) => drive(alloc, found, disk, input, out),
         Some(("debug", found)) => debug(alloc, found, disk, input, out, faults),
         Some(("check", found)) => check(alloc, found, disk, input, out),
         Some(("permute", found)) => permute(alloc, found, disk, input, out, faults),
@@ -179,12 +181,38 @@ fn run_schedule<'a, D: Disk, I: Read + Drop, W: Write>(
 ) -> Result<u8, HekFault<'a>> {
     let mut input = Some(input);
     let limit = number_of(found, "state-at")?;
+    let extras = extras_of(found);
+    let state = limit.is_some() || found.get_flag("state");
     let file = schedule_file(alloc, found, disk, &mut input)?;
-    if limit.is_some() || found.get_flag("state") {
+    if extras.why || extras.changes {
+        return explain_command(alloc, file, extras, limit, state, out);
+    }
+    if state {
         state_command(alloc, file, limit, out)
     } else {
         run_command(alloc, file, out)
     }
+}
+
+/// What the words ask for under each line.
+fn extras_of(found: &ArgMatches<'_>) -> Extras {
+    Extras {
+        why: found.get_flag("why"),
+        changes: found.get_flag("changes"),
+    }
+}
+
+fn drive<'a, D: Disk, I: Read + Drop, W: Write>(
+    alloc: Global,
+    found: &ArgMatches<'a>,
+    disk: &D,
+    input: I,
+    out: &mut W,
+) -> Result<u8, HekFault<'a>> {
+    let mut input = Some(input);
+    let file = schedule_file(alloc, found, disk, &mut input)?;
+    let events = open(disk, &mut input, INPUT)?;
+    drive_command(alloc, file, events, extras_of(found), out)
 }
 
 /// The number that the words give with an option, if they do.

@@ -1,0 +1,10 @@
+pub mod Undeclared
+pub mod Members
+pub mod Sounds
+pub mod Finds
+pub mod Gathered
+pub mod Seeing
+pub mod Lists
+pub mod Counted
+pub mod Numbers
+pub mod LastSeen

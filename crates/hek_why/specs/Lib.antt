@@ -1,0 +1,5 @@
+pub mod Passed
+pub mod Waited
+pub mod Looks
+pub mod Stops
+pub mod Explained

@@ -1,0 +1,83 @@
+//! Whose abort doomed whom: told as it happens, since a machine shows only that a transaction is doomed.
+ghost use Rattle.std.specs.Prelude.{◌≡◌, [], IfOk};
+ghost use Rattle.hek_rules.specs.Listing.{firsts_of};
+
+use crate::kept::keep_if;
+use hek_machine::Machine;
+use hek_rules::{Event, NoMemory, Reply, State, TxnId};
+use std::alloc::Global;
+use std::marker::Model;
+
+/// Whose abort set whose AbortNow, in the order of the run so far.
+#[derive(Debug, Drop)]
+pub struct Dooms {
+    /// Who aborted, and whom that doomed.
+    dooms: Vec<(TxnId, TxnId)>,
+}
+
+impl Model for Dooms {
+    ghost use Rattle.std.specs.Prelude.{ℕ, List};
+
+    ghost Value = { List (ℕ × ℕ) };
+
+    ghost view = { λ d. d.dooms.items };
+}
+
+impl Dooms {
+    /// Before the first event.
+    pub fn new(alloc: Global) -> Dooms
+        ensures { result ≡ [] }
+    {
+        Dooms {
+            dooms: Vec::new(alloc),
+        }
+    }
+
+    /// Takes note of an event and its reply, at the machine before it.
+    pub fn note(&mut self, before: &Machine, event: Event, reply: &Reply) -> Result<(), NoMemory> {
+        match aborted_by(before, event, reply) {
+            None => Ok(()),
+            Some(aborted) => self.add(before, aborted),
+        }
+    }
+
+    /// The abort of a transaction dooms those whose commit depends on it.
+    fn add(&mut self, before: &Machine, aborted: TxnId) -> Result<(), NoMemory> {
+        if !before.is_declared(aborted) {
+            return Ok(());
+        }
+        for doomed in before.dependents(aborted)?.as_slice() {
+            self.dooms.push((aborted, *doomed))?;
+        }
+        Ok(())
+    }
+
+    /// Whose aborts doomed this transaction, in the order in which they came.
+    pub fn of(&self, alloc: Global, t: TxnId) -> Result<Vec<TxnId>, NoMemory>
+        ensures { IfOk result (λ txns. txns.items ≡ firsts_of self.now t) }
+    {
+        let mut txns = Vec::new(alloc);
+        for doom in self.dooms.as_slice() {
+            keep_if(doom.1 == t, doom.0, &mut txns)?;
+        }
+        Ok(txns)
+    }
+}
+
+/// The transaction that an event aborted, if it did.
+fn aborted_by(before: &Machine, event: Event, reply: &Reply) -> Option<TxnId> {
+    match reply {
+        Reply::Victim(t, _) => Some(*t),
+        Reply::Failed => event.txn(),
+        Reply::Aborted(_) => {
+            let t = event.txn()?;
+            let was_aborted = before.is_declared(t) && is_aborted(before.state(t));
+            if was_aborted { None } else { Some(t) }
+        }
+        _ => None,
+    }
+}
+
+fn is_aborted(state: State) -> bool {
+    matches!(state, State::Aborted(_))
+}

@@ -1,0 +1,19 @@
+//! Why an event is answered as it is: the reasons of a reply, read off the machine at which the event came.
+#![tactic(auto)]
+
+mod dooms;
+mod explain;
+mod facts;
+mod kept;
+mod met;
+mod reason;
+mod refused;
+mod see;
+mod stops;
+mod waits;
+mod walked;
+
+pub use dooms::Dooms;
+pub use explain::{Step, reasons};
+pub use reason::{Met, Phase, Reason, TxnList};
+pub use waits::{commit_reasons, wait_reasons};

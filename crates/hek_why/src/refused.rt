@@ -1,0 +1,58 @@
+//! Why an event is refused.
+ghost use Rattle.hek_txn.specs.TxnTable.{Declared};
+
+use crate::facts::{has_finished, state_of};
+use crate::reason::{Phase, Reason};
+use hek_machine::Machine;
+use hek_rules::{EventKind, NoMemory, Refusal, State, TxnId};
+
+/// The phase that each kind of event is for.
+fn phase_of(kind: EventKind) -> Phase {
+    match kind {
+        EventKind::Begin => Phase::NotBegun,
+        EventKind::Read
+        | EventKind::Scan
+        | EventKind::Insert
+        | EventKind::Update
+        | EventKind::Delete
+        | EventKind::Finish => Phase::Open,
+        EventKind::Precommit => Phase::Finished,
+        EventKind::Commit => Phase::Preparing,
+        EventKind::Fail => Phase::Live,
+        EventKind::Release => Phase::Releasing,
+        EventKind::Stamp | EventKind::End | EventKind::Detect => Phase::Over,
+    }
+}
+
+/// The check that refused an event, by its kind and where its transaction stands; and what is left to give back, where
+/// that alone keeps it from its end.
+pub(crate) fn refusal_reason(
+    machine: &Machine,
+    t: TxnId,
+    kind: EventKind,
+    refusal: Refusal,
+) -> Result<Reason, NoMemory> {
+    let state = state_of(machine, t);
+    let is_over = state == State::Committed || matches!(state, State::Aborted(_));
+    if kind == EventKind::End && is_over && machine.is_declared(t) {
+        return holdings(machine, t);
+    }
+    Ok(Reason::Refused {
+        refusal,
+        phase: phase_of(kind),
+        state,
+        finished: has_finished(machine, t),
+    })
+}
+
+/// How much a transaction has left to give back and to stamp.
+fn holdings(machine: &Machine, t: TxnId) -> Result<Reason, NoMemory>
+    requires { Declared machine.now.txns t }
+{
+    Ok(Reason::Holds {
+        reads: machine.read_list(t)?.len(),
+        buckets: machine.bucket_list(t)?.len(),
+        waiters: machine.waiting_list(t)?.len(),
+        writes: machine.write_list(t)?.len(),
+    })
+}

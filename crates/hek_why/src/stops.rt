@@ -1,0 +1,176 @@
+//! Where a walk stops, or an insert.
+ghost use Rattle.std.specs.Prelude.{◌≡◌, IfOk};
+ghost use Rattle.hek_rules.specs.Walk.{version_judged, lock_judged, wait_judged};
+ghost use Rattle.hek_rules.specs.World.{txn_in};
+ghost use Rattle.hek_rules.specs.Table.{is_claim};
+ghost use Rattle.hek_txn.specs.TxnTable.{Declared};
+ghost use Rattle.hek_machine.specs.Judged.{IsShown};
+ghost use Rattle.hek_why.specs.Passed.{passes};
+ghost use Rattle.hek_why.specs.Stops.{purpose_of, target_of, refused_by, stop_by, stop_at, first_stop, first_claim};
+
+use crate::facts::{end_of, has_finished, is_listed, read_time, state_of};
+use crate::met::{no_read_lock, no_write_lock};
+use crate::see::see;
+use hek_machine::Machine;
+use hek_rules::{BeginRecord, Cause, Level, NoMemory, Sight, State, TxnId, VersionId};
+use hek_word::{BeginWord, EndWord};
+
+/// What a walk is for: to read what it sees, or to write over the last version that it sees.
+#[derive(Clone, Copy, Debug, PartialEq, Eq)]
+pub(crate) enum Aim {
+    ToRead,
+    ToWrite(Option<VersionId>),
+}
+
+/// The version at which a transaction is stopped, what it sees of it, and the cause.
+#[derive(Clone, Copy, Debug, PartialEq, Eq)]
+pub(crate) struct Stop {
+    pub(crate) version: VersionId,
+    pub(crate) sight: Sight,
+    pub(crate) cause: Cause,
+}
+
+/// What refuses the lock that a seen version gets.
+fn lock_refused(
+    machine: &Machine,
+    t: TxnId,
+    aim: &Aim,
+    v: VersionId,
+) -> Result<Option<Cause>, NoMemory>
+    requires { Declared machine.now.txns t }
+    ensures { IfOk result (IsShown machine.now (λ w. refused_by (lock_judged w t (purpose_of aim.now) (target_of aim.now) v))) }
+{
+    match *aim {
+        Aim::ToRead => match machine.level(t) {
+            Level::Snapshot => Ok(None),
+            Level::Serializable | Level::Repeatable => no_read_lock(machine, t, v),
+        },
+        Aim::ToWrite(Some(target)) if v == target => Ok(no_write_lock(machine, v)),
+        Aim::ToWrite(_) => Ok(None),
+    }
+}
+
+/// What refuses to make an active u wait, which made a version that t doesn't see.
+fn wait_refused(machine: &Machine, t: TxnId, u: TxnId) -> Result<Option<Cause>, NoMemory>
+    requires { Declared machine.now.txns t }
+    ensures { IfOk result (IsShown machine.now (λ w. refused_by (wait_judged w t u (txn_in w.txns t).level))) }
+{
+    match machine.level(t) {
+        Level::Repeatable | Level::Snapshot => Ok(None),
+        Level::Serializable => {
+            if is_listed(machine, t, u)? || !has_finished(machine, u) {
+                Ok(None)
+            } else {
+                Ok(Some(Cause::NoMoreWaits))
+            }
+        }
+    }
+}
+
+/// What refuses a walk at a version of which this is seen, if something does.
+fn refused_at(
+    machine: &Machine,
+    t: TxnId,
+    aim: &Aim,
+    v: VersionId,
+    sight: &Sight,
+) -> Result<Option<Cause>, NoMemory>
+    requires { Declared machine.now.txns t }
+    ensures { IfOk result (IsShown machine.now (λ w. refused_by (version_judged w t (purpose_of aim.now) (target_of aim.now) v sight.now))) }
+{
+    match *sight {
+        Sight::Seen | Sight::SeenIf(_) => lock_refused(machine, t, aim, v),
+        Sight::Hidden | Sight::HiddenIf(_) => Ok(None),
+        Sight::HiddenActive(u) => wait_refused(machine, t, u),
+    }
+}
+
+/// The stop at a version, if the walk is refused there.
+fn stop_at(machine: &Machine, t: TxnId, aim: &Aim, v: VersionId) -> Result<Option<Stop>, NoMemory>
+    requires { Declared machine.now.txns t }
+    ensures { IfOk result (IsShown machine.now (λ w. stop_at w t (purpose_of aim.now) (target_of aim.now) v)) }
+{
+    let sight = see(machine, t, v);
+    let refused = refused_at(machine, t, aim, v, &sight)?;
+    Ok(stop_by(v, sight, refused))
+}
+
+fn stop_by(version: VersionId, sight: Sight, refused: Option<Cause>) -> Option<Stop>
+    ensures { result ≡ stop_by version sight refused }
+{
+    match refused {
+        None => None,
+        Some(cause) => Some(Stop {
+            version,
+            sight,
+            cause,
+        }),
+    }
+}
+
+/// The first of these versions at which a walk is refused.
+pub(crate) fn first_stop(
+    machine: &Machine,
+    t: TxnId,
+    aim: &Aim,
+    vs: &[VersionId],
+) -> Result<Option<Stop>, NoMemory>
+    requires { Declared machine.now.txns t }
+    ensures { IfOk result (IsShown machine.now (λ w. first_stop w t (purpose_of aim.now) (target_of aim.now) vs.now)) }
+{
+    for v in vs {
+        let stop = stop_at(machine, t, aim, *v)?;
+        if stop.is_some() {
+            return Ok(stop);
+        }
+    }
+    Ok(None)
+}
+
+/// Whether another that is active made the version of a Begin word, or for a snapshot transaction it was made later than
+/// it looks.
+fn is_claim(machine: &Machine, t: TxnId, begin: BeginWord) -> bool
+    requires { Declared machine.now.txns t }
+    ensures { IsShown machine.now (λ w. is_claim w t (txn_in w.txns t).level begin) result }
+{
+    let is_snapshot = machine.level(t) == Level::Snapshot;
+    let rt = read_time(machine, t);
+    match begin.content() {
+        BeginRecord::At(time) => {
+            is_snapshot
+                && rt.number() < time.number()
+                && EndWord::stamped(time) != EndWord::infinity()
+        }
+        BeginRecord::By(u) => {
+            let state = state_of(machine, u);
+            let is_active = state == State::Active;
+            let is_prepared = state == State::Preparing || state == State::Committed;
+            (u != t && is_active)
+                || (is_snapshot && is_prepared && rt.number() < end_of(machine, u).number())
+        }
+    }
+}
+
+/// Whether there is such a version.
+fn claims(machine: &Machine, t: TxnId, v: VersionId) -> bool
+    requires { Declared machine.now.txns t }
+    ensures { IsShown machine.now (λ w. passes (λ v x. is_claim w t (txn_in w.txns t).level x.creator) v w) result }
+{
+    match machine.begin_word(v) {
+        None => false,
+        Some(begin) => is_claim(machine, t, begin),
+    }
+}
+
+/// The first of these versions that claims the key of an insert.
+pub(crate) fn first_claim(machine: &Machine, t: TxnId, vs: &[VersionId]) -> Option<VersionId>
+    requires { Declared machine.now.txns t }
+    ensures { IsShown machine.now (λ w. first_claim w t vs.now) result }
+{
+    for v in vs {
+        if claims(machine, t, *v) {
+            return Some(*v);
+        }
+    }
+    None
+}

@@ -1,0 +1,298 @@
+//! What a step changed: each word, counter, flag and list that differs, in the words of `hek run --state`.
+ghost use Rattle.std.specs.Prelude.{length, ◌<◌};
+ghost use Rattle.hek_rules.specs.Plan.{IsDeclared};
+ghost use Rattle.hek_txn.specs.TxnTable.{Declared};
+
+use crate::listed::Listed;
+use crate::word_text::{put, put_begin, put_end, put_name, state_word};
+use hek_machine::Machine;
+use hek_rules::{NoMemory, Schedule, Time, TxnId, VersionId};
+use hek_word::{BeginWord, EndWord};
+use std::io::Write;
+
+/// A line for each change from one machine to another comes behind the lines, each behind two spaces: the clock, the
+/// versions, the transactions and the buckets, in the order of the state.
+pub fn put_changes(
+    schedule: &Schedule,
+    before: &Machine,
+    after: &Machine,
+    lines: &mut Vec<u8>,
+) -> Result<(), NoMemory> {
+    let (old, new) = (before.clock().number(), after.clock().number());
+    if old != new {
+        put(writeln!(lines, "  clock {old} -> {new}"))?;
+    }
+    for index in 0..after.versions() {
+        put_version_changes(before, after, VersionId::new(index as u64), lines)?;
+    }
+    for place in 0..schedule.txn_count() {
+        put_txn_changes(schedule, before, after, TxnId::new(place as u64 + 1), lines)?;
+    }
+    for bucket in 0..after.buckets() {
+        put_bucket_changes(before, after, bucket, lines)?;
+    }
+    Ok(())
+}
+
+/// The words of a version that differ; or all of it, where it is new.
+fn put_version_changes(
+    before: &Machine,
+    after: &Machine,
+    v: VersionId,
+    lines: &mut Vec<u8>,
+) -> Result<(), NoMemory> {
+    let (Some(begin), Some(end)) = (after.begin_word(v), after.end_word(v)) else {
+        return Ok(());
+    };
+    match (before.begin_word(v), before.end_word(v)) {
+        (Some(old_begin), Some(old_end)) => {
+            put_begin_change(v, old_begin, begin, lines)?;
+            put_end_change(v, old_end, end, lines)
+        }
+        _ => put_new_version(after, v, begin, end, lines),
+    }
+}
+
+fn put_begin_change(
+    v: VersionId,
+    old: BeginWord,
+    new: BeginWord,
+    lines: &mut Vec<u8>,
+) -> Result<(), NoMemory> {
+    if old == new {
+        return Ok(());
+    }
+    let (index, old, bits) = (v.index(), old.bits(), new.bits());
+    put(write!(lines, "  version {index} begin {old:016X} -> {bits:016X} "))?;
+    put_begin(new, lines)?;
+    put(writeln!(lines))
+}
+
+fn put_end_change(
+    v: VersionId,
+    old: EndWord,
+    new: EndWord,
+    lines: &mut Vec<u8>,
+) -> Result<(), NoMemory> {
+    if old == new {
+        return Ok(());
+    }
+    let (index, old, bits) = (v.index(), old.bits(), new.bits());
+    put(write!(lines, "  version {index} end {old:016X} -> {bits:016X} "))?;
+    put_end(new, lines)?;
+    put(writeln!(lines))
+}
+
+/// A version that wasn't there: as its line of the state.
+fn put_new_version(
+    after: &Machine,
+    v: VersionId,
+    begin: BeginWord,
+    end: EndWord,
+    lines: &mut Vec<u8>,
+) -> Result<(), NoMemory> {
+    let (Some(key), Some(value)) = (after.key_of(v), after.value_of(v)) else {
+        return Ok(());
+    };
+    let index = v.index();
+    put(write!(lines, "  version {index} none -> key {key} value {value}"))?;
+    let bits = begin.bits();
+    put(write!(lines, "; {bits:016X} {begin}"))?;
+    let bits = end.bits();
+    put(writeln!(lines, "; {bits:016X} {end}"))
+}
+
+/// The front of a change of a transaction.
+fn put_txn(schedule: &Schedule, t: TxnId, lines: &mut Vec<u8>) -> Result<(), NoMemory> {
+    let number = t.number();
+    put(write!(lines, "  txn {number} "))?;
+    put_name(schedule, t, lines)
+}
+
+fn put_txn_changes(
+    schedule: &Schedule,
+    before: &Machine,
+    after: &Machine,
+    t: TxnId,
+    lines: &mut Vec<u8>,
+) -> Result<(), NoMemory> {
+    if !before.is_declared(t) || !after.is_declared(t) {
+        return Ok(());
+    }
+    let (old, new) = (before.state(t), after.state(t));
+    if old != new {
+        put_txn(schedule, t, lines)?;
+        let (old, new) = (state_word(old), state_word(new));
+        put(writeln!(lines, " {old} -> {new}"))?;
+    }
+    put_time_changes(schedule, before, after, t, lines)?;
+    put_count_changes(schedule, before, after, t, lines)?;
+    put_flag_changes(schedule, before, after, t, lines)?;
+    put_held_changes(schedule, before, after, t, lines)?;
+    put_other_changes(schedule, before, after, t, lines)
+}
+
+fn put_time_changes(
+    schedule: &Schedule,
+    before: &Machine,
+    after: &Machine,
+    t: TxnId,
+    lines: &mut Vec<u8>,
+) -> Result<(), NoMemory>
+    requires before { Declared before.now.txns t }
+    requires after { Declared after.now.txns t }
+{
+    let (old, new) = (before.begin_time(t), after.begin_time(t));
+    put_time_change(schedule, t, "begin", old, new, lines)?;
+    let (old, new) = (before.end_time(t), after.end_time(t));
+    put_time_change(schedule, t, "end", old, new, lines)
+}
+
+/// Drawn times begin at 1, and a time is drawn once.
+fn put_time_change(
+    schedule: &Schedule,
+    t: TxnId,
+    label: &str,
+    old: Time,
+    new: Time,
+    lines: &mut Vec<u8>,
+) -> Result<(), NoMemory> {
+    if old == new {
+        return Ok(());
+    }
+    put_txn(schedule, t, lines)?;
+    let new = new.number();
+    put(writeln!(lines, " {label} none -> {new}"))
+}
+
+fn put_count_changes(
+    schedule: &Schedule,
+    before: &Machine,
+    after: &Machine,
+    t: TxnId,
+    lines: &mut Vec<u8>,
+) -> Result<(), NoMemory>
+    requires before { Declared before.now.txns t }
+    requires after { Declared after.now.txns t }
+{
+    let (old, new) = (before.waits(t), after.waits(t));
+    if old != new {
+        put_txn(schedule, t, lines)?;
+        put(writeln!(lines, " waits {old} -> {new}"))?;
+    }
+    let (old, new) = (before.commit_deps(t), after.commit_deps(t));
+    if old != new {
+        put_txn(schedule, t, lines)?;
+        put(writeln!(lines, " commits {old} -> {new}"))?;
+    }
+    Ok(())
+}
+
+/// A flag is set, and stays set.
+fn put_flag_changes(
+    schedule: &Schedule,
+    before: &Machine,
+    after: &Machine,
+    t: TxnId,
+    lines: &mut Vec<u8>,
+) -> Result<(), NoMemory>
+    requires before { Declared before.now.txns t }
+    requires after { Declared after.now.txns t }
+{
+    if before.no_more_waits(t) != after.no_more_waits(t) {
+        put_txn(schedule, t, lines)?;
+        put(writeln!(lines, " no-more-waits clear -> set"))?;
+    }
+    if before.abort_now(t) != after.abort_now(t) {
+        put_txn(schedule, t, lines)?;
+        put(writeln!(lines, " abort-now clear -> set"))?;
+    }
+    Ok(())
+}
+
+/// What the transaction holds: read locks, versions to stamp, bucket locks.
+fn put_held_changes(
+    schedule: &Schedule,
+    before: &Machine,
+    after: &Machine,
+    t: TxnId,
+    lines: &mut Vec<u8>,
+) -> Result<(), NoMemory>
+    requires before { Declared before.now.txns t }
+    requires after { Declared after.now.txns t }
+{
+    let (old, new) = (before.read_list(t)?, after.read_list(t)?);
+    if old.as_slice() != new.as_slice() {
+        put_txn(schedule, t, lines)?;
+        put_lists("reads", old.as_slice(), new.as_slice(), lines)?;
+    }
+    let (old, new) = (before.write_list(t)?, after.write_list(t)?);
+    if old.as_slice() != new.as_slice() {
+        put_txn(schedule, t, lines)?;
+        put_lists("writes", old.as_slice(), new.as_slice(), lines)?;
+    }
+    let (old, new) = (before.bucket_list(t)?, after.bucket_list(t)?);
+    if old.as_slice() != new.as_slice() {
+        put_txn(schedule, t, lines)?;
+        put_lists("buckets", old.as_slice(), new.as_slice(), lines)?;
+    }
+    Ok(())
+}
+
+/// Who waits for the transaction, and who depends on it.
+fn put_other_changes(
+    schedule: &Schedule,
+    before: &Machine,
+    after: &Machine,
+    t: TxnId,
+    lines: &mut Vec<u8>,
+) -> Result<(), NoMemory>
+    requires before { Declared before.now.txns t }
+    requires after { Declared after.now.txns t }
+{
+    let (old, new) = (before.waiting_list(t)?, after.waiting_list(t)?);
+    if old.as_slice() != new.as_slice() {
+        put_txn(schedule, t, lines)?;
+        put_lists("waiting", old.as_slice(), new.as_slice(), lines)?;
+    }
+    let (old, new) = (before.dependents(t)?, after.dependents(t)?);
+    if old.as_slice() != new.as_slice() {
+        put_txn(schedule, t, lines)?;
+        put_lists("dependents", old.as_slice(), new.as_slice(), lines)?;
+    }
+    Ok(())
+}
+
+fn put_lists<L: Listed + Drop>(
+    label: &str,
+    old: L,
+    new: L,
+    lines: &mut Vec<u8>,
+) -> Result<(), NoMemory> {
+    put(write!(lines, " {label}"))?;
+    old.put_members(lines)?;
+    put(write!(lines, " ->"))?;
+    new.put_members(lines)?;
+    put(writeln!(lines))
+}
+
+fn put_bucket_changes(
+    before: &Machine,
+    after: &Machine,
+    bucket: u64,
+    lines: &mut Vec<u8>,
+) -> Result<(), NoMemory> {
+    if bucket >= before.buckets() || bucket >= after.buckets() {
+        return Ok(());
+    }
+    let (old, new) = (before.lock_list(bucket)?, after.lock_list(bucket)?);
+    if old.as_slice() == new.as_slice() {
+        return Ok(());
+    }
+    let (from, to) = (before.lock_count(bucket), after.lock_count(bucket));
+    if from != to {
+        put(writeln!(lines, "  bucket {bucket} locks {from} -> {to}"))?;
+    }
+    put(write!(lines, "  bucket {bucket}"))?;
+    put_lists("holders", old.as_slice(), new.as_slice(), lines)
+}

@@ -1,0 +1,20 @@
+//! Runs with the reasons of each reply and the changes of each step, and a machine that is driven event by event.
+#![tactic(auto)]
+
+mod changes;
+mod drive;
+mod driven_line;
+mod listed;
+mod looked_text;
+mod met_text;
+mod reason_text;
+mod refused_text;
+mod run;
+mod step;
+mod word_text;
+
+pub use changes::put_changes;
+pub use drive::drive_command;
+pub use reason_text::put_reasons;
+pub use run::explain_command;
+pub use step::Extras;

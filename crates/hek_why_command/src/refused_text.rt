@@ -1,0 +1,45 @@
+//! Why an event was refused.
+use crate::word_text::{put, put_name, state_word};
+use hek_rules::{NoMemory, Refusal, Schedule, State, TxnId};
+use hek_why::Phase;
+use std::io::Write;
+
+fn phase_word(phase: Phase) -> &'static str {
+    match phase {
+        Phase::NotBegun => "not begun",
+        Phase::Open => "active and not finished",
+        Phase::Finished => "active and finished",
+        Phase::Preparing => "preparing",
+        Phase::Live => "active or preparing",
+        Phase::Releasing => "preparing, committed or aborted",
+        Phase::Over => "committed or aborted",
+    }
+}
+
+/// Where the transaction stands, and where the event wants it to stand.
+pub(crate) fn put_refused(
+    schedule: &Schedule,
+    t: TxnId,
+    refusal: Refusal,
+    phase: Phase,
+    state: State,
+    finished: bool,
+    lines: &mut Vec<u8>,
+) -> Result<(), NoMemory> {
+    if refusal == Refusal::ClockFull {
+        return put(write!(lines, "no time is left to draw"));
+    }
+    put_name(schedule, t, lines)?;
+    if refusal == Refusal::UnknownTxn {
+        return put(write!(lines, " is not declared"));
+    }
+    let state_text = state_word(state);
+    put(write!(lines, " is {state_text}"))?;
+    match (state, finished) {
+        (State::Active, true) => put(write!(lines, " and finished"))?,
+        (State::Active, false) => put(write!(lines, " and not finished"))?,
+        _ => {}
+    }
+    let phase = phase_word(phase);
+    put(write!(lines, ", and the event is for one that is {phase}"))
+}

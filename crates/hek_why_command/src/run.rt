@@ -1,0 +1,94 @@
+//! The command `run` with `--why` or `--changes`.
+ghost use Rattle.std.specs.Prelude.{◌≡◌, length, IfErr, IfOk};
+ghost use Rattle.std.specs.List.{All, AllByRecursion};
+ghost use Rattle.hek_laws.specs.Runs.{IsPlaced};
+ghost use Rattle.hek_asm.specs.Trace.{NamesDeclared};
+
+use crate::step::{Extras, Telling, tell_step};
+use hek_commands::{HekFault, ScheduleFile, clock_line, schedule_in, send, state_lines};
+use hek_machine::Machine;
+use hek_rules::{Event, Schedule};
+use hek_why::Dooms;
+use std::alloc::Global;
+use std::io::{Read, Write};
+
+/// Runs the first steps of the schedule that a file says, as many as `limit` says or all of them, and writes their trace
+/// with what is asked for under each line; then, where `state` says so, the state of the machine. The answer is the exit
+/// status. Each step takes time linear in the state.
+pub fn explain_command<'a, R: Read + Drop, W: Write>(
+    alloc: Global,
+    file: ScheduleFile<R>,
+    extras: Extras,
+    limit: Option<u64>,
+    state: bool,
+    out: &mut W,
+) -> Result<u8, HekFault<'a>>
+    ensures { IfOk result (λ status. status ≡ 0) }
+{
+    let schedule = schedule_in(alloc, file)?;
+    explain(alloc, &schedule, extras, limit, state, out)?;
+    Ok(0)
+}
+
+/// The same for a schedule.
+#[tactic(auto, using(hek_asm::proofs::RowLemmas::steps_declared, hek_machine::proofs::PlacedSteps::steps_placed))]
+fn explain<'a, W: Write>(
+    alloc: Global,
+    schedule: &Schedule,
+    extras: Extras,
+    limit: Option<u64>,
+    state: bool,
+    out: &mut W,
+) -> Result<(), HekFault<'a>> {
+    // There is a bucket, and each step is one of this schedule.
+    let _ = schedule.buckets();
+    let mut machine = Machine::load(alloc, schedule)?;
+    let mut telling = Telling {
+        schedule,
+        done: 0,
+        dooms: Dooms::new(alloc),
+        extras,
+    };
+    let steps = schedule.steps();
+    tell_steps(alloc, &mut telling, &mut machine, steps, limit, out)?;
+    if state {
+        tell_state(alloc, schedule, &machine, out)?;
+    }
+    Ok(())
+}
+
+/// Does steps on a machine, as many as `limit` says or all of them, and writes each.
+fn tell_steps<'a, W: Write>(
+    alloc: Global,
+    telling: &mut Telling<'_>,
+    machine: &mut Machine,
+    steps: &[Event],
+    limit: Option<u64>,
+    out: &mut W,
+) -> Result<(), HekFault<'a>>
+    requires placed { All (IsPlaced (length machine.old.buckets)) steps.now }
+    requires declared { AllByRecursion (NamesDeclared (length telling.old.schedule.now.txns)) steps.now }
+{
+    let mut lines = Vec::new(alloc);
+    for place in 0..steps.len() {
+        if limit.is_some_and(|count| place as u64 >= count) {
+            break;
+        }
+        tell_step(alloc, telling, machine, steps[place], &mut lines)?;
+        send(&mut lines, out)?;
+    }
+    Ok(())
+}
+
+/// The state as `hek run --state` prints it.
+fn tell_state<'a, W: Write>(
+    alloc: Global,
+    schedule: &Schedule,
+    machine: &Machine,
+    out: &mut W,
+) -> Result<(), HekFault<'a>> {
+    let mut line = clock_line(alloc, machine.clock())?;
+    send(&mut line, out)?;
+    let mut lines = state_lines(alloc, schedule, machine)?;
+    send(&mut lines, out)
+}

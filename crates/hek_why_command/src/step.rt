@@ -1,0 +1,114 @@
+//! One event of a machine, told in full: its line of the trace, its reasons and its changes.
+ghost use Rattle.std.specs.Prelude.{◌≡◌, length, IfErr};
+ghost use Rattle.hek_laws.specs.Runs.{IsPlaced};
+ghost use Rattle.hek_asm.specs.Trace.{NamesDeclared};
+
+use crate::changes::put_changes;
+use crate::reason_text::put_reasons;
+use hek_asm::write_line;
+use hek_machine::Machine;
+use hek_rules::{Event, FromWrite, NoMemory, Reply, Schedule, TxnId};
+use hek_why::{Dooms, Step, reasons};
+use std::alloc::Global;
+use std::mem;
+
+/// What stands under each line of a trace.
+#[derive(Clone, Copy, Debug, PartialEq, Eq)]
+pub struct Extras {
+    /// The reasons of the reply.
+    pub why: bool,
+    /// What the step changed.
+    pub changes: bool,
+}
+
+/// A run so far: the schedule, how many events were done, whose aborts doomed whom, and what is asked for under each line.
+#[derive(Drop)]
+pub(crate) struct Telling<'a> {
+    pub(crate) schedule: &'a Schedule,
+    pub(crate) done: u64,
+    pub(crate) dooms: Dooms,
+    pub(crate) extras: Extras,
+}
+
+/// Does an event on the machine. Its line, and what stands under it, comes behind the lines.
+pub(crate) fn tell_step(
+    alloc: Global,
+    telling: &mut Telling<'_>,
+    machine: &mut Machine,
+    event: Event,
+    lines: &mut Vec<u8>,
+) -> Result<(), NoMemory>
+    requires placed { IsPlaced (length machine.old.buckets) event }
+    requires declared { NamesDeclared (length telling.old.schedule.now.txns) event }
+    ensures buckets { length machine.new.buckets ≡ length machine.old.buckets }
+    ensures schedule { telling.new.schedule ≡ telling.old.schedule }
+{
+    let before = machine.copy()?;
+    tell_from(alloc, telling, &before, machine, event, lines)
+}
+
+/// The same, from the machine before it.
+fn tell_from(
+    alloc: Global,
+    telling: &mut Telling<'_>,
+    before: &Machine,
+    machine: &mut Machine,
+    event: Event,
+    lines: &mut Vec<u8>,
+) -> Result<(), NoMemory>
+    requires placed { IsPlaced (length machine.old.buckets) event }
+    requires declared { NamesDeclared (length telling.old.schedule.now.txns) event }
+    ensures buckets { length machine.new.buckets ≡ length machine.old.buckets }
+    ensures schedule { telling.new.schedule ≡ telling.old.schedule }
+{
+    let reply = machine.step(event)?;
+    telling.done = telling.done.saturating_add(1);
+    put_line(alloc, telling.schedule, telling.done, event, &reply, lines)?;
+    let step = Step {
+        before,
+        event,
+        reply: &reply,
+        after: machine,
+    };
+    put_extras(alloc, telling, &step, lines)?;
+    telling.dooms.note(before, event, &reply)
+}
+
+/// The line of the trace.
+fn put_line(
+    alloc: Global,
+    schedule: &Schedule,
+    number: u64,
+    event: Event,
+    reply: &Reply,
+    lines: &mut Vec<u8>,
+) -> Result<(), NoMemory>
+    requires { NamesDeclared (length schedule.now.txns) event }
+{
+    let mut sink = FromWrite::new(mem::replace(lines, Vec::new(alloc)));
+    match write_line(schedule, number, event, reply, &mut sink) {
+        Ok(()) => {
+            *lines = sink.into_inner();
+            Ok(())
+        }
+        Err(_) => Err(NoMemory),
+    }
+}
+
+/// What stands under it: reasons first, then changes.
+fn put_extras(
+    alloc: Global,
+    telling: &Telling<'_>,
+    step: &Step<'_>,
+    lines: &mut Vec<u8>,
+) -> Result<(), NoMemory> {
+    if telling.extras.why {
+        let t = step.event.txn().unwrap_or(TxnId::new(0));
+        let list = reasons(alloc, step, &telling.dooms)?;
+        put_reasons(telling.schedule, step.before, t, list.as_slice(), lines)?;
+    }
+    if telling.extras.changes {
+        put_changes(telling.schedule, step.before, step.after, lines)?;
+    }
+    Ok(())
+}
