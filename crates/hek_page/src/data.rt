@@ -7,8 +7,10 @@ ghost use Rattle.hek_asm.specs.Trace.{NamesDeclared};
 use crate::look::{Changes, Look};
 use hek_asm::write_line;
 use hek_machine::Machine;
-use hek_rules::{Event, FromWrite, NoMemory, Reply, Schedule, Transcript, Verdict};
+use hek_rules::{Event, FromWrite, NoMemory, Reply, Schedule, Transcript, TxnId, Verdict};
 use hek_serial::check;
+use hek_why::{Dooms, Step, reasons};
+use hek_why_command::put_reasons;
 use serde_json::{Value, json};
 use std::alloc::{AllocError, Global};
 use std::str;
@@ -24,6 +26,7 @@ pub(crate) struct Shown {
 #[derive(Drop)]
 struct Gathered {
     look: Look,
+    dooms: Dooms,
     told: Transcript,
     trace: Vec<u8>,
     steps: Vec<Value>,
@@ -52,6 +55,7 @@ fn gather(
 {
     let mut gathered = Gathered {
         look: Look::new(alloc),
+        dooms: Dooms::new(alloc),
         told: Transcript::new(alloc, schedule)?,
         trace: Vec::new(alloc),
         steps: Vec::new(alloc),
@@ -111,7 +115,7 @@ fn show_steps(
         if place >= shown.last {
             break;
         }
-        let event = steps[place];
+        let event = &steps[place];
         show_step(alloc, schedule, machine, place as u64 + 1, event, gathered)?;
     }
     Ok(())
@@ -122,19 +126,62 @@ fn show_step(
     schedule: &Schedule,
     machine: &mut Machine,
     number: u64,
-    event: Event,
+    event: &Event,
     gathered: &mut Gathered,
 ) -> Result<(), NoMemory>
     requires buckets { length machine.old.buckets ≡ schedule.now.buckets }
-    requires placed { IsPlaced schedule.now.buckets event }
-    requires declared { NamesDeclared (length schedule.now.txns) event }
+    requires placed { IsPlaced schedule.now.buckets event.now }
+    requires declared { NamesDeclared (length schedule.now.txns) event.now }
     ensures buckets { length machine.new.buckets ≡ schedule.now.buckets }
 {
-    let reply = machine.step(event)?;
+    let before = machine.copy()?;
+    show_from(alloc, schedule, &before, machine, number, event, gathered)
+}
+
+/// The same, with the machine before the step.
+fn show_from(
+    alloc: Global,
+    schedule: &Schedule,
+    before: &Machine,
+    machine: &mut Machine,
+    number: u64,
+    event: &Event,
+    gathered: &mut Gathered,
+) -> Result<(), NoMemory>
+    requires buckets { length machine.old.buckets ≡ schedule.now.buckets }
+    requires placed { IsPlaced schedule.now.buckets event.now }
+    requires declared { NamesDeclared (length schedule.now.txns) event.now }
+    ensures buckets { length machine.new.buckets ≡ schedule.now.buckets }
+{
+    let reply = machine.step(*event)?;
     put_line(alloc, schedule, number, event, &reply, &mut gathered.trace)?;
     let changes = gathered.look.changes(alloc, schedule, machine)?;
-    gathered.steps.push(step_value(alloc, &changes)?)?;
-    gathered.told.push(event, reply)
+    let step = Step {
+        before,
+        event: *event,
+        reply: &reply,
+        after: machine,
+    };
+    let why = why_of(alloc, schedule, &step, &gathered.dooms)?;
+    gathered
+        .steps
+        .push(step_value(alloc, &changes, why.as_slice())?)?;
+    gathered.dooms.note(before, *event, &reply)?;
+    gathered.told.push(*event, reply)
+}
+
+/// The reasons of a step's reply, a line each.
+fn why_of(
+    alloc: Global,
+    schedule: &Schedule,
+    step: &Step<'_>,
+    dooms: &Dooms,
+) -> Result<Vec<u8>, NoMemory> {
+    let mut lines = Vec::new(alloc);
+    let t = step.event.txn().unwrap_or(TxnId::new(0));
+    let list = reasons(alloc, step, dooms)?;
+    put_reasons(schedule, step.before, t, list.as_slice(), &mut lines)?;
+    Ok(lines)
 }
 
 /// The line of a step with its reply comes behind the trace.
@@ -142,14 +189,14 @@ fn put_line(
     alloc: Global,
     schedule: &Schedule,
     number: u64,
-    event: Event,
+    event: &Event,
     reply: &Reply,
     trace: &mut Vec<u8>,
 ) -> Result<(), NoMemory>
-    requires { NamesDeclared (length schedule.now.txns) event }
+    requires { NamesDeclared (length schedule.now.txns) event.now }
 {
     let mut sink = FromWrite::new(Vec::new(alloc));
-    match write_line(schedule, number, event, reply, &mut sink) {
+    match write_line(schedule, number, *event, reply, &mut sink) {
         Ok(()) => {
             let line = sink.into_inner();
             trace.extend_from_slice(line.as_slice())?;
@@ -159,10 +206,11 @@ fn put_line(
     }
 }
 
-fn step_value(alloc: Global, changes: &Changes) -> Result<Value, AllocError> {
+fn step_value(alloc: Global, changes: &Changes, why: &[u8]) -> Result<Value, AllocError> {
     let lines = text_of(changes.lines.as_slice());
     let gone = text_of(changes.gone.as_slice());
-    json!(in alloc; {"changed": lines, "gone": gone})
+    let why = text_of(why);
+    json!(in alloc; {"changed": lines, "gone": gone, "why": why})
 }
 
 /// All lines of the page's data are ASCII: names are of small letters, digits and underscores.
