@@ -1,6 +1,6 @@
 //! Traces with one character taken away or doubled.
 ghost use Rattle.std.specs.Prelude.{IsTrue, length};
-ghost use Rattle.hek_asm.specs.Lines.{NamesDeclared};
+ghost use Rattle.hek_asm.specs.Trace.{NamesDeclared};
 
 use crate::fault::Fault;
 use crate::histories::{SCHEDULE, replies_to};
@@ -90,7 +90,8 @@ fn line_of(
     reply: &Reply,
 ) -> Result<MemorySink, WriteFault> {
     let mut sink = MemorySink::new(alloc, usize::MAX, usize::MAX);
-    if is_declared(schedule, event) {
+    let same = event;
+    if is_declared(schedule, same) {
         write_line(
             schedule,
             (at as u64).saturating_add(1),
