@@ -2,9 +2,11 @@
 //! compared with what is stored of it; and the debugger's commands in the folder `debug` are held against what they print.
 #![tactic(auto)]
 
+mod changes;
 mod folder;
 mod sessions;
 
+use changes::lay_folder;
 use folder::{Count, compare_folder};
 use hek_stored::Fault;
 use sessions::compare_sessions;
@@ -30,7 +32,10 @@ fn compare_all(rt: &HostRuntime) -> Result<Count, Fault> {
     for folder in env::args(rt)?.skip(1) {
         match folder.as_str() {
             SESSIONS => compare_sessions(rt, SESSIONS, &mut count)?,
-            folder => compare_folder(rt, folder, &mut count)?,
+            folder => {
+                compare_folder(rt, folder, &mut count)?;
+                count.add(!lay_folder(rt, folder)?);
+            }
         }
     }
     println!(rt; "{count}")?;
