@@ -4,10 +4,12 @@
 #![tactic(auto)]
 
 mod anomalies;
+mod changes;
 mod folder;
 mod sessions;
 
 use anomalies::compare_anomalies;
+use changes::lay_folder;
 use folder::{Count, compare_folder};
 use hek_stored::Fault;
 use sessions::compare_sessions;
@@ -37,7 +39,10 @@ fn compare_all(rt: &HostRuntime) -> Result<Count, Fault> {
         match folder.as_str() {
             SESSIONS => compare_sessions(rt, SESSIONS, &mut count)?,
             ANOMALIES => compare_anomalies(rt, ANOMALIES, &mut count)?,
-            folder => compare_folder(rt, folder, &mut count)?,
+            folder => {
+                compare_folder(rt, folder, &mut count)?;
+                count.add(!lay_folder(rt, folder)?);
+            }
         }
     }
     println!(rt; "{count}")?;
