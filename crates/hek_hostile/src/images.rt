@@ -70,14 +70,13 @@ pub(crate) fn changed_bytes(alloc: Global) -> Result<Tally, Fault> {
 /// Whether the loader says what the plain one says, and writes what it loads as these bytes, but for the version.
 fn is_judged(alloc: Global, image: &[u8; 62]) -> Result<bool, Fault> {
     let mut source = MemorySource::new(image, 62, Ending::Ends);
-    match (
-        load(alloc, image, 7, Ending::Ends),
-        gathered_image(alloc, &mut source),
-    ) {
-        (Ok(loaded), Ok(gathered)) => Ok(
-            loaded.same(&gathered) && is_written(alloc, &loaded, image)?,
-        ),
-        (loaded, gathered) => Ok(loaded.err() == gathered.err()),
+    let gathered = gathered_image(alloc, &mut source);
+    match load(alloc, image, 7, Ending::Ends) {
+        Ok(loaded) => match gathered {
+            Ok(gathered) => Ok(loaded.same(&gathered) && is_written(alloc, &loaded, image)?),
+            Err(_) => Ok(false),
+        },
+        Err(fault) => Ok(gathered.err() == Some(fault)),
     }
 }
 

@@ -262,26 +262,28 @@ fn stops_at_a_fault(rt: HostRuntime) {
 fn assert_agree(rt: &impl Abort, alloc: Global, bytes: &[u8], piece: usize, ending: Ending)
     requires { 0 < piece }
 {
-    let mut source = MemorySource::new(bytes, piece, ending);
-    match (
-        load(alloc, bytes, piece, ending),
-        gathered_image(alloc, &mut source),
-    ) {
-        (Ok(loaded), Ok(gathered)) => assert!(rt; loaded.same(&gathered)),
-        (loaded, gathered) => is_at(rt, bytes.len(), loaded.err(), gathered.err()),
+    let same = ending;
+    let mut source = MemorySource::new(bytes, piece, same);
+    let gathered = gathered_image(alloc, &mut source);
+    match load(alloc, bytes, piece, ending) {
+        Ok(loaded) => match gathered {
+            Ok(gathered) => assert!(rt; loaded.same(&gathered)),
+            Err(fault) => is_at(rt, bytes.len(), None, Some(fault)),
+        },
+        Err(fault) => is_at(rt, bytes.len(), Some(fault), gathered.err()),
     }
 }
 
 #[test]
 fn agrees_with_a_plain_loader_on_fronts(rt: HostRuntime) {
     let old = vector(1, 0x02);
-    for len in 0..=62usize {
+    for len in 0..63usize {
         for piece in [1usize, 3, 7, 100] {
-            for ending in [Ending::Ends, Ending::Fails] {
-                assert!(rt; piece > 0);
-                assert_agree(&rt, rt.alloc(), &VECTOR[..len], piece, ending);
-                assert_agree(&rt, rt.alloc(), &old[..len], piece, ending);
-            }
+            assert!(rt; piece > 0);
+            assert_agree(&rt, rt.alloc(), &VECTOR[..len], piece, Ending::Ends);
+            assert_agree(&rt, rt.alloc(), &VECTOR[..len], piece, Ending::Fails);
+            assert_agree(&rt, rt.alloc(), &old[..len], piece, Ending::Ends);
+            assert_agree(&rt, rt.alloc(), &old[..len], piece, Ending::Fails);
         }
     }
     assert_agree(&rt, rt.alloc(), b"\x47", 100_000, Ending::Endless);
