@@ -49,13 +49,13 @@ fn lines_at_fault_are_answered(rt: HostRuntime) -> Result<(), Fail> {
         changes: true,
     };
     let input =
-        "a begin\na reed 10\nc begin\na scan 1\na read x\nrow 11 1\ndetect now\na read\na r\u{e9}ad\na finish\n";
+        "a begin\na reed 10\nc begin\na scan 1\na read x\nrow 11 1\ndetect now\na read\na r\u{e9}ad\na finish\n?\n";
     let (status, out) = driven(&rt, rt.alloc(), input, extras)?;
     is(&rt, status, 1);
     is(
         &rt,
         out.as_str(),
-        "1 a begin -> began 1\n  clock 1 -> 2\n  txn 1 a not begun -> active\n  txn 1 a begin none -> 1\n? line 2: 2 BadWord\n? line 3: 4 UnknownName\n? line 4: 8 BadBucket\n? line 5: 3 BadNumber\n? line 6: 2 BadWord\n? line 7: 2 BadWord\n? line 8: 2 BadWord\n? line 9: 9 NotAscii\n2 a finish -> ready\n  txn 1 a no-more-waits clear -> set\n",
+        "1 a begin -> began 1\n  clock 1 -> 2\n  txn 1 a not begun -> active\n  txn 1 a begin none -> 1\n? line 2: 2 BadWord\n? line 3: 4 UnknownName\n? line 4: 8 BadBucket\n? line 5: 3 BadNumber\n? line 6: 2 BadWord\n? line 7: 2 BadWord\n? line 8: 2 BadWord\n? line 9: 9 NotAscii\n2 a finish -> ready\n  txn 1 a no-more-waits clear -> set\n? line 11: 2 BadWord\n",
     );
     Ok(())
 }
