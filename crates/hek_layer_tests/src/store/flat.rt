@@ -18,15 +18,15 @@ struct Flat {
 }
 
 impl Flat {
-    /// The places of the versions that `is_one` picks.
-    fn places(
-        &self,
-        alloc: Global,
-        is_one: impl Fn(&Version) -> bool,
-    ) -> Result<Vec<u64>, NoMemory> {
+    /// The places of the versions of a key, or where none is given of those in a bucket.
+    fn places(&self, alloc: Global, key: Option<u64>, bucket: u64) -> Result<Vec<u64>, NoMemory> {
         let mut places = Vec::new(alloc);
         for (place, version) in self.versions.iter().enumerate() {
-            if is_one(version) {
+            let is_one = match key {
+                Some(key) => version.key == key,
+                None => version.key % BUCKETS == bucket,
+            };
+            if is_one {
                 places.push(place as u64)?;
             }
         }
@@ -85,7 +85,8 @@ impl Both {
             self.flat.versions.push(version(key, drawn))?;
             return Ok(());
         }
-        let place = self.below(self.store.len());
+        let count = self.store.len();
+        let place = self.below(count);
         let v = VersionId::new(place);
         holds(rt, place < self.store.len());
         if place >= self.store.len() {
@@ -99,33 +100,34 @@ impl Both {
         Ok(())
     }
 
+    fn found_of(&self, alloc: Global, key: u64) -> Result<Vec<u64>, NoMemory> {
+        let mut places = Vec::new(alloc);
+        for v in self.store.versions_of(key) {
+            places.push(v.index())?;
+        }
+        Ok(places)
+    }
+
+    fn found_in(&self, alloc: Global, bucket: u64) -> Result<Vec<u64>, NoMemory> {
+        let mut places = Vec::new(alloc);
+        for v in self.store.versions_in(bucket) {
+            places.push(v.index())?;
+        }
+        Ok(places)
+    }
+
     fn assert_same(&self, rt: &impl Abort, alloc: Global) -> Result<(), NoMemory> {
         for key in 0..KEYS {
-            let found = gathered(alloc, self.store.versions_of(key))?;
-            let wanted = self.flat.places(alloc, |version| version.key == key)?;
-            holds(rt, found == wanted);
+            let wanted = self.flat.places(alloc, Some(key), 0)?;
+            holds(rt, self.found_of(alloc, key)? == wanted);
         }
         for bucket in 0..BUCKETS {
-            let found = gathered(alloc, self.store.versions_in(bucket))?;
-            let wanted = self
-                .flat
-                .places(alloc, |version| version.key % BUCKETS == bucket)?;
-            holds(rt, found == wanted);
+            let wanted = self.flat.places(alloc, None, bucket)?;
+            holds(rt, self.found_in(alloc, bucket)? == wanted);
         }
         is(rt, self.store.len(), self.flat.versions.len() as u64);
         Ok(())
     }
-}
-
-fn gathered(
-    alloc: Global,
-    versions: impl Iterator<Item = VersionId> + Drop,
-) -> Result<Vec<u64>, NoMemory> {
-    let mut places = Vec::new(alloc);
-    for v in versions {
-        places.push(v.index())?;
-    }
-    Ok(places)
 }
 
 // 1,000 sequences of 60 steps, from four rows in three buckets.
