@@ -59,6 +59,11 @@ b end
 detect
 ";
 
+/// The schedule of a text of the program's own.
+pub(crate) fn assembled(alloc: Global, text: &str) -> Result<Schedule, Fault> {
+    Ok(assemble_text(alloc, text)?)
+}
+
 /// The replies to the steps of a schedule.
 #[tactic(auto, using(hek_machine::proofs::PlacedSteps::steps_placed))]
 pub(crate) fn replies_to(alloc: Global, schedule: &Schedule) -> Result<Vec<Reply>, NoMemory> {
@@ -70,7 +75,7 @@ pub(crate) fn replies_to(alloc: Global, schedule: &Schedule) -> Result<Vec<Reply
 /// Each value that was found or listed raised by one, and each absence found as 0.
 pub(crate) fn raised_replies(alloc: Global) -> Result<Tally, Fault> {
     let mut tally = Tally::new();
-    let schedule = assemble_text(alloc, SCHEDULE)?;
+    let schedule = assembled(alloc, SCHEDULE)?;
     let replies = replies_to(alloc, &schedule)?;
     let told = told_with(alloc, &schedule, replies.as_slice(), usize::MAX, 0)?;
     tally.note(check(alloc, &told)? == Verdict::Serial);

@@ -3,9 +3,9 @@ ghost use Rattle.std.specs.Prelude.{IsTrue, length};
 ghost use Rattle.hek_asm.specs.Trace.{NamesDeclared};
 
 use crate::fault::Fault;
-use crate::histories::{SCHEDULE, replies_to};
+use crate::histories::{SCHEDULE, assembled, replies_to};
 use crate::tally::Tally;
-use hek_asm::{TraceFault, assemble_text, read_trace, write_line};
+use hek_asm::{TraceFault, read_trace, write_line};
 use hek_rules::{Event, MemorySink, Reply, Schedule, Transcript, WriteFault};
 use std::alloc::Global;
 use std::str;
@@ -13,7 +13,7 @@ use std::str;
 /// Each character of each line of a trace, taken away and doubled.
 pub(crate) fn changed_lines(alloc: Global) -> Result<Tally, Fault> {
     let mut tally = Tally::new();
-    let schedule = assemble_text(alloc, SCHEDULE)?;
+    let schedule = assembled(alloc, SCHEDULE)?;
     let replies = replies_to(alloc, &schedule)?;
     let bytes = trace_of(alloc, &schedule, replies.as_slice())?;
     let Ok(trace) = str::from_utf8(bytes.as_slice()) else {
