@@ -71,7 +71,7 @@ fn answer_line<'a, W: Write>(
     let mut fault = None;
     match read_event(telling.schedule, line) {
         Ok(None) => {}
-        Ok(Some(event)) => tell_placed(alloc, telling, machine, event, &mut answer)?,
+        Ok(Some(event)) => tell_placed(alloc, telling, machine, &event, &mut answer)?,
         Err(kind) => {
             put_fault(number, kind, &mut answer)?;
             fault = Some(kind);
@@ -89,12 +89,12 @@ fn tell_placed(
     alloc: Global,
     telling: &mut Telling<'_>,
     machine: &mut Machine,
-    event: Event,
+    event: &Event,
     lines: &mut Vec<u8>,
 ) -> Result<(), NoMemory>
-    requires { IsStep telling.old.schedule.now.buckets (length telling.old.schedule.now.txns) event }
+    requires { IsStep telling.old.schedule.now.buckets (length telling.old.schedule.now.txns) event.now }
 {
-    if let Event::Scan(_, bucket) = event {
+    if let Event::Scan(_, bucket) = *event {
         if bucket >= machine.buckets() {
             return Ok(());
         }

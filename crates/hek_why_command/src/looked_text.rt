@@ -4,6 +4,7 @@ use hek_machine::Machine;
 use hek_rules::{
     BeginRecord, EndRecord, Level, NoMemory, Schedule, Sight, State, Time, TxnId, VersionId,
 };
+use hek_word::EndWord;
 use std::io::Write;
 
 /// The time that never comes.
@@ -27,7 +28,7 @@ pub(crate) fn put_looked(
     put_time(machine, t, lines)?;
     put_made(schedule, machine, t, begin.content(), lines)?;
     put(write!(lines, ", "))?;
-    put_ended(schedule, machine, t, end.content(), lines)?;
+    put_ended(schedule, machine, t, end, lines)?;
     let (begin, end) = (begin.bits(), end.bits());
     put(write!(lines, " ({begin:016X}, {end:016X})"))
 }
@@ -87,22 +88,23 @@ fn put_ended(
     schedule: &Schedule,
     machine: &Machine,
     t: TxnId,
-    end: EndRecord,
+    end: EndWord,
     lines: &mut Vec<u8>,
 ) -> Result<(), NoMemory> {
-    match end {
-        EndRecord::Until(time) => match time.number() {
-            INFINITY => put(write!(lines, "not written over")),
-            ticks => put(write!(lines, "ended at {ticks}")),
-        },
-        EndRecord::Lock { writer: None, .. } => put(write!(lines, "not written over")),
-        EndRecord::Lock {
-            writer: Some(u),
-            ..
-        } => {
-            put(write!(lines, "written over by "))?;
-            put_party(schedule, machine, t, u, lines)
-        }
+    if let Some(u) = end.writer() {
+        put(write!(lines, "written over by "))?;
+        return put_party(schedule, machine, t, u, lines);
+    }
+    match end.time() {
+        None => put(write!(lines, "not written over")),
+        Some(time) => put_end_time(time, lines),
+    }
+}
+
+fn put_end_time(time: Time, lines: &mut Vec<u8>) -> Result<(), NoMemory> {
+    match time.number() {
+        INFINITY => put(write!(lines, "not written over")),
+        ticks => put(write!(lines, "ended at {ticks}")),
     }
 }
 

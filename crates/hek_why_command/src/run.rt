@@ -66,7 +66,8 @@ fn tell_steps<'a, W: Write>(
     limit: Option<u64>,
     out: &mut W,
 ) -> Result<(), HekFault<'a>>
-    requires placed { All (IsPlaced (length machine.old.buckets)) steps.now }
+    requires buckets { length machine.old.buckets ≡ telling.old.schedule.now.buckets }
+    requires placed { All (IsPlaced telling.old.schedule.now.buckets) steps.now }
     requires declared { AllByRecursion (NamesDeclared (length telling.old.schedule.now.txns)) steps.now }
 {
     let mut lines = Vec::new(alloc);
@@ -74,7 +75,7 @@ fn tell_steps<'a, W: Write>(
         if limit.is_some_and(|count| place as u64 >= count) {
             break;
         }
-        tell_step(alloc, telling, machine, steps[place], &mut lines)?;
+        tell_step(alloc, telling, machine, &steps[place], &mut lines)?;
         send(&mut lines, out)?;
     }
     Ok(())

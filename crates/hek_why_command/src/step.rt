@@ -35,11 +35,11 @@ pub(crate) fn tell_step(
     alloc: Global,
     telling: &mut Telling<'_>,
     machine: &mut Machine,
-    event: Event,
+    event: &Event,
     lines: &mut Vec<u8>,
 ) -> Result<(), NoMemory>
-    requires placed { IsPlaced (length machine.old.buckets) event }
-    requires declared { NamesDeclared (length telling.old.schedule.now.txns) event }
+    requires placed { IsPlaced (length machine.old.buckets) event.now }
+    requires declared { NamesDeclared (length telling.old.schedule.now.txns) event.now }
     ensures buckets { length machine.new.buckets ≡ length machine.old.buckets }
     ensures schedule { telling.new.schedule ≡ telling.old.schedule }
 {
@@ -53,25 +53,25 @@ fn tell_from(
     telling: &mut Telling<'_>,
     before: &Machine,
     machine: &mut Machine,
-    event: Event,
+    event: &Event,
     lines: &mut Vec<u8>,
 ) -> Result<(), NoMemory>
-    requires placed { IsPlaced (length machine.old.buckets) event }
-    requires declared { NamesDeclared (length telling.old.schedule.now.txns) event }
+    requires placed { IsPlaced (length machine.old.buckets) event.now }
+    requires declared { NamesDeclared (length telling.old.schedule.now.txns) event.now }
     ensures buckets { length machine.new.buckets ≡ length machine.old.buckets }
     ensures schedule { telling.new.schedule ≡ telling.old.schedule }
 {
-    let reply = machine.step(event)?;
+    let reply = machine.step(*event)?;
     telling.done = telling.done.saturating_add(1);
     put_line(alloc, telling.schedule, telling.done, event, &reply, lines)?;
     let step = Step {
         before,
-        event,
+        event: *event,
         reply: &reply,
         after: machine,
     };
     put_extras(alloc, telling, &step, lines)?;
-    telling.dooms.note(before, event, &reply)
+    telling.dooms.note(before, *event, &reply)
 }
 
 /// The line of the trace.
@@ -79,14 +79,14 @@ fn put_line(
     alloc: Global,
     schedule: &Schedule,
     number: u64,
-    event: Event,
+    event: &Event,
     reply: &Reply,
     lines: &mut Vec<u8>,
 ) -> Result<(), NoMemory>
-    requires { NamesDeclared (length schedule.now.txns) event }
+    requires { NamesDeclared (length schedule.now.txns) event.now }
 {
     let mut sink = FromWrite::new(mem::replace(lines, Vec::new(alloc)));
-    match write_line(schedule, number, event, reply, &mut sink) {
+    match write_line(schedule, number, *event, reply, &mut sink) {
         Ok(()) => {
             *lines = sink.into_inner();
             Ok(())
