@@ -248,7 +248,9 @@ const PERMUTE: CommandText = CommandText {
 /// What `hek --version` says behind the name.
 const VERSION: &str = "0.2.0";
 
-const COMMANDS: &[CommandText] = &[RELEASE, WORD, ASM, DIS, RUN, DRIVE, DEBUG, CHECK, THREADS, PERMUTE];
+const COMMANDS: &[CommandText] = &[
+    RELEASE, WORD, ASM, DIS, RUN, DRIVE, DEBUG, CHECK, THREADS, PERMUTE,
+];
 
 /// Reads the words of a command line, the program's name first.
 pub fn read_words<'a, S: AsStr>(alloc: Global, words: &'a [S]) -> Result<ArgMatches<'a>, Error> {
