@@ -98,8 +98,27 @@ const SESSIONS: &[Session] = &[
     },
 ];
 
-fn opened(rt: &impl Abort, alloc: Global, schedule: Schedule) -> Debugger {
-    Debugger::open(alloc, schedule).expect(rt, "no memory")
+// Where memory is refused once, a call made again has it.
+// Where memory is refused once, a call made again has it.
+fn opened(rt: &impl Abort, alloc: Global, make: Make) -> Debugger {
+    match Debugger::open(alloc, made(rt, alloc, make)) {
+        Ok(debugger) => debugger,
+        Err(_) => Debugger::open(alloc, made(rt, alloc, make)).expect(rt, "no memory"),
+    }
+}
+
+// The schedule of a session.
+#[derive(Clone, Copy)]
+enum Make {
+    ReaderThenWriter,
+    Detects(usize),
+}
+
+fn made(rt: &impl Abort, alloc: Global, make: Make) -> Schedule {
+    match make {
+        Make::ReaderThenWriter => reader_then_writer(rt, alloc),
+        Make::Detects(count) => detects(rt, alloc, count),
+    }
 }
 
 fn told(rt: &impl Abort, debugger: &mut Debugger, command: Command) -> Stop {
@@ -110,9 +129,10 @@ fn told(rt: &impl Abort, debugger: &mut Debugger, command: Command) -> Stop {
     }
 }
 
-fn assert_stops(rt: &impl Abort, alloc: Global, schedule: Schedule, session: &Session) {
+fn assert_stops(rt: &impl Abort, alloc: Global, make: Make, session: &Session) {
+    let schedule = made(rt, alloc, make);
     let commands = read_commands(alloc, &schedule, session.commands).expect(rt, "commands");
-    let mut debugger = opened(rt, alloc, schedule);
+    let mut debugger = opened(rt, alloc, make);
     is_at(rt, session.commands, commands.len(), session.stops.len());
     for (command, stop) in commands.as_slice().iter().zip(session.stops) {
         let told = told(rt, &mut debugger, *command);
@@ -123,8 +143,7 @@ fn assert_stops(rt: &impl Abort, alloc: Global, schedule: Schedule, session: &Se
 #[test]
 fn stops_where_commands_say(rt: HostRuntime) {
     for session in SESSIONS {
-        let schedule = reader_then_writer(&rt, rt.alloc());
-        assert_stops(&rt, rt.alloc(), schedule, session);
+        assert_stops(&rt, rt.alloc(), Make::ReaderThenWriter, session);
     }
 }
 
@@ -143,7 +162,7 @@ const LOOKS: &[(&str, Option<u64>)] = &[
 fn after(rt: &impl Abort, alloc: Global, text: &str) -> Debugger {
     let schedule = reader_then_writer(rt, alloc);
     let commands = read_commands(alloc, &schedule, text).expect(rt, "commands");
-    let mut debugger = opened(rt, alloc, schedule);
+    let mut debugger = opened(rt, alloc, Make::ReaderThenWriter);
     for command in commands.as_slice() {
         let _ = told(rt, &mut debugger, *command);
     }
@@ -263,7 +282,6 @@ const LONG: &[(usize, Session)] = &[
 #[test]
 fn goes_back_over_many_steps(rt: HostRuntime) {
     for (count, session) in LONG {
-        let schedule = detects(&rt, rt.alloc(), *count);
-        assert_stops(&rt, rt.alloc(), schedule, session);
+        assert_stops(&rt, rt.alloc(), Make::Detects(*count), session);
     }
 }

@@ -37,13 +37,13 @@ refused_by (Refuse cause) = Some cause
 refused_by (Allow effects) = None
 
 abbrev pub stop_by : ℕ → Sight → Option Cause → Option Stop
-stop_by v seen None = None
-stop_by v seen (Some cause) = Some (record { version = v; sight = seen; cause = cause })
+stop_by v found None = None
+stop_by v found (Some cause) = Some (record { version = v; sight = found; cause = cause })
 
 -- where the rule of walks refuses version v
 abbrev pub stop_at : World → ℕ → Purpose → Option ℕ → ℕ → Option Stop
 stop_at w t purpose target v =
-    let seen = sight w t (read_time w t) v in stop_by v seen (refused_by (version_judged w t purpose target v seen))
+    let found = sight w t (read_time w t) v in stop_by v found (refused_by (version_judged w t purpose target v found))
 
 abbrev pub first_some : Option Stop → Option Stop → Option Stop
 first_some None later = later
