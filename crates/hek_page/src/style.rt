@@ -48,7 +48,8 @@ main { display: grid; grid-template-columns: minmax(0, 1fr); gap: 0 1.5rem; }
 #grid { display: grid; width: max-content; min-width: 100%; grid-auto-rows: 1.6rem; }
 #grid > * { padding: 0 .5rem; line-height: 1.6rem; white-space: nowrap; min-width: 0; }
 #grid .head { position: sticky; top: 0; z-index: 2; background: var(--panel); border-bottom: 1px solid var(--line); font-weight: 600; }
-#grid .number { color: var(--soft); text-align: right; position: sticky; left: 0; background: var(--paper); }
+#grid .number { color: var(--soft); text-align: right; position: sticky; left: 0; z-index: 2; background: var(--paper); }
+#grid .head.number { z-index: 3; }
 #grid .cell { border-left: 3px solid var(--line); margin: 0 .1rem; }
 #grid button { font: inherit; color: inherit; text-align: left; background: none; border: 0; margin: 0 .25rem; cursor: pointer; z-index: 1; }
 #grid button .reply { padding: 0; }
