@@ -18,7 +18,7 @@ done_of part steps = min (unwrap_or part.from 1 - 1) (last_of part steps)
 abbrev pub count_of : Part → ℕ → ℕ
 count_of part steps = last_of part steps - done_of part steps
 
--- a page was written behind the bytes that a writer held, where they are known
+-- some bytes, of which nothing is said, were written behind those that a writer held, where they are known
 pub record WritesPage (before after : Option (List ℕ)) : Type 0 where
   pub page : List ℕ
   pub written : Appends before after page
