@@ -13,7 +13,8 @@ use Rattle.hek_rules.specs.declared.reply.Refusal.{Refusal}
 use Rattle.hek_rules.specs.declared.reply.Refusal.TheVariants as refusal
 use Rattle.hek_rules.specs.declared.reply.Reply.{Reply}
 use Rattle.hek_rules.specs.declared.reply.Reply.TheVariants as reply
-use Rattle.hek_asm.specs.Trace.{cause_word, refusal_words, pair_word, reply_words}
+use Rattle.hek_asm.specs.Trace.{refusal_words, pair_word, reply_words}
+use Rattle.hek_rules.specs.Names.{cause_word}
 use Rattle.hek_asm.specs.Likely.{value_of, cause_named, is_equals, pair_of, of_few_words, likely_reply}
 use Rattle.hek_asm.specs.Reading.{is_small, AreSmall, IsSmallReply}
 use Rattle.hek_asm.proofs.Joined.{IsPlain, IsWord, all_append}

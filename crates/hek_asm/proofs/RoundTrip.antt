@@ -17,9 +17,9 @@ use Rattle.hek_rules.specs.declared.event.Event.TheVariants as event
 use Rattle.hek_rules.specs.declared.kind.EventKind.{EventKind}
 use Rattle.hek_rules.specs.declared.kind.EventKind.TheVariants as kind
 use Rattle.hek_rules.specs.Name.{is_name, is_name_byte, is_reserved, begins_with_letter}
-use Rattle.hek_rules.specs.Events.{word_of, kind_named, operand_count, event_of}
+use Rattle.hek_rules.specs.Events.{word_of, kind_named, operand_count, event_of, is_detect, is_scan}
 use Rattle.hek_rules.specs.Plan.{Plan, IsPlan, IsRow, IsStep, IsDeclared, names_of, id_of}
-use Rattle.hek_asm.specs.Text.{is_detect, is_scan, words_after, first_words, buckets_line, later_words, step_line, event_line, operands_or_fault, with_step, detect_line, before_txns, schedule_of}
+use Rattle.hek_asm.specs.Text.{words_after, first_words, buckets_line, later_words, step_line, event_line, operands_or_fault, with_step, detect_line, before_txns, schedule_of}
 use Rattle.hek_asm.specs.Canonical.{row_words, txn_words, name_at, step_words, lines_words, canonical_text}
 use Rattle.hek_asm.proofs.Joined.{IsWord, written_after, written_step}
 use Rattle.hek_asm.proofs.LinesAfter.{ends}

@@ -4,7 +4,7 @@ use Rattle.std.proofs.lemmas.List.{append_cancel_left, append-nil}
 use Rattle.hek_rules.specs.declared.event.Event.{Event}
 use Rattle.hek_rules.specs.declared.reply.Reply.{Reply}
 use Rattle.hek_rules.specs.Plan.{Plan, IsPlan, levels_of}
-use Rattle.hek_rules.specs.Told.{Told}
+use Rattle.hek_rules.specs.Recorded.{Recorded}
 use Rattle.hek_asm.specs.Trace.{trace_line}
 use Rattle.hek_asm.specs.Reading.{AreEntries, history_trace, IsTraceOf, StopsAt, HasNoLine}
 use Rattle.hek_asm.proofs.EntryAgain.{same_entry}
@@ -53,16 +53,16 @@ nothing_follows p n = λ x after entry e. absurd (omega (arith, ap length e, len
 stopped : (p : Plan) (n : ℕ) (text : List ℕ) (s : StopsAt p n text) → HasNoLine p (1 + length s.before) s.rest
 stopped p n text s = let count : n ≡ 1 + length s.before = omega (arith, s.number) in subst (λ (m : ℕ). HasNoLine p m s.rest) count s.stops
 
-whole : (p : Plan) (told : Told) (text : List ℕ) → IsTraceOf p told text → text ≡ history_trace p told.history ++ []
+whole : (p : Plan) (told : Recorded) (text : List ℕ) → IsTraceOf p told text → text ≡ history_trace p told.history ++ []
 whole p told text t = t.trace ∙ sym (append-nil (history_trace p told.history))
 
-pub one_transcript : (p : Plan) (told found : Told) (text : List ℕ) → IsPlan p → length text < 2 ^ 64 → IsTraceOf p told text → IsTraceOf p found text → found ≡ told
+pub one_transcript : (p : Plan) (told found : Recorded) (text : List ℕ) → IsPlan p → length text < 2 ^ 64 → IsTraceOf p told text → IsTraceOf p found text → found ≡ told
 one_transcript p told found text is small t f =
     let cut = same_cut p 1 found.history told.history [] [] is (few p found.history [] text (whole p found text f) small) (few p told.history [] text (whole p told text t) small) f.entries t.entries
     (sym (whole p found text f) ∙ whole p told text t) (nothing_follows p (1 + length found.history)) (nothing_follows p (1 + length told.history)) in
     f.schedule ∙ ap (λ (h : List (Event × Reply)). record { buckets = p.buckets; rows = p.rows; levels = levels_of p; history = h }) cut.histories ∙ sym t.schedule
 
-pub no_fault : (p : Plan) (told : Told) (text : List ℕ) (n : ℕ) → IsPlan p → length text < 2 ^ 64 → IsTraceOf p told text → StopsAt p n text → ⊥
+pub no_fault : (p : Plan) (told : Recorded) (text : List ℕ) (n : ℕ) → IsPlan p → length text < 2 ^ 64 → IsTraceOf p told text → StopsAt p n text → ⊥
 no_fault p told text n is small t s =
     let cut = same_cut p 1 told.history s.before [] s.rest is (few p told.history [] text (whole p told text t) small) (few p s.before s.rest text s.is small) t.entries s.entries
     (sym (whole p told text t) ∙ s.is) (nothing_follows p (1 + length told.history)) (stopped p n text s) in

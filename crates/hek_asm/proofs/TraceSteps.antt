@@ -6,7 +6,7 @@ use Rattle.std.proofs.lemmas.List.{append-nil}
 use Rattle.hek_rules.specs.declared.event.Event.{Event}
 use Rattle.hek_rules.specs.declared.reply.Reply.{Reply}
 use Rattle.hek_rules.specs.Plan.{Plan, levels_of}
-use Rattle.hek_rules.specs.Told.{Told}
+use Rattle.hek_rules.specs.Recorded.{Recorded}
 use Rattle.hek_asm.specs.Canonical.{step_words}
 use Rattle.hek_asm.specs.Lines.{joined}
 use Rattle.hek_asm.specs.Trace.{reply_words, trace_line, trace_from}
@@ -49,9 +49,9 @@ grown p n h x text rest after count entries trace front =
       count = length-append h (x ∷ []);
     }
 
-pub over_schedule : (p : Plan) (old new : Told) (h : List (Event × Reply)) → new ≡ record old { history = h } →
+pub over_schedule : (p : Plan) (old new : Recorded) (h : List (Event × Reply)) → new ≡ record old { history = h } →
     old ≡ record { buckets = p.buckets; rows = p.rows; levels = levels_of p; history = old.history } →
     new ≡ record { buckets = p.buckets; rows = p.rows; levels = levels_of p; history = new.history }
 over_schedule p old new h e s =
-    let history : h ≡ new.history = sym (ap (λ (t : Told). t.history) e) in
-    e ∙ ap (λ (t : Told). record t { history = h }) s ∙ ap (λ (xs : List (Event × Reply)). record { buckets = p.buckets; rows = p.rows; levels = levels_of p; history = xs }) history
+    let history : h ≡ new.history = sym (ap (λ (t : Recorded). t.history) e) in
+    e ∙ ap (λ (t : Recorded). record t { history = h }) s ∙ ap (λ (xs : List (Event × Reply)). record { buckets = p.buckets; rows = p.rows; levels = levels_of p; history = xs }) history

@@ -6,7 +6,7 @@ use Rattle.hek_rules.specs.declared.reply.Reply.{Reply}
 use Rattle.hek_rules.specs.declared.reply.Reply.TheVariants as reply
 use Rattle.hek_rules.specs.Events.{first_of, second_of}
 use Rattle.hek_rules.specs.Plan.{Plan, IsPlan, levels_of}
-use Rattle.hek_rules.specs.Told.{Told}
+use Rattle.hek_rules.specs.Recorded.{Recorded}
 use Rattle.hek_asm.specs.declared.fault.TraceFault.{TraceFault}
 use Rattle.hek_asm.specs.declared.fault.TraceFault.TheVariants as fault
 use Rattle.hek_asm.specs.Trace.{NamesDeclared, trace_line, trace}
@@ -59,7 +59,7 @@ abbrev pub history_trace : Plan → List (Event × Reply) → List ℕ
 history_trace p history = trace p (map (λ (x : Event × Reply). x.0) history) (map (λ (x : Event × Reply). x.1) history)
 
 -- a transcript over the schedule whose trace is the text
-pub record IsTraceOf (p : Plan) (told : Told) (text : List ℕ) : Type 0 where
+pub record IsTraceOf (p : Plan) (told : Recorded) (text : List ℕ) : Type 0 where
   pub schedule : told ≡ record { buckets = p.buckets; rows = p.rows; levels = levels_of p; history = told.history }
   pub entries : AreEntries p told.history
   pub trace : text ≡ history_trace p told.history
@@ -90,6 +90,6 @@ pub record IsFront (p : Plan) (n : ℕ) (x : Event × Reply) (text after : List 
 -- a text is the trace of one transcript at most, which reading it gives; a trace has no line at fault; and a text has one
 -- first line at fault at most
 pub record TracesAreExact : Type 0 where
-  pub one : (p : Plan) (told found : Told) (text : List ℕ) → IsPlan p → length text < 2 ^ 64 → IsTraceOf p told text → IsTraceOf p found text → found ≡ told
-  pub no_fault : (p : Plan) (told : Told) (text : List ℕ) (n : ℕ) → IsPlan p → length text < 2 ^ 64 → IsTraceOf p told text → StopsAt p n text → ⊥
+  pub one : (p : Plan) (told found : Recorded) (text : List ℕ) → IsPlan p → length text < 2 ^ 64 → IsTraceOf p told text → IsTraceOf p found text → found ≡ told
+  pub no_fault : (p : Plan) (told : Recorded) (text : List ℕ) (n : ℕ) → IsPlan p → length text < 2 ^ 64 → IsTraceOf p told text → StopsAt p n text → ⊥
   pub one_fault : (p : Plan) (text : List ℕ) (m n : ℕ) → IsPlan p → length text < 2 ^ 64 → StopsAt p m text → StopsAt p n text → m ≡ n

@@ -1,26 +1,16 @@
 -- Traces: a line for each event, with its number, the event as a step of the canonical text, and the reply.
 use Rattle.std.specs.Prelude.{ℕ, ◌+◌, List, [], ◌∷◌, ◌++◌, codes, map, Option, Some, None, IfSome}
 use Rattle.std.specs.Fmt.{decimal}
-use Rattle.hek_rules.specs.declared.event.Cause.{Cause}
-use Rattle.hek_rules.specs.declared.event.Cause.TheVariants as cause
 use Rattle.hek_rules.specs.declared.event.Event.{Event}
 use Rattle.hek_rules.specs.declared.reply.Refusal.{Refusal}
 use Rattle.hek_rules.specs.declared.reply.Refusal.TheVariants as refusal
 use Rattle.hek_rules.specs.declared.reply.Reply.{Reply}
 use Rattle.hek_rules.specs.declared.reply.Reply.TheVariants as reply
 use Rattle.hek_rules.specs.Events.{txn_of}
+use Rattle.hek_rules.specs.Names.{cause_word}
 use Rattle.hek_rules.specs.Plan.{Plan, IsDeclared}
 use Rattle.hek_asm.specs.Lines.{line_text}
 use Rattle.hek_asm.specs.Canonical.{step_words}
-
-abbrev pub cause_word : Cause → List ℕ
-cause_word cause.Cascade = codes "cascade"
-cause_word cause.Conflict = codes "conflict"
-cause_word cause.NoMoreReads = codes "no-more-reads"
-cause_word cause.ReadersFull = codes "readers-full"
-cause_word cause.NoMoreWaits = codes "no-more-waits"
-cause_word cause.Deadlock = codes "deadlock"
-cause_word cause.Asked = codes "asked"
 
 abbrev pub refusal_words : Refusal → List (List ℕ)
 refusal_words refusal.UnknownTxn = codes "1" ∷ codes "UnknownTxn" ∷ []

@@ -18,5 +18,5 @@ pub use laws::{canonical_text_is_exact, traces_are_exact};
 pub use line::level_named;
 pub use reading::read_trace;
 pub use reply::write_reply;
-pub use schedule_text::{canonical, level_word};
+pub use schedule_text::canonical;
 pub use trace::{write_line, write_step, write_trace};

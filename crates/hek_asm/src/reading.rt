@@ -34,9 +34,10 @@ fn likely_entry(
     Ok(Some((event, reply)))
 }
 
-// The line of an event and a reply.
+// The line of an event and a reply, written into room for so many bytes.
 fn line_text(
     alloc: Global,
+    room: usize,
     schedule: &Schedule,
     number: u64,
     event: Event,
@@ -45,7 +46,7 @@ fn line_text(
     requires { NamesDeclared (length schedule.now.txns) event }
     ensures { IfOk result (λ text. text.items ≡ trace_line schedule.now number event reply.now) }
 {
-    let mut sink = FromWrite::new(Vec::new(alloc));
+    let mut sink = FromWrite::new(Vec::with_capacity(alloc, room)?);
     match write_line(schedule, number, event, reply, &mut sink) {
         Ok(()) => Ok(sink.into_inner()),
         Err(_) => Err(NoMemory),
@@ -83,7 +84,8 @@ fn next_entry<'t>(
         return Ok(None);
     };
     let step = event;
-    let front = line_text(alloc, schedule, number, step, &reply)?;
+    let room = line.len() + 1;
+    let front = line_text(alloc, room, schedule, number, step, &reply)?;
     match without_front(text, front.as_slice()) {
         None => Ok(None),
         Some(after) => Ok(Some((event, reply, after))),

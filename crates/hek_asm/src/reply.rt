@@ -2,24 +2,10 @@
 ghost use Rattle.std.specs.Prelude.{◌≡◌, ◌++◌, ◌∷◌, [], false, map, IsTrue, OnOk, is_err};
 ghost use Rattle.std.specs.Fmt.{decimal};
 ghost use Rattle.hek_asm.specs.Lines.{spaced, joined};
-ghost use Rattle.hek_asm.specs.Trace.{pair_word, writer_words, cause_word, refusal_words, reply_words};
+ghost use Rattle.hek_asm.specs.Trace.{pair_word, writer_words, refusal_words, reply_words};
 
 use crate::putting::{put_item, put_number, put_text};
-use hek_rules::{Cause, Refusal, Reply, Sink, TxnId, WriteFault};
-
-fn cause_word(cause: Cause) -> &'static str
-    ensures { result.now ≡ cause_word cause }
-{
-    match cause {
-        Cause::Cascade => "cascade",
-        Cause::Conflict => "conflict",
-        Cause::NoMoreReads => "no-more-reads",
-        Cause::ReadersFull => "readers-full",
-        Cause::NoMoreWaits => "no-more-waits",
-        Cause::Deadlock => "deadlock",
-        Cause::Asked => "asked",
-    }
-}
+use hek_rules::{Refusal, Reply, Sink, TxnId, WriteFault};
 
 fn refusal_text(refusal: Refusal) -> &'static str
     ensures { result.now ≡ joined (refusal_words refusal) }
@@ -143,7 +129,7 @@ pub fn write_reply<S: Sink>(reply: &Reply, sink: &mut S) -> Result<(), WriteFaul
             put_text(" cycle", sink)?;
             put_members(members.items(), sink)
         }
-        Reply::Aborted(cause) => put_named("aborted ", cause_word(*cause), sink),
+        Reply::Aborted(cause) => put_named("aborted ", (*cause).word(), sink),
         Reply::Refused(refusal) => put_named("refused ", refusal_text(*refusal), sink),
     }
 }

@@ -65,7 +65,7 @@ module _ {old new : TxnTable} {h t : ℕ} (i : Imposed old new h t) where
     ready = λ x d r. ⊎_elim (λ e. at_holder x e) (λ ne. record { room = subst (λ (es : Entries ℕ). is_among es.items t ≡ false → 0 < es.room) (sym (elsewhere x ne)) r.room }) (cases_eq x h);
     even = λ e. subst IsEven (sym changed) (record {
       waits = length_set_at old.waits t (waits_of old t + 1) ∙ e.waits;
-      deps = e.deps;
+      commit_deps = e.commit_deps;
       read_sets = e.read_sets;
       write_sets = e.write_sets;
       bucket_sets = e.bucket_sets;

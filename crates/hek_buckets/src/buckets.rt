@@ -2,7 +2,7 @@
 ghost use Rattle.std.specs.Prelude.{◌≡◌, ◌+◌, ◌<◌, ◌≤◌, ◌==◌, nat_eq, length, IfOk, OnOk};
 ghost use Rattle.std.specs.Set.{remove_key};
 ghost use Rattle.hek_txn.specs.Entries.{joined, AreEmpty, AreCopies};
-ghost use Rattle.hek_buckets.specs.Held.{holders_of, with_holders};
+ghost use Rattle.hek_buckets.specs.LockLists.{holders_of, with_holders};
 
 use hek_rules::{NoMemory, Schedule, TxnId};
 use hek_txn::{EntryList, copied_lists, empty_lists};
@@ -41,6 +41,7 @@ impl Buckets {
         self.holders.len() as u64
     }
 
+    /// Whether there are no buckets.
     pub fn is_empty(&self) -> bool
         ensures { result ≡ (length self.now == 0) }
     {

@@ -5,7 +5,7 @@ ghost use Rattle.std.specs.Set.{remove_key};
 ghost use Rattle.hek_rules.specs.Listing.{is_among};
 ghost use Rattle.hek_txn.specs.Entries.{joined};
 ghost use Rattle.hek_txn.specs.TxnTable.{Declared, IsEven, waits_of, with_waits, waiting_list_of, with_waiting_list};
-ghost use Rattle.hek_buckets.specs.Held.{holders_of};
+ghost use Rattle.hek_buckets.specs.LockLists.{holders_of};
 ghost use Rattle.hek_buckets.specs.Waited.{imposed_waits, with_waiting, waiting_of, waiting_for, waiting_for_all, IsReady, StaysReady};
 
 use crate::Buckets;

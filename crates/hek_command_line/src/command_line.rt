@@ -80,7 +80,7 @@ pub fn answer<S: AsStr, D: Disk, I: Read + IsTerminal + Drop, W: Write, E: Write
     }
 }
 
-/// The same, with the threads of a system.
+/// Answers the words of a command line, with the threads of a system.
 pub fn answer_in_threads<
     T: Threads + Wait + Sync,
     S: AsStr,

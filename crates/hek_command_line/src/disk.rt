@@ -1,6 +1,6 @@
 //! The files that commands read and write.
 ghost use Rattle.std.specs.Prelude.{IfErr};
-ghost use Rattle.hek_commands.specs.Judged.{ReadFails};
+ghost use Rattle.hek_commands.specs.Commands.{ReadFails};
 
 use hek_commands::{HekFault, INPUT, read_fault};
 use std::io::{Read, Write};
@@ -27,6 +27,7 @@ pub struct SystemDisk<'a, R: Files> {
 }
 
 impl<'a, R: Files> SystemDisk<'a, R> {
+    /// The files of this system.
     pub fn new(system: &'a R) -> SystemDisk<'a, R> {
         SystemDisk { system }
     }
@@ -91,6 +92,7 @@ pub struct LateFile<'a, D: Disk> {
 }
 
 impl<'a, D: Disk> LateFile<'a, D> {
+    /// A file of this name that isn't made yet.
     pub fn new(disk: &'a D, name: &'a str) -> LateFile<'a, D> {
         LateFile {
             disk,

@@ -13,7 +13,7 @@ use Rattle.hek_laws.specs.Runs.{IsPlaced}
 use Rattle.hek_laws.proofs.Runs.Reachable.{run-append}
 use Rattle.hek_asm.specs.Trace.{NamesDeclared, trace_line, trace_from}
 use Rattle.hek_asm.proofs.RowLemmas.{steps_declared}
-use Rattle.hek_machine.proofs.RunRows.{replies_of}
+use Rattle.hek_machine.proofs.RunRules.{replies_of}
 use Rattle.hek_machine.proofs.PlacedSteps.{steps_placed}
 use Rattle.hek_commands.specs.Ran.{first_of}
 

@@ -11,7 +11,7 @@ use Rattle.hek_asm.specs.Trace.{trace}
 use Rattle.hek_machine.specs.Observed.{opening_of}
 use Rattle.hek_machine.specs.Steps.{HasNoFaults}
 use Rattle.hek_commands.specs.declared.schedule_file.ScheduleFile.{ScheduleFile}
-use Rattle.hek_commands.specs.Judged.{FileGives}
+use Rattle.hek_commands.specs.Commands.{FileGives}
 
 -- the replies that the rule table gives to these steps, from the opening world of a schedule on
 abbrev pub replies_to : Plan → List Event → List Reply

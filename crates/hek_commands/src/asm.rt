@@ -1,7 +1,7 @@
 //! The command `asm`.
 ghost use Rattle.std.specs.Prelude.{◌≡◌, IfOk, MatchResult};
 ghost use Rattle.hek_image.specs.Schedules.{image};
-ghost use Rattle.hek_commands.specs.Judged.{Assembles, AsmFails};
+ghost use Rattle.hek_commands.specs.Commands.{Assembles, AsmFails};
 
 use crate::fault::HekFault;
 use crate::schedule_file::schedule_of_text;

@@ -2,7 +2,7 @@
 ghost use Rattle.std.specs.Prelude.{◌≡◌, ◌++◌, ◌∷◌, [], codes, false, is_err, IsTrue, MatchResult, IfOk, IfErr, OnOk};
 ghost use Rattle.std.specs.Io.KnownBytes.{Appends};
 ghost use Rattle.hek_asm.specs.Reading.{IsTraceOf};
-ghost use Rattle.hek_commands.specs.Judged.{TraceTextFails, verdict_text, verdict_status, reply_text, serial_line, why_text, judged_as, Checks, CheckFails};
+ghost use Rattle.hek_commands.specs.Commands.{TraceTextFails, verdict_text, verdict_status, reply_text, serial_line, why_text, judged_as, Checks, CheckFails};
 ghost use Rattle.hek_rules.specs.Faults.{IsVerdict};
 
 use crate::fault::HekFault;

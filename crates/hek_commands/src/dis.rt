@@ -1,6 +1,6 @@
 //! The command `dis`.
 ghost use Rattle.std.specs.Prelude.{◌≡◌, MatchResult};
-ghost use Rattle.hek_commands.specs.Judged.{Disassembles, PrintFails};
+ghost use Rattle.hek_commands.specs.Commands.{Disassembles, PrintFails};
 
 use crate::fault::HekFault;
 use crate::schedule_file::{ScheduleFile, schedule_in};

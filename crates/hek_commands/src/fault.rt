@@ -2,7 +2,7 @@
 ghost use Rattle.std.specs.Prelude.{◌≡◌};
 ghost use Rattle.hek_commands.specs.declared.fault.HekFault.TheVariants as hek;
 ghost use Rattle.hek_commands.specs.Fault.{status_of, text_fault, image_fault, trace_fault};
-ghost use Rattle.hek_commands.specs.Judged.{ReadFails};
+ghost use Rattle.hek_commands.specs.Commands.{ReadFails};
 
 use hek_asm::{AsmFault, AsmKind, TraceFault};
 use hek_image::LoadFault;

@@ -1,7 +1,7 @@
 //! Lines that are gathered, so that a writer gets many at a time.
 ghost use Rattle.std.specs.Prelude.{◌≡◌, [], OnOk, IfErr};
 ghost use Rattle.std.specs.Io.KnownBytes.{Appends};
-ghost use Rattle.hek_commands.specs.Judged.{IsStop};
+ghost use Rattle.hek_commands.specs.Commands.{IsStop};
 ghost use Rattle.hek_commands.specs.Sent.{Passes};
 
 use crate::fault::HekFault;

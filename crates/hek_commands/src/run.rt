@@ -1,27 +1,26 @@
 //! The command `run`.
-ghost use Rattle.std.specs.Prelude.{◌≡◌, ◌++◌, length, IfOk, IfErr, OnOk, MatchResult};
+ghost use Rattle.std.specs.Prelude.{◌≡◌, length, IfOk, IfErr, OnOk, MatchResult};
 ghost use Rattle.std.specs.List.{All, AllByRecursion};
 ghost use Rattle.std.specs.Io.KnownBytes.{Appends};
 ghost use Rattle.hek_rules.specs.Run.{run as run_of};
 ghost use Rattle.hek_rules.specs.World.{World};
 ghost use Rattle.hek_laws.specs.Runs.{IsPlaced};
-ghost use Rattle.hek_asm.specs.Trace.{NamesDeclared, trace_line};
+ghost use Rattle.hek_asm.specs.Trace.{NamesDeclared};
 ghost use Rattle.hek_machine.specs.Stands.{StandsFor};
 ghost use Rattle.hek_machine.specs.Observed.{opening_of};
 ghost use Rattle.hek_machine.specs.Steps.{HasNoFaults};
-ghost use Rattle.hek_commands.specs.Judged.{PrintFails, IsStop};
+ghost use Rattle.hek_commands.specs.Commands.{PrintFails, IsStop};
 ghost use Rattle.hek_commands.specs.Ran.{Runs, RunsTo, ShowsState, TellsClock, trace_of, trace_of_steps, replies_to, first_of};
 
 use crate::fault::HekFault;
+use crate::gathered::put_line;
 use crate::lines::{send, send_if_many};
 use crate::schedule_file::{ScheduleFile, schedule_in};
 use crate::state::{clock_line, state_lines};
-use hek_asm::write_line;
 use hek_machine::Machine;
-use hek_rules::{Event, FromWrite, NoMemory, Reply, Schedule};
+use hek_rules::{Event, Schedule};
 use std::alloc::Global;
 use std::io::{Read, Write};
-use std::mem;
 
 /// Runs the steps of the schedule that a file says, and writes their trace as it goes. The answer is the exit status. The
 /// replies are serial: the committed transactions could have run one after another, by end time.
@@ -38,8 +37,8 @@ pub fn run_command<'a, R: Read + Drop, W: Write>(
     Ok(0)
 }
 
-/// The same for a schedule.
-#[tactic(auto, using(hek_asm::proofs::RowLemmas::steps_declared, hek_machine::proofs::PlacedSteps::steps_placed, hek_machine::proofs::RunRows::run_has_no_faults))]
+/// Runs the steps of a schedule, and writes their trace as it goes.
+#[tactic(auto, using(hek_asm::proofs::RowLemmas::steps_declared, hek_machine::proofs::PlacedSteps::steps_placed, hek_machine::proofs::RunRules::run_has_no_faults))]
 fn write_run<'a, W: Write>(
     alloc: Global,
     schedule: &Schedule,
@@ -70,7 +69,7 @@ pub fn state_command<'a, R: Read + Drop, W: Write>(
     Ok(0)
 }
 
-/// The same for a schedule.
+/// Runs the first steps of a schedule, and writes their trace and the state after them.
 fn write_state<'a, W: Write>(
     alloc: Global,
     schedule: &Schedule,
@@ -146,26 +145,4 @@ fn write_steps<'a, W: Write>(
     }
     send(&mut lines, out)?;
     Ok(())
-}
-
-/// The line of an event and its reply comes behind the lines.
-fn put_line(
-    alloc: Global,
-    schedule: &Schedule,
-    number: u64,
-    event: &Event,
-    reply: &Reply,
-    lines: &mut Vec<u8>,
-) -> Result<(), NoMemory>
-    requires { NamesDeclared (length schedule.now.txns) event.now }
-    ensures { OnOk result (lines.new.items ≡ lines.old.items ++ trace_line schedule.now number event.now reply.now) }
-{
-    let mut sink = FromWrite::new(mem::replace(lines, Vec::new(alloc)));
-    match write_line(schedule, number, *event, reply, &mut sink) {
-        Ok(()) => {
-            *lines = sink.into_inner();
-            Ok(())
-        }
-        Err(_) => Err(NoMemory),
-    }
 }

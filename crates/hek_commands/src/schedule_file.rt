@@ -1,7 +1,7 @@
 //! Schedules from files: from a text or from an image.
 ghost use Rattle.std.specs.Prelude.{◌≡◌, MatchResult, IfSome, Ok};
 ghost use Rattle.hek_asm.specs.Text.{schedule_of};
-ghost use Rattle.hek_commands.specs.Judged.{ReadFails, TextFails, ImageGives, ImageFails, FileGives, FileFails};
+ghost use Rattle.hek_commands.specs.Commands.{ReadFails, TextFails, ImageGives, ImageFails, FileGives, FileFails};
 
 use crate::fault::{HekFault, read_fault};
 use hek_asm::assemble_text;

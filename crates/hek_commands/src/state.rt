@@ -5,7 +5,7 @@ ghost use Rattle.hek_txn.specs.TxnTable.{Declared};
 ghost use Rattle.hek_commands.specs.Ran.{clock_text};
 
 use hek_machine::Machine;
-use hek_rules::{Cause, Level, NoMemory, Schedule, State, Time, TxnId, VersionId, WriteEntry};
+use hek_rules::{Cause, NoMemory, Schedule, State, Time, TxnId, VersionId, WriteEntry};
 use std::alloc::Global;
 use std::io;
 use std::io::Write;
@@ -107,11 +107,7 @@ fn put_name(schedule: &Schedule, t: TxnId, lines: &mut Vec<u8>) -> Result<(), No
 {
     let number = t.number();
     let name = schedule.name_of(t);
-    let level = match schedule.level_of(t) {
-        Level::Serializable => "serializable",
-        Level::Repeatable => "repeatable",
-        Level::Snapshot => "snapshot",
-    };
+    let level = schedule.level_of(t).word();
     put(write!(lines, "txn {number} {name}: {level}"))
 }
 
@@ -125,7 +121,8 @@ fn put_phase(machine: &Machine, t: TxnId, lines: &mut Vec<u8>) -> Result<(), NoM
     put_time("end", machine.end_time(t), lines)
 }
 
-fn state_text(state: State) -> &'static str {
+/// Where a transaction stands, as its line says it; of one that has aborted, by which cause.
+pub fn state_text(state: State) -> &'static str {
     match state {
         State::NotBegun => "not begun",
         State::Active => "active",

@@ -3,8 +3,8 @@ ghost use Rattle.std.specs.Prelude.{◌≡◌, ◌+◌, ◌<◌, ◌≤◌, ◌^
 ghost use Rattle.std.specs.List.{All};
 ghost use Rattle.hek_rules.specs.Table.{doom};
 ghost use Rattle.hek_txn.specs.Entries.{joined};
-ghost use Rattle.hek_txn.specs.TxnTable.{Declared, deps_of, dependents_of, with_dependents};
-ghost use Rattle.hek_commit.specs.Committed.{depended_deps, lowered};
+ghost use Rattle.hek_txn.specs.TxnTable.{Declared, commit_deps_of, dependents_of, with_dependents};
+ghost use Rattle.hek_commit.specs.Committed.{AreCounted, depended_deps, lowered};
 
 use hek_rules::TxnId;
 use hek_txn::Txns;
@@ -14,28 +14,29 @@ pub fn depend(txns: &mut Txns, t: TxnId, u: TxnId)
     requires txn { Declared txns.old t }
     requires depended { Declared txns.old u }
     requires room { 0 < (dependents_of txns.old u).room }
-    requires counted { deps_of txns.old t + 1 < 2 ^ 64 }
+    requires counted { commit_deps_of txns.old t + 1 < 2 ^ 64 }
     ensures txns { txns.new ≡ with_dependents (depended_deps txns.old t u) u (dependents_of txns.new u) }
     ensures items { (dependents_of txns.new u).items ≡ joined nat_eq (dependents_of txns.old u).items t }
     ensures room { (dependents_of txns.old u).room ≤ (dependents_of txns.new u).room + 1 }
 {
     if !txns.has_dependent(u, t) {
-        let deps = txns.deps(t);
-        txns.set_deps(t, deps + 1);
+        let commit_deps = txns.commit_deps(t);
+        txns.set_commit_deps(t, commit_deps + 1);
     }
     txns.push_dependent(u, t);
 }
 
-/// Each that depends on t depends on one transaction less. (A counter that is 0 stays so; in a machine none is.)
+/// Each that depends on t depends on one transaction less.
 pub(crate) fn lower_dependents(txns: &mut Txns, t: TxnId)
     requires txn { Declared txns.old t }
     requires dependents { All (λ x. Declared txns.old x) (dependents_of txns.old t).items }
-    ensures { txns.new ≡ record txns.old { deps = lowered txns.old.deps (dependents_of txns.old t).items } }
+    requires counted { AreCounted txns.old.commit_deps (dependents_of txns.old t).items }
+    ensures { txns.new ≡ record txns.old { commit_deps = lowered txns.old.commit_deps (dependents_of txns.old t).items } }
 {
     for i in 0..txns.dependents(t).len() {
         let x = txns.dependents(t)[i];
-        let deps = txns.deps(x);
-        txns.set_deps(x, deps.saturating_sub(1));
+        let commit_deps = txns.commit_deps(x);
+        txns.set_commit_deps(x, commit_deps - 1);
     }
 }
 

@@ -3,8 +3,8 @@ ghost use Rattle.std.specs.Prelude.{◌≡◌, ◌↔◌, [], IsOk, IfErr, OnOk,
 ghost use Rattle.std.specs.List.{All};
 ghost use Rattle.hek_rules.specs.World.{txn_in, set_txn};
 ghost use Rattle.hek_rules.specs.declared.event.State.TheVariants.{Preparing, Terminated};
-ghost use Rattle.hek_txn.specs.TxnTable.{Declared, waits_of, deps_of, dependents_of, with_dependents};
-ghost use Rattle.hek_commit.specs.Committed.{in_state, committed, aborted};
+ghost use Rattle.hek_txn.specs.TxnTable.{Declared, waits_of, commit_deps_of, dependents_of, with_dependents};
+ghost use Rattle.hek_commit.specs.Committed.{AreCounted, in_state, committed, aborted};
 
 use crate::dependents::{doom_dependents, lower_dependents};
 use hek_rules::{Cause, State, Time, TxnId};
@@ -30,15 +30,16 @@ pub fn precommit(txns: &mut Txns, t: TxnId, end: Time) -> Result<(), u64>
 pub fn commit(txns: &mut Txns, t: TxnId) -> Result<(), u64>
     requires txn { Declared txns.old t }
     requires dependents { All (λ x. Declared txns.old x) (dependents_of txns.old t).items }
-    ensures ready { IsOk result ↔ (deps_of txns.old t ≡ 0) }
+    requires counted { AreCounted txns.old.commit_deps (dependents_of txns.old t).items }
+    ensures ready { IsOk result ↔ (commit_deps_of txns.old t ≡ 0) }
     ensures committed { OnOk result (txns.new ≡ with_dependents (committed txns.old t) t (dependents_of txns.new t)) }
     ensures emptied { OnOk result ((dependents_of txns.new t).items ≡ []) }
-    ensures deps { IfErr result (λ deps. deps ≡ deps_of txns.old t) }
+    ensures commit_deps { IfErr result (λ commit_deps. commit_deps ≡ commit_deps_of txns.old t) }
     ensures unchanged { OnErr result (txns.new ≡ txns.old) }
 {
-    let deps = txns.deps(t);
-    if deps > 0 {
-        return Err(deps);
+    let commit_deps = txns.commit_deps(t);
+    if commit_deps > 0 {
+        return Err(commit_deps);
     }
     lower_dependents(txns, t);
     txns.set_state(t, State::Committed);
@@ -50,6 +51,7 @@ pub fn commit(txns: &mut Txns, t: TxnId) -> Result<(), u64>
 pub fn abort(txns: &mut Txns, t: TxnId, cause: Cause)
     requires txn { Declared txns.old t }
     requires dependents { All (λ x. Declared txns.old x) (dependents_of txns.old t).items }
+    requires counted { AreCounted txns.old.commit_deps (dependents_of txns.old t).items }
     ensures txns { txns.new ≡ with_dependents (aborted txns.old t cause) t (dependents_of txns.new t) }
     ensures emptied { (dependents_of txns.new t).items ≡ [] }
 {

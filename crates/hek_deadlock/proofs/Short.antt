@@ -3,7 +3,7 @@
 use Rattle.std.proofs.Common.{ℕ, zero, suc, ◌≡◌, ◌+◌, ◌<◌, ◌≤◌, Bool, true, List, [], ◌∷◌, ◌++◌, length, map, Option, Some, None, refl, sym, subst, arith}
 use Rattle.std.proofs.lemmas.List.{length-map}
 use Rattle.std.specs.Option.{IfSome}
-use Rattle.hek_rules.specs.Walks.{Follows, IsClosedWalk, IsVictim, JoinsBelow}
+use Rattle.hek_rules.specs.Cycles.{Follows, IsClosedWalk, IsVictim, JoinsBelow}
 use Rattle.hek_rules.proofs.Bound.{short_closed}
 use Rattle.hek_rules.proofs.VictimLaw.{victim_found}
 use Rattle.hek_store.specs.Stored.{Stored}

@@ -3,7 +3,7 @@ use Rattle.std.proofs.Common.{ℕ, zero, suc, ◌≡◌, ◌+◌, Bool, ◌&&◌
 use Rattle.std.specs.Prelude.{nat_lt}
 use Rattle.std.specs.List.{list_any}
 use Rattle.std.proofs.lemmas.Bool.{cases_Bool}
-use Rattle.hek_rules.specs.Image.{end_word_by}
+use Rattle.hek_rules.specs.Shown.{end_word_by}
 use Rattle.hek_rules.specs.Listing.{is_among, seconds_of, has}
 use Rattle.hek_rules.specs.Victim.{victim_of}
 use Rattle.hek_rules.specs.WaitGraph.{is_edge as is_world_edge, is_node as is_world_node, waits_by_version, victim}
@@ -59,8 +59,8 @@ by_list s x w shows u t =
 
 same_node : (s : Stored) (x : TxnTable) (w : World) → ShowsWaits s x w → (u : ℕ) → is_node x u ≡ is_world_node w u
 same_node s x w shows u =
-    ap (λ (ts : List Txn). is_active (txn_in ts u).state && (txn_in ts u).finished && nat_lt 0 (waits_of x u)) shows.cores
-    ∙ ap (λ (n : ℕ). is_active (txn_in w.txns u).state && (txn_in w.txns u).finished && nat_lt 0 n) (shows.waits u)
+    ap (λ (ts : List Txn). is_active (txn_in ts u).state && (txn_in ts u).no_more_waits && nat_lt 0 (waits_of x u)) shows.cores
+    ∙ ap (λ (n : ℕ). is_active (txn_in w.txns u).state && (txn_in w.txns u).no_more_waits && nat_lt 0 n) (shows.waits u)
 
 pub same_edge : (s : Stored) (x : TxnTable) (w : World) → ShowsWaits s x w → (u t : ℕ) → is_edge s x u t ≡ is_world_edge w u t
 unfolding is_edge

@@ -4,7 +4,7 @@ use Rattle.std.specs.Option.{IfSome}
 use Rattle.std.proofs.lemmas.Bool.{and_parts, ltb-true}
 use Rattle.hek_rules.specs.declared.event.State.{State}
 use Rattle.hek_rules.specs.declared.event.State.TheVariants.{NotBegun, Active, Preparing, Committed, Aborted, Terminated}
-use Rattle.hek_rules.specs.Walks.{IsClosedWalk, JoinsBelow}
+use Rattle.hek_rules.specs.Cycles.{IsClosedWalk, JoinsBelow}
 use Rattle.hek_rules.specs.World.{txn_in, is_active}
 use Rattle.hek_rules.proofs.VictimLaw.{victim_found, none_found}
 use Rattle.hek_store.specs.Stored.{Stored}
@@ -33,7 +33,7 @@ node_waits x t e =
     record {
       declared = record { named = node_named x t e; within = omega arith };
       active = active_is (txn_in x.cores t).state first.0;
-      finished = first.1;
+      no_more_waits = first.1;
       waits = ltb-true 0 (waits_of x t) parts.1;
     }
 

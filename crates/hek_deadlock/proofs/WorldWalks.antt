@@ -1,7 +1,7 @@
 -- In each world only transactions that there are wait for one another, so that its victim is the one of closed walks.
 use Rattle.std.proofs.Common.{ℕ, ◌≡◌, ◌+◌, ◌<◌, true, length}
 use Rattle.std.proofs.lemmas.Bool.{and_parts}
-use Rattle.hek_rules.specs.Walks.{JoinsBelow}
+use Rattle.hek_rules.specs.Cycles.{JoinsBelow}
 use Rattle.hek_rules.specs.WaitGraph.{is_edge, is_node}
 use Rattle.hek_rules.specs.World.{World}
 use Rattle.hek_rules.proofs.VictimLaw.{victim_found, found_from_victim, none_found, none_from_no_walk}

@@ -12,7 +12,7 @@ use Rattle.hek_txn.specs.TxnTable.{TxnTable, Declared, waits_of, read_set_of, wa
 
 -- active, finished, and waiting
 abbrev pub is_node : TxnTable → ℕ → Bool
-is_node x u = is_active (txn_in x.cores u).state && (txn_in x.cores u).finished && nat_lt 0 (waits_of x u)
+is_node x u = is_active (txn_in x.cores u).state && (txn_in x.cores u).no_more_waits && nat_lt 0 (waits_of x u)
 
 abbrev pub is_named : Option ℕ → ℕ → Bool
 is_named None u = false
@@ -39,5 +39,5 @@ is_other_node x t u = is_node x u && not (u == t)
 pub record IsWaiting (x : TxnTable) (t : ℕ) : Type 0 where
   pub declared : Declared x t
   pub active : (txn_in x.cores t).state ≡ Active
-  pub finished : (txn_in x.cores t).finished ≡ true
+  pub no_more_waits : (txn_in x.cores t).no_more_waits ≡ true
   pub waits : 0 < waits_of x t

@@ -1,6 +1,7 @@
 -- When a store and a table of transactions show who waits for whom in a world, and that their victim is then the world's.
 use Rattle.std.specs.Prelude.{ℕ, ◌≡◌}
-use Rattle.hek_rules.specs.Image.{end_word, read_set, waiting_list, wait_for_counter}
+use Rattle.hek_rules.specs.Shown.{end_word, read_set, waiting_list}
+use Rattle.hek_rules.specs.Waits.{waits}
 use Rattle.hek_rules.specs.WaitGraph.{victim}
 use Rattle.hek_rules.specs.World.{World}
 use Rattle.hek_store.specs.Stored.{Stored, version_at}
@@ -9,7 +10,7 @@ use Rattle.hek_deadlock.specs.Edges.{victim_in}
 
 pub record ShowsWaits (s : Stored) (x : TxnTable) (w : World) : Type 0 where
   pub cores : x.cores ≡ w.txns
-  pub waits : (t : ℕ) → waits_of x t ≡ wait_for_counter w t
+  pub waits : (t : ℕ) → waits_of x t ≡ waits w t
   pub read_sets : (t : ℕ) → (read_set_of x t).items ≡ read_set w t
   pub waiting_lists : (t : ℕ) → (waiting_list_of x t).items ≡ waiting_list w t
   pub ends : (v : ℕ) → (version_at s v).end ≡ end_word w v

@@ -1,6 +1,6 @@
 -- The victim in the words of walks: what an answer says, and that the victim of a world is this one, with no premise.
 use Rattle.std.specs.Prelude.{ℕ, ◌≡◌, ◌↔◌, Bool, List, Option, Some, None}
-use Rattle.hek_rules.specs.Walks.{IsClosedWalk, IsVictim}
+use Rattle.hek_rules.specs.Cycles.{IsClosedWalk, IsVictim}
 use Rattle.hek_rules.specs.WaitGraph.{is_edge, victim}
 use Rattle.hek_rules.specs.World.{World}
 

@@ -22,7 +22,7 @@ use Rattle.hek_debug.specs.Sessions.{Session, opened, after, stop_of, world_at}
 use Rattle.hek_commands.specs.declared.fault.HekFault.{HekFault}
 use Rattle.hek_commands.specs.declared.fault.HekFault.TheVariants.{NotText, CommandLine, CannotWrite, NoMemory}
 use Rattle.hek_commands.specs.declared.schedule_file.ScheduleFile.{ScheduleFile}
-use Rattle.hek_commands.specs.Judged.{FileGives, FileFails}
+use Rattle.hek_commands.specs.Commands.{FileGives, FileFails}
 
 -- ---- stops
 

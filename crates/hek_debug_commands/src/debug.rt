@@ -3,7 +3,7 @@ ghost use Rattle.std.specs.Prelude.{◌≡◌, ◌++◌, Ok, OnOk, IfErr, MatchR
 ghost use Rattle.std.specs.Io.KnownBytes.{Appends};
 ghost use Rattle.hek_debug.specs.Lines.{commands_of};
 ghost use Rattle.hek_debug.specs.Sessions.{opened, after, stop_of};
-ghost use Rattle.hek_commands.specs.Judged.{IsStop};
+ghost use Rattle.hek_commands.specs.Commands.{IsStop};
 ghost use Rattle.hek_debug_commands.specs.Debugged.{told_text, session_text, command_fault, CommandTextFails, Debugs, DebugFails};
 
 use crate::stop_text::put_told;

@@ -10,12 +10,23 @@ use hek_commands::{clock_line, put_txn, put_version, state_lines};
 use hek_debug::{Debugger, Mark};
 use hek_machine::Machine;
 use hek_rules::{Event, FromWrite, NoMemory, Schedule, TxnId, VersionId};
+use hek_why_command::{Extras, explain_step};
 use std::alloc::Global;
 use std::io::Write;
 use std::mem;
 
 /// So many steps are listed before the position, and behind it.
 const ROUND: u64 = 5;
+
+const WHY: Extras = Extras {
+    why: true,
+    changes: false,
+};
+
+const CHANGES: Extras = Extras {
+    why: false,
+    changes: true,
+};
 
 const HELP: &str = "commands:
   step N              N steps on, as in step 1
@@ -34,6 +45,8 @@ questions:
   show version V      a version, as in show version 0
   show key K          the versions of a key, as in show key 10
   list                the steps round the position, the next one marked with =>
+  why                 the last step, and the reasons of its reply
+  changes             the last step, and what it changed
   marks               the breakpoints and watches, as they were set
   help                this
   quit                the end of the session
@@ -53,6 +66,8 @@ pub(crate) fn put_answer(
         Question::Version(v) => put_one_version(machine, v, lines),
         Question::Key(key) => put_key(machine, key, lines),
         Question::Steps => put_steps(alloc, debugger, lines),
+        Question::Why => put_last(alloc, debugger, WHY, lines),
+        Question::Changes => put_last(alloc, debugger, CHANGES, lines),
         Question::Marks => put_marks(debugger, lines),
         Question::Help => put_text(HELP, lines),
         Question::Quit => Ok(()),
@@ -158,6 +173,28 @@ fn put_step(
     }
     *lines = sink.into_inner();
     put_text("\n", lines)
+}
+
+/// The last step that was done, as in a trace, with what is asked for under it.
+fn put_last(
+    alloc: Global,
+    debugger: &Debugger,
+    extras: Extras,
+    lines: &mut Vec<u8>,
+) -> Result<(), NoMemory> {
+    let at = debugger.at();
+    if at == 0 {
+        return put_text("no step is done\n", lines);
+    }
+    let mut machine = debugger.machine_at(at - 1)?;
+    explain_step(
+        alloc,
+        debugger.schedule(),
+        &mut machine,
+        at - 1,
+        extras,
+        lines,
+    )
 }
 
 /// Each breakpoint and watch, as the command that set it says it.

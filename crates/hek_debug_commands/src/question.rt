@@ -12,6 +12,10 @@ pub(crate) enum Question {
     Key(u64),
     /// The steps round the position.
     Steps,
+    /// Why the last step was answered as it was.
+    Why,
+    /// What the last step changed.
+    Changes,
     /// The breakpoints and watches.
     Marks,
     Help,
@@ -36,6 +40,12 @@ pub(crate) fn read_question(schedule: &Schedule, line: &[u8]) -> Option<Question
 fn alone(word: &[u8]) -> Option<Question> {
     if word == b"list".as_slice() {
         return Some(Question::Steps);
+    }
+    if word == b"why".as_slice() {
+        return Some(Question::Why);
+    }
+    if word == b"changes".as_slice() {
+        return Some(Question::Changes);
     }
     if word == b"marks".as_slice() {
         return Some(Question::Marks);

@@ -33,11 +33,19 @@ pub fn debug_session<'a, R: Read + Drop, I: Read + Drop, W: Write, E: Write>(
 ) -> Result<u8, HekFault<'a>> {
     let schedule = schedule_in(alloc, file)?;
     let mut debugger = Debugger::open(alloc, schedule)?;
-    let mut lines = BufReader::new(alloc, input).map_err(|_| HekFault::NoMemory)?;
+    let mut lines = lines_of(alloc, input)?;
     if prompts {
         greet(&debugger, out)?;
     }
     answer_lines(alloc, &mut debugger, &mut lines, prompts, out, faults)
+}
+
+/// An input that is read line by line.
+fn lines_of<'a, I: Read + Drop>(alloc: Global, input: I) -> Result<BufReader<I>, HekFault<'a>> {
+    match BufReader::new(alloc, input) {
+        Ok(reader) => Ok(reader),
+        Err(_) => Err(HekFault::NoMemory),
+    }
 }
 
 /// Says what there is to step through, and where to begin.

@@ -6,12 +6,11 @@ ghost use Rattle.hek_asm.specs.Trace.{reply_words};
 ghost use Rattle.hek_debug.specs.Sessions.{world_at};
 ghost use Rattle.hek_debug_commands.specs.Debugged.{reason_text, answer_text, stop_line, hex_digit, hex_text, seen_text, count_text, name_text, watch_line, watch_lines, told_text};
 
-use hek_asm::write_reply;
+use hek_commands::put_reply;
 use hek_debug::{Debugger, Mark, Reason, Stop};
-use hek_rules::{FromWrite, NoMemory, Reply, Schedule, TxnId};
+use hek_rules::{NoMemory, Reply, Schedule, TxnId};
 use std::alloc::Global;
 use std::io::Write;
-use std::mem;
 
 /// Where a debugger stands, and what each of its watches looks at there.
 pub(crate) fn put_told(
@@ -83,19 +82,6 @@ fn put_answer(alloc: Global, last: &Option<Reply>, lines: &mut Vec<u8>) -> Resul
             put_text(" -> ", lines)?;
             put_reply(alloc, reply, lines)
         }
-    }
-}
-
-fn put_reply(alloc: Global, reply: &Reply, lines: &mut Vec<u8>) -> Result<(), NoMemory>
-    ensures { OnOk result (lines.new.items ≡ lines.old.items ++ joined (reply_words reply.now)) }
-{
-    let mut sink = FromWrite::new(mem::replace(lines, Vec::new(alloc)));
-    match write_reply(reply, &mut sink) {
-        Ok(()) => {
-            *lines = sink.into_inner();
-            Ok(())
-        }
-        Err(_) => Err(NoMemory),
     }
 }
 

@@ -1,7 +1,6 @@
 //! Images that are cut, changed, never end or can't be written.
 ghost use Rattle.std.specs.Prelude.{◌<◌};
 
-use crate::fault::Fault;
 use crate::tally::Tally;
 use hek_image::{LoadFault, load_image, write_image};
 use hek_plain_image::gathered_image;
@@ -29,7 +28,7 @@ fn load(alloc: Global, bytes: &[u8], piece: usize, ending: Ending) -> Result<Sch
 }
 
 /// Each front of both images, that ends and that fails behind its last byte.
-pub(crate) fn fronts(alloc: Global) -> Result<Tally, Fault> {
+pub(crate) fn fronts(alloc: Global) -> Tally {
     let mut tally = Tally::new();
     for version in [1u8, 2] {
         let image = of_version(version);
@@ -39,7 +38,7 @@ pub(crate) fn fronts(alloc: Global) -> Result<Tally, Fault> {
             }
         }
     }
-    Ok(tally)
+    tally
 }
 
 fn try_front(alloc: Global, front: &[u8], piece: usize, tally: &mut Tally)
@@ -53,44 +52,48 @@ fn try_front(alloc: Global, front: &[u8], piece: usize, tally: &mut Tally)
 }
 
 /// Each byte of both images as each other byte.
-pub(crate) fn changed_bytes(alloc: Global) -> Result<Tally, Fault> {
+pub(crate) fn changed_bytes(alloc: Global) -> Tally {
     let mut tally = Tally::new();
     for version in [1u8, 2] {
         for at in 0..62usize {
             for change in 1..=255u8 {
                 let mut image = of_version(version);
                 image[at] ^= change;
-                tally.note(is_judged(alloc, &image)?);
+                tally.note(is_judged(alloc, &image));
             }
         }
     }
-    Ok(tally)
+    tally
 }
 
 /// Whether the loader says what the plain one says, and writes what it loads as these bytes, but for the version.
-fn is_judged(alloc: Global, image: &[u8; 62]) -> Result<bool, Fault> {
+fn is_judged(alloc: Global, image: &[u8; 62]) -> bool {
     let mut source = MemorySource::new(image, 62, Ending::Ends);
     let gathered = gathered_image(alloc, &mut source);
     match load(alloc, image, 7, Ending::Ends) {
-        Ok(loaded) => match gathered {
-            Ok(gathered) => Ok(loaded.same(&gathered) && is_written(alloc, &loaded, image)?),
-            Err(_) => Ok(false),
-        },
-        Err(fault) => Ok(gathered.err() == Some(fault)),
+        Ok(loaded) => is_gathered(&loaded, &gathered) && is_written(alloc, &loaded, image),
+        Err(fault) => gathered.err() == Some(fault),
     }
 }
 
-fn is_written(alloc: Global, schedule: &Schedule, image: &[u8; 62]) -> Result<bool, Fault> {
+fn is_gathered(loaded: &Schedule, gathered: &Result<Schedule, LoadFault>) -> bool {
+    match gathered {
+        Ok(gathered) => loaded.same(gathered),
+        Err(_) => false,
+    }
+}
+
+fn is_written(alloc: Global, schedule: &Schedule, image: &[u8; 62]) -> bool {
     let mut sink = MemorySink::new(alloc, 100, 100);
-    write_image(schedule, &mut sink)?;
+    let written = write_image(schedule, &mut sink);
     let mut newer = *image;
     newer[VERSION_AT] = 2;
-    Ok(sink.bytes() == newer.as_slice())
+    written.is_ok() && sink.bytes() == newer.as_slice()
 }
 
 /// Both images with a byte changed here and there and zeros for ever behind them: the same fault as without, or Trailing, and little
 /// is taken.
-pub(crate) fn endless(alloc: Global) -> Result<Tally, Fault> {
+pub(crate) fn endless(alloc: Global) -> Tally {
     let mut tally = Tally::new();
     for version in [1u8, 2] {
         for at in 0..62usize {
@@ -101,7 +104,7 @@ pub(crate) fn endless(alloc: Global) -> Result<Tally, Fault> {
             }
         }
     }
-    Ok(tally)
+    tally
 }
 
 fn is_told_at_once(alloc: Global, image: &[u8; 62]) -> bool {
@@ -117,15 +120,20 @@ fn is_told_at_once(alloc: Global, image: &[u8; 62]) -> bool {
 }
 
 /// A sink with room for the first bytes alone.
-pub(crate) fn sinks(alloc: Global) -> Result<Tally, Fault> {
+pub(crate) fn sinks(alloc: Global) -> Tally {
     let mut tally = Tally::new();
-    let Ok(schedule) = load(alloc, &IMAGE, 62, Ending::Ends) else {
-        return Err(Fault::Unfit);
-    };
+    match load(alloc, &IMAGE, 62, Ending::Ends) {
+        Ok(schedule) => try_sinks(alloc, &schedule, &mut tally),
+        Err(_) => tally.note(false),
+    }
+    tally
+}
+
+fn try_sinks(alloc: Global, schedule: &Schedule, tally: &mut Tally) {
     for room in 0..=62usize {
         for piece in [1usize, 7, 62] {
             let mut sink = MemorySink::new(alloc, room, piece.max(1));
-            let written = write_image(&schedule, &mut sink);
+            let written = write_image(schedule, &mut sink);
             let right = if room == 62 {
                 Ok(())
             } else {
@@ -134,5 +142,4 @@ pub(crate) fn sinks(alloc: Global) -> Result<Tally, Fault> {
             tally.note(written == right);
         }
     }
-    Ok(tally)
 }

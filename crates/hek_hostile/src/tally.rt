@@ -1,7 +1,8 @@
 //! How many inputs were tried.
 use std::fmt;
 
-/// How many inputs were tried, and how many of them were answered otherwise than by the rule.
+/// How many inputs were tried, and how many of them were answered otherwise than by the rule. Where memory is refused, or an input of
+/// the program's own can't be made, that is counted as such an answer.
 #[derive(Clone, Copy)]
 pub(crate) struct Tally {
     pub(crate) tried: u64,

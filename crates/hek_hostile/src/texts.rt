@@ -1,5 +1,4 @@
 //! Schedule texts that are cut.
-use crate::fault::Fault;
 use crate::tally::Tally;
 use hek_asm::{AsmFault, AsmKind, assemble_text};
 use std::alloc::Global;
@@ -9,16 +8,14 @@ const TEXT: &str =
     "buckets 4 # so many\n\nrow 10 100\nrow 25 7\n# transactions\ntxn alpha serializable\ntxn b_2 repeatable\ntxn c snapshot\nalpha begin\nb_2 begin\nc begin\nalpha read 10\nalpha scan 3\nb_2 insert 11 5\nb_2 update 25 8\nc delete 40\ndetect\nalpha finish\nalpha precommit\nalpha release\nalpha commit\nalpha stamp\nalpha end\nc fail\n";
 
 /// A text cut after each byte.
-pub(crate) fn cuts(alloc: Global) -> Result<Tally, Fault> {
+pub(crate) fn cuts(alloc: Global) -> Tally {
     let mut tally = Tally::new();
     for len in 0..=TEXT.len() {
-        let Some(front) = TEXT.get(..len) else {
-            return Err(Fault::Unfit);
-        };
+        let front = TEXT.get(..len).unwrap_or("");
         let told = assemble_text(alloc, front).err();
         tally.note(told == fault_of(front));
     }
-    Ok(tally)
+    tally
 }
 
 /// What is said of a front: its lines but the last are whole, and right.

@@ -2,105 +2,124 @@
 ghost use Rattle.std.specs.Prelude.{IsTrue, length};
 ghost use Rattle.hek_asm.specs.Trace.{NamesDeclared};
 
-use crate::fault::Fault;
-use crate::histories::{SCHEDULE, assembled, replies_to};
+use crate::histories::{SCHEDULE, replies_to};
 use crate::tally::Tally;
-use hek_asm::{TraceFault, read_trace, write_line};
-use hek_rules::{Event, MemorySink, Reply, Schedule, Transcript, WriteFault};
+use hek_asm::{TraceFault, assemble_text, read_trace, write_line};
+use hek_rules::{Event, MemorySink, Reply, Schedule, Transcript};
 use std::alloc::Global;
 use std::str;
 
 /// Each character of each line of a trace, taken away and doubled.
-pub(crate) fn changed_lines(alloc: Global) -> Result<Tally, Fault> {
+pub(crate) fn changed_lines(alloc: Global) -> Tally {
     let mut tally = Tally::new();
-    let schedule = assembled(alloc, SCHEDULE)?;
-    let replies = replies_to(alloc, &schedule)?;
-    let bytes = trace_of(alloc, &schedule, replies.as_slice())?;
-    let Ok(trace) = str::from_utf8(bytes.as_slice()) else {
-        return Err(Fault::Unfit);
-    };
-    tally.note(is_told(alloc, &schedule, trace, 0)?);
+    match assemble_text(alloc, SCHEDULE) {
+        Ok(schedule) => try_trace(alloc, &schedule, &mut tally),
+        Err(_) => tally.note(false),
+    }
+    tally
+}
+
+fn try_trace(alloc: Global, schedule: &Schedule, tally: &mut Tally) {
+    match replies_to(alloc, schedule) {
+        Some(replies) => try_replies(alloc, schedule, replies.as_slice(), tally),
+        None => tally.note(false),
+    }
+}
+
+fn try_replies(alloc: Global, schedule: &Schedule, replies: &[Reply], tally: &mut Tally) {
+    let mut trace = Vec::new(alloc);
+    let written = put_trace(alloc, schedule, schedule.steps(), replies, &mut trace);
+    match str::from_utf8(trace.as_slice()) {
+        Ok(trace) if written => try_lines(alloc, schedule, trace, tally),
+        _ => tally.note(false),
+    }
+}
+
+fn try_lines(alloc: Global, schedule: &Schedule, trace: &str, tally: &mut Tally) {
+    tally.note(is_told(alloc, schedule, trace, 0));
     let mut line = 1u64;
     for (at, byte) in trace.as_bytes().iter().enumerate() {
         if *byte == b'\n' {
             line = line.saturating_add(1);
-            continue;
+        } else {
+            try_character(alloc, schedule, trace, at, line, tally);
         }
-        let (Some(front), Some(from), Some(behind)) = (
-            trace.get(..at),
-            trace.get(at..),
-            trace.get(at.saturating_add(1)..),
-        ) else {
-            return Err(Fault::Unfit);
-        };
-        let without = format!(in alloc; "{front}{behind}")?;
-        tally.note(is_told(alloc, &schedule, without.as_str(), line)?);
-        let double = *byte as char;
-        let doubled = format!(in alloc; "{front}{double}{from}")?;
-        tally.note(is_told(alloc, &schedule, doubled.as_str(), line)?);
     }
-    Ok(tally)
+}
+
+/// The character at a place, which is in this line, taken away and doubled.
+fn try_character(
+    alloc: Global,
+    schedule: &Schedule,
+    trace: &str,
+    at: usize,
+    line: u64,
+    tally: &mut Tally,
+) {
+    let behind = at.saturating_add(1);
+    let front = trace.get(..at).unwrap_or("");
+    let to_behind = trace.get(..behind).unwrap_or("");
+    let from = trace.get(at..).unwrap_or("");
+    let from_behind = trace.get(behind..).unwrap_or("");
+    tally.note(is_joint_told(alloc, schedule, front, from_behind, line));
+    tally.note(is_joint_told(alloc, schedule, to_behind, from, line));
+}
+
+fn is_joint_told(alloc: Global, schedule: &Schedule, front: &str, back: &str, line: u64) -> bool {
+    match format!(in alloc; "{front}{back}") {
+        Ok(text) => is_told(alloc, schedule, text.as_str(), line),
+        Err(_) => false,
+    }
 }
 
 /// Whether the text is told to be at fault in this line, or is read as a transcript whose trace it is.
-fn is_told(alloc: Global, schedule: &Schedule, text: &str, line: u64) -> Result<bool, Fault> {
+fn is_told(alloc: Global, schedule: &Schedule, text: &str, line: u64) -> bool {
     match read_trace(alloc, schedule, text) {
         Ok(told) => is_trace(alloc, schedule, &told, text),
-        Err(TraceFault::Line(number)) => Ok(number == line),
-        Err(TraceFault::NoMemory) => Err(Fault::NoMemory),
+        Err(fault) => fault == TraceFault::Line(line),
     }
 }
 
 /// Whether a text is the trace of a transcript.
-fn is_trace(
+fn is_trace(alloc: Global, schedule: &Schedule, told: &Transcript, text: &str) -> bool {
+    let mut trace = Vec::new(alloc);
+    put_trace(alloc, schedule, told.events(), told.replies(), &mut trace)
+        && trace.as_slice() == text.as_bytes()
+}
+
+/// Puts the trace of these events with these replies. Whether all of it was put.
+fn put_trace(
     alloc: Global,
     schedule: &Schedule,
-    told: &Transcript,
-    text: &str,
-) -> Result<bool, Fault> {
-    let mut whole = Vec::new(alloc);
-    for (at, event) in told.events().iter().enumerate() {
-        let Some(reply) = told.replies().get(at) else {
-            return Ok(false);
-        };
-        let line = line_of(alloc, schedule, at, *event, reply)?;
-        whole.extend_from_slice(line.bytes())?;
+    events: &[Event],
+    replies: &[Reply],
+    trace: &mut Vec<u8>,
+) -> bool {
+    let mut all = true;
+    for (at, event) in events.iter().enumerate() {
+        all = all
+            && match replies.get(at) {
+                Some(reply) => put_line(alloc, schedule, at, event, reply, trace),
+                None => false,
+            };
     }
-    Ok(whole.as_slice() == text.as_bytes())
+    all
 }
 
-/// The trace of a schedule's steps with these replies.
-fn trace_of(alloc: Global, schedule: &Schedule, replies: &[Reply]) -> Result<Vec<u8>, Fault> {
-    let mut whole = Vec::new(alloc);
-    for (at, event) in schedule.steps().iter().enumerate() {
-        if let Some(reply) = replies.get(at) {
-            let line = line_of(alloc, schedule, at, *event, reply)?;
-            whole.extend_from_slice(line.bytes())?;
-        }
-    }
-    Ok(whole)
-}
-
-/// The line of an event at a place, counted from 0, or nothing where its transaction isn't declared.
-fn line_of(
+/// Puts the line of an event at a place, counted from 0. Whether it was put.
+fn put_line(
     alloc: Global,
     schedule: &Schedule,
     at: usize,
-    event: Event,
+    event: &Event,
     reply: &Reply,
-) -> Result<MemorySink, WriteFault> {
-    let mut sink = MemorySink::new(alloc, usize::MAX, usize::MAX);
-    let same = event;
-    if is_declared(schedule, same) {
-        write_line(
-            schedule,
-            (at as u64).saturating_add(1),
-            event,
-            reply,
-            &mut sink,
-        )?;
-    }
-    Ok(sink)
+    trace: &mut Vec<u8>,
+) -> bool {
+    let mut line = MemorySink::new(alloc, usize::MAX, usize::MAX);
+    let number = (at as u64).saturating_add(1);
+    is_declared(schedule, *event)
+        && write_line(schedule, number, *event, reply, &mut line).is_ok()
+        && trace.extend_from_slice(line.bytes()).is_ok()
 }
 
 fn is_declared(schedule: &Schedule, event: Event) -> bool

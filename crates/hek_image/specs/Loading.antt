@@ -1,5 +1,5 @@
 -- What bytes say, read front to back, or the first fault.
-use Rattle.std.specs.Prelude.{ℕ, zero, suc, ◌+◌, Bool, true, false, ◌&&◌, ◌||◌, not, ◌==◌, nat_lt, nat_le, List, [], ◌∷◌, ◌++◌, length, take, drop, is_some, unwrap_or, Result, Ok, Err, if◌then◌else◌}
+use Rattle.std.specs.Prelude.{ℕ, zero, suc, ◌+◌, Bool, ◌&&◌, ◌||◌, not, ◌==◌, nat_lt, nat_le, List, [], ◌∷◌, ◌++◌, length, take, drop, is_some, unwrap_or, Result, Ok, Err, if◌then◌else◌}
 use Rattle.std.specs.Int.{Width, w8, w16, w32, w64, byte_len, from_be_bytes}
 use Rattle.std.specs.Str.{bytes_eq}
 use Rattle.hek_rules.specs.declared.event.Level.{Level}
@@ -7,7 +7,7 @@ use Rattle.hek_rules.specs.declared.event.Level.TheVariants.{Serializable, Repea
 use Rattle.hek_rules.specs.declared.kind.EventKind.{EventKind}
 use Rattle.hek_rules.specs.declared.kind.EventKind.TheVariants as kind
 use Rattle.hek_rules.specs.Name.{is_name}
-use Rattle.hek_rules.specs.Events.{kind_coded, operand_count, event_of}
+use Rattle.hek_rules.specs.Events.{kind_coded, operand_count, event_of, is_detect, is_scan}
 use Rattle.hek_rules.specs.Plan.{Plan, has_key, has_name}
 use Rattle.hek_image.specs.declared.fault.LoadFault.{LoadFault}
 use Rattle.hek_image.specs.declared.fault.LoadFault.TheVariants.{BadMagic, BadVersion, Short, BadField, Trailing}
@@ -85,14 +85,6 @@ is_opcode n = is_some (kind_coded n)
 
 unfoldable pub kind_at : Reader EventKind
 kind_at = both (checked (number_at w8) is_opcode) (λ n. value (unwrap_or (kind_coded n) kind.Detect))
-
-abbrev pub is_detect : EventKind → Bool
-is_detect kind.Detect = true
-is_detect other = false
-
-abbrev pub is_scan : EventKind → Bool
-is_scan kind.Scan = true
-is_scan other = false
 
 -- a declared transaction, or 0 for `detect`
 abbrev pub txn_fits : Plan → EventKind → ℕ → Bool

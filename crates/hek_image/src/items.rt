@@ -1,6 +1,6 @@
 //! Rows, names and steps of an image, each added to a schedule.
 ghost use Rattle.std.specs.Prelude.{◌≡◌, ◌+◌, ◌<◌, ◌≤◌, length, OnOk, OnErr, IfOk, IsTrue};
-ghost use Rattle.hek_image.specs.Loading.{row_at, step_at, kind_at, level_coded, is_detect, is_scan, txn_fits, first_fits, second_fits, checked, number_at};
+ghost use Rattle.hek_image.specs.Loading.{row_at, step_at, kind_at, level_coded, txn_fits, first_fits, second_fits, checked, number_at};
 ghost use Rattle.std.specs.Int.{w32, w64};
 ghost use Rattle.hek_image.specs.Gives.{FieldFails, FieldGives};
 ghost use Rattle.hek_image.specs.Places.{place_of};
@@ -78,22 +78,10 @@ fn kind_at(place: Place<'_>) -> Result<(EventKind, Place<'_>), LoadFault>
     }
 }
 
-fn is_detect(kind: EventKind) -> bool
-    ensures { result ≡ is_detect kind }
-{
-    matches!(kind, EventKind::Detect)
-}
-
-fn is_scan(kind: EventKind) -> bool
-    ensures { result ≡ is_scan kind }
-{
-    matches!(kind, EventKind::Scan)
-}
-
 fn txn_fits(schedule: &Schedule, kind: EventKind, txn: u32) -> bool
     ensures { result ≡ txn_fits schedule.now kind txn }
 {
-    if is_detect(kind) {
+    if kind.is_detect() {
         return txn == 0;
     }
     txn > 0 && txn as usize <= schedule.txn_count()
@@ -105,7 +93,7 @@ fn first_fits(schedule: &Schedule, kind: EventKind, first: u64) -> bool
     if kind.operand_count() == 0 {
         return first == 0;
     }
-    !is_scan(kind) || first < schedule.buckets()
+    !kind.is_scan() || first < schedule.buckets()
 }
 
 fn second_fits(kind: EventKind, second: u64) -> bool

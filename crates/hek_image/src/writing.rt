@@ -108,6 +108,20 @@ fn txn_number(txn: Option<TxnId>) -> u32
     }
 }
 
+// The bytes of a step.
+fn step_bytes(event: &Event) -> [u8; 21]
+    requires short { IfSome (txn_of event.now) (λ t. t < 2 ^ 32) }
+    ensures { result ≡ step_bytes event.now }
+{
+    let opcode = event.kind().opcode();
+    let [t0, t1, t2, t3] = txn_number(event.txn()).to_be_bytes();
+    let [a0, a1, a2, a3, a4, a5, a6, a7] = event.first().to_be_bytes();
+    let [b0, b1, b2, b3, b4, b5, b6, b7] = event.second().to_be_bytes();
+    [
+        opcode, t0, t1, t2, t3, a0, a1, a2, a3, a4, a5, a6, a7, b0, b1, b2, b3, b4, b5, b6, b7,
+    ]
+}
+
 fn put_step<S: Sink>(event: &Event, sink: &mut S) -> Result<(), WriteFault>
     requires works { S.failed sink.old ≡ false }
     requires short { IfSome (txn_of event.now) (λ t. t < 2 ^ 32) }
@@ -115,10 +129,7 @@ fn put_step<S: Sink>(event: &Event, sink: &mut S) -> Result<(), WriteFault>
     ensures tells { IsTrue (S.tells sink.old) → IsTrue (S.tells sink.new) }
     ensures fails { S.failed sink.new ≡ is_err result }
 {
-    put_u8(event.kind().opcode(), sink)?;
-    put_u32(txn_number(event.txn()), sink)?;
-    put_u64(event.first(), sink)?;
-    put_u64(event.second(), sink)
+    put_all(sink, step_bytes(event).as_slice())
 }
 
 fn put_rows<S: Sink>(schedule: &Schedule, sink: &mut S) -> Result<(), WriteFault>

@@ -1,4 +1,4 @@
--- Each event is one of the rows of the table, and each row changes the world in one of a few ways.
+-- Each event is one of the rules of the table, and each rule changes the world in one of a few ways.
 pub mod SetTxns
 pub mod Unchanged
 pub mod Cases

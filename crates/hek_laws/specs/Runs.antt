@@ -8,7 +8,7 @@ use Rattle.hek_rules.specs.declared.event.Event.TheVariants as event
 use Rattle.hek_rules.specs.Words.{infinity}
 use Rattle.hek_rules.specs.World.{World, opening}
 use Rattle.hek_rules.specs.Run.{run, transcript}
-use Rattle.hek_rules.specs.Told.{Told}
+use Rattle.hek_rules.specs.Recorded.{Recorded}
 
 -- no two rows have one key
 abbrev pub HasDistinctKeys : List (ℕ × ℕ) → Type 0
@@ -19,7 +19,7 @@ abbrev pub IsFirstClock : ℕ → Type 0
 IsFirstClock clock = (0 < clock) × (clock < infinity)
 
 -- what a checker is told of a run
-abbrev pub told : ℕ → List (ℕ × ℕ) → List Level → ℕ → List Event → Told
+abbrev pub told : ℕ → List (ℕ × ℕ) → List Level → ℕ → List Event → Recorded
 told buckets rows levels clock events =
     record { buckets = buckets; rows = rows; levels = levels; history = transcript (opening buckets rows levels clock) events }
 

@@ -3,6 +3,7 @@ ghost use Rattle.std.specs.List.{All};
 ghost use Rattle.hek_rules.specs.Words.{IsTime};
 ghost use Rattle.hek_rules.specs.World.{txn_in};
 ghost use Rattle.hek_txn.specs.TxnTable.{Declared, dependents_of, write_set_of};
+ghost use Rattle.hek_commit.specs.Committed.{AreCounted};
 ghost use Rattle.hek_commit.specs.Stamped.{CanStamp};
 
 use crate::asserts::is;
@@ -70,7 +71,7 @@ fn depends(rt: &impl Abort, txns: &mut Txns, number: u64, on: u64) {
     let u = declared(rt, txns, on);
     assert!(rt; txns.reserve_dependents(u, 1).is_ok());
     let t = declared(rt, txns, number);
-    assert!(rt; txns.is_declared(u) && txns.deps(t) < 1_000);
+    assert!(rt; txns.is_declared(u) && txns.commit_deps(t) < 1_000);
     depend(txns, t, u);
 }
 
@@ -84,6 +85,21 @@ fn assert_dependents_declared(rt: &impl Abort, txns: &Txns, t: TxnId)
     }
 }
 
+// Nobody depends on t, or one whose counter is above 0.
+fn assert_dependents_counted(rt: &impl Abort, txns: &Txns, t: TxnId)
+    requires { Declared txns.now t }
+    ensures { AreCounted txns.now.commit_deps (dependents_of txns.now t).items }
+{
+    match txns.dependents(t) {
+        [] => {}
+        [x] => {
+            assert!(rt; txns.is_declared(*x));
+            assert!(rt; txns.commit_deps(*x) > 0);
+        }
+        _ => assert!(rt; false),
+    }
+}
+
 fn precommits(rt: &impl Abort, txns: &mut Txns, number: u64, time: u64) -> Result<(), u64> {
     let t = declared(rt, txns, number);
     precommit(txns, t, Time::new(time))
@@ -92,12 +108,14 @@ fn precommits(rt: &impl Abort, txns: &mut Txns, number: u64, time: u64) -> Resul
 fn commits(rt: &impl Abort, txns: &mut Txns, number: u64) -> Result<(), u64> {
     let t = declared(rt, txns, number);
     assert_dependents_declared(rt, txns, t);
+    assert_dependents_counted(rt, txns, t);
     commit(txns, t)
 }
 
 fn aborts(rt: &impl Abort, txns: &mut Txns, number: u64, cause: Cause) {
     let t = declared(rt, txns, number);
     assert_dependents_declared(rt, txns, t);
+    assert_dependents_counted(rt, txns, t);
     abort(txns, t, cause);
 }
 
@@ -140,7 +158,7 @@ fn dependents_commit_in_order(rt: HostRuntime) {
     is(&rt, precommits(&rt, &mut txns, A, 4), Ok(()));
     depends(&rt, &mut txns, B, A);
     depends(&rt, &mut txns, B, A);
-    is(&rt, txns.deps(declared(&rt, &txns, B)), 1);
+    is(&rt, txns.commit_deps(declared(&rt, &txns, B)), 1);
     is(
         &rt,
         txns.dependents(declared(&rt, &txns, A)),
@@ -153,7 +171,7 @@ fn dependents_commit_in_order(rt: HostRuntime) {
     is(&rt, commits(&rt, &mut txns, A), Ok(()));
     is(&rt, txns.state(declared(&rt, &txns, A)), State::Committed);
     assert!(rt; txns.dependents(declared(&rt, &txns, A)).is_empty());
-    is(&rt, txns.deps(declared(&rt, &txns, B)), 0);
+    is(&rt, txns.commit_deps(declared(&rt, &txns, B)), 0);
     is(&rt, commits(&rt, &mut txns, B), Ok(()));
     let a = declared(&rt, &txns, A);
     end(&mut txns, a);
@@ -182,10 +200,10 @@ fn abort_dooms_its_dependents(rt: HostRuntime) {
     );
     let b = declared(&rt, &txns, B);
     assert!(rt; txns.abort_now(b));
-    is(&rt, txns.deps(b), 0);
+    is(&rt, txns.commit_deps(b), 0);
     let c = declared(&rt, &txns, C);
     assert!(rt; !txns.abort_now(c));
-    is(&rt, txns.deps(c), 1);
+    is(&rt, txns.commit_deps(c), 1);
 }
 
 // b has committed with end time 2: it ended the loaded version and made the other.

@@ -233,7 +233,7 @@ fn finished_writer_waits_for_no_more(rt: HostRuntime) {
     let mut store = one_version(&rt, rt.alloc());
     let mut txns = begun(&rt, rt.alloc());
     is(&rt, write_locks(&rt, &mut store, &mut txns, B), Ok(()));
-    txns.set_no_more_wait_fors(declared(&rt, &txns, B));
+    txns.set_no_more_waits(declared(&rt, &txns, B));
     is(
         &rt,
         read_locks(&rt, &mut store, &mut txns, C),

@@ -60,10 +60,10 @@ fn assert_same_fields(rt: &impl Abort, txns: &Txns, other: &Txns, number: u64) {
     is(rt, txns.state(t), other.state(u));
     is(rt, txns.begin_time(t), other.begin_time(u));
     is(rt, txns.end_time(t), other.end_time(u));
-    is(rt, txns.no_more_wait_fors(t), other.no_more_wait_fors(u));
+    is(rt, txns.no_more_waits(t), other.no_more_waits(u));
     is(rt, txns.abort_now(t), other.abort_now(u));
     is(rt, txns.waits(t), other.waits(u));
-    is(rt, txns.deps(t), other.deps(u));
+    is(rt, txns.commit_deps(t), other.commit_deps(u));
 }
 
 fn assert_same_lists(rt: &impl Abort, txns: &Txns, other: &Txns, number: u64) {
@@ -100,8 +100,8 @@ fn loads_transactions_that_have_not_begun(rt: HostRuntime) {
         is(&rt, txns.state(t), State::NotBegun);
         is(&rt, txns.begin_time(t), Time::new(0));
         is(&rt, txns.end_time(t), Time::new(0));
-        assert!(rt; !txns.no_more_wait_fors(t) && !txns.abort_now(t));
-        is(&rt, (txns.waits(t), txns.deps(t)), (0, 0));
+        assert!(rt; !txns.no_more_waits(t) && !txns.abort_now(t));
+        is(&rt, (txns.waits(t), txns.commit_deps(t)), (0, 0));
         is(&rt, txns.first_read(t), None);
         is(&rt, txns.first_write(t), None);
         is(&rt, txns.first_bucket(t), None);
@@ -138,16 +138,16 @@ fn keeps_states_and_times(rt: HostRuntime) {
 #[test]
 fn keeps_flags_and_counters(rt: HostRuntime) {
     let mut txns = loaded(&rt, rt.alloc());
-    txns.set_no_more_wait_fors(declared(&rt, &txns, A));
+    txns.set_no_more_waits(declared(&rt, &txns, A));
     txns.set_abort_now(declared(&rt, &txns, B));
     txns.set_waits(declared(&rt, &txns, A), 7);
-    txns.set_deps(declared(&rt, &txns, B), 8);
+    txns.set_commit_deps(declared(&rt, &txns, B), 8);
     let a = declared(&rt, &txns, A);
     let b = declared(&rt, &txns, B);
-    assert!(rt; txns.no_more_wait_fors(a) && !txns.abort_now(a));
-    assert!(rt; !txns.no_more_wait_fors(b) && txns.abort_now(b));
-    is(&rt, (txns.waits(a), txns.deps(a)), (7, 0));
-    is(&rt, (txns.waits(b), txns.deps(b)), (0, 8));
+    assert!(rt; txns.no_more_waits(a) && !txns.abort_now(a));
+    assert!(rt; !txns.no_more_waits(b) && txns.abort_now(b));
+    is(&rt, (txns.waits(a), txns.commit_deps(a)), (7, 0));
+    is(&rt, (txns.waits(b), txns.commit_deps(b)), (0, 8));
     assert_same(&rt, &copied(&rt, &txns), &txns);
 }
 

@@ -2,6 +2,7 @@
 use std::io;
 use std::time::Duration;
 
+/// The shorter of two times.
 pub fn least(one: Duration, other: Duration) -> Duration {
     if one < other { one } else { other }
 }

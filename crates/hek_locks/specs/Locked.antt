@@ -1,16 +1,17 @@
 -- What the lock calls refuse and change, over words and transactions.
 -- (Section 4 of the paper: record locks, wait-for dependencies.)
-use Rattle.std.specs.Prelude.{ℕ, ◌+◌, ◌-◌, ◌^◌, ◌<◌, ◌==◌, ◌&&◌, ◌||◌, not, nat_lt, nat_eq, Bool, true, false, if◌then◌else◌, List, Option, Some, None, Result, Ok, Err}
+use Rattle.std.specs.Prelude.{ℕ, ◌+◌, ◌-◌, ◌^◌, ◌<◌, ◌==◌, ◌||◌, nat_lt, nat_eq, Bool, false, if◌then◌else◌, List, Option, Some, None, Result, Ok, Err}
 use Rattle.hek_txn.specs.Entries.{joined}
 use Rattle.hek_rules.specs.declared.word.EndRecord.{EndRecord}
 use Rattle.hek_rules.specs.declared.word.EndRecord.TheVariants.{Until, Lock}
 use Rattle.hek_rules.specs.declared.word.Dropped.{Dropped}
 use Rattle.hek_rules.specs.declared.word.Dropped.TheVariants.{More, Free, Last}
 use Rattle.hek_rules.specs.declared.event.Cause.{Cause}
-use Rattle.hek_rules.specs.declared.event.Cause.TheVariants.{Conflict, NoMoreReads, ReadersFull, NoMoreWaits}
-use Rattle.hek_rules.specs.Words.{infinity, without_reader, with_reader, with_writer, without_writer, readers_of}
+use Rattle.hek_rules.specs.Words.{without_reader, with_reader, with_writer, without_writer, readers_of}
 use Rattle.hek_rules.specs.World.{Txn, txn_in, is_made_by, is_aborted}
 use Rattle.hek_rules.specs.Listing.{is_among}
+use Rattle.hek_rules.specs.Shown.{ender_of}
+use Rattle.hek_rules.specs.Locks.{read_refusal, write_refusal}
 use Rattle.hek_store.specs.Stored.{Stored, version_at, with_end}
 use Rattle.hek_txn.specs.TxnTable.{TxnTable, Declared, waits_of, with_waits, read_set_of}
 
@@ -59,19 +60,13 @@ cleared_waits ts e = if is_stale ts.cores e then writer_freed ts e else ts
 abbrev pub reads_freely : Stored → TxnTable → ℕ → ℕ → Bool
 reads_freely s ts t v = is_made_by t (version_at s v).begin || is_among (read_set_of ts t).items v
 
--- what keeps a reader out, in this order
-abbrev pub refusal : List Txn → EndRecord → Option Cause
-refusal ts (Until time) = None
-refusal ts (Lock readers writer true) = Some NoMoreReads
-refusal ts (Lock readers None false) = if nat_lt readers 255 then None else Some ReadersFull
-refusal ts (Lock readers (Some u) false) =
-    if not (nat_lt readers 255) then Some ReadersFull
-    else if readers == 0 && (txn_in ts u).finished then Some NoMoreWaits
-    else None
+-- what keeps a reader out: the rule of read locks, over what the word says
+abbrev pub word_refusal : List Txn → EndRecord → Option Cause
+word_refusal ts e = read_refusal ts (readers_of e) (ender_of e)
 
 abbrev pub read_refused : Stored → TxnTable → ℕ → ℕ → Option Cause
 read_refused s ts t v =
-    if reads_freely s ts t v then None else refusal ts.cores (cleared_word ts.cores (version_at s v).end)
+    if reads_freely s ts t v then None else word_refusal ts.cores (cleared_word ts.cores (version_at s v).end)
 
 -- a writer waits for the first reader that comes
 abbrev pub writer_waits : TxnTable → EndRecord → TxnTable
@@ -100,13 +95,8 @@ read_lock_reads s ts t v =
 
 -- ---- write locks
 
-abbrev pub write_refusal : EndRecord → Option Cause
-write_refusal (Until time) = if time == infinity then None else Some Conflict
-write_refusal (Lock readers None no_more) = None
-write_refusal (Lock readers (Some u) no_more) = Some Conflict
-
 abbrev pub write_refused : Stored → TxnTable → ℕ → Option Cause
-write_refused s ts v = write_refusal (cleared_word ts.cores (version_at s v).end)
+write_refused s ts v = write_refusal (ender_of (cleared_word ts.cores (version_at s v).end))
 
 -- the word without t's own read lock
 abbrev pub given_up : TxnTable → ℕ → ℕ → EndRecord → EndRecord
@@ -134,10 +124,10 @@ after_drop Free ts = ts
 after_drop (Last u) ts = fewer_waits ts u
 
 -- and is told
-abbrev pub told_of : Dropped → Option ℕ
-told_of More = None
-told_of Free = None
-told_of (Last u) = Some u
+abbrev pub left_writer : Dropped → Option ℕ
+left_writer More = None
+left_writer Free = None
+left_writer (Last u) = Some u
 
 abbrev pub CanTell : TxnTable → Dropped → Type 0
 CanTell ts More = Unit {0}

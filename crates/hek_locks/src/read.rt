@@ -38,7 +38,7 @@ pub fn can_read_lock(store: &Store, txns: &Txns, t: TxnId, v: VersionId) -> Resu
             writer: Some(u),
             ..
         } => {
-            if txns.no_more_wait_fors(u) {
+            if txns.no_more_waits(u) {
                 Err(Cause::NoMoreWaits)
             } else {
                 Ok(())

@@ -4,7 +4,7 @@ ghost use Rattle.std.specs.Set.{remove_key};
 ghost use Rattle.hek_rules.specs.Words.{readers_of, without_reader, dropped_of};
 ghost use Rattle.hek_store.specs.Stored.{version_at, with_end};
 ghost use Rattle.hek_txn.specs.TxnTable.{Declared, read_set_of, with_read_set};
-ghost use Rattle.hek_locks.specs.Locked.{CanTell, after_drop, told_of};
+ghost use Rattle.hek_locks.specs.Locked.{CanTell, after_drop, left_writer};
 
 use hek_rules::{Dropped, TxnId, VersionId};
 use hek_store::Store;
@@ -21,7 +21,7 @@ pub fn release_read(store: &mut Store, txns: &mut Txns, t: TxnId, v: VersionId) 
     ensures txns { txns.new ≡ with_read_set (after_drop (dropped_of (version_at store.old v).end) txns.old) t (read_set_of txns.new t) }
     ensures reads { (read_set_of txns.new t).items ≡ remove_key (nat_eq v) (read_set_of txns.old t).items }
     ensures room { (read_set_of txns.old t).room ≤ (read_set_of txns.new t).room }
-    ensures told { result ≡ told_of (dropped_of (version_at store.old v).end) }
+    ensures told { result ≡ left_writer (dropped_of (version_at store.old v).end) }
 {
     let (left, dropped) = store.end_of(v).drop_reader();
     store.set_end(v, left);

@@ -14,17 +14,17 @@ use Rattle.hek_rules.specs.declared.word.EndRecord.TheVariants.{Until, Lock}
 use Rattle.hek_rules.specs.Words.{infinity, begin_txn, writer_of, end_time, end_number}
 use Rattle.hek_rules.specs.World.{World, Version, Ender, EndedAt, Held, no_version, version_in, places}
 use Rattle.hek_rules.specs.Waits.{readers}
-use Rattle.hek_rules.specs.Image.{end_word_by, was_made, lasts}
+use Rattle.hek_rules.specs.Shown.{end_word_by, was_made, lasts}
 use Rattle.hek_store.specs.Stored.{version_at}
 use Rattle.hek_txn.specs.TxnTable.{TxnTable, Declared}
 use Rattle.hek_visible.specs.Seen.{NamesCreator, NamesWriter}
 use Rattle.hek_laws.specs.Sound.{IsSoundEnder}
 use Rattle.hek_laws.proofs.Runs.Reachable.{reachable-sound}
-use Rattle.hek_squares.proofs.Stores.{word-shown}
-use Rattle.hek_machine.specs.declared.parts.Parts.{Parts}
-use Rattle.hek_machine.specs.Stands.{StandsFor, IsOrdered}
-use Rattle.hek_machine.specs.Judged.{IsShown}
-use Rattle.hek_machine.proofs.WalkRows.{sight_creator, sight_writer}
+use Rattle.hek_refinement.proofs.Stores.{word-shown}
+use Rattle.hek_machine.specs.declared.engine.Engine.{Engine}
+use Rattle.hek_machine.specs.Stands.{StandsFor, StandsForSome}
+use Rattle.hek_machine.specs.Judgements.{IsShown}
+use Rattle.hek_machine.proofs.WalkRules.{sight_creator, sight_writer}
 
 -- ---- who a word names
 
@@ -37,10 +37,10 @@ named-ender x (Until time) u k h = cc
 named-ender x (Lock n None no_more) u k h = cc
 named-ender x (Lock n (Some z) no_more) u k h = let e : z ≡ u = cc in subst (Declared x) e k.declared
 
-pub maker_declared : (m : Parts) (v u : ℕ) → IsOrdered m → begin_txn (version_at m.store v).begin ≡ Some u → Declared m.txns u
+pub maker_declared : (m : Engine) (v u : ℕ) → StandsForSome m → begin_txn (version_at m.store v).begin ≡ Some u → Declared m.txns u
 maker_declared m v u o h = named-maker m.txns (version_at m.store v).begin u (sight_creator m v o) h
 
-pub ender_declared : (m : Parts) (v u : ℕ) → IsOrdered m → writer_of (version_at m.store v).end ≡ Some u → Declared m.txns u
+pub ender_declared : (m : Engine) (v u : ℕ) → StandsForSome m → writer_of (version_at m.store v).end ≡ Some u → Declared m.txns u
 ender_declared m v u o h = named-ender m.txns (version_at m.store v).end u (sight_writer m v o) h
 
 -- ---- ended by none that committed
@@ -52,7 +52,7 @@ by-time w zero (Held None no_more) k l h = refl
 by-time w (suc n) (Held None no_more) k l h = cc
 by-time w n (Held (Some u) no_more) k l h = cc
 
-pub lasts_at : (m : Parts) (v : ℕ) → is_some (end_time (version_at m.store v).end) ≡ true →
+pub lasts_at : (m : Engine) (v : ℕ) → is_some (end_time (version_at m.store v).end) ≡ true →
     IsShown m (λ w. lasts w (version_in w.versions v).ender) (end_number (version_at m.store v).end == end_number (Until infinity))
 lasts_at m v h w s =
     let o = reachable-sound w s.reachable in
@@ -72,10 +72,10 @@ places-more test xs i below =
     ∙ ap (λ x. if test i x then i ∷ places test (i + 1) (drop (i + 1) xs) else places test (i + 1) (drop (i + 1) xs)) (sym (unwrap_or-slice_get xs i no_version))
 
 -- the rows found so far, with those of the versions left, are all
-abbrev pub Found : Parts → List ℕ → ℕ → Type 0
+abbrev pub Found : Engine → List ℕ → ℕ → Type 0
 Found m found i = (w : World) → StandsFor m w → found ++ places (is_row w) i (drop i w.versions) ≡ places (is_row w) 0 w.versions
 
-pub found_more : (m : Parts) (i : ℕ) (b : Bool) (before after : List ℕ) → i < length m.store.versions → IsShown m (λ w. is_row w i (version_in w.versions i)) b →
+pub found_more : (m : Engine) (i : ℕ) (b : Bool) (before after : List ℕ) → i < length m.store.versions → IsShown m (λ w. is_row w i (version_in w.versions i)) b →
     after ≡ (if b then before ++ i ∷ [] else before) → Found m before i → Found m after (i + 1)
 found_more m i b before after below shown grown left w s =
     ap (λ xs. xs ++ rest) grown ∙ by b ∙ sym (ap (λ xs. before ++ xs) (places-more (is_row w) w.versions i (let e = s.shows.store.count in omega (arith, below, e))
@@ -97,7 +97,7 @@ world-below test i n (x ∷ xs) e =
     cond_both (test i x) (i ∷ places test (i + 1) xs) (places test (i + 1) xs) (All (λ v. v < n))
     (λ _. All-cons (λ v. v < n) i (places test (i + 1) xs) (omega (arith, e)) rest) (λ _. rest)
 
-pub rows_below : (m : Parts) (vs : List ℕ) → IsOrdered m → IsShown m (λ w. places (is_row w) 0 w.versions) vs → All (λ v. v < length m.store.versions) vs
+pub rows_below : (m : Engine) (vs : List ℕ) → StandsForSome m → IsShown m (λ w. places (is_row w) 0 w.versions) vs → All (λ v. v < length m.store.versions) vs
 rows_below m vs o shown =
     let e = o.stands.shows.store.count in
     subst (All (λ v. v < length m.store.versions)) (shown o.world o.stands)

@@ -14,24 +14,24 @@ use Rattle.hek_store.specs.Stored.{Stored}
 use Rattle.hek_txn.specs.Entries.{Entries, no_entries, joined, same_entry}
 use Rattle.hek_txn.specs.TxnTable.{TxnTable, Declared, entry_at, with_bucket_set, with_waiting_list, with_dependents, with_read_set, with_write_set, read_set_of, write_set_of, bucket_set_of, waiting_list_of, dependents_of}
 use Rattle.hek_txn.proofs.EntryLemmas.{entry_at-other, among-appended}
-use Rattle.hek_buckets.specs.Held.{holders_of, with_holders}
+use Rattle.hek_buckets.specs.LockLists.{holders_of, with_holders}
 use Rattle.hek_buckets.specs.Waited.{imposed_waits}
 use Rattle.hek_commit.specs.Committed.{depended_deps}
 use Rattle.hek_locks.specs.Locked.{reads_freely as reads_free, read_locked, read_lock_waits, read_lock_reads, write_locked, write_lock_waits}
-use Rattle.hek_squares.proofs.Pairs.{among-seconds}
-use Rattle.hek_squares.proofs.Known.{begun-known}
-use Rattle.hek_squares.proofs.Joins.{join-there, joined-there, joined-new, shows-locked, shows-locked_txns, shows-depended, shows-waited}
-use Rattle.hek_squares.proofs.ReadLocks.{shows-read_store, shows-read_txns}
-use Rattle.hek_squares.proofs.WriteLocks.{shows-write_store, shows-write_txns}
-use Rattle.hek_squares.proofs.OnlyWaits.{imposed-only, read-only, write-only, depended-only}
-use Rattle.hek_machine.specs.declared.parts.Parts.{Parts}
+use Rattle.hek_refinement.proofs.Pairs.{among-seconds}
+use Rattle.hek_refinement.proofs.Known.{begun-known}
+use Rattle.hek_refinement.proofs.Joins.{join-there, joined-there, joined-new, shows-locked, shows-locked_txns, shows-depended, shows-waited}
+use Rattle.hek_refinement.proofs.ReadLocks.{shows-read_store, shows-read_txns}
+use Rattle.hek_refinement.proofs.WriteLocks.{shows-write_store, shows-write_txns}
+use Rattle.hek_refinement.proofs.OnlyWaits.{imposed-only, read-only, write-only, depended-only}
+use Rattle.hek_machine.specs.declared.engine.Engine.{Engine}
 use Rattle.hek_machine.specs.Room.{IsReady, KeepsRoom}
 use Rattle.hek_buckets.specs.Waited.{IsReady as CanWait}
 use Rattle.hek_machine.specs.Applied.{Applies}
 
 -- ---- shows
 
-pub applies_wait : (m : Parts) (t u : ℕ) (x : TxnTable) → x ≡ with_waiting_list (imposed_waits m.txns t u) t (waiting_list_of x t) →
+pub applies_wait : (m : Engine) (t u : ℕ) (x : TxnTable) → x ≡ with_waiting_list (imposed_waits m.txns t u) t (waiting_list_of x t) →
     (waiting_list_of x t).items ≡ joined nat_eq (waiting_list_of m.txns t).items u → Applies m (record m { txns = x }) t (MakeWait u)
 applies_wait m t u x is items w c = let h = c.shows in record {
   clock = h.clock;
@@ -40,7 +40,7 @@ applies_wait m t u x is items w c = let h = c.shows in record {
   buckets = h.buckets;
 }
 
-pub applies_dependence : (m : Parts) (t u : ℕ) (x : TxnTable) → x ≡ with_dependents (depended_deps m.txns t u) u (dependents_of x u) →
+pub applies_dependence : (m : Engine) (t u : ℕ) (x : TxnTable) → x ≡ with_dependents (depended_deps m.txns t u) u (dependents_of x u) →
     (dependents_of x u).items ≡ joined nat_eq (dependents_of m.txns u).items t → Applies m (record m { txns = x }) t (DependOn u)
 applies_dependence m t u x is items w c = let h = c.shows in record {
   clock = h.clock;
@@ -49,12 +49,12 @@ applies_dependence m t u x is items w c = let h = c.shows in record {
   buckets = h.buckets;
 }
 
-pub depends_already : (m : Parts) (t u : ℕ) → is_among (dependents_of m.txns u).items t ≡ true → Applies m m t (DependOn u)
+pub depends_already : (m : Engine) (t u : ℕ) → is_among (dependents_of m.txns u).items t ≡ true → Applies m m t (DependOn u)
 depends_already m t u there w c =
     let h = c.shows in
     rw (join-there w.dependents u t (sym (ap (λ xs. is_among xs t) (h.txns.dependents u) ∙ among-seconds w.dependents u t) ∙ there)) h
 
-pub applies_bucket : (m : Parts) (t b : ℕ) (lists : List (Entries ℕ)) (x : TxnTable) →
+pub applies_bucket : (m : Engine) (t b : ℕ) (lists : List (Entries ℕ)) (x : TxnTable) →
     lists ≡ with_holders m.buckets b (holders_of lists b) → (holders_of lists b).items ≡ joined nat_eq (holders_of m.buckets b).items t →
     x ≡ with_bucket_set m.txns t (bucket_set_of x t) → (bucket_set_of x t).items ≡ joined nat_eq (bucket_set_of m.txns t).items b →
     Applies m (record m { buckets = lists; txns = x }) t (LockBucket b)
@@ -65,7 +65,7 @@ applies_bucket m t b lists x is members like items w c = let h = c.shows in reco
   buckets = rw is (shows-locked m.buckets w.buckets w.bucket_locks t b (holders_of lists b) c.may members h.buckets);
 }
 
-pub locks_already : (m : Parts) (t b : ℕ) → is_among (bucket_set_of m.txns t).items b ≡ true → Applies m m t (LockBucket b)
+pub locks_already : (m : Engine) (t b : ℕ) → is_among (bucket_set_of m.txns t).items b ≡ true → Applies m m t (LockBucket b)
 locks_already m t b there w c =
     let h = c.shows in
     rw (join-there w.bucket_locks t b (sym (ap (λ xs. is_among xs b) (h.txns.bucket_sets t) ∙ among-seconds w.bucket_locks t b) ∙ there)) h
@@ -75,7 +75,7 @@ read-frame : (w : World) (t v : ℕ) (P : World → Type 0) → P w →
 read-frame w t v P a b =
     cond_both (reads_freely w t v) w (record w { versions = set_ender w.versions v (cleared w.txns (version_in w.versions v).ender); read_locks = join w.read_locks t v }) P (λ _. a) (λ _. b)
 
-pub applies_read : (m : Parts) (t v : ℕ) (x : TxnTable) → x ≡ with_read_set (read_lock_waits m.store m.txns t v) t (read_set_of x t) →
+pub applies_read : (m : Engine) (t v : ℕ) (x : TxnTable) → x ≡ with_read_set (read_lock_waits m.store m.txns t v) t (read_set_of x t) →
     (read_set_of x t).items ≡ read_lock_reads m.store m.txns t v → Applies m (record m { store = read_locked m.store m.txns t v; txns = x }) t (ReadLock v)
 applies_read m t v x is items w c = let h = c.shows in record {
   clock = read-frame w t v (λ z. m.clock ≡ z.clock) h.clock h.clock;
@@ -84,7 +84,7 @@ applies_read m t v x is items w c = let h = c.shows in record {
   buckets = rw (read-frame w t v (λ z. z.buckets ≡ w.buckets) refl refl) (rw (read-frame w t v (λ z. z.bucket_locks ≡ w.bucket_locks) refl refl) h.buckets);
 }
 
-pub applies_write : (m : Parts) (t v : ℕ) (x : TxnTable) →
+pub applies_write : (m : Engine) (t v : ℕ) (x : TxnTable) →
     x ≡ with_write_set (with_read_set (write_lock_waits m.store m.txns t v) t (read_set_of x t)) t (write_set_of x t) →
     (read_set_of x t).items ≡ remove_key (nat_eq v) (read_set_of m.txns t).items → (write_set_of x t).items ≡ joined same_entry (write_set_of m.txns t).items (EndOf v) →
     Applies m (record m { store = write_locked m.store m.txns t v; txns = x }) t (WriteLock v)
@@ -97,18 +97,18 @@ applies_write m t v x is taken joins w c = let h = c.shows in record {
 
 -- ---- room
 
-ready-same : (m : Parts) (s : Stored) (x : TxnTable) (t : ℕ) → x.dependents ≡ m.txns.dependents → (e : Effect) → IsReady m t e → IsReady (record m { store = s; txns = x }) t e
+ready-same : (m : Engine) (s : Stored) (x : TxnTable) (t : ℕ) → x.dependents ≡ m.txns.dependents → (e : Effect) → IsReady m t e → IsReady (record m { store = s; txns = x }) t e
 ready-same m s x t same (LockBucket b) r = r
 ready-same m s x t same (DependOn u) r = subst (λ (es : List (Entries ℕ)). is_among (entry_at no_entries es u).items t ≡ false → 0 < (entry_at no_entries es u).room) (sym same) r
 ready-same m s x t same (MakeWait u) r = tt
 ready-same m s x t same (ReadLock v) r = tt
 ready-same m s x t same (WriteLock v) r = tt
 
-waited-table : (m : Parts) (t u : ℕ) (x : TxnTable) → x ≡ with_waiting_list (imposed_waits m.txns t u) t (waiting_list_of x t) →
+waited-table : (m : Engine) (t u : ℕ) (x : TxnTable) → x ≡ with_waiting_list (imposed_waits m.txns t u) t (waiting_list_of x t) →
     x ≡ with_waiting_list (record m.txns { waits = (imposed_waits m.txns t u).waits }) t (waiting_list_of x t)
 waited-table m t u x is = is ∙ ap (λ (y : TxnTable). with_waiting_list y t (waiting_list_of x t)) (imposed-only m.txns t u)
 
-still-joins : (m : Parts) (x : TxnTable) (t : ℕ) → x.waiting_lists ≡ m.txns.waiting_lists → (h : ℕ) → (h ≡ t → ⊥) → CanWait m.txns t h → CanWait x t h
+still-joins : (m : Engine) (x : TxnTable) (t : ℕ) → x.waiting_lists ≡ m.txns.waiting_lists → (h : ℕ) → (h ≡ t → ⊥) → CanWait m.txns t h → CanWait x t h
 still-joins m x t same h ne r = record {
   room = subst (λ (ls : List (Entries ℕ)). is_among (entry_at no_entries ls h).items t ≡ false → 0 < (entry_at no_entries ls h).room) (sym same) r.room;
 }
@@ -126,7 +126,7 @@ among-joined xs n h k =
         alone false z = z
     appended (y ∷ ys) e = ⊎_elim (λ here. inl (ap (λ b. b || is_among ys h) here)) (λ other. ⊎_elim (λ k. inl (ap (λ b. b || is_among ys h) other ∙ k)) (λ k. inr k) (appended ys (sym (ap (λ b. b || is_among (ys ++ n ∷ []) h) other) ∙ e))) (cases_Bool (y == h))
 
-pub keeps_wait : (m : Parts) (t u : ℕ) (x : TxnTable) → x ≡ with_waiting_list (imposed_waits m.txns t u) t (waiting_list_of x t) →
+pub keeps_wait : (m : Engine) (t u : ℕ) (x : TxnTable) → x ≡ with_waiting_list (imposed_waits m.txns t u) t (waiting_list_of x t) →
     (waiting_list_of m.txns t).room ≤ (waiting_list_of x t).room + 1 → KeepsRoom m (record m { txns = x }) t (MakeWait u)
 keeps_wait m t u x is room =
     let e = waited-table m t u x is in
@@ -151,7 +151,7 @@ keeps_wait m t u x is room =
 pub room_read : (s : Stored) (x : TxnTable) (t v : ℕ) → s.room ≤ (read_locked s x t v).room
 room_read s x t v = cond_both (reads_free s x t v) s _ (λ (z : Stored). s.room ≤ z.room) (λ _. omega arith) (λ _. omega arith)
 
-pub keeps_read : (m : Parts) (t v : ℕ) (s : Stored) (x : TxnTable) → m.store.room ≤ s.room → x ≡ with_read_set (read_lock_waits m.store m.txns t v) t (read_set_of x t) →
+pub keeps_read : (m : Engine) (t v : ℕ) (s : Stored) (x : TxnTable) → m.store.room ≤ s.room → x ≡ with_read_set (read_lock_waits m.store m.txns t v) t (read_set_of x t) →
     (read_set_of m.txns t).room ≤ (read_set_of x t).room + 1 → KeepsRoom m (record m { store = s; txns = x }) t (ReadLock v)
 keeps_read m t v s x stored is room =
     let e = is ∙ ap (λ (y : TxnTable). with_read_set y t (read_set_of x t)) (read-only m.store m.txns t v) in
@@ -166,7 +166,7 @@ keeps_read m t v s x stored is room =
       adding = record { versions = stored; joins = still-joins m x t (ap (λ (y : TxnTable). y.waiting_lists) e); holders = λ b h k. inl k };
     }
 
-pub keeps_write : (m : Parts) (t v : ℕ) (s : Stored) (x : TxnTable) → m.store.room ≤ s.room →
+pub keeps_write : (m : Engine) (t v : ℕ) (s : Stored) (x : TxnTable) → m.store.room ≤ s.room →
     x ≡ with_write_set (with_read_set (write_lock_waits m.store m.txns t v) t (read_set_of x t)) t (write_set_of x t) →
     (read_set_of m.txns t).room ≤ (read_set_of x t).room → (write_set_of m.txns t).room ≤ (write_set_of x t).room + 1 → KeepsRoom m (record m { store = s; txns = x }) t (WriteLock v)
 keeps_write m t v s x stored is reads writes =
@@ -185,7 +185,7 @@ keeps_write m t v s x stored is reads writes =
 joined-among : (xs : List ℕ) (n : ℕ) → is_among xs n ≡ false → is_among (joined nat_eq xs n) n ≡ true
 joined-among xs n h = ap (λ ys. is_among ys n) (joined-new xs n h) ∙ among-appended xs n
 
-pub keeps_dependence : (m : Parts) (t u : ℕ) (x : TxnTable) → Declared m.txns u → is_among (dependents_of m.txns u).items t ≡ false → x ≡ with_dependents (depended_deps m.txns t u) u (dependents_of x u) →
+pub keeps_dependence : (m : Engine) (t u : ℕ) (x : TxnTable) → Declared m.txns u → is_among (dependents_of m.txns u).items t ≡ false → x ≡ with_dependents (depended_deps m.txns t u) u (dependents_of x u) →
     (dependents_of x u).items ≡ joined nat_eq (dependents_of m.txns u).items t → KeepsRoom m (record m { txns = x }) t (DependOn u)
 keeps_dependence m t u x d fresh is items =
     let a = ap (λ (y : TxnTable). (waiting_list_of y t).room) whole in let b = ap (λ (y : TxnTable). (write_set_of y t).room) whole in
@@ -199,7 +199,7 @@ keeps_dependence m t u x d fresh is items =
       adding = record { versions = omega arith; joins = still-joins m x t (ap (λ (y : TxnTable). y.waiting_lists) whole); holders = λ b h k. inl k };
     }
   where
-    whole : x ≡ with_dependents (record m.txns { deps = (depended_deps m.txns t u).deps }) u (dependents_of x u)
+    whole : x ≡ with_dependents (record m.txns { commit_deps = (depended_deps m.txns t u).commit_deps }) u (dependents_of x u)
     whole = is ∙ ap (λ (y : TxnTable). with_dependents y u (dependents_of x u)) (depended-only m.txns t u)
 
     others : (e : Effect) → IsReady m t e → IsReady (record m { txns = x }) t e
@@ -214,7 +214,7 @@ keeps_dependence m t u x d fresh is items =
     others (ReadLock v) r = tt
     others (WriteLock v) r = tt
 
-pub keeps_bucket : (m : Parts) (t b : ℕ) (lists : List (Entries ℕ)) (x : TxnTable) → is_among (holders_of m.buckets b).items t ≡ false →
+pub keeps_bucket : (m : Engine) (t b : ℕ) (lists : List (Entries ℕ)) (x : TxnTable) → is_among (holders_of m.buckets b).items t ≡ false →
     lists ≡ with_holders m.buckets b (holders_of lists b) → (holders_of lists b).items ≡ joined nat_eq (holders_of m.buckets b).items t →
     x ≡ with_bucket_set m.txns t (bucket_set_of x t) → (bucket_set_of m.txns t).room ≤ (bucket_set_of x t).room + 1 →
     KeepsRoom m (record m { buckets = lists; txns = x }) t (LockBucket b)
@@ -252,5 +252,5 @@ keeps_bucket m t b lists x fresh is members like room =
     others (ReadLock v) r = tt
     others (WriteLock v) r = tt
 
-pub keeps_all : (m : Parts) (t : ℕ) (e : Effect) → KeepsRoom m m t e
+pub keeps_all : (m : Engine) (t : ℕ) (e : Effect) → KeepsRoom m m t e
 keeps_all m t e = record { reads = omega arith; writes = omega arith; waits = omega arith; buckets = omega arith; others = λ x r. r; adding = record { versions = omega arith; joins = λ h ne r. r; holders = λ b h k. inl k } }

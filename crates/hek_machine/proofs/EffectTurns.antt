@@ -18,9 +18,9 @@ use Rattle.hek_laws.proofs.Table.Unchanged.{apply_all-times}
 use Rattle.hek_laws.proofs.Walks.Judged.{In-right}
 use Rattle.hek_laws.proofs.Walks.Walking.{Walking, moved, walking-first}
 use Rattle.hek_txn.specs.TxnTable.{read_set_of, write_set_of, waiting_list_of, bucket_set_of}
-use Rattle.hek_squares.proofs.Known.{begun-known}
-use Rattle.hek_machine.specs.declared.parts.Parts.{Parts}
-use Rattle.hek_machine.specs.Stands.{Shows, StandsFor, IsOrdered}
+use Rattle.hek_refinement.proofs.Known.{begun-known}
+use Rattle.hek_machine.specs.declared.engine.Engine.{Engine}
+use Rattle.hek_machine.specs.Stands.{Shows, StandsFor, StandsForSome}
 use Rattle.hek_machine.specs.Room.{HasRoom, KeepsRoom, KeepsAdding, IsReady, reads_in, writes_in, waits_in, buckets_in}
 use Rattle.hek_machine.specs.Applied.{May, CanApply, IsAble, Applies, Allowed}
 use Rattle.hek_machine.proofs.Needs.{reads-first, writes-first, waits-first, buckets-first}
@@ -98,7 +98,7 @@ may-turn w t before (WriteLock v) after a =
     }
 
 -- what has been done of a walk
-pub record Done (m : Parts) (t : ℕ) (effects : List Effect) (i : ℕ) (cur : Parts) : Type 0 where
+pub record Done (m : Engine) (t : ℕ) (effects : List Effect) (i : ℕ) (cur : Engine) : Type 0 where
   pub shows : (w : World) → StandsFor m w → Shows cur (apply_all t w (take i effects))
   pub room : HasRoom cur t (drop i effects)
   pub kept : KeepsAdding m cur t
@@ -106,7 +106,7 @@ pub record Done (m : Parts) (t : ℕ) (effects : List Effect) (i : ℕ) (cur : P
 split : (es : List Effect) (i : ℕ) (e : Effect) → i < length es → e ≡ get_or es i e → es ≡ take i es ++ e ∷ drop (i + 1) es
 split es i e l at = sym (take-append-drop i es) ∙ ap (λ xs. take i es ++ xs) (drop_more es i e l ∙ ap (λ x. x ∷ drop (i + 1) es) (sym at))
 
-can-turn : (m cur : Parts) (t i : ℕ) (e : Effect) (es : List Effect) (w : World) → i < length es → e ≡ get_or es i e → length m.store.versions < 2 ^ 58 → StandsFor m w →
+can-turn : (m cur : Engine) (t i : ℕ) (e : Effect) (es : List Effect) (w : World) → i < length es → e ≡ get_or es i e → length m.store.versions < 2 ^ 58 → StandsFor m w →
     Allowed w t es → Done m t es i cur → CanApply cur t e (apply_all t w (take i es))
 can-turn m cur t i e es w l at small s a d =
     let before : List Effect = take i es in
@@ -124,7 +124,7 @@ can-turn m cur t i e es w l at small s a d =
       may = may-turn w t (take i es) e (drop (i + 1) es) b;
     }
 
-pub able_turn : (m cur : Parts) (t i : ℕ) (e : Effect) (es : List Effect) → IsOrdered m → i < length es → e ≡ get_or es i e → length m.store.versions < 2 ^ 58 →
+pub able_turn : (m cur : Engine) (t i : ℕ) (e : Effect) (es : List Effect) → StandsForSome m → i < length es → e ≡ get_or es i e → length m.store.versions < 2 ^ 58 →
     ((w : World) → StandsFor m w → Allowed w t es) → Done m t es i cur → IsAble cur t e
 able_turn m cur t i e es o l at small a d = record {
   world = apply_all t o.world (take i es);
@@ -136,14 +136,14 @@ able_turn m cur t i e es o l at small a d = record {
 first-left : (es : List Effect) (i : ℕ) (e : Effect) → i < length es → e ≡ get_or es i e → drop i es ≡ e ∷ drop (i + 1) es
 first-left es i e l at = drop_more es i e l ∙ ap (λ x. x ∷ drop (i + 1) es) (sym at)
 
-pub record RoomNow (m : Parts) (t : ℕ) (e : Effect) : Type 0 where
+pub record RoomNow (m : Engine) (t : ℕ) (e : Effect) : Type 0 where
   pub ready : IsReady m t e
   pub reads : reads_in (e ∷ []) ≤ (read_set_of m.txns t).room
   pub writes : writes_in (e ∷ []) ≤ (write_set_of m.txns t).room
   pub waits : waits_in (e ∷ []) ≤ (waiting_list_of m.txns t).room
   pub buckets : buckets_in (e ∷ []) ≤ (bucket_set_of m.txns t).room
 
-pub room_now : (m cur : Parts) (t i : ℕ) (e : Effect) (es : List Effect) → i < length es → e ≡ get_or es i e → Done m t es i cur → RoomNow cur t e
+pub room_now : (m cur : Engine) (t i : ℕ) (e : Effect) (es : List Effect) → i < length es → e ≡ get_or es i e → Done m t es i cur → RoomNow cur t e
 room_now m cur t i e es l at d =
     let r : HasRoom cur t (e ∷ drop (i + 1) es) = subst (HasRoom cur t) (first-left es i e l at) d.room in
     let a = reads-first e (drop (i + 1) es) in let b = writes-first e (drop (i + 1) es) in let c = waits-first e (drop (i + 1) es) in let k = buckets-first e (drop (i + 1) es) in
@@ -156,7 +156,7 @@ room_now m cur t i e es l at d =
       buckets = omega (arith, k, u);
     }
 
-left-room : (cur new : Parts) (t : ℕ) (e : Effect) (es : List Effect) → KeepsRoom cur new t e → HasRoom cur t (e ∷ es) → HasRoom new t es
+left-room : (cur new : Engine) (t : ℕ) (e : Effect) (es : List Effect) → KeepsRoom cur new t e → HasRoom cur t (e ∷ es) → HasRoom new t es
 left-room cur new t e es k r =
     let a = reads-first e es in let b = writes-first e es in let c = waits-first e es in let d = buckets-first e es in
     let x = r.reads in let y = r.writes in let z = r.waits in let u = r.buckets in
@@ -171,21 +171,21 @@ left-room cur new t e es k r =
 
 -- ---- the turn done
 
-pub kept-more : (a b c : Parts) (t : ℕ) → KeepsAdding a b t → KeepsAdding b c t → KeepsAdding a c t
+pub kept-more : (a b c : Engine) (t : ℕ) → KeepsAdding a b t → KeepsAdding b c t → KeepsAdding a c t
 kept-more a b c t p q = record {
   versions = let k = p.versions in let l = q.versions in omega (arith, k, l);
   joins = λ h ne r. q.joins h ne (p.joins h ne r);
   holders = λ n h k. ⊎_elim (λ y. p.holders n h y) (λ y. inr y) (q.holders n h k);
 }
 
-pub kept-none : (a : Parts) (t : ℕ) → KeepsAdding a a t
+pub kept-none : (a : Engine) (t : ℕ) → KeepsAdding a a t
 kept-none a t = record { versions = omega arith; joins = λ h ne r. r; holders = λ b h k. inl k }
 
 apply-more : (t : ℕ) (w : World) (xs : List Effect) (e : Effect) → apply_all t w (xs ++ e ∷ []) ≡ apply t (apply_all t w xs) e
 apply-more t w [] e = refl
 apply-more t w (x ∷ xs) e = apply-more t (apply t w x) xs e
 
-pub done_more : (m cur new : Parts) (t i : ℕ) (e : Effect) (es : List Effect) → i < length es → e ≡ get_or es i e → length m.store.versions < 2 ^ 58 →
+pub done_more : (m cur new : Engine) (t i : ℕ) (e : Effect) (es : List Effect) → i < length es → e ≡ get_or es i e → length m.store.versions < 2 ^ 58 →
     ((w : World) → StandsFor m w → Allowed w t es) → Done m t es i cur → Applies cur new t e → KeepsRoom cur new t e → Done m t es (i + 1) new
 done_more m cur new t i e es l at small a d does keeps = record {
   shows = λ w s. subst (Shows new) (sym (ap (apply_all t w) (take_more es i e l ∙ ap (λ x. take i es ++ x ∷ []) (sym at)) ∙ apply-more t w (take i es) e))

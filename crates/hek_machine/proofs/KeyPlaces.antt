@@ -1,7 +1,7 @@
 -- The versions of a key or a bucket: the store's are the world's.
-use Rattle.std.proofs.Common.{◌≡◌, ℕ, zero, suc, ◌+◌, ◌-◌, ◌<◌, ◌%◌, Bool, List, [], ◌∷◌, refl, ◌∙◌, ap, arith, Some, length}
+use Rattle.std.proofs.Common.{◌≡◌, ℕ, zero, suc, ◌+◌, ◌<◌, ◌%◌, Bool, List, [], ◌∷◌, refl, ◌∙◌, sym, ap, arith, Option, Some, None, length}
 use Rattle.std.proofs.lemmas.Bool.{cond_both}
-use Rattle.std.specs.Prelude.{◌==◌, if◌then◌else◌, slice_get, slice_index_or, filter}
+use Rattle.std.specs.Prelude.{IfSome, ◌==◌, if◌then◌else◌, slice_index_or, filter}
 use Rattle.std.specs.List.{All}
 use Rattle.hek_rules.specs.World.{World, Version, version_in, places}
 use Rattle.hek_rules.specs.Walk.{last}
@@ -9,12 +9,7 @@ use Rattle.hek_rules.specs.Walk as walk
 use Rattle.hek_store.specs.declared.version.Version.{Version as StoredVersion}
 use Rattle.hek_store.specs.Stored.{Stored, version_at, no_version, of_key, of_bucket}
 use Rattle.hek_store.specs.Stored as stored
-use Rattle.hek_squares.specs.Shows.{ShowsStore}
-
-pub last_get : (xs : List ℕ) → slice_get xs (length xs - 1) ≡ last xs
-last_get [] = refl
-last_get (x ∷ []) = refl
-last_get (x ∷ y ∷ ys) = let e : length (x ∷ y ∷ ys) - 1 ≡ suc (length (y ∷ ys) - 1) = omega arith in ap (slice_get (x ∷ y ∷ ys)) e ∙ last_get (y ∷ ys)
+use Rattle.hek_refinement.specs.Shows.{ShowsStore}
 
 -- a test of keys
 places-keys : (f : ℕ → Bool) (i : ℕ) (xs : List StoredVersion) (ys : List Version) → length xs ≡ length ys →
@@ -66,3 +61,7 @@ filter_below test n [] a = λ k d l. absurd (omega (arith, l))
 filter_below test n (x ∷ xs) a =
     let rest : All (λ v. v < n) (filter test xs) = filter_below test n xs (λ k d l. a (suc k) d (omega (arith, l))) in
     cond_both (test x) (x ∷ filter test xs) (filter test xs) (All (λ v. v < n)) (λ _. all-first n x (filter test xs) (a 0 0 (omega arith)) rest) (λ _. rest)
+
+pub if_last_below : (n : ℕ) (xs : List ℕ) (o : Option ℕ) → All (λ x. x < n) xs → o ≡ last xs → IfSome o (λ v. v < n)
+if_last_below n xs None a e = tt
+if_last_below n xs (Some v) a e = last_below n xs v a (sym e)

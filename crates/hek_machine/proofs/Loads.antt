@@ -1,4 +1,4 @@
--- Parts that were loaded or copied.
+-- Engine that were loaded or copied.
 use Rattle.std.proofs.Common.{◌≡◌, ℕ, map, ◌∙◌, arith}
 use Rattle.std.proofs.lemmas.List.{length-map}
 use Rattle.hek_rules.specs.Plan.{Plan, IsPlan, levels_of}
@@ -8,20 +8,20 @@ use Rattle.hek_txn.specs.Entries.{AreEmpty, AreCopies}
 use Rattle.hek_txn.specs.TxnTable.{IsOpening, IsCopy}
 use Rattle.hek_laws.specs.Runs.{IsFirstClock}
 use Rattle.hek_laws.proofs.Runs.Reachable.{opening-reachable}
-use Rattle.hek_squares.proofs.Loads.{shows-loaded_store, shows-loaded_txns, shows-loaded_buckets}
-use Rattle.hek_squares.proofs.Copies.{shows-copied_store, shows-copied_txns, shows-copied_buckets}
-use Rattle.hek_machine.specs.declared.parts.Parts.{Parts}
+use Rattle.hek_refinement.proofs.Loads.{shows-loaded_store, shows-loaded_txns, shows-loaded_buckets}
+use Rattle.hek_refinement.proofs.Copies.{shows-copied_store, shows-copied_txns, shows-copied_buckets}
+use Rattle.hek_machine.specs.declared.engine.Engine.{Engine}
 use Rattle.hek_machine.specs.Stands.{StandsFor, StillShows}
 
 -- parts as a schedule gives them
-pub record IsLoaded (m : Parts) (p : Plan) (first : ℕ) : Type 0 where
+pub record IsLoaded (m : Engine) (p : Plan) (first : ℕ) : Type 0 where
   pub clock : m.clock ≡ first
   pub store_buckets : m.store.buckets ≡ p.buckets
   pub versions : m.store.versions ≡ map loaded_version p.rows
   pub txns : IsOpening (levels_of p) m.txns
   pub buckets : AreEmpty p.buckets m.buckets
 
-pub loaded-stands : (m : Parts) (p : Plan) (clock : ℕ) → IsPlan p → IsFirstClock clock → IsLoaded m p clock → StandsFor m (opening p.buckets p.rows (levels_of p) clock)
+pub loaded-stands : (m : Engine) (p : Plan) (clock : ℕ) → IsPlan p → IsFirstClock clock → IsLoaded m p clock → StandsFor m (opening p.buckets p.rows (levels_of p) clock)
 loaded-stands m p clock plan first l = record {
   reachable = opening-reachable p.buckets clock p.rows (levels_of p) plan.buckets.0 plan.keys first;
   named =
@@ -35,14 +35,14 @@ loaded-stands m p clock plan first l = record {
 }
 
 -- parts that are a copy
-pub record IsCopied (m new : Parts) : Type 0 where
+pub record IsCopied (m new : Engine) : Type 0 where
   pub clock : new.clock ≡ m.clock
   pub store_buckets : new.store.buckets ≡ m.store.buckets
   pub versions : new.store.versions ≡ m.store.versions
   pub txns : IsCopy m.txns new.txns
   pub buckets : AreCopies m.buckets new.buckets
 
-pub copied-shows : (m new : Parts) → IsCopied m new → StillShows m new
+pub copied-shows : (m new : Engine) → IsCopied m new → StillShows m new
 copied-shows m new c = record {
   world = λ w s. record {
     clock = c.clock ∙ s.clock;

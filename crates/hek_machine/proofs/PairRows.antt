@@ -9,14 +9,14 @@ use Rattle.hek_rules.specs.Table.{pairs_of}
 use Rattle.hek_store.specs.declared.version.Version.{Version as StoredVersion}
 use Rattle.hek_store.specs.Stored.{version_at}
 use Rattle.hek_laws.proofs.Lists.Maps.{insert-put}
-use Rattle.hek_machine.specs.declared.parts.Parts.{Parts}
+use Rattle.hek_machine.specs.declared.engine.Engine.{Engine}
 use Rattle.hek_machine.specs.Stands.{StandsFor}
 
 -- these versions, put over the pairs so far, are the whole
-abbrev pub Left : Parts → List ℕ → List (ℕ × ℕ) → List ℕ → Type 0
+abbrev pub Left : Engine → List ℕ → List (ℕ × ℕ) → List ℕ → Type 0
 Left m vs pairs rest = (w : World) → StandsFor m w → pairs_of w.versions pairs rest ≡ pairs_of w.versions [] vs
 
-pub one_put : (m : Parts) (vs : List ℕ) (i v : ℕ) (before after : List (ℕ × ℕ)) → i < length vs → v ≡ get_or vs i v →
+pub one_put : (m : Engine) (vs : List ℕ) (i v : ℕ) (before after : List (ℕ × ℕ)) → i < length vs → v ≡ get_or vs i v →
     after ≡ insert_entry nat_cmp before (version_at m.store v).key (version_at m.store v).value → Left m vs before (drop i vs) → Left m vs after (drop (i + 1) vs)
 one_put m vs i v before after below at grown left w s =
     ap (λ ps. pairs_of w.versions ps (drop (i + 1) vs))

@@ -11,7 +11,7 @@ use Rattle.hek_rules.specs.declared.reply.Reply.{Reply}
 use Rattle.hek_rules.specs.World.{World}
 use Rattle.hek_rules.specs.Run.{next, transcript}
 use Rattle.hek_laws.specs.Runs.{IsPlaced}
-use Rattle.hek_machine.specs.declared.parts.Parts.{Parts}
+use Rattle.hek_machine.specs.declared.engine.Engine.{Engine}
 use Rattle.hek_machine.specs.Observed.{opening_of}
 use Rattle.hek_machine.specs.Steps.{IsRun}
 
@@ -43,5 +43,5 @@ one_each : (w : World) (es : List Event) → length (map (λ (x : Event × Reply
 one_each w [] = refl
 one_each w (e ∷ es) = ap suc (one_each (next w e) es)
 
-pub replies_paired : (p : Plan) (clock : ℕ) (es : List Event) (rs : List Reply) (m : Parts) → IsRun p clock es rs m → length rs ≡ length es
+pub replies_paired : (p : Plan) (clock : ℕ) (es : List Event) (rs : List Reply) (m : Engine) → IsRun p clock es rs m → length rs ≡ length es
 replies_paired p clock es rs m ran = ap (λ (xs : List Reply). length xs) ran.replies ∙ one_each (opening_of p clock) es

@@ -10,8 +10,8 @@ use Rattle.hek_laws.proofs.Walks.Judged.{In-split}
 use Rattle.hek_txn.specs.Entries.{Entries, no_entries, items_of, AreCopies}
 use Rattle.hek_txn.specs.TxnTable.{TxnTable, entry_at, set_at, read_set_of, with_read_set, write_set_of, with_write_set, bucket_set_of, with_bucket_set, waiting_list_of, with_waiting_list, dependents_of, with_dependents}
 use Rattle.hek_txn.proofs.EntryLemmas.{set_at-same, items-entry, items-set}
-use Rattle.hek_buckets.specs.Held.{holders_of, with_holders}
-use Rattle.hek_machine.specs.declared.parts.Parts.{Parts}
+use Rattle.hek_buckets.specs.LockLists.{holders_of, with_holders}
+use Rattle.hek_machine.specs.declared.engine.Engine.{Engine}
 use Rattle.hek_machine.specs.Stands.{StillShows}
 use Rattle.hek_machine.specs.Room.{Reserved, IsThere, IsReady, HasRoom, AreReady, reads_in, writes_in, waits_in, buckets_in}
 use Rattle.hek_machine.proofs.Loads.{copied-shows}
@@ -52,12 +52,12 @@ module _ {T : Type 0} where
 
 -- ---- the relation
 
-pub reserved_none : (m : Parts) → Reserved m m
+pub reserved_none : (m : Engine) → Reserved m m
 reserved_none m = record {
   clock = refl;
   store_buckets = refl;
   versions = refl;
-  txns = record { cores = refl; waits = refl; deps = refl; read_sets = refl; write_sets = refl; bucket_sets = refl; waiting_lists = refl; dependents = refl };
+  txns = record { cores = refl; waits = refl; commit_deps = refl; read_sets = refl; write_sets = refl; bucket_sets = refl; waiting_lists = refl; dependents = refl };
   holders = refl;
   more_reads = λ t. omega arith;
   more_writes = λ t. omega arith;
@@ -68,7 +68,7 @@ reserved_none m = record {
   more_versions = omega arith;
 }
 
-pub reserved_more : (a b c : Parts) → Reserved a b → Reserved b c → Reserved a c
+pub reserved_more : (a b c : Engine) → Reserved a b → Reserved b c → Reserved a c
 reserved_more a b c p q = let x = p.txns in let y = q.txns in record {
   clock = q.clock ∙ p.clock;
   store_buckets = q.store_buckets ∙ p.store_buckets;
@@ -76,7 +76,7 @@ reserved_more a b c p q = let x = p.txns in let y = q.txns in record {
   txns = record {
     cores = y.cores ∙ x.cores;
     waits = y.waits ∙ x.waits;
-    deps = y.deps ∙ x.deps;
+    commit_deps = y.commit_deps ∙ x.commit_deps;
     read_sets = y.read_sets ∙ x.read_sets;
     write_sets = y.write_sets ∙ x.write_sets;
     bucket_sets = y.bucket_sets ∙ x.bucket_sets;
@@ -93,18 +93,18 @@ reserved_more a b c p q = let x = p.txns in let y = q.txns in record {
   more_versions = let k = p.more_versions in let l = q.more_versions in omega (arith, k, l);
 }
 
-pub reserved-shows : (m n : Parts) → Reserved m n → StillShows m n
+pub reserved-shows : (m n : Engine) → Reserved m n → StillShows m n
 reserved-shows m n r = copied-shows m n (record { clock = r.clock; store_buckets = r.store_buckets; versions = r.versions; txns = r.txns; buckets = r.holders })
 
 -- ---- each call
 
-pub reserved_reads : (m : Parts) (t : ℕ) (x : TxnTable) → x ≡ with_read_set m.txns t (read_set_of x t) → (read_set_of x t).items ≡ (read_set_of m.txns t).items →
+pub reserved_reads : (m : Engine) (t : ℕ) (x : TxnTable) → x ≡ with_read_set m.txns t (read_set_of x t) → (read_set_of x t).items ≡ (read_set_of m.txns t).items →
     (read_set_of m.txns t).room ≤ (read_set_of x t).room → Reserved m (record m { txns = x })
 reserved_reads m t x is items more = subst (λ (z : TxnTable). Reserved m (record m { txns = z })) (sym is) (record {
   clock = refl;
   store_buckets = refl;
   versions = refl;
-  txns = record { cores = refl; waits = refl; deps = refl; read_sets = copy-set m.txns.read_sets t (read_set_of x t) items; write_sets = refl; bucket_sets = refl; waiting_lists = refl; dependents = refl };
+  txns = record { cores = refl; waits = refl; commit_deps = refl; read_sets = copy-set m.txns.read_sets t (read_set_of x t) items; write_sets = refl; bucket_sets = refl; waiting_lists = refl; dependents = refl };
   holders = refl;
   more_reads = λ u. grown m.txns.read_sets t u (read_set_of x t) more;
   more_writes = λ u. omega arith;
@@ -115,13 +115,13 @@ reserved_reads m t x is items more = subst (λ (z : TxnTable). Reserved m (recor
   more_versions = omega arith;
 })
 
-pub reserved_writes : (m : Parts) (t : ℕ) (x : TxnTable) → x ≡ with_write_set m.txns t (write_set_of x t) → (write_set_of x t).items ≡ (write_set_of m.txns t).items →
+pub reserved_writes : (m : Engine) (t : ℕ) (x : TxnTable) → x ≡ with_write_set m.txns t (write_set_of x t) → (write_set_of x t).items ≡ (write_set_of m.txns t).items →
     (write_set_of m.txns t).room ≤ (write_set_of x t).room → Reserved m (record m { txns = x })
 reserved_writes m t x is items more = subst (λ (z : TxnTable). Reserved m (record m { txns = z })) (sym is) (record {
   clock = refl;
   store_buckets = refl;
   versions = refl;
-  txns = record { cores = refl; waits = refl; deps = refl; read_sets = refl; write_sets = copy-set m.txns.write_sets t (write_set_of x t) items; bucket_sets = refl; waiting_lists = refl; dependents = refl };
+  txns = record { cores = refl; waits = refl; commit_deps = refl; read_sets = refl; write_sets = copy-set m.txns.write_sets t (write_set_of x t) items; bucket_sets = refl; waiting_lists = refl; dependents = refl };
   holders = refl;
   more_reads = λ u. omega arith;
   more_writes = λ u. grown m.txns.write_sets t u (write_set_of x t) more;
@@ -132,13 +132,13 @@ reserved_writes m t x is items more = subst (λ (z : TxnTable). Reserved m (reco
   more_versions = omega arith;
 })
 
-pub reserved_buckets : (m : Parts) (t : ℕ) (x : TxnTable) → x ≡ with_bucket_set m.txns t (bucket_set_of x t) → (bucket_set_of x t).items ≡ (bucket_set_of m.txns t).items →
+pub reserved_buckets : (m : Engine) (t : ℕ) (x : TxnTable) → x ≡ with_bucket_set m.txns t (bucket_set_of x t) → (bucket_set_of x t).items ≡ (bucket_set_of m.txns t).items →
     (bucket_set_of m.txns t).room ≤ (bucket_set_of x t).room → Reserved m (record m { txns = x })
 reserved_buckets m t x is items more = subst (λ (z : TxnTable). Reserved m (record m { txns = z })) (sym is) (record {
   clock = refl;
   store_buckets = refl;
   versions = refl;
-  txns = record { cores = refl; waits = refl; deps = refl; read_sets = refl; write_sets = refl; bucket_sets = copy-set m.txns.bucket_sets t (bucket_set_of x t) items; waiting_lists = refl; dependents = refl };
+  txns = record { cores = refl; waits = refl; commit_deps = refl; read_sets = refl; write_sets = refl; bucket_sets = copy-set m.txns.bucket_sets t (bucket_set_of x t) items; waiting_lists = refl; dependents = refl };
   holders = refl;
   more_reads = λ u. omega arith;
   more_writes = λ u. omega arith;
@@ -149,13 +149,13 @@ reserved_buckets m t x is items more = subst (λ (z : TxnTable). Reserved m (rec
   more_versions = omega arith;
 })
 
-pub reserved_waiters : (m : Parts) (t : ℕ) (x : TxnTable) → x ≡ with_waiting_list m.txns t (waiting_list_of x t) → (waiting_list_of x t).items ≡ (waiting_list_of m.txns t).items →
+pub reserved_waiters : (m : Engine) (t : ℕ) (x : TxnTable) → x ≡ with_waiting_list m.txns t (waiting_list_of x t) → (waiting_list_of x t).items ≡ (waiting_list_of m.txns t).items →
     (waiting_list_of m.txns t).room ≤ (waiting_list_of x t).room → Reserved m (record m { txns = x })
 reserved_waiters m t x is items more = subst (λ (z : TxnTable). Reserved m (record m { txns = z })) (sym is) (record {
   clock = refl;
   store_buckets = refl;
   versions = refl;
-  txns = record { cores = refl; waits = refl; deps = refl; read_sets = refl; write_sets = refl; bucket_sets = refl; waiting_lists = copy-set m.txns.waiting_lists t (waiting_list_of x t) items; dependents = refl };
+  txns = record { cores = refl; waits = refl; commit_deps = refl; read_sets = refl; write_sets = refl; bucket_sets = refl; waiting_lists = copy-set m.txns.waiting_lists t (waiting_list_of x t) items; dependents = refl };
   holders = refl;
   more_reads = λ u. omega arith;
   more_writes = λ u. omega arith;
@@ -166,13 +166,13 @@ reserved_waiters m t x is items more = subst (λ (z : TxnTable). Reserved m (rec
   more_versions = omega arith;
 })
 
-pub reserved_dependents : (m : Parts) (t : ℕ) (x : TxnTable) → x ≡ with_dependents m.txns t (dependents_of x t) → (dependents_of x t).items ≡ (dependents_of m.txns t).items →
+pub reserved_dependents : (m : Engine) (t : ℕ) (x : TxnTable) → x ≡ with_dependents m.txns t (dependents_of x t) → (dependents_of x t).items ≡ (dependents_of m.txns t).items →
     (dependents_of m.txns t).room ≤ (dependents_of x t).room → Reserved m (record m { txns = x })
 reserved_dependents m t x is items more = subst (λ (z : TxnTable). Reserved m (record m { txns = z })) (sym is) (record {
   clock = refl;
   store_buckets = refl;
   versions = refl;
-  txns = record { cores = refl; waits = refl; deps = refl; read_sets = refl; write_sets = refl; bucket_sets = refl; waiting_lists = refl; dependents = copy-set m.txns.dependents t (dependents_of x t) items };
+  txns = record { cores = refl; waits = refl; commit_deps = refl; read_sets = refl; write_sets = refl; bucket_sets = refl; waiting_lists = refl; dependents = copy-set m.txns.dependents t (dependents_of x t) items };
   holders = refl;
   more_reads = λ u. omega arith;
   more_writes = λ u. omega arith;
@@ -183,13 +183,13 @@ reserved_dependents m t x is items more = subst (λ (z : TxnTable). Reserved m (
   more_versions = omega arith;
 })
 
-pub reserved_holders : (m : Parts) (b : ℕ) (lists : List (Entries ℕ)) → lists ≡ with_holders m.buckets b (holders_of lists b) → (holders_of lists b).items ≡ (holders_of m.buckets b).items →
+pub reserved_holders : (m : Engine) (b : ℕ) (lists : List (Entries ℕ)) → lists ≡ with_holders m.buckets b (holders_of lists b) → (holders_of lists b).items ≡ (holders_of m.buckets b).items →
     (holders_of m.buckets b).room ≤ (holders_of lists b).room → Reserved m (record m { buckets = lists })
 reserved_holders m b lists is items more = subst (λ (z : List (Entries ℕ)). Reserved m (record m { buckets = z })) (sym is) (record {
   clock = refl;
   store_buckets = refl;
   versions = refl;
-  txns = record { cores = refl; waits = refl; deps = refl; read_sets = refl; write_sets = refl; bucket_sets = refl; waiting_lists = refl; dependents = refl };
+  txns = record { cores = refl; waits = refl; commit_deps = refl; read_sets = refl; write_sets = refl; bucket_sets = refl; waiting_lists = refl; dependents = refl };
   holders = copy-place m.buckets b (holders_of lists b) items;
   more_reads = λ u. omega arith;
   more_writes = λ u. omega arith;
@@ -202,14 +202,14 @@ reserved_holders m b lists is items more = subst (λ (z : List (Entries ℕ)). R
 
 -- ---- what was ready stays so
 
-pub there-kept : (m n : Parts) → Reserved m n → (e : Effect) → IsThere m e → IsThere n e
+pub there-kept : (m n : Engine) → Reserved m n → (e : Effect) → IsThere m e → IsThere n e
 there-kept m n r (LockBucket b) h = let a = items-length m.buckets in let c = items-length n.buckets in let k = ap length r.holders in omega (arith, a, c, k, h)
 there-kept m n r (DependOn u) h = let k = ap length r.txns.cores in let l = h.within in record { named = h.named; within = omega (arith, k, l) }
 there-kept m n r (MakeWait u) h = tt
 there-kept m n r (ReadLock v) h = tt
 there-kept m n r (WriteLock v) h = tt
 
-pub ready-kept : (m n : Parts) (t : ℕ) → Reserved m n → (e : Effect) → IsReady m t e → IsReady n t e
+pub ready-kept : (m n : Engine) (t : ℕ) → Reserved m n → (e : Effect) → IsReady m t e → IsReady n t e
 ready-kept m n t r (LockBucket b) h = λ no.
     let same : (holders_of n.buckets b).items ≡ (holders_of m.buckets b).items = sym (items-index n.buckets b) ∙ ap (λ xs. slice_index_or xs b []) r.holders ∙ items-index m.buckets b in
     let old = h (ap (λ xs. is_among xs t) (sym same) ∙ no) in let more = r.more_holders b in omega (arith, old, more)
@@ -227,7 +227,7 @@ in-at [] i e l h = absurd (omega (arith, l))
 in-at (x ∷ xs) zero e l h = inl h
 in-at (x ∷ xs) (suc i) e l h = inr (in-at xs i e (omega (arith, l)) h)
 
-pub ready_more : (old new : Parts) (t i : ℕ) (e : Effect) (es : List Effect) → i < length es → e ≡ get_or es i e → Reserved old new → IsReady new t e →
+pub ready_more : (old new : Engine) (t i : ℕ) (e : Effect) (es : List Effect) → i < length es → e ≡ get_or es i e → Reserved old new → IsReady new t e →
     ((x : Effect) → In x (take i es) → IsReady old t x) → (x : Effect) → In x (take (i + 1) es) → IsReady new t x
 ready_more old new t i e es l at r this before x h =
     ⊎_elim (λ k. ready-kept old new t r x (before x k)) (λ k. ⊎_elim (λ same. subst (IsReady new t) (sym (same ∙ sym at)) this) (λ none. absurd none) k)
@@ -235,7 +235,7 @@ ready_more old new t i e es l at r this before x h =
 
 -- ---- the whole
 
-pub has-room : (m n : Parts) (t : ℕ) (es : List Effect) → Reserved m n → reads_in es ≤ (read_set_of m.txns t).room → writes_in es + 1 ≤ (write_set_of m.txns t).room →
+pub has-room : (m n : Engine) (t : ℕ) (es : List Effect) → Reserved m n → reads_in es ≤ (read_set_of m.txns t).room → writes_in es + 1 ≤ (write_set_of m.txns t).room →
     waits_in es + 1 ≤ (waiting_list_of m.txns t).room → buckets_in es ≤ (bucket_set_of m.txns t).room → AreReady n t es → HasRoom n t es
 has-room m n t es r reads writes waits buckets ready =
     let a = r.more_reads t in let b = r.more_writes t in let c = r.more_waiters t in let d = r.more_buckets t in

@@ -7,9 +7,8 @@ use Rattle.hek_rules.specs.Walk.{Purpose, apply}
 use Rattle.hek_laws.specs.Laws.{IsWalk}
 use Rattle.hek_laws.specs.Sound.{Sound}
 use Rattle.hek_txn.specs.TxnTable.{Declared}
-use Rattle.hek_squares.proofs.ReadLocks.{MayRead}
-use Rattle.hek_squares.proofs.WriteLocks.{MayWrite}
-use Rattle.hek_machine.specs.declared.parts.Parts.{Parts}
+use Rattle.hek_refinement.specs.MayLock.{MayRead, MayWrite}
+use Rattle.hek_machine.specs.declared.engine.Engine.{Engine}
 use Rattle.hek_machine.specs.Stands.{Shows}
 
 -- what an effect rests on
@@ -21,7 +20,7 @@ May w t (ReadLock v) = MayRead w t v
 May w t (WriteLock v) = MayWrite w t v
 
 -- the parts show a sound world in which t may do it
-pub record CanApply (m : Parts) (t : ℕ) (effect : Effect) (w : World) : Type 0 where
+pub record CanApply (m : Engine) (t : ℕ) (effect : Effect) (w : World) : Type 0 where
   pub shows : Shows m w
   pub sound : Sound w
   pub walker : Declared m.txns t
@@ -29,11 +28,11 @@ pub record CanApply (m : Parts) (t : ℕ) (effect : Effect) (w : World) : Type 0
   pub named : length w.txns + 1 < 2 ^ 54
   pub may : May w t effect
 
-pub record IsAble (m : Parts) (t : ℕ) (effect : Effect) : Type 0 where
+pub record IsAble (m : Engine) (t : ℕ) (effect : Effect) : Type 0 where
   pub world : World
   pub can : CanApply m t effect world
 
-abbrev pub Applies : Parts → Parts → ℕ → Effect → Type 0
+abbrev pub Applies : Engine → Engine → ℕ → Effect → Type 0
 Applies old new t effect = (w : World) → CanApply old t effect w → Shows new (apply t w effect)
 
 -- in each world that the parts stand for, these are the effects of a walk that is allowed

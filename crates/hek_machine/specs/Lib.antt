@@ -1,6 +1,6 @@
 pub mod Stands
 pub mod Checks
-pub mod Judged
+pub mod Judgements
 pub mod Room
 pub mod Applied
 pub mod Walked

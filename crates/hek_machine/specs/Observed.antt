@@ -2,7 +2,7 @@
 use Rattle.std.specs.Prelude.{ℕ, Option, Some, None, if◌then◌else◌, nat_lt, length}
 use Rattle.hek_rules.specs.Plan.{Plan, levels_of}
 use Rattle.hek_rules.specs.World.{World, opening, version_in}
-use Rattle.hek_machine.specs.declared.parts.Parts.{Parts}
+use Rattle.hek_machine.specs.declared.engine.Engine.{Engine}
 use Rattle.hek_machine.specs.Stands.{StandsFor}
 
 -- the world that the runs of a schedule begin in
@@ -10,7 +10,7 @@ abbrev pub opening_of : Plan → ℕ → World
 opening_of p clock = opening p.buckets p.rows (levels_of p) clock
 
 -- the new parts stand for each world that the old ones stand for
-abbrev pub StandsAs : Parts → Parts → Type 0
+abbrev pub StandsAs : Engine → Engine → Type 0
 StandsAs old new = (w : World) → StandsFor old w → StandsFor new w
 
 -- something of the version at a place: none past the last version

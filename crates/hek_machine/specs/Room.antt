@@ -6,9 +6,9 @@ use Rattle.hek_rules.specs.Listing.{is_among}
 use Rattle.hek_laws.specs.Lists.{In}
 use Rattle.hek_txn.specs.Entries.{AreCopies}
 use Rattle.hek_txn.specs.TxnTable.{IsCopy, Declared, read_set_of, write_set_of, bucket_set_of, waiting_list_of, dependents_of}
-use Rattle.hek_buckets.specs.Held.{holders_of}
+use Rattle.hek_buckets.specs.LockLists.{holders_of}
 use Rattle.hek_buckets.specs.Waited.{IsReady as CanWait}
-use Rattle.hek_machine.specs.declared.parts.Parts.{Parts}
+use Rattle.hek_machine.specs.declared.engine.Engine.{Engine}
 
 -- how many of the effects add to the read set, the write set, the waiting list and the bucket set
 abbrev pub reads_in : List Effect → ℕ
@@ -32,7 +32,7 @@ buckets_in (LockBucket b ∷ es) = buckets_in es + 1
 buckets_in (e ∷ es) = buckets_in es
 
 -- the bucket or the transaction whose list an effect adds t to is there
-abbrev pub IsThere : Parts → Effect → Type 0
+abbrev pub IsThere : Engine → Effect → Type 0
 IsThere m (LockBucket b) = b < length m.buckets
 IsThere m (DependOn u) = Declared m.txns u
 IsThere m (MakeWait u) = Unit {0}
@@ -40,7 +40,7 @@ IsThere m (ReadLock v) = Unit {0}
 IsThere m (WriteLock v) = Unit {0}
 
 -- and has room for t, unless t stands in the list
-abbrev pub IsReady : Parts → ℕ → Effect → Type 0
+abbrev pub IsReady : Engine → ℕ → Effect → Type 0
 IsReady m t (LockBucket b) = is_among (holders_of m.buckets b).items t ≡ false → 0 < (holders_of m.buckets b).room
 IsReady m t (DependOn u) = is_among (dependents_of m.txns u).items t ≡ false → 0 < (dependents_of m.txns u).room
 IsReady m t (MakeWait u) = Unit {0}
@@ -49,7 +49,7 @@ IsReady m t (WriteLock v) = Unit {0}
 
 -- room for all these effects, and for one entry more in the write set and in the waiting list: those of a version that is
 -- made after them
-pub record HasRoom (m : Parts) (t : ℕ) (effects : List Effect) : Type 0 where
+pub record HasRoom (m : Engine) (t : ℕ) (effects : List Effect) : Type 0 where
   pub reads : reads_in effects ≤ (read_set_of m.txns t).room
   pub writes : writes_in effects + 1 ≤ (write_set_of m.txns t).room
   pub waits : waits_in effects + 1 ≤ (waiting_list_of m.txns t).room
@@ -58,13 +58,13 @@ pub record HasRoom (m : Parts) (t : ℕ) (effects : List Effect) : Type 0 where
 
 -- what making a version counts on: the store has no less room, nor has t less in the lists of others, and none but t has come
 -- to lock a bucket
-pub record KeepsAdding (old new : Parts) (t : ℕ) : Type 0 where
+pub record KeepsAdding (old new : Engine) (t : ℕ) : Type 0 where
   pub versions : old.store.room ≤ new.store.room
   pub joins : (h : ℕ) → (h ≡ t → ⊥) → CanWait old.txns t h → CanWait new.txns t h
   pub holders : (b h : ℕ) → is_among (holders_of new.buckets b).items h ≡ true → (is_among (holders_of old.buckets b).items h ≡ true) ⊎ (h ≡ t)
 
 -- an effect takes no more room than its own
-pub record KeepsRoom (old new : Parts) (t : ℕ) (effect : Effect) : Type 0 where
+pub record KeepsRoom (old new : Engine) (t : ℕ) (effect : Effect) : Type 0 where
   pub reads : (read_set_of old.txns t).room ≤ (read_set_of new.txns t).room + reads_in (effect ∷ [])
   pub writes : (write_set_of old.txns t).room ≤ (write_set_of new.txns t).room + writes_in (effect ∷ [])
   pub waits : (waiting_list_of old.txns t).room ≤ (waiting_list_of new.txns t).room + waits_in (effect ∷ [])
@@ -73,12 +73,12 @@ pub record KeepsRoom (old new : Parts) (t : ℕ) (effect : Effect) : Type 0 wher
   pub adding : KeepsAdding old new t
 
 -- room for a version of a bucket: in the store, and for t in the lists of those who lock the bucket
-pub record CanMake (m : Parts) (t b : ℕ) : Type 0 where
+pub record CanMake (m : Engine) (t b : ℕ) : Type 0 where
   pub version : 0 < m.store.room
   pub joins : (h : ℕ) → (h ≡ t → ⊥) → is_among (holders_of m.buckets b).items h ≡ true → CanWait m.txns t h
 
 -- the same but for room, of which no list has less
-pub record Reserved (old new : Parts) : Type 0 where
+pub record Reserved (old new : Engine) : Type 0 where
   pub clock : new.clock ≡ old.clock
   pub store_buckets : new.store.buckets ≡ old.store.buckets
   pub versions : new.store.versions ≡ old.store.versions
@@ -92,9 +92,9 @@ pub record Reserved (old new : Parts) : Type 0 where
   pub more_holders : (b : ℕ) → (holders_of old.buckets b).room ≤ (holders_of new.buckets b).room
   pub more_versions : old.store.room ≤ new.store.room
 
-abbrev pub AreReady : Parts → ℕ → List Effect → Type 0
+abbrev pub AreReady : Engine → ℕ → List Effect → Type 0
 AreReady m t effects = (e : Effect) → In e effects → IsReady m t e
 
 -- room for t in the waiting lists of each of these
-abbrev pub AreJoined : Parts → ℕ → List ℕ → Type 0
+abbrev pub AreJoined : Engine → ℕ → List ℕ → Type 0
 AreJoined m t holders = (h : ℕ) → is_among holders h ≡ true → CanWait m.txns t h

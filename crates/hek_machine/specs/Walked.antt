@@ -8,17 +8,17 @@ use Rattle.hek_rules.specs.declared.reply.Reply.TheVariants as reply
 use Rattle.hek_rules.specs.Table.{abort}
 use Rattle.hek_laws.specs.Sound.{Sound}
 use Rattle.hek_txn.specs.TxnTable.{Declared}
-use Rattle.hek_machine.specs.declared.parts.Parts.{Parts}
+use Rattle.hek_machine.specs.declared.engine.Engine.{Engine}
 use Rattle.hek_machine.specs.Stands.{Shows, StandsFor}
 
 -- the versions of one bucket that pass a test of theirs
-pub record ArePlaces (m : Parts) (bucket : ℕ) (vs : List ℕ) : Type 0 where
+pub record ArePlaces (m : Engine) (bucket : ℕ) (vs : List ℕ) : Type 0 where
   pub test : ℕ → Version → Bool
   pub same : (w : World) → StandsFor m w → places test 0 w.versions ≡ vs
   pub there : (w : World) → StandsFor m w → bucket < w.buckets
 
 -- after a judgement: its effects are done, or t has aborted
-abbrev pub After : Parts → ℕ → World → Judgement → Option Cause → Type 0
+abbrev pub After : Engine → ℕ → World → Judgement → Option Cause → Type 0
 After m t w (Allow effects) None = Shows m (apply_all t w effects)
 After m t w (Allow effects) (Some cause) = ⊥
 After m t w (Refuse cause) None = ⊥
@@ -30,13 +30,13 @@ deleted_reply None = reply.Absent
 deleted_reply (Some v) = reply.Done
 
 -- the parts show a sound world in which t may make a version
-pub record CanAdd (m : Parts) (t : ℕ) (w : World) : Type 0 where
+pub record CanAdd (m : Engine) (t : ℕ) (w : World) : Type 0 where
   pub shows : Shows m w
   pub sound : Sound w
   pub walker : Declared m.txns t
   pub small : length w.versions < 2 ^ 58
   pub named : length w.txns + 1 < 2 ^ 54
 
-pub record IsAdding (m : Parts) (t : ℕ) : Type 0 where
+pub record IsAdding (m : Engine) (t : ℕ) : Type 0 where
   pub world : World
   pub can : CanAdd m t world

@@ -1,25 +1,15 @@
-//! The checks before a row of the table.
+//! The checks before a rule of the table.
 ghost use Rattle.std.specs.Prelude.{◌≡◌};
-ghost use Rattle.hek_rules.specs.World.{txn_in, is_live as live, is_over as over};
-ghost use Rattle.hek_rules.specs.Table.{is_open as open_txn, begins as begins_txn, draws as draws_time, repeats_cause as repeats};
+ghost use Rattle.hek_rules.specs.World.{txn_in, is_live as live, is_decided as over};
+ghost use Rattle.hek_rules.specs.Checks.{is_open as open_txn, begins as begins_txn, draws as draws_time, repeats_cause as repeats, check_of, check_phase as phase_check, in_phase, missed as missed_phase};
 ghost use Rattle.hek_txn.specs.TxnTable.{Declared};
-ghost use Rattle.hek_machine.specs.Checks.{check_of, check_phase as phase_check, in_phase, missed as missed_phase, is_idle as idle};
+ghost use Rattle.hek_machine.specs.Checks.{is_idle as idle};
 
-use crate::parts::Parts;
-use hek_rules::{Cause, Event, Refusal, State, TxnId};
+use crate::engine::Engine;
+use hek_rules::{Check, Event, Refusal, State, TxnId};
 
 /// The last clock value, at which nothing is drawn.
 const CLOCK_END: u64 = (1 << 63) - 2;
-
-/// What the checks come to: the event is refused, its transaction is to abort, or has been aborted and is told so, or its
-/// row gives the answer.
-#[derive(Clone, Copy, Debug)]
-pub(crate) enum Check {
-    Refused(Refusal),
-    Doomed,
-    StillAborted(Cause),
-    Passed,
-}
 
 fn is_live(state: State) -> bool
     ensures { result ≡ live state }
@@ -27,7 +17,7 @@ fn is_live(state: State) -> bool
     matches!(state, State::Active | State::Preparing)
 }
 
-fn is_over(state: State) -> bool
+fn is_decided(state: State) -> bool
     ensures { result ≡ over state }
 {
     matches!(state, State::Committed | State::Aborted(_))
@@ -68,12 +58,12 @@ fn missed(state: State, e: &Event) -> Check
     Check::Refused(Refusal::WrongPhase)
 }
 
-impl Parts {
+impl Engine {
     fn is_open(&self, t: TxnId) -> bool
         requires { Declared self.now.txns t }
         ensures { result ≡ open_txn (txn_in self.now.txns.cores t) }
     {
-        self.txns.state(t) == State::Active && !self.txns.no_more_wait_fors(t)
+        self.txns.state(t) == State::Active && !self.txns.no_more_waits(t)
     }
 
     /// Whether the transaction holds no lock, has nothing to stamp, and nobody waits for it.
@@ -100,12 +90,12 @@ impl Parts {
             | Event::Update(..)
             | Event::Delete(..)
             | Event::Finish(_) => self.is_open(t),
-            Event::Precommit(_) => state == State::Active && self.txns.no_more_wait_fors(t),
-            Event::Release(_) => state == State::Preparing || is_over(state),
+            Event::Precommit(_) => state == State::Active && self.txns.no_more_waits(t),
+            Event::Release(_) => state == State::Preparing || is_decided(state),
             Event::Commit(_) => state == State::Preparing,
             Event::Fail(_) => is_live(state),
-            Event::Stamp(_) => is_over(state),
-            Event::End(_) => is_over(state) && self.is_idle(t),
+            Event::Stamp(_) => is_decided(state),
+            Event::End(_) => is_decided(state) && self.is_idle(t),
             Event::Detect => false,
         }
     }

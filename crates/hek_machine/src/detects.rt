@@ -1,17 +1,17 @@
 //! Deadlock detection (section 4 of the paper).
 ghost use Rattle.std.specs.Prelude.{IfOk, OnErr};
 ghost use Rattle.hek_rules.specs.WaitGraph.{victim};
-ghost use Rattle.hek_rules.specs.Table.{detect_row};
-ghost use Rattle.hek_machine.specs.Stands.{IsOrdered, IsRow, StillShows};
+ghost use Rattle.hek_rules.specs.Table.{detect_rule};
+ghost use Rattle.hek_machine.specs.Stands.{StandsForSome, IsRule, StillShows};
 
-use crate::parts::Parts;
+use crate::engine::Engine;
 use hek_rules::{Cause, NoMemory, Reply};
 
-impl Parts {
+impl Engine {
     /// The event `detect`: of those that wait for one another the victim aborts, if there are any.
     pub(crate) fn detect(&mut self) -> Result<Reply, NoMemory>
-        requires ordered { IsOrdered self.old }
-        ensures row { IfOk result (IsRow (λ w. detect_row w (victim w)) self.old self.new) }
+        requires ordered { StandsForSome self.old }
+        ensures rule { IfOk result (IsRule (λ w. detect_rule w (victim w)) self.old self.new) }
         ensures still { OnErr result (StillShows self.old self.new) }
     {
         match hek_deadlock::detect(self.alloc, &self.store, &self.txns)? {

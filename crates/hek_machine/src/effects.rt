@@ -5,15 +5,15 @@ ghost use Rattle.hek_rules.specs.declared.event.Effect.TheVariants.{LockBucket, 
 ghost use Rattle.hek_txn.specs.TxnTable.{read_set_of, write_set_of, bucket_set_of, waiting_list_of};
 ghost use Rattle.hek_machine.specs.Room.{IsReady, KeepsRoom, KeepsAdding, HasRoom, reads_in, writes_in, waits_in, buckets_in};
 ghost use Rattle.hek_machine.specs.Applied.{IsAble, Applies, Allowed};
-ghost use Rattle.hek_machine.specs.Stands.{Shows, StandsFor, IsOrdered};
+ghost use Rattle.hek_machine.specs.Stands.{Shows, StandsFor, StandsForSome};
 
-use crate::parts::Parts;
+use crate::engine::Engine;
 use hek_buckets::impose_wait;
 use hek_commit::depend;
 use hek_locks::{read_lock, write_lock};
 use hek_rules::{Effect, TxnId, VersionId};
 
-impl Parts {
+impl Engine {
     fn lock_bucket(&mut self, t: TxnId, bucket: u64)
         requires able { IsAble self.old t (LockBucket bucket) }
         requires ready { IsReady self.old t (LockBucket bucket) }
@@ -86,7 +86,7 @@ impl Parts {
 
     /// The effects of a walk that is allowed, in their order.
     pub(crate) fn apply_all(&mut self, t: TxnId, effects: &[Effect])
-        requires ordered { IsOrdered self.old }
+        requires ordered { StandsForSome self.old }
         requires allowed { (w : _) → StandsFor self.old w → Allowed w t effects.now }
         requires room { HasRoom self.old t effects.now }
         requires small { length self.old.store.versions < 2 ^ 58 }

@@ -1,22 +1,24 @@
-//! The machine: each event is one row of the rule table.
+//! The machine: each event is one rule of the rule table.
 #![tactic(auto)]
 
 mod checks;
+mod claims;
 mod detects;
 mod effects;
+mod engine;
+mod events;
+mod key_walks;
 mod lists;
 mod machine;
+mod new_versions;
 mod observers;
-mod parts;
 mod phases;
 mod releases;
 mod room;
-mod rows;
 mod runs;
 mod scans;
 mod steps;
 mod walks;
-mod writes;
 
 pub use machine::Machine;
 pub use runs::{Trace, run, run_at};

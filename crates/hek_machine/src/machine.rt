@@ -1,13 +1,13 @@
 //! The machine.
-ghost use Rattle.std.specs.Prelude.{◌≡◌, ◌&&◌, false, length, IfOk, OnErr, IsOk};
+ghost use Rattle.std.specs.Prelude.{◌≡◌, length, IfOk, OnErr, IsOk};
 ghost use Rattle.hek_rules.specs.Plan.{IsPlan};
 ghost use Rattle.hek_rules.specs.World.{World};
 ghost use Rattle.hek_laws.specs.Runs.{IsFirstClock, IsPlaced};
 ghost use Rattle.hek_machine.specs.Stands.{StandsFor};
 ghost use Rattle.hek_machine.specs.Observed.{opening_of, StandsAs};
-ghost use Rattle.hek_machine.specs.Steps.{takes_memory, passes, IsStep, IsSmall};
+ghost use Rattle.hek_machine.specs.Steps.{NeedsNone, IsStep, IsSmall};
 
-use crate::parts::Parts;
+use crate::engine::Engine;
 use hek_rules::{Event, NoMemory, Reply, Schedule, Time};
 use std::alloc::Global;
 use std::marker::Model;
@@ -17,18 +17,18 @@ use std::marker::Model;
 /// of the rule table that it stands for.
 #[derive(Drop)]
 pub struct Machine {
-    pub(crate) parts: Parts,
+    pub(crate) engine: Engine,
 }
 
 impl Model for Machine {
-    ghost use Rattle.hek_machine.specs.declared.parts.Parts.{Parts};
-    ghost use Rattle.hek_machine.specs.Stands.{IsOrdered};
+    ghost use Rattle.hek_machine.specs.declared.engine.Engine.{Engine};
+    ghost use Rattle.hek_machine.specs.Stands.{StandsForSome};
 
-    ghost Value = { Parts };
+    ghost Value = { Engine };
 
-    ghost view = { λ m. m.parts };
+    ghost view = { λ m. m.engine };
 
-    ghost invariant = { λ m. IsOrdered m.parts };
+    ghost invariant = { λ m. StandsForSome m.engine };
 }
 
 impl Machine {
@@ -40,14 +40,15 @@ impl Machine {
         Machine::load_at(alloc, schedule, Time::new(1))
     }
 
-    /// The same at another clock, the first time that will be drawn. Rows are valid from time 0 on.
+    /// A machine before the first event of a schedule, at this clock: the first time that will be drawn. Rows are valid from
+    /// time 0 on.
     pub fn load_at(alloc: Global, schedule: &Schedule, clock: Time) -> Result<Machine, NoMemory>
         requires { IsFirstClock clock }
         ensures plan { IfOk result (λ _. IsPlan schedule.now) }
         ensures stands { IfOk result (λ m. StandsFor m (opening_of schedule.now clock)) }
     {
         Ok(Machine {
-            parts: Parts::load(alloc, schedule, clock)?,
+            engine: Engine::load(alloc, schedule, clock)?,
         })
     }
 
@@ -56,7 +57,7 @@ impl Machine {
         ensures { IfOk result (StandsAs self.now) }
     {
         Ok(Machine {
-            parts: self.parts.copy()?,
+            engine: self.engine.copy()?,
         })
     }
 
@@ -64,15 +65,14 @@ impl Machine {
     /// NoMemory changes nothing, and comes only of an event that reads or writes rows or looks for a deadlock, once it has
     /// passed the checks. An event takes time at most linear in the versions and in what its transaction holds, and
     /// `Detect` in the transactions times the waits.
-    #[tactic(auto, using(crate::proofs::RunRows::steps_of_rows))]
     pub fn step(&mut self, event: Event) -> Result<Reply, NoMemory>
         requires { IsPlaced (length self.old.buckets) event }
         ensures step { IfOk result (IsStep event self.old self.new) }
         ensures small { IfOk result (λ r. (w : World) → StandsFor self.old w → IsSmall w r) }
         ensures still { OnErr result (StandsAs self.old self.new) }
-        ensures sure { (takes_memory event && passes self.old event) ≡ false → IsOk result }
+        ensures sure { NeedsNone self.old event → IsOk result }
         ensures buckets { length self.new.buckets ≡ length self.old.buckets }
     {
-        self.parts.step(&event)
+        self.engine.step(&event)
     }
 }

@@ -1,18 +1,19 @@
 //! What a machine shows without changing: its words, counters and flags.
 ghost use Rattle.std.specs.Prelude.{◌≡◌, ◌↔◌, ◌<◌, IsTrue, length};
-ghost use Rattle.hek_rules.specs.Image.{begin_word as begin_in, end_word as end_in, wait_for_counter, commit_dep_counter, lock_count as locks_in};
+ghost use Rattle.hek_rules.specs.Shown.{begin_word as begin_in, end_word as end_in, lock_count as locks_in};
+ghost use Rattle.hek_rules.specs.Waits.{waits, commit_deps};
 ghost use Rattle.hek_rules.specs.World.{txn_in, declared};
 ghost use Rattle.hek_txn.specs.TxnTable.{Declared};
-ghost use Rattle.hek_machine.specs.Judged.{IsShown};
-ghost use Rattle.hek_machine.specs.Stands.{IsOrdered};
+ghost use Rattle.hek_machine.specs.Judgements.{IsShown};
+ghost use Rattle.hek_machine.specs.Stands.{StandsForSome};
 ghost use Rattle.hek_machine.specs.Observed.{of_version, key_in, value_in};
 
+use crate::engine::Engine;
 use crate::machine::Machine;
-use crate::parts::Parts;
 use hek_rules::{Level, State, Time, TxnId, VersionId};
 use hek_word::{BeginWord, EndWord};
 
-impl Parts {
+impl Engine {
     fn has_version(&self, v: VersionId) -> bool
         ensures { IsTrue result ↔ (v < length self.now.store.versions) }
     {
@@ -25,9 +26,9 @@ impl Machine {
     /// nothing is drawn any more.
     pub fn clock(&self) -> Time
         ensures shown { IsShown self.now (λ w. w.clock) result }
-        ensures stands { IsOrdered self.now }
+        ensures stands { StandsForSome self.now }
     {
-        self.parts.clock
+        self.engine.clock
     }
 
     /// How many buckets there are.
@@ -35,7 +36,7 @@ impl Machine {
         ensures shown { IsShown self.now (λ w. w.buckets) result }
         ensures held { result ≡ length self.now.buckets }
     {
-        self.parts.buckets.len()
+        self.engine.buckets.len()
     }
 
     /// How many transactions are declared: their IDs are 1 to this number.
@@ -43,7 +44,7 @@ impl Machine {
         ensures shown { IsShown self.now (λ w. length w.txns) result }
         ensures held { result ≡ length self.now.txns.cores }
     {
-        self.parts.txns.count()
+        self.engine.txns.count()
     }
 
     /// Whether the schedule declares a transaction of this ID.
@@ -51,7 +52,7 @@ impl Machine {
         ensures shown { IsShown self.now (λ w. declared w.txns t) result }
         ensures held { IsTrue result ↔ Declared self.now.txns t }
     {
-        self.parts.txns.is_declared(t)
+        self.engine.txns.is_declared(t)
     }
 
     /// How many versions there are: the rows of the schedule, and what inserts and updates made. None is ever taken
@@ -59,7 +60,7 @@ impl Machine {
     pub fn versions(&self) -> usize
         ensures { IsShown self.now (λ w. length w.versions) result }
     {
-        self.parts.store.len() as usize
+        self.engine.store.len() as usize
     }
 
     /// The Begin word of a version: the time from which it is valid, or who made it (section 2 of the paper). None past
@@ -67,8 +68,8 @@ impl Machine {
     pub fn begin_word(&self, v: VersionId) -> Option<BeginWord>
         ensures { IsShown self.now (of_version begin_in v) result }
     {
-        if self.parts.has_version(v) {
-            Some(self.parts.store.begin_of(v))
+        if self.engine.has_version(v) {
+            Some(self.engine.store.begin_of(v))
         } else {
             None
         }
@@ -79,8 +80,8 @@ impl Machine {
     pub fn end_word(&self, v: VersionId) -> Option<EndWord>
         ensures { IsShown self.now (of_version end_in v) result }
     {
-        if self.parts.has_version(v) {
-            Some(self.parts.store.end_of(v))
+        if self.engine.has_version(v) {
+            Some(self.engine.store.end_of(v))
         } else {
             None
         }
@@ -90,8 +91,8 @@ impl Machine {
     pub fn key_of(&self, v: VersionId) -> Option<u64>
         ensures { IsShown self.now (of_version key_in v) result }
     {
-        if self.parts.has_version(v) {
-            Some(self.parts.store.key_of(v))
+        if self.engine.has_version(v) {
+            Some(self.engine.store.key_of(v))
         } else {
             None
         }
@@ -101,8 +102,8 @@ impl Machine {
     pub fn value_of(&self, v: VersionId) -> Option<u64>
         ensures { IsShown self.now (of_version value_in v) result }
     {
-        if self.parts.has_version(v) {
-            Some(self.parts.store.value_of(v))
+        if self.engine.has_version(v) {
+            Some(self.engine.store.value_of(v))
         } else {
             None
         }
@@ -112,34 +113,34 @@ impl Machine {
     /// read-lock counts once, and so does each transaction in whose WaitingTxnList it stands.
     pub fn waits(&self, t: TxnId) -> u64
         requires { Declared self.now.txns t }
-        ensures { IsShown self.now (λ w. wait_for_counter w t) result }
+        ensures { IsShown self.now (λ w. waits w t) result }
     {
-        self.parts.txns.waits(t)
+        self.engine.txns.waits(t)
     }
 
     /// CommitDepCounter: on how many preparing transactions this one's commit depends (section 2 of the paper).
     pub fn commit_deps(&self, t: TxnId) -> u64
         requires { Declared self.now.txns t }
-        ensures { IsShown self.now (λ w. commit_dep_counter w t) result }
+        ensures { IsShown self.now (λ w. commit_deps w t) result }
     {
-        self.parts.txns.deps(t)
+        self.engine.txns.commit_deps(t)
     }
 
     /// NoMoreWaitFors: the transaction has finished its reads and writes, and takes no further waits (section 4 of the
     /// paper).
     pub fn no_more_waits(&self, t: TxnId) -> bool
         requires { Declared self.now.txns t }
-        ensures { IsShown self.now (λ w. (txn_in w.txns t).finished) result }
+        ensures { IsShown self.now (λ w. (txn_in w.txns t).no_more_waits) result }
     {
-        self.parts.txns.no_more_wait_fors(t)
+        self.engine.txns.no_more_waits(t)
     }
 
     /// AbortNow: one that the transaction depended on has aborted, so it must abort too (section 2 of the paper).
     pub fn abort_now(&self, t: TxnId) -> bool
         requires { Declared self.now.txns t }
-        ensures { IsShown self.now (λ w. (txn_in w.txns t).doomed) result }
+        ensures { IsShown self.now (λ w. (txn_in w.txns t).abort_now) result }
     {
-        self.parts.txns.abort_now(t)
+        self.engine.txns.abort_now(t)
     }
 
     /// Its isolation level, as declared.
@@ -147,7 +148,7 @@ impl Machine {
         requires { Declared self.now.txns t }
         ensures { IsShown self.now (λ w. (txn_in w.txns t).level) result }
     {
-        self.parts.txns.level(t)
+        self.engine.txns.level(t)
     }
 
     /// The begin time that it drew, or 0 (section 2 of the paper: timestamps).
@@ -155,7 +156,7 @@ impl Machine {
         requires { Declared self.now.txns t }
         ensures { IsShown self.now (λ w. (txn_in w.txns t).begin) result }
     {
-        self.parts.txns.begin_time(t)
+        self.engine.txns.begin_time(t)
     }
 
     /// The end time that it drew, or 0 (section 2 of the paper: timestamps).
@@ -163,7 +164,7 @@ impl Machine {
         requires { Declared self.now.txns t }
         ensures { IsShown self.now (λ w. (txn_in w.txns t).end) result }
     {
-        self.parts.txns.end_time(t)
+        self.engine.txns.end_time(t)
     }
 
     /// Where the transaction stands (section 2 of the paper: the phases of a transaction).
@@ -171,7 +172,7 @@ impl Machine {
         requires { Declared self.now.txns t }
         ensures { IsShown self.now (λ w. (txn_in w.txns t).state) result }
     {
-        self.parts.txns.state(t)
+        self.engine.txns.state(t)
     }
 
     /// LockCount: how many transactions lock the bucket (section 4 of the paper: bucket locks). Buckets are numbered
@@ -180,6 +181,6 @@ impl Machine {
         requires { bucket < length self.now.buckets }
         ensures { IsShown self.now (λ w. locks_in w bucket) result }
     {
-        self.parts.buckets.count(bucket) as usize
+        self.engine.buckets.count(bucket) as usize
     }
 }

@@ -5,7 +5,7 @@ ghost use Rattle.hek_txn.specs.TxnTable.{Declared, read_set_of, write_set_of, bu
 ghost use Rattle.hek_machine.specs.Room.{reads_in, writes_in, waits_in, buckets_in, IsThere, IsReady, HasRoom, Reserved, AreReady, AreJoined};
 ghost use Rattle.std.specs.List.{All};
 
-use crate::parts::Parts;
+use crate::engine::Engine;
 use hek_rules::{Effect, NoMemory, TxnId};
 
 /// How many effects add to each list of their transaction.
@@ -60,7 +60,7 @@ fn needs_of(effects: &[Effect]) -> Needs
     needs
 }
 
-impl Parts {
+impl Engine {
     /// Room in the lists of the transaction itself, and for one entry more in its write set and in its waiting list.
     fn reserve_own(&mut self, t: TxnId, needs: Needs) -> Result<(), NoMemory>
         requires known { Declared self.old.txns t }

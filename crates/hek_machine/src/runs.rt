@@ -30,7 +30,7 @@ pub fn run(alloc: Global, schedule: &Schedule, events: &[Event]) -> Result<Trace
     run_at(alloc, schedule, Time::new(1), events)
 }
 
-/// The same with another first clock, from 1 to 2^63 - 2.
+/// `run` with another first clock, from 1 to 2^63 - 2.
 pub fn run_at(
     alloc: Global,
     schedule: &Schedule,

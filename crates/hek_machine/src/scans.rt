@@ -1,15 +1,16 @@
 //! What is found of many keys at once: the scan of a bucket, and the committed rows (section 4 of the paper: reads).
 ghost use Rattle.std.specs.Prelude.{◌≡◌, ◌<◌, ◌&&◌, true, [], length, IfOk, OnErr};
 ghost use Rattle.std.specs.List.{All};
-ghost use Rattle.hek_rules.specs.Image.{was_made as made, lasts as is_last, committed_rows};
+ghost use Rattle.hek_rules.specs.Shown.{was_made as made, lasts as is_last, committed_rows};
 ghost use Rattle.hek_rules.specs.World.{txn_in, version_in, places, is_committed as committed};
-ghost use Rattle.hek_rules.specs.Table.{is_open, pairs_of as pairs_in, scan_row};
+ghost use Rattle.hek_rules.specs.Table.{pairs_of as pairs_in, scan_rule};
+ghost use Rattle.hek_rules.specs.Checks.{is_open};
 ghost use Rattle.hek_store.specs.Stored.{of_bucket};
 ghost use Rattle.hek_txn.specs.TxnTable.{Declared};
-ghost use Rattle.hek_machine.specs.Judged.{IsShown};
-ghost use Rattle.hek_machine.specs.Stands.{IsOrdered, IsRow, StillShows};
+ghost use Rattle.hek_machine.specs.Judgements.{IsShown};
+ghost use Rattle.hek_machine.specs.Stands.{StandsForSome, IsRule, StillShows};
 
-use crate::parts::Parts;
+use crate::engine::Engine;
 use crate::walks::Aim;
 use hek_rules::{NoMemory, Pairs, Reply, State, TxnId, VersionId};
 use hek_word::{BeginWord, EndWord};
@@ -21,7 +22,7 @@ fn is_committed(state: State) -> bool
     matches!(state, State::Committed)
 }
 
-impl Parts {
+impl Engine {
     /// The versions of a bucket, in order of creation.
     fn versions_in(&self, bucket: u64) -> Result<Vec<VersionId>, NoMemory>
         ensures { IfOk result (λ vs. vs.items ≡ of_bucket self.now.store.buckets self.now.store.versions bucket) }
@@ -44,10 +45,10 @@ impl Parts {
     /// The scan of a bucket.
     pub(crate) fn scan(&mut self, t: TxnId, bucket: u64) -> Result<Reply, NoMemory>
         requires known { Declared self.old.txns t }
-        requires ordered { IsOrdered self.old }
+        requires ordered { StandsForSome self.old }
         requires walker { is_open (txn_in self.old.txns.cores t) ≡ true }
         requires bucket { bucket < self.old.store.buckets }
-        ensures row { IfOk result (IsRow (λ w. scan_row w t bucket) self.old self.new) }
+        ensures rule { IfOk result (IsRule (λ w. scan_rule w t bucket) self.old self.new) }
         ensures still { OnErr result (StillShows self.old self.new) }
     {
         let vs = self.versions_in(bucket)?;
@@ -62,7 +63,7 @@ impl Parts {
     /// Whether the version was loaded, or made by a transaction that has committed.
     fn was_made(&self, v: VersionId) -> bool
         requires version { v < length self.now.store.versions }
-        requires ordered { IsOrdered self.now }
+        requires ordered { StandsForSome self.now }
         ensures { IsShown self.now (λ w. made w (version_in w.versions v).creator) result }
     {
         let word = self.store.begin_of(v);
@@ -75,7 +76,7 @@ impl Parts {
     /// Whether no committed transaction ended the version.
     fn lasts(&self, v: VersionId) -> bool
         requires version { v < length self.now.store.versions }
-        requires ordered { IsOrdered self.now }
+        requires ordered { StandsForSome self.now }
         ensures { IsShown self.now (λ w. is_last w (version_in w.versions v).ender) result }
     {
         let word = self.store.end_of(v);
@@ -85,10 +86,10 @@ impl Parts {
         }
     }
 
-    /// Whether the version is a committed row.
+    /// Whether the version is a committed rule.
     fn is_row(&self, v: VersionId) -> bool
         requires version { v < length self.now.store.versions }
-        requires ordered { IsOrdered self.now }
+        requires ordered { StandsForSome self.now }
         ensures { IsShown self.now (λ w. made w (version_in w.versions v).creator && is_last w (version_in w.versions v).ender) result }
     {
         self.was_made(v) && self.lasts(v)
@@ -96,7 +97,7 @@ impl Parts {
 
     /// The versions that are committed rows, in order of creation.
     fn committed_versions(&self) -> Result<Vec<VersionId>, NoMemory>
-        requires { IsOrdered self.now }
+        requires { StandsForSome self.now }
         ensures { IfOk result (λ vs. IsShown self.now (λ w. places (λ v x. made w x.creator && is_last w x.ender) 0 w.versions) vs.items) }
     {
         let mut found = Vec::new(self.alloc);
@@ -111,7 +112,7 @@ impl Parts {
 
     /// The committed rows: those that committed transactions made and none of them ended.
     pub(crate) fn rows(&self) -> Result<Pairs, NoMemory>
-        requires ordered { IsOrdered self.now }
+        requires ordered { StandsForSome self.now }
         ensures { IfOk result (λ r. IsShown self.now committed_rows r) }
     {
         let vs = self.committed_versions()?;

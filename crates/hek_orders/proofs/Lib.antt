@@ -1,5 +1,4 @@
 pub mod Successors
-pub mod Histories
 pub mod Tallies
 pub mod Plays
 pub mod Totals

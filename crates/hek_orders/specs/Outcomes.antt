@@ -1,19 +1,19 @@
 -- What a history comes to.
-use Rattle.std.specs.Prelude.{ℕ, suc, zero, ◌≡◌, ◌+◌, ◌↔◌, Bool, true, false, ◌==◌, ◌||◌, if◌then◌else◌, IsTrue, List, [], ◌∷◌, ◌++◌, length, map}
+use Rattle.std.specs.Prelude.{ℕ, suc, zero, ◌≡◌, ◌+◌, ◌↔◌, Bool, true, false, ◌==◌, ◌||◌, if◌then◌else◌, IsTrue, List, [], ◌∷◌, ◌++◌, length}
 use Rattle.hek_rules.specs.declared.event.Cause.TheVariants as cause
 use Rattle.hek_rules.specs.declared.event.Level.TheVariants.{Serializable}
 use Rattle.hek_rules.specs.declared.reply.Reply.{Reply}
 use Rattle.hek_rules.specs.declared.reply.Reply.TheVariants as reply
 use Rattle.hek_rules.specs.declared.serial.Verdict.TheVariants.{Serial}
-use Rattle.hek_rules.specs.Plan.{Plan, levels_of}
-use Rattle.hek_rules.specs.Told.{Told}
+use Rattle.hek_rules.specs.Plan.{Plan}
+use Rattle.hek_rules.specs.Recorded.{Recorded}
 use Rattle.hek_rules.specs.Faults.{IsVerdict}
-use Rattle.hek_rules.specs.Image.{committed_rows}
+use Rattle.hek_rules.specs.Shown.{committed_rows}
 use Rattle.hek_rules.specs.Run.{run}
 use Rattle.hek_machine.specs.Observed.{opening_of}
 use Rattle.hek_serial.specs.Leveled.{at_level}
 use Rattle.hek_threads.specs.declared.entry.Entry.{Entry}
-use Rattle.hek_threads.specs.History.{events_of}
+use Rattle.hek_threads.specs.History.{events_of, recorded_by}
 use Rattle.hek_orders.specs.declared.outcome.Ending.{Ending}
 use Rattle.hek_orders.specs.declared.outcome.Ending.TheVariants as ending
 use Rattle.hek_orders.specs.Found.{Found}
@@ -45,12 +45,9 @@ abbrev pub waits_in : List Entry → Bool
 waits_in [] = false
 waits_in (x ∷ xs) = is_wait x.reply || waits_in xs
 
--- what a checker is told of a history
-abbrev pub told_by : Plan → List Entry → Told
-told_by p xs = record { buckets = p.buckets; rows = p.rows; levels = levels_of p; history = map (λ x. (x.event, x.reply)) xs }
-
-abbrev pub told_as_serializable : Plan → List Entry → Told
-told_as_serializable p xs = at_level Serializable (told_by p xs)
+-- what a checker is told of a history, with all taken as serializable
+abbrev pub told_as_serializable : Plan → List Entry → Recorded
+told_as_serializable p xs = at_level Serializable (recorded_by p xs)
 
 -- the outcome of a history
 pub record IsOutcomeOf (p : Plan) (history : List Entry) (o : Found) : Type 0 where

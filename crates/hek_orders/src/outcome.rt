@@ -2,11 +2,13 @@
 ghost use Rattle.std.specs.Prelude.{◌≡◌, ◌↔◌, IfOk, IsTrue, length};
 ghost use Rattle.hek_threads.specs.History.{Replays};
 ghost use Rattle.hek_orders.specs.Outcomes.{IsOutcomeOf, end_in, ends_upto, told_as_serializable, waits_in};
+ghost use Rattle.hek_rules.specs.Faults.{IsVerdict};
+ghost use Rattle.hek_rules.specs.declared.serial.Verdict.TheVariants as verdict;
 
 use crate::play::Play;
-use hek_rules::{Cause, Level, NoMemory, Pairs, Reply, Schedule, Transcript, TxnId, Verdict};
+use hek_rules::{Cause, Level, NoMemory, Pairs, Reply, Schedule, TxnId, Verdict};
 use hek_serial::check_at;
-use hek_threads::Entry;
+use hek_threads::{Entry, transcript_of};
 use std::alloc::Global;
 use std::marker::Model;
 
@@ -38,24 +40,28 @@ impl Model for Outcome {
 }
 
 impl Outcome {
+    /// How each transaction ended, by ID.
     pub fn ends(&self) -> &[Ending]
         ensures { result.now ≡ self.now.ends }
     {
         self.ends.as_slice()
     }
 
+    /// The committed rows at the end, by key.
     pub fn rows(&self) -> &Pairs
         ensures { result.now ≡ self.now.rows }
     {
         &self.rows
     }
 
+    /// Whether the checker calls the history serial, with all transactions taken as serializable.
     pub fn serial(&self) -> bool
         ensures { result ≡ self.now.serial }
     {
         self.serial
     }
 
+    /// Whether somebody was told to wait.
     pub fn waited(&self) -> bool
         ensures { result ≡ self.now.waited }
     {
@@ -167,29 +173,9 @@ pub(crate) fn is_wait(reply: &Reply) -> bool
 fn is_serial(alloc: Global, schedule: &Schedule, history: Vec<Entry>) -> Result<bool, NoMemory>
     ensures { IfOk result (λ b. IsTrue b ↔ IsVerdict (told_as_serializable schedule.now history.items) verdict.Serial) }
 {
-    let told = told_of(alloc, schedule, history)?;
+    let told = transcript_of(alloc, schedule, history)?;
     match check_at(alloc, &told, Level::Serializable)? {
         Verdict::Serial => Ok(true),
         Verdict::NotSerial(_) => Ok(false),
     }
-}
-
-ghost use Rattle.hek_rules.specs.Faults.{IsVerdict};
-ghost use Rattle.hek_rules.specs.declared.serial.Verdict.TheVariants as verdict;
-ghost use Rattle.hek_orders.specs.Outcomes.{told_by};
-
-/// A history over a schedule's rows and levels.
-fn told_of(alloc: Global, schedule: &Schedule, history: Vec<Entry>) -> Result<Transcript, NoMemory>
-    ensures { IfOk result (λ told. told ≡ told_by schedule.now history.items) }
-{
-    let mut told = Transcript::new(alloc, schedule)?;
-    for entry in history {
-        let Entry {
-            worker: _,
-            event,
-            reply,
-        } = entry;
-        told.push(event, reply)?;
-    }
-    Ok(told)
 }

@@ -107,7 +107,7 @@ fn play_in(
     Ok(())
 }
 
-/// The same as `one_move`, with the places in a vector.
+/// `one_move` with the places in a vector.
 fn move_in(
     book: &mut Book<'_>,
     moves: &[Moves],

@@ -1,7 +1,7 @@
 //! The texts of orders and outcomes.
-use hek_asm::write_reply;
+use hek_commands::put_reply;
 use hek_orders::{Ending, Outcome, Row};
-use hek_rules::{FromWrite, NoMemory, Reply, Schedule, TxnId};
+use hek_rules::{NoMemory, Reply, Schedule, TxnId};
 use std::alloc::Global;
 use std::io::Write;
 
@@ -37,16 +37,6 @@ fn put_end(alloc: Global, end: Ending, text: &mut Vec<u8>) -> Result<(), NoMemor
             Ok(())
         }
     }
-}
-
-fn put_reply(alloc: Global, reply: &Reply, text: &mut Vec<u8>) -> Result<(), NoMemory> {
-    let mut sink = FromWrite::new(Vec::new(alloc));
-    if write_reply(reply, &mut sink).is_err() {
-        return Err(NoMemory);
-    }
-    let words = sink.into_inner();
-    text.extend_from_slice(words.as_slice())?;
-    Ok(())
 }
 
 /// The name of a transaction, if the schedule declares it.

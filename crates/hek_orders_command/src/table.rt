@@ -1,6 +1,5 @@
 //! Outcomes by level: how many orders have each.
 use crate::lines::{put_outcome, put_written};
-use hek_asm::level_word;
 use hek_orders::{Outcome, Tally};
 use hek_rules::{Level, NoMemory, Schedule};
 use std::alloc::Global;
@@ -35,7 +34,7 @@ fn put_levels(text: &mut Vec<u8>) -> Result<(), NoMemory> {
         if place > 0 {
             text.push(b' ')?;
         }
-        text.extend_from_slice(level_word(*level).as_bytes())?;
+        text.extend_from_slice(level.word().as_bytes())?;
     }
     text.push(b'\n')?;
     Ok(())

@@ -3,7 +3,7 @@ use Rattle.std.specs.Prelude.{◌≡◌, ◌≤◌, ◌<◌, ◌⊎◌, ℕ, ◌
 use Rattle.std.specs.Io.KnownBytes.{Appends}
 use Rattle.hek_rules.specs.Plan.{Plan}
 use Rattle.hek_commands.specs.declared.schedule_file.ScheduleFile.{ScheduleFile}
-use Rattle.hek_commands.specs.Judged.{FileGives}
+use Rattle.hek_commands.specs.Commands.{FileGives}
 use Rattle.hek_page.specs.declared.page.Part.{Part}
 
 -- of so many steps the number of the last that is asked for

@@ -5,9 +5,9 @@ ghost use Rattle.hek_laws.specs.Runs.{IsPlaced};
 ghost use Rattle.hek_asm.specs.Trace.{NamesDeclared};
 
 use crate::look::{Changes, Look};
-use hek_asm::write_line;
+use hek_commands::put_line;
 use hek_machine::Machine;
-use hek_rules::{Event, FromWrite, NoMemory, Reply, Schedule, Transcript, TxnId, Verdict};
+use hek_rules::{Event, NoMemory, Reply, Schedule, Transcript, TxnId, Verdict};
 use hek_serial::check;
 use hek_why::{Dooms, Step, reasons};
 use hek_why_command::put_reasons;
@@ -138,7 +138,7 @@ fn show_step(
     show_from(alloc, schedule, &before, machine, number, event, gathered)
 }
 
-/// The same, with the machine before the step.
+/// One step of the page, with the machine before it.
 fn show_from(
     alloc: Global,
     schedule: &Schedule,
@@ -182,28 +182,6 @@ fn why_of(
     let list = reasons(alloc, step, dooms)?;
     put_reasons(schedule, step.before, t, list.as_slice(), &mut lines)?;
     Ok(lines)
-}
-
-/// The line of a step with its reply comes behind the trace.
-fn put_line(
-    alloc: Global,
-    schedule: &Schedule,
-    number: u64,
-    event: &Event,
-    reply: &Reply,
-    trace: &mut Vec<u8>,
-) -> Result<(), NoMemory>
-    requires { NamesDeclared (length schedule.now.txns) event.now }
-{
-    let mut sink = FromWrite::new(Vec::new(alloc));
-    match write_line(schedule, number, *event, reply, &mut sink) {
-        Ok(()) => {
-            let line = sink.into_inner();
-            trace.extend_from_slice(line.as_slice())?;
-            Ok(())
-        }
-        Err(_) => Err(NoMemory),
-    }
 }
 
 fn step_value(alloc: Global, changes: &Changes, why: &[u8]) -> Result<Value, AllocError> {

@@ -1,6 +1,6 @@
 //! The command itself.
 ghost use Rattle.std.specs.Prelude.{◌≡◌, length, IfOk, IfErr, OnOk, MatchResult};
-ghost use Rattle.hek_commands.specs.Judged.{PrintFails, IsStop};
+ghost use Rattle.hek_commands.specs.Commands.{PrintFails, IsStop};
 ghost use Rattle.hek_page.specs.Pages.{Pages, IsAnswer, WritesPage, count_of, done_of, last_of};
 
 use crate::data::{Shown, data_of};

@@ -1,7 +1,7 @@
 -- Beside a closed walk there is one with fewer members in between than there are numbers.
 use Rattle.std.proofs.Common.{ℕ, zero, suc, ◌≡◌, ◌+◌, ◌<◌, ◌≤◌, Bool, true, false, ◌&&◌, not, eqb, List, [], ◌∷◌, ◌++◌, length, refl, ap, ◌∙◌, subst, inl, inr, ◌⊎◌, arith}
 use Rattle.std.proofs.lemmas.Bool.{cases_lt, cases_eq, ne_eqb, eq-eqb}
-use Rattle.hek_rules.specs.Walks.{Follows, JoinsBelow}
+use Rattle.hek_rules.specs.Cycles.{Follows, JoinsBelow}
 
 abbrev pub one_if : Bool → ℕ
 one_if true = 1

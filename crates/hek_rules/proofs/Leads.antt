@@ -1,7 +1,7 @@
 -- The computed walk: that it is one, of that length, and the first of those.
 use Rattle.std.proofs.Common.{ℕ, zero, suc, ◌≡◌, ◌<◌, Bool, true, ◌&&◌, List, [], ◌∷◌, ◌++◌, length, Some, refl, sym, subst, inl, inr, arith}
 use Rattle.std.proofs.lemmas.Bool.{cases_order, both_ways, and_parts, and_from}
-use Rattle.hek_rules.specs.Walks.{Follows, IsNotAfter, JoinsBelow}
+use Rattle.hek_rules.specs.Cycles.{Follows, IsNotAfter, JoinsBelow}
 use Rattle.hek_rules.specs.Victim.{least, leads, between}
 use Rattle.hek_rules.proofs.Least.{IsLeast, least_found, least_from, found_from}
 

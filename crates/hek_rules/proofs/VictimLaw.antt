@@ -2,7 +2,7 @@
 use Rattle.std.proofs.Common.{ℕ, zero, suc, ◌≡◌, ◌<◌, ◌≤◌, Bool, List, [], ◌∷◌, ◌++◌, length, Option, Some, None, refl, sym, ap, ◌∙◌, subst, inl, inr, arith}
 use Rattle.std.proofs.lemmas.Bool.{cases_lt, both_ways}
 use Rattle.std.proofs.lemmas.Option.{some_pair_parts}
-use Rattle.hek_rules.specs.Walks.{Follows, IsClosedWalk, IsNotAfter, IsVictim, JoinsBelow}
+use Rattle.hek_rules.specs.Cycles.{Follows, IsClosedWalk, IsNotAfter, IsVictim, JoinsBelow}
 use Rattle.hek_rules.specs.Victim.{leads, fewest, between, victim_below, victim_of, VictimIsFound, NoneIsRight}
 use Rattle.hek_rules.proofs.Least.{IsLeast, IsLeast-least, least_none}
 use Rattle.hek_rules.proofs.Leads.{leads_of_walk, IsFirst, IsFirst-between}

@@ -1,5 +1,5 @@
 -- Events and their kinds: the word and opcode of each kind, how many operands it has, and an event's parts.
-use Rattle.std.specs.Prelude.{◌≡◌, ℕ, List, codes, Option, Some, None, if◌then◌else◌, ◌==◌, unwrap_or}
+use Rattle.std.specs.Prelude.{◌≡◌, ℕ, Bool, true, false, List, codes, Option, Some, None, if◌then◌else◌, ◌==◌, unwrap_or}
 use Rattle.std.specs.Str.{bytes_eq}
 use Rattle.hek_rules.specs.declared.event.Event.{Event}
 use Rattle.hek_rules.specs.declared.event.Event.TheVariants as event
@@ -91,6 +91,15 @@ operand_count kind.Fail = 0
 operand_count kind.Stamp = 0
 operand_count kind.End = 0
 operand_count kind.Detect = 0
+
+-- the two kinds that texts and images treat apart: of no transaction, and over a bucket
+abbrev pub is_detect : EventKind → Bool
+is_detect kind.Detect = true
+is_detect other = false
+
+abbrev pub is_scan : EventKind → Bool
+is_scan kind.Scan = true
+is_scan other = false
 
 -- the event of a kind, which takes the transaction and the operands that the kind has
 abbrev pub event_of : EventKind → ℕ → ℕ → ℕ → Event

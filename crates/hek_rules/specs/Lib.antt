@@ -1,5 +1,7 @@
 pub mod Words
 pub mod Events
+pub mod Names
+pub mod Replies
 pub mod Text
 pub mod Listing
 pub mod World
@@ -7,14 +9,15 @@ pub mod Visibility
 pub mod Waits
 pub mod Locks
 pub mod Walk
-pub mod Walks
+pub mod Cycles
 pub mod Victim
 pub mod WaitGraph
+pub mod Checks
 pub mod Table
 pub mod Run
-pub mod Image
+pub mod Shown
 pub mod Serial
-pub mod Told
+pub mod Recorded
 pub mod Faults
 pub mod WorkedRuns
 pub mod Name

@@ -21,7 +21,7 @@ read_refusal ts count (Held writer true) = Some NoMoreReads
 read_refusal ts count (Held None false) = if nat_lt count 255 then None else Some ReadersFull
 read_refusal ts count (Held (Some u) false) =
     if not (nat_lt count 255) then Some ReadersFull
-    else if count == 0 && (txn_in ts u).finished then Some NoMoreWaits
+    else if count == 0 && (txn_in ts u).no_more_waits then Some NoMoreWaits
     else None
 
 -- t needs no read lock of the version

@@ -1,7 +1,7 @@
 -- The victim and its cycle, computed for edges between numbers below n; and the law that ties it to walks.
 use Rattle.std.specs.Prelude.{ℕ, zero, suc, ◌≡◌, ◌↔◌, Bool, true, false, ◌&&◌, if◌then◌else◌, List, [], ◌∷◌, Option, Some, None}
 use Rattle.std.specs.Option.{option_or}
-use Rattle.hek_rules.specs.Walks.{IsClosedWalk, IsVictim, JoinsBelow}
+use Rattle.hek_rules.specs.Cycles.{IsClosedWalk, IsVictim, JoinsBelow}
 
 -- the least number below n that passes the test
 unfoldable pub least : (ℕ → Bool) → ℕ → Option ℕ

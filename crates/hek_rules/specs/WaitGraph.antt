@@ -9,7 +9,7 @@ use Rattle.hek_rules.specs.Victim.{victim_of}
 
 -- active, finished, and waiting
 abbrev pub is_node : World → ℕ → Bool
-is_node w u = is_active (txn_in w.txns u).state && (txn_in w.txns u).finished && nat_lt 0 (waits w u)
+is_node w u = is_active (txn_in w.txns u).state && (txn_in w.txns u).no_more_waits && nat_lt 0 (waits w u)
 
 -- u waits for t by a version: t read-locks one that u writes
 abbrev pub waits_by_version : World → ℕ → ℕ → Bool

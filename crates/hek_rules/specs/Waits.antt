@@ -16,5 +16,5 @@ abbrev pub waits : World → ℕ → ℕ
 waits w u = length (places (is_waited_for w.read_locks u) 0 w.versions) + length (firsts_of w.waiters u)
 
 -- on how many transactions t depends
-abbrev pub deps : World → ℕ → ℕ
-deps w t = length (firsts_of w.dependents t)
+abbrev pub commit_deps : World → ℕ → ℕ
+commit_deps w t = length (firsts_of w.dependents t)

@@ -21,12 +21,14 @@ impl Model for TxnId {
 }
 
 impl TxnId {
+    /// The ID with this number; that of a transaction is 1 or more.
     pub fn new(number: u64) -> TxnId
         ensures { result ≡ number }
     {
         TxnId { number }
     }
 
+    /// The number of the ID.
     pub fn number(self) -> u64
         ensures { result ≡ self }
     {
@@ -51,12 +53,14 @@ impl Model for VersionId {
 }
 
 impl VersionId {
+    /// The version at this index, counted from 0.
     pub fn new(index: u64) -> VersionId
         ensures { result ≡ index }
     {
         VersionId { index }
     }
 
+    /// The index, counted from 0.
     pub fn index(self) -> u64
         ensures { result ≡ self }
     {
@@ -81,12 +85,14 @@ impl Model for Time {
 }
 
 impl Time {
+    /// The time after so many ticks of the clock.
     pub fn new(ticks: u64) -> Time
         ensures { result ≡ ticks }
     {
         Time { ticks }
     }
 
+    /// The time in ticks of the clock.
     pub fn number(self) -> u64
         ensures { result ≡ self }
     {

@@ -1,6 +1,6 @@
 //! The kinds of events: one table of their words, opcodes and operands, which texts, images and traces share.
 ghost use Rattle.std.specs.Prelude.{◌≡◌};
-ghost use Rattle.hek_rules.specs.Events.{word_of, kind_named, opcode_of, kind_coded, operand_count, event_of, kind_of, txn_of, first_of, second_of, IsItsParts};
+ghost use Rattle.hek_rules.specs.Events.{word_of, kind_named, opcode_of, kind_coded, operand_count, event_of, kind_of, txn_of, first_of, second_of, IsItsParts, is_detect, is_scan};
 
 use crate::event::Event;
 use crate::id::TxnId;
@@ -45,6 +45,20 @@ impl EventKind {
             EventKind::End => "end",
             EventKind::Detect => "detect",
         }
+    }
+
+    /// Whether events of the kind are of no transaction.
+    pub fn is_detect(self) -> bool
+        ensures { result ≡ is_detect self }
+    {
+        matches!(self, EventKind::Detect)
+    }
+
+    /// Whether their operand is a bucket.
+    pub fn is_scan(self) -> bool
+        ensures { result ≡ is_scan self }
+    {
+        matches!(self, EventKind::Scan)
     }
 
     /// The kind that a word names, if it names one.
@@ -184,6 +198,7 @@ impl EventKind {
 }
 
 impl Event {
+    /// The kind of the event.
     pub fn kind(self) -> EventKind
         ensures { result ≡ kind_of self }
     {

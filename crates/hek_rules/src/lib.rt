@@ -2,6 +2,7 @@
 //! and replies; the definitions of the scheme stand in specs/.
 #![tactic(auto)]
 
+mod check;
 mod device;
 mod event;
 mod id;
@@ -18,6 +19,7 @@ mod transcript;
 mod word;
 pub mod worked;
 
+pub use check::Check;
 pub use device::{
     Ending, FromRead, FromWrite, MemorySink, MemorySource, Sink, Source, WriteFault, put_all,
 };
@@ -28,7 +30,7 @@ pub use laws::victim_is_that_of_walks;
 pub use lists::{Members, Pairs};
 pub use memory::NoMemory;
 pub use name::{name_ok, name_text};
-pub use reply::{Refusal, Reply};
+pub use reply::{Refusal, Reply, ReplyParts};
 pub use schedule::{MAX_BUCKETS, MAX_ROWS, MAX_STEPS, MAX_TXNS, Schedule};
 pub use serial::{Verdict, Write};
 pub use text::{next_line, next_word, number};

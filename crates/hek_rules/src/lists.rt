@@ -20,12 +20,14 @@ impl Model for Pairs {
 }
 
 impl Pairs {
+    /// These pairs, in this order.
     pub fn new(pairs: Vec<(u64, u64)>) -> Pairs
         ensures { result ≡ pairs.items }
     {
         Pairs { pairs }
     }
 
+    /// The pairs, in order.
     pub fn items(&self) -> &[(u64, u64)]
         ensures { result.now ≡ self.now }
     {
@@ -64,12 +66,14 @@ impl Model for Members {
 }
 
 impl Members {
+    /// These members, in this order.
     pub fn new(members: Vec<TxnId>) -> Members
         ensures { result ≡ members.items }
     {
         Members { members }
     }
 
+    /// The members, in order.
     pub fn items(&self) -> &[TxnId]
         ensures { result.now ≡ self.now }
     {

@@ -1,5 +1,6 @@
 //! What an event is answered with.
-ghost use Rattle.std.specs.Prelude.{◌≡◌, ◌↔◌, IfOk, IsTrue};
+ghost use Rattle.std.specs.Prelude.{◌≡◌, ◌↔◌, IfOk, OnErr, IsTrue};
+ghost use Rattle.hek_rules.specs.Replies.{HasList, whole};
 
 use crate::event::Cause;
 use crate::id::{Time, TxnId, VersionId};
@@ -55,16 +56,25 @@ pub enum Reply {
     Refused(Refusal),
 }
 
+/// A reply taken apart: an equal one where it has no list, else the list and what stands beside it.
+#[derive(Drop)]
+pub enum ReplyParts<'a> {
+    Plain(Reply),
+    Rows(&'a Pairs),
+    Victim(TxnId, &'a Members),
+}
+
 impl Reply {
-    /// An equal reply, or NoMemory, which comes only where there is a list to copy.
-    pub fn copy(&self) -> Result<Reply, NoMemory>
-        ensures { IfOk result (λ reply. reply ≡ self.now) }
+    /// The reply taken apart, with no memory taken.
+    pub fn parts(&self) -> ReplyParts<'_>
+        ensures { whole result ≡ self.now }
     {
-        Ok(match self {
+        ReplyParts::Plain(match self {
+            Reply::Rows(pairs) => return ReplyParts::Rows(pairs),
+            Reply::Victim(txn, members) => return ReplyParts::Victim(*txn, members),
             Reply::Began(time) => Reply::Began(*time),
             Reply::Found(value) => Reply::Found(*value),
             Reply::Absent => Reply::Absent,
-            Reply::Rows(pairs) => Reply::Rows(pairs.copy()?),
             Reply::Done => Reply::Done,
             Reply::Exists => Reply::Exists,
             Reply::Ready => Reply::Ready,
@@ -82,10 +92,21 @@ impl Reply {
             Reply::Left(version) => Reply::Left(*version),
             Reply::Over => Reply::Over,
             Reply::NoCycle => Reply::NoCycle,
-            Reply::Victim(txn, members) => Reply::Victim(*txn, members.copy()?),
             Reply::Aborted(cause) => Reply::Aborted(*cause),
             Reply::Refused(refusal) => Reply::Refused(*refusal),
         })
+    }
+
+    /// An equal reply, or NoMemory.
+    pub fn copy(&self) -> Result<Reply, NoMemory>
+        ensures equal { IfOk result (λ reply. reply ≡ self.now) }
+        ensures lists { OnErr result (HasList self.now) }
+    {
+        match self.parts() {
+            ReplyParts::Plain(reply) => Ok(reply),
+            ReplyParts::Rows(pairs) => Ok(Reply::Rows(pairs.copy()?)),
+            ReplyParts::Victim(txn, members) => Ok(Reply::Victim(txn, members.copy()?)),
+        }
     }
 
     /// Whether the replies are equal.

@@ -66,6 +66,7 @@ impl Schedule {
         self.buckets
     }
 
+    /// How many rows there are.
     pub fn row_count(&self) -> usize
         ensures { result ≡ length self.now.rows }
     {
@@ -105,6 +106,7 @@ impl Schedule {
         Ok(())
     }
 
+    /// How many transactions are declared: their IDs are 1 to this number.
     pub fn txn_count(&self) -> usize
         ensures { result ≡ length self.now.txns }
     {
@@ -129,6 +131,7 @@ impl Schedule {
         self.names.contains_key(name)
     }
 
+    /// The name of a declared transaction.
     pub fn name_of(&self, txn: TxnId) -> &str
         requires { IsDeclared (length self.now.txns) txn }
         ensures { slice_get (names_of self.now) (txn - 1) ≡ Some result.now }
@@ -137,6 +140,7 @@ impl Schedule {
         name.as_str()
     }
 
+    /// The level of a declared transaction.
     pub fn level_of(&self, txn: TxnId) -> Level
         requires { IsDeclared (length self.now.txns) txn }
         ensures { slice_get (levels_of self.now) (txn - 1) ≡ Some result }
@@ -163,6 +167,7 @@ impl Schedule {
         Ok(())
     }
 
+    /// The steps, in order.
     pub fn steps(&self) -> &[Event]
         ensures { result.now ≡ self.now.steps }
     {

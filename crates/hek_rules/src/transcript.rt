@@ -23,9 +23,9 @@ pub struct Transcript {
 impl Model for Transcript {
     ghost use Rattle.std.specs.Prelude.{◌<◌, ◌≡◌, length};
     ghost use Rattle.std.specs.List.{zip};
-    ghost use Rattle.hek_rules.specs.Told.{Told};
+    ghost use Rattle.hek_rules.specs.Recorded.{Recorded};
 
-    ghost Value = { Told };
+    ghost Value = { Recorded };
 
     ghost view = { λ t. record { buckets = t.buckets; rows = t.rows.items; levels = t.levels.items; history = zip t.events.items t.replies.items } };
 
@@ -89,6 +89,7 @@ impl Transcript {
         self.buckets
     }
 
+    /// How many rows the run began with.
     pub fn row_count(&self) -> usize
         ensures { result ≡ length self.now.rows }
     {
@@ -110,12 +111,14 @@ impl Transcript {
         self.rows.as_slice()
     }
 
+    /// How many transactions are declared: their IDs are 1 to this number.
     pub fn txn_count(&self) -> usize
         ensures { result ≡ length self.now.levels }
     {
         self.levels.len()
     }
 
+    /// The level of a declared transaction.
     pub fn level_of(&self, txn: TxnId) -> Level
         requires { IsDeclared (length self.now.levels) txn }
         ensures { slice_get self.now.levels (txn - 1) ≡ Some result }
@@ -130,6 +133,7 @@ impl Transcript {
         self.levels.as_slice()
     }
 
+    /// The events, in order.
     pub fn events(&self) -> &[Event]
         ensures { result.now ≡ map (λ (p : Event × Reply). p.0) self.now.history }
     {

@@ -7,7 +7,8 @@ use Rattle.std.specs.Ordering.{nat_cmp, is_eq}
 use Rattle.std.specs.BTreeMap.{is_at}
 use Rattle.std.specs.Map.{remove_entry, lookup}
 use Rattle.hek_rules.specs.Listing.{take_out, value_of}
-use Rattle.hek_laws.proofs.Lists.Rising.{AreAbove, AreRising, rising-filter}
+use Rattle.hek_laws.proofs.Lists.Rising.{rising-filter}
+use Rattle.hek_laws.specs.Rows.{AreAbove, AreRising}
 
 tied : (k n : ℕ) → is_eq (nat_cmp k n) ≡ (n == k)
 tied k n = grind (arith, nat_tests)

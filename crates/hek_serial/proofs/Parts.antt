@@ -8,10 +8,11 @@ use Rattle.std.specs.Option.{option_or}
 use Rattle.hek_rules.specs.declared.serial.Write.{Write}
 use Rattle.hek_rules.specs.Listing.{value_of}
 use Rattle.hek_rules.specs.Serial.{lay, rows_of}
-use Rattle.hek_laws.proofs.Lists.Overlay.{key_of, left_by, value_of-put, value_of-lay}
-use Rattle.hek_laws.proofs.Lists.Rising.{AreRising, same_rows, rising-put, rising-filter, rising-lay_all, value_of-filter}
+use Rattle.hek_laws.proofs.Lists.Overlay.{left_by, value_of-put, value_of-lay}
+use Rattle.hek_laws.proofs.Lists.Rising.{same_rows, rising-put, rising-filter, rising-lay_all, value_of-filter}
+use Rattle.hek_laws.specs.Rows.{AreRising, key_of}
 use Rattle.hek_laws.proofs.Worlds.Histories.{option_or-none}
-use Rattle.hek_serial.specs.Held.{joined, gathered, part_at, AreParts}
+use Rattle.hek_serial.specs.BucketRows.{joined, gathered, part_at, AreParts}
 
 or_if : (b : Bool) (x : ℕ) (a o : Option ℕ) → (if b then Some x else option_or a o) ≡ option_or (if b then Some x else a) o
 or_if true x a o = refl

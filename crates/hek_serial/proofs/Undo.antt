@@ -7,10 +7,11 @@ use Rattle.hek_rules.specs.declared.reply.Reply.{Reply}
 use Rattle.hek_rules.specs.declared.serial.Write.{Write}
 use Rattle.hek_rules.specs.Listing.{put, take_out, value_of}
 use Rattle.hek_rules.specs.Serial.{lay, lay_all, write_of, writes_of}
-use Rattle.hek_laws.proofs.Lists.Overlay.{key_of, left_by, value_of-put, value_of-take_out, value_of-lay}
-use Rattle.hek_laws.proofs.Lists.Rising.{AreRising, same_rows, rising-put, rising-lay_all}
+use Rattle.hek_laws.proofs.Lists.Overlay.{left_by, value_of-put, value_of-take_out, value_of-lay}
+use Rattle.hek_laws.proofs.Lists.Rising.{same_rows, rising-put, rising-lay_all}
+use Rattle.hek_laws.specs.Rows.{AreRising, key_of}
 use Rattle.hek_laws.proofs.Worlds.Histories.{writes_of-append, lay_all-append, append-nil}
-use Rattle.hek_serial.specs.Held.{Held}
+use Rattle.hek_serial.specs.BucketRows.{BucketRows}
 use Rattle.hek_serial.specs.Replay.{laid_back, undone}
 use Rattle.hek_serial.proofs.Maps.{rising-take_out}
 
@@ -18,11 +19,11 @@ pub laid_back-append : (us : List Write) (u : Write) (rows : List (ℕ × ℕ)) 
 laid_back-append [] u rows = refl
 laid_back-append (w ∷ us) u rows = ap (lay w) (laid_back-append us u rows)
 
-pub undone-append : (us : List Write) (u : Write) (s : Held) → undone (us ++ u ∷ []) s ≡ undone us (record { buckets = s.buckets; rows = lay u s.rows })
+pub undone-append : (us : List Write) (u : Write) (s : BucketRows) → undone (us ++ u ∷ []) s ≡ undone us (record { buckets = s.buckets; rows = lay u s.rows })
 undone-append us u s = ap (λ rows. record { buckets = s.buckets; rows = rows }) (laid_back-append us u s.rows)
 
 -- with one change more to take back
-pub undone-more : (us : List Write) (u : Write) (old new : Held) → new.buckets ≡ old.buckets → lay u new.rows ≡ old.rows → undone (us ++ u ∷ []) new ≡ undone us old
+pub undone-more : (us : List Write) (u : Write) (old new : BucketRows) → new.buckets ≡ old.buckets → lay u new.rows ≡ old.rows → undone (us ++ u ∷ []) new ≡ undone us old
 undone-more us u old new b r =
     let rows = laid_back-append us u new.rows ∙ ap (laid_back us) r in
     λ i. record { buckets = b i; rows = rows i }

@@ -3,19 +3,19 @@ ghost use Rattle.std.specs.Prelude.{◌≡◌, ◌<◌, ℕ, length, slice_index
 ghost use Rattle.hek_rules.specs.Events.{txn_of as txn_in};
 ghost use Rattle.hek_serial.specs.Links.{AreLinks, place_in, next_in, with_place};
 
-use crate::table::Table;
+use crate::number_map::NumberMap;
 use hek_rules::{Event, NoMemory, TxnId};
 use std::alloc::Global;
 
 /// The first place of each transaction, and the next of the same behind each place.
 #[derive(Drop)]
-pub struct Links {
-    first: Table,
+pub(crate) struct Links {
+    first: NumberMap,
     next: Vec<usize>,
 }
 
 /// The place that is kept for t, or the number of places.
-pub fn place_of(first: &Table, t: TxnId, count: usize) -> usize
+pub(crate) fn place_of(first: &NumberMap, t: TxnId, count: usize) -> usize
     ensures { result ≡ place_in first.now count t }
 {
     match first.value_of(t.number()) {
@@ -26,7 +26,12 @@ pub fn place_of(first: &Table, t: TxnId, count: usize) -> usize
 
 /// An event is put before those of its transaction that follow. Answers the place of the first of these, or the number of
 /// places.
-pub fn link(first: &mut Table, event: Event, place: usize, count: usize) -> Result<usize, NoMemory>
+pub(crate) fn link(
+    first: &mut NumberMap,
+    event: Event,
+    place: usize,
+    count: usize,
+) -> Result<usize, NoMemory>
     ensures next { IfOk result (λ n. n ≡ next_in first.old count (txn_in event)) }
     ensures first { OnOk result (first.new ≡ with_place first.old place (txn_in event)) }
 {
@@ -41,11 +46,11 @@ pub fn link(first: &mut Table, event: Event, place: usize, count: usize) -> Resu
 }
 
 impl Links {
-    pub fn new(alloc: Global, events: &[Event]) -> Result<Links, NoMemory>
+    pub(crate) fn new(alloc: Global, events: &[Event]) -> Result<Links, NoMemory>
         ensures { IfOk result (λ links. AreLinks events.now links.first links.next.items) }
     {
         let count = events.len();
-        let mut first = Table::new(alloc);
+        let mut first = NumberMap::new(alloc);
         let mut next = vec![in alloc; count; count]?;
         for place in (0..count).rev() {
             next[place] = link(&mut first, events[place], place, count)?;
@@ -54,14 +59,14 @@ impl Links {
     }
 
     /// The first place of t, or the number of places.
-    pub fn first(&self, t: TxnId) -> usize
+    pub(crate) fn first(&self, t: TxnId) -> usize
         ensures { result ≡ place_in self.now.first (length self.now.next.items) t }
     {
         place_of(&self.first, t, self.next.len())
     }
 
     /// The next place of the transaction that has an event at a place, or the number of places.
-    pub fn next(&self, place: usize) -> usize
+    pub(crate) fn next(&self, place: usize) -> usize
         requires { place < length self.now.next.items }
         ensures { result ≡ slice_index self.now.next.items place }
     {

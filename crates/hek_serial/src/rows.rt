@@ -2,16 +2,15 @@
 ghost use Rattle.std.specs.Prelude.{◌≡◌, ◌<◌, ◌↔◌, [], ℕ, IsTrue, OnOk, IfOk};
 ghost use Rattle.hek_rules.specs.Listing.{value_of as value_in};
 ghost use Rattle.hek_rules.specs.Serial.{AreIn, rows_of, lay as laid};
-ghost use Rattle.hek_laws.proofs.Lists.Overlay.{key_of as key_in};
-ghost use Rattle.hek_laws.proofs.Lists.Rising.{AreRising};
+ghost use Rattle.hek_laws.specs.Rows.{AreRising, key_of as key_in};
 
-use crate::table::Table;
+use crate::number_map::NumberMap;
 use hek_rules::{NoMemory, Write};
 use std::alloc::Global;
 use std::marker::Model;
 
 /// The key that a change is of.
-pub fn key_of(write: Write) -> u64
+pub(crate) fn key_of(write: Write) -> u64
     ensures { result ≡ key_in write }
 {
     match write {
@@ -22,15 +21,15 @@ pub fn key_of(write: Write) -> u64
 
 /// Keys with their values, in so many buckets.
 #[derive(Drop)]
-pub struct Rows {
-    parts: Vec<Table>,
+pub(crate) struct Rows {
+    parts: Vec<NumberMap>,
 }
 
 impl Model for Rows {
     ghost use Rattle.std.specs.Prelude.{length};
-    ghost use Rattle.hek_serial.specs.Held.{Held, AreParts, gathered};
+    ghost use Rattle.hek_serial.specs.BucketRows.{BucketRows, AreParts, gathered};
 
-    ghost Value = { Held };
+    ghost Value = { BucketRows };
 
     ghost view = { λ r. record { buckets = length r.parts.items; rows = gathered r.parts.items } };
 
@@ -39,19 +38,19 @@ impl Model for Rows {
 
 impl Rows {
     /// No rows in so many buckets.
-    pub fn new(alloc: Global, buckets: u64) -> Result<Rows, NoMemory>
+    pub(crate) fn new(alloc: Global, buckets: u64) -> Result<Rows, NoMemory>
         requires { 0 < buckets }
         ensures { IfOk result (λ rows. rows ≡ record { buckets = buckets; rows = [] }) }
     {
         let mut parts = Vec::new(alloc);
         for _bucket in 0..buckets {
-            parts.push(Table::new(alloc))?;
+            parts.push(NumberMap::new(alloc))?;
         }
         Ok(Rows { parts })
     }
 
     /// Makes a change.
-    pub fn lay(&mut self, write: Write) -> Result<(), NoMemory>
+    pub(crate) fn lay(&mut self, write: Write) -> Result<(), NoMemory>
         ensures { OnOk result (self.new ≡ record self.old { rows = laid write self.old.rows }) }
     {
         let bucket = key_of(write) % self.parts.len() as u64;
@@ -60,7 +59,7 @@ impl Rows {
     }
 
     /// Makes a change, and answers the one that takes it back.
-    pub fn change(&mut self, write: Write) -> Result<Write, NoMemory>
+    pub(crate) fn change(&mut self, write: Write) -> Result<Write, NoMemory>
         ensures laid { OnOk result (self.new ≡ record self.old { rows = laid write self.old.rows }) }
         ensures back { IfOk result (λ back. laid back self.new.rows ≡ self.old.rows) }
     {
@@ -73,7 +72,7 @@ impl Rows {
         }
     }
 
-    pub fn value_of(&self, key: u64) -> Option<u64>
+    pub(crate) fn value_of(&self, key: u64) -> Option<u64>
         ensures value { result ≡ value_in self.now.rows key }
         ensures rising { AreRising self.now.rows }
     {
@@ -82,7 +81,7 @@ impl Rows {
     }
 
     /// Whether each of the pairs is among the rows.
-    pub fn has_all(&self, pairs: &[(u64, u64)]) -> bool
+    pub(crate) fn has_all(&self, pairs: &[(u64, u64)]) -> bool
         ensures { IsTrue result ↔ AreIn self.now.rows pairs.now }
     {
         for pair in pairs {
@@ -94,7 +93,7 @@ impl Rows {
     }
 
     /// Whether the pairs are the rows of a bucket.
-    pub fn is_bucket(&self, bucket: u64, pairs: &[(u64, u64)]) -> bool
+    pub(crate) fn is_bucket(&self, bucket: u64, pairs: &[(u64, u64)]) -> bool
         ensures { IsTrue result ↔ (pairs.now ≡ rows_of self.now.buckets bucket self.now.rows) }
     {
         if bucket < self.parts.len() as u64 {
@@ -105,7 +104,7 @@ impl Rows {
     }
 
     /// The rows of a bucket.
-    pub fn bucket(&self, alloc: Global, bucket: u64) -> Result<Vec<(u64, u64)>, NoMemory>
+    pub(crate) fn bucket(&self, alloc: Global, bucket: u64) -> Result<Vec<(u64, u64)>, NoMemory>
         ensures { IfOk result (λ pairs. pairs.items ≡ rows_of self.now.buckets bucket self.now.rows) }
     {
         if bucket < self.parts.len() as u64 {

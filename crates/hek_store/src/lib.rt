@@ -4,9 +4,10 @@
 mod adding;
 mod chains;
 mod places;
+mod slots;
 mod store;
 mod version;
 
-pub use places::Versions;
+pub use places::{KeyVersions, Versions};
 pub use store::Store;
 pub use version::Version;

@@ -4,8 +4,8 @@ use Rattle.std.specs.List.{zip}
 use Rattle.hek_rules.specs.declared.event.Event.{Event}
 use Rattle.hek_rules.specs.declared.reply.Reply.{Reply}
 use Rattle.hek_rules.specs.Plan.{Plan}
-use Rattle.hek_rules.specs.Told.{Told}
-use Rattle.hek_machine.specs.Steps.{told_of}
+use Rattle.hek_rules.specs.Recorded.{Recorded}
+use Rattle.hek_machine.specs.Steps.{recorded_of}
 
 zip_more : {X Y : Type 0} (xs : List X) (ys : List Y) (i : ℕ) (x : X) (y : Y) → i < length xs → i < length ys → x ≡ get_or xs i x → y ≡ get_or ys i y →
     zip (take i xs) (take i ys) ++ (x, y) ∷ [] ≡ zip (take (suc i) xs) (take (suc i) ys)
@@ -15,11 +15,11 @@ zip_more {X = X} {Y = Y} (z ∷ xs) (w ∷ ys) zero x y a b e f = ap (λ (u : X)
 zip_more {X = X} {Y = Y} (z ∷ xs) (w ∷ ys) (suc i) x y a b e f = ap (λ (ps : List (X × Y)). (z, w) ∷ ps) (zip_more xs ys i x y (omega (arith, a)) (omega (arith, b)) e f)
 
 -- one more step with its reply
-pub told_more : (p : Plan) (i : ℕ) (es : List Event) (rs : List Reply) (e : Event) (r : Reply) (old new : Told) → i < length es → i < length rs → e ≡ get_or es i e → r ≡ get_or rs i r →
-    old ≡ told_of p (take i es) (take i rs) → new ≡ record old { history = old.history ++ (e, r) ∷ [] } → new ≡ told_of p (take (i + 1) es) (take (i + 1) rs)
+pub told_more : (p : Plan) (i : ℕ) (es : List Event) (rs : List Reply) (e : Event) (r : Reply) (old new : Recorded) → i < length es → i < length rs → e ≡ get_or es i e → r ≡ get_or rs i r →
+    old ≡ recorded_of p (take i es) (take i rs) → new ≡ record old { history = old.history ++ (e, r) ∷ [] } → new ≡ recorded_of p (take (i + 1) es) (take (i + 1) rs)
 told_more p i es rs e r old new a b ee er told pushed =
     let more : suc i ≡ i + 1 = omega arith in
     pushed
-    ∙ ap (λ (t : Told). record t { history = t.history ++ (e, r) ∷ [] }) told
-    ∙ ap (λ (h : List (Event × Reply)). record (told_of p es rs) { history = h }) (zip_more es rs i e r a b ee er)
-    ∙ ap (λ k. told_of p (take k es) (take k rs)) more
+    ∙ ap (λ (t : Recorded). record t { history = t.history ++ (e, r) ∷ [] }) told
+    ∙ ap (λ (h : List (Event × Reply)). record (recorded_of p es rs) { history = h }) (zip_more es rs i e r a b ee er)
+    ∙ ap (λ k. recorded_of p (take k es) (take k rs)) more

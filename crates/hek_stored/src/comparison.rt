@@ -1,7 +1,7 @@
 //! A vector beside what is stored of it.
 ghost use Rattle.std.specs.Prelude.{◌≡◌, ◌↔◌, length, IfOk, IsTrue};
 ghost use Rattle.hek_asm.specs.Trace.{trace};
-ghost use Rattle.hek_machine.specs.Steps.{told_of};
+ghost use Rattle.hek_machine.specs.Steps.{recorded_of};
 
 use crate::agreement::{changed_at, checkers_agree};
 use crate::faults::Fault;
@@ -145,7 +145,7 @@ fn is_trace_of(
 /// The steps of a schedule with these replies.
 fn transcript(alloc: Global, schedule: &Schedule, replies: &[Reply]) -> Result<Transcript, NoMemory>
     requires { length replies.now ≡ length schedule.now.steps }
-    ensures { IfOk result (λ transcript. transcript ≡ told_of schedule.now schedule.now.steps replies.now) }
+    ensures { IfOk result (λ transcript. transcript ≡ recorded_of schedule.now schedule.now.steps replies.now) }
 {
     let mut transcript = Transcript::new(alloc, schedule)?;
     for place in 0..replies.len() {

@@ -6,6 +6,7 @@ use std::alloc::{AllocError, AllocFailed};
 use std::io;
 use thiserror::Error;
 
+/// Why a stored run can't be compared.
 #[derive(Debug, Drop, Error)]
 pub enum Fault {
     #[error("{0}")]

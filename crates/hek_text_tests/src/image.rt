@@ -382,4 +382,13 @@ fn loads_the_longest_image(rt: HostRuntime) {
         }
     }
     assert!(rt; loaded.same(&schedule));
+    let start = Instant::now(&rt);
+    let mut source = MemorySource::new(sink.bytes(), 100_000, Ending::Ends);
+    let gathered = gathered_image(rt.alloc(), &mut source).expect(&rt, "a schedule");
+    if let Ok(start) = start {
+        if let Ok(time) = start.elapsed(&rt) {
+            let _ = eprintln!(rt; "and loaded by the plain loader in {} ms", time.as_millis());
+        }
+    }
+    assert!(rt; gathered.same(&schedule));
 }

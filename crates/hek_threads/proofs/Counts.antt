@@ -195,7 +195,7 @@ step_at t work Ending n r m all f h g = end_step t work n r m h
 step_at t work Ended n r m all f h g = absurd (cc)
 
 -- what a whole piece of a transcript counts
-pub record Told (t : ℕ) (work : List Event) (p : Position) (xs : List (Event × Reply)) (q : Position) : Type 0 where
+pub record Recorded (t : ℕ) (work : List Event) (p : Position) (xs : List (Event × Reply)) (q : Position) : Type 0 where
   pub turns : waits xs + q.turns ≡ p.turns
   pub stays : fails xs ≡ false
   pub before : IsTrue (open_at q.stage) → IsTrue (open_at p.stage) × (committed xs ≡ false)
@@ -232,7 +232,7 @@ some_true a b P Q R f g p =
       | inr q ↦ elim (g q) [ inl k ↦ inl (or_there a b k) | inr r ↦ inr r ]
     ]
 
-told_more : (t : ℕ) (work : List Event) (p : Position) (x : Event × Reply) (xs : List (Event × Reply)) (m q : Position) → Step t work p.stage p.turns x.0 x.1 m → Told t work m xs q → Told t work p (x ∷ xs) q
+told_more : (t : ℕ) (work : List Event) (p : Position) (x : Event × Reply) (xs : List (Event × Reply)) (m q : Position) → Step t work p.stage p.turns x.0 x.1 m → Recorded t work m xs q → Recorded t work p (x ∷ xs) q
 told_more t work p x xs m q one k = record {
   turns = adds (one_if (waits_at x.0 x.1)) (waits xs) (waits (x ∷ xs)) q.turns m.turns p.turns (waits_more x xs) one.turns k.turns;
   stays = or_none (is_fail x.0) (fails xs) one.stays k.stays;
@@ -241,11 +241,11 @@ told_more t work p x xs m q one k = record {
   made = made_more (is_work t x.0) x.0 (work_of t (events_in xs)) (todo work q.stage) (todo work m.stage) (todo work p.stage) k.made one.made;
 }
 
-told_none : (t : ℕ) (work : List Event) (p : Position) → Told t work p [] p
+told_none : (t : ℕ) (work : List Event) (p : Position) → Recorded t work p [] p
 told_none t work p = record { turns = zero_more p.turns; stays = refl; before = λ o. (o, refl); behind = λ o. inr o; made = refl }
 
-pub told : (t : ℕ) (work : List Event) (p : Position) (xs : List (Event × Reply)) (q : Position) → AreWork t work → IsTrue (good p.stage) → Whole t work p xs q → Told t work p xs q
-told t work p [] q all g h = subst (λ (z : Position). Told t work p [] z) h (told_none t work p)
+pub told : (t : ℕ) (work : List Event) (p : Position) (xs : List (Event × Reply)) (q : Position) → AreWork t work → IsTrue (good p.stage) → Whole t work p xs q → Recorded t work p xs q
+told t work p [] q all g h = subst (λ (z : Position). Recorded t work p [] z) h (told_none t work p)
 told t work p (x ∷ xs) q all g h =
     let one : Step t work p.stage p.turns (event_at t work p.stage) x.1 h.1.0 = step_at t work p.stage p.turns x.1 h.1.0 all g h.1.1 h.1.2 in
     told_more t work p x xs h.1.0 q (subst (λ (e : Event). Step t work p.stage p.turns e x.1 h.1.0) (sym h.0) one) (told t work h.1.0 xs q all h.1.2 h.1.3)

@@ -18,7 +18,7 @@ use Rattle.hek_threads.proofs.Pieces.{no_end, is_rest, rest_leads}
 use Rattle.hek_threads.proofs.Works.{next_work, no_work}
 use Rattle.hek_threads.proofs.Fulls.{AreWork, drop_work, full_from, full_back, left_of, stands_next}
 use Rattle.hek_threads.proofs.Ends.{begins_and_ends}
-use Rattle.hek_threads.proofs.Counts.{Told, Sums, told, todo, open_at, one_if, sums_append, sums_one}
+use Rattle.hek_threads.proofs.Counts.{Recorded, Sums, told, todo, open_at, one_if, sums_append, sums_one}
 
 -- what is left to do for one that has aborted neither waits, fails, commits, reads nor writes
 
@@ -32,25 +32,25 @@ over s = false
 abbrev IsCalm : ℕ → Event → Reply → Type 0
 IsCalm t e r = (waits_at e r ≡ false) × (is_fail e ≡ false) × (is_committed r ≡ false) × (is_work t e ≡ false)
 
-is_over : (s : Stage) (n : ℕ) (m : Position) → at s n ≡ Some m → IsTrue (over s) → IsTrue (over m.stage)
-is_over s n m h o = subst (λ (p : Position). IsTrue (over p.stage)) (sym (lands s n m h)) o
+is_decided : (s : Stage) (n : ℕ) (m : Position) → at s n ≡ Some m → IsTrue (over s) → IsTrue (over m.stage)
+is_decided s n m h o = subst (λ (p : Position). IsTrue (over p.stage)) (sym (lands s n m h)) o
 
 calm_release : (t n : ℕ) (r : Reply) (m : Position) → after_release true n r ≡ Some m → IsTrue (over m.stage) × IsCalm t (Release t) r
-calm_release t n (ReleasedRead v u) m h = (is_over (Releasing true) n m h refl, (refl, refl, refl, refl))
-calm_release t n (ReleasedBucket b) m h = (is_over (Releasing true) n m h refl, (refl, refl, refl, refl))
-calm_release t n (ReleasedWaiter u) m h = (is_over (Releasing true) n m h refl, (refl, refl, refl, refl))
-calm_release t n Nothing m h = (is_over (Stamping true) n m h refl, (refl, refl, refl, refl))
+calm_release t n (ReleasedRead v u) m h = (is_decided (Releasing true) n m h refl, (refl, refl, refl, refl))
+calm_release t n (ReleasedBucket b) m h = (is_decided (Releasing true) n m h refl, (refl, refl, refl, refl))
+calm_release t n (ReleasedWaiter u) m h = (is_decided (Releasing true) n m h refl, (refl, refl, refl, refl))
+calm_release t n Nothing m h = (is_decided (Stamping true) n m h refl, (refl, refl, refl, refl))
 calm_release t n r m h = absurd (cc)
 
 calm_stamp : (t n : ℕ) (r : Reply) (m : Position) → after_stamp true n r ≡ Some m → IsTrue (over m.stage) × IsCalm t (Stamp t) r
-calm_stamp t n (StampedBegin v) m h = (is_over (Stamping true) n m h refl, (refl, refl, refl, refl))
-calm_stamp t n (StampedEnd v) m h = (is_over (Stamping true) n m h refl, (refl, refl, refl, refl))
-calm_stamp t n (Left v) m h = (is_over (Stamping true) n m h refl, (refl, refl, refl, refl))
-calm_stamp t n Nothing m h = (is_over Ending n m h refl, (refl, refl, refl, refl))
+calm_stamp t n (StampedBegin v) m h = (is_decided (Stamping true) n m h refl, (refl, refl, refl, refl))
+calm_stamp t n (StampedEnd v) m h = (is_decided (Stamping true) n m h refl, (refl, refl, refl, refl))
+calm_stamp t n (Left v) m h = (is_decided (Stamping true) n m h refl, (refl, refl, refl, refl))
+calm_stamp t n Nothing m h = (is_decided Ending n m h refl, (refl, refl, refl, refl))
 calm_stamp t n r m h = absurd (cc)
 
 calm_end : (t n : ℕ) (r : Reply) (m : Position) → after_end n r ≡ Some m → IsTrue (over m.stage) × IsCalm t (End t) r
-calm_end t n Over m h = (is_over Ended n m h refl, (refl, refl, refl, refl))
+calm_end t n Over m h = (is_decided Ended n m h refl, (refl, refl, refl, refl))
 calm_end t n r m h = absurd (cc)
 
 calm_step : (t : ℕ) (work : List Event) (s : Stage) (n : ℕ) (r : Reply) (m : Position) → IsTrue (over s) → after t work s n r ≡ Some m → IsTrue (over m.stage) × IsCalm t (event_at t work s) r
@@ -210,11 +210,11 @@ last_turns turns w m xs h none is gives = record {
   gives_up = (λ y. omega arith, λ z. gives);
 }
 
-front_sums : (t : ℕ) (work : List Event) (p : Position) (xs : List (Event × Reply)) (q : Position) → Told t work p xs q → IsTrue (open_at q.stage) → Sums t xs (waits xs) false false (work_of t (events_in xs))
+front_sums : (t : ℕ) (work : List Event) (p : Position) (xs : List (Event × Reply)) (q : Position) → Recorded t work p xs q → IsTrue (open_at q.stage) → Sums t xs (waits xs) false false (work_of t (events_in xs))
 front_sums t work p xs q h o = record { turns = refl; stays = h.stays; ends = (h.before o).1; work = refl }
 
 -- a front, the event at which it stops, and what is behind it
-all_sums : (t : ℕ) (work : List Event) (p mid : Position) (front rest : List (Event × Reply)) (x : Event × Reply) (k : ℕ) (f : Bool) → Told t work p front mid → IsTrue (open_at mid.stage)
+all_sums : (t : ℕ) (work : List Event) (p mid : Position) (front rest : List (Event × Reply)) (x : Event × Reply) (k : ℕ) (f : Bool) → Recorded t work p front mid → IsTrue (open_at mid.stage)
     → one_if (waits_at x.0 x.1) ≡ k → is_fail x.0 ≡ false → is_committed x.1 ≡ false → Sums t rest 0 f false []
     → Sums t (front ++ x ∷ rest) (waits front + (k + 0)) f false (work_of t (events_in front) ++ (cond (is_work t x.0) (x.0 ∷ []) [] ++ []))
 all_sums t work p mid front rest x k f h o w calm_here ends r =

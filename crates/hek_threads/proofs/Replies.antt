@@ -10,13 +10,13 @@ use Rattle.hek_rules.specs.declared.reply.Reply.{Reply}
 use Rattle.hek_rules.specs.Listing.{seconds_of}
 use Rattle.hek_rules.specs.Plan.{Plan}
 use Rattle.hek_rules.specs.World.{World, bucket_of, version_in, is_held_by}
-use Rattle.hek_rules.specs.Waits.{waits, deps}
+use Rattle.hek_rules.specs.Waits.{waits, commit_deps}
 use Rattle.hek_rules.specs.Walk.{Judgement, Refuse, Allow, of_key, of_bucket, walk, last, seen_of, ToRead, ToWrite}
 use Rattle.hek_rules.specs.WaitGraph.{victim}
-use Rattle.hek_rules.specs.Table.{Outcome, outcome, is_claimed, after_read, after_scan, after_insert, after_update, after_delete, release_waiter, release_bucket, release_first, stamp_committed, stamp_aborted, entries_of, detect_row}
+use Rattle.hek_rules.specs.Table.{Outcome, outcome, is_claimed, after_read, after_scan, after_insert, after_update, after_delete, release_waiter, release_bucket, release_first, stamp_committed, stamp_aborted, entries_of, detect_rule}
 use Rattle.hek_rules.specs.Run.{run}
 use Rattle.hek_laws.proofs.Table.Cases.{each_event}
-use Rattle.hek_machine.specs.declared.parts.Parts.{Parts}
+use Rattle.hek_machine.specs.declared.engine.Engine.{Engine}
 use Rattle.hek_machine.specs.Stands.{StandsFor}
 use Rattle.hek_machine.specs.Observed.{opening_of}
 use Rattle.hek_machine.specs.Steps.{IsStep, IsSmall}
@@ -74,7 +74,7 @@ module _ (w : World) (t : ℕ) where
   fits-undo e (BeginOf v ∷ es) h = tt
   fits-undo e (EndOf v ∷ es) h = cond_both (is_held_by t (version_in w.versions v).ender) _ _ (Fits (room_for w e)) (λ _. tt) (λ _. tt)
 
-fits-victim : (w : World) (answer : Option (ℕ × List ℕ)) → IsSmall w (detect_row w answer).reply → Fits (room_for w event.Detect) (detect_row w answer).reply
+fits-victim : (w : World) (answer : Option (ℕ × List ℕ)) → IsSmall w (detect_rule w answer).reply → Fits (room_for w event.Detect) (detect_rule w answer).reply
 fits-victim w None h = tt
 fits-victim w (Some a) h = h
 
@@ -93,14 +93,14 @@ fits-outcome w e = each_event {w = w} {P = λ e o. IsSmall w o.reply → Fits (r
   precommit = λ t _ _. cond_both (waits w t == 0) _ _ (λ (o : Outcome). IsSmall w o.reply → Fits (room_for w (event.Precommit t)) o.reply) (λ _ h. tt) (λ _ h. tt);
   fail = λ t _ h. tt;
   release = λ t _. fits-release w t (event.Release t) (seconds_of w.read_locks t);
-  commit = λ t _. cond_both (deps w t == 0) _ _ (λ (o : Outcome). IsSmall w o.reply → Fits (room_for w (event.Commit t)) o.reply) (λ _ h. tt) (λ _ h. tt);
+  commit = λ t _. cond_both (commit_deps w t == 0) _ _ (λ (o : Outcome). IsSmall w o.reply → Fits (room_for w (event.Commit t)) o.reply) (λ _ h. tt) (λ _ h. tt);
   stamp_committed = λ t _. fits-stamp w t (event.Stamp t) (entries_of w.writes t);
   stamp_aborted = λ t cause _. fits-undo w t (event.Stamp t) (entries_of w.writes t);
   end = λ t _ _ h. tt;
   detect = fits-victim w (victim w);
 }) e
 
-pub fits_room : (p : Plan) (m n : Parts) (xs : List Entry) (e : Event) (r : Reply) → Replays p m xs → IsStep e m n r
+pub fits_room : (p : Plan) (m n : Engine) (xs : List Entry) (e : Event) (r : Reply) → Replays p m xs → IsStep e m n r
     → ((w : World) → StandsFor m w → IsSmall w r) → Fits (room_for (run (opening_of p 1) (events_of xs)) e) r
 fits_room p m n xs e r h step small =
     let w : World = run (opening_of p 1) (events_of xs) in

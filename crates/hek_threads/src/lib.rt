@@ -9,6 +9,7 @@ mod room;
 mod runner;
 mod shared;
 mod stage;
+mod transcribed;
 mod worker;
 
 pub use book::Book;
@@ -21,4 +22,5 @@ pub use parts::compare;
 pub use runner::{Report, run_workers};
 pub use shared::Shared;
 pub use stage::{Position, Stage, is_work};
+pub use transcribed::transcript_of;
 pub use worker::Gate;

@@ -182,7 +182,7 @@ fn answers(event: Event, reply: &Reply) -> bool
     }
 }
 
-// Whether the event is a read or a write of this transaction.
+/// Whether the event is a read or a write of this transaction.
 pub fn is_work(worker: TxnId, event: Event) -> bool
     ensures { result ≡ is_work worker event }
 {

@@ -1,5 +1,5 @@
 -- What the command `threads` makes of a file.
-use Rattle.std.specs.Prelude.{◌≡◌, ℕ, ◌+◌, ◌<◌, List, length, Option, map}
+use Rattle.std.specs.Prelude.{◌≡◌, ℕ, List, length, Option, map}
 use Rattle.std.specs.Io.KnownBytes.{Appends}
 use Rattle.hek_rules.specs.declared.event.Event.{Event}
 use Rattle.hek_rules.specs.declared.reply.Reply.{Reply}
@@ -10,7 +10,7 @@ use Rattle.hek_asm.specs.Trace.{trace}
 use Rattle.hek_commands.specs.declared.fault.HekFault.{HekFault}
 use Rattle.hek_commands.specs.declared.fault.HekFault.TheVariants as hek
 use Rattle.hek_commands.specs.declared.schedule_file.ScheduleFile.{ScheduleFile}
-use Rattle.hek_commands.specs.Judged.{FileGives, PrintFails}
+use Rattle.hek_commands.specs.Commands.{FileGives, PrintFails}
 use Rattle.hek_threads.specs.declared.entry.Entry.{Entry}
 use Rattle.hek_threads.specs.declared.entry.ThreadFault.{ThreadFault}
 use Rattle.hek_threads.specs.declared.entry.ThreadFault.TheVariants as threads

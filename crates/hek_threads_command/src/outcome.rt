@@ -5,10 +5,10 @@ ghost use Rattle.hek_threads.specs.History.{IsSerial};
 ghost use Rattle.hek_threads_command.specs.Threaded.{HasRun};
 ghost use Rattle.hek_threads_command.specs.Outcomes.{end_of, verdict_text};
 
-use hek_asm::write_reply;
-use hek_rules::{Cause, FromWrite, NoMemory, Reply, Schedule, Transcript, TxnId, Verdict};
+use hek_commands::put_reply;
+use hek_rules::{Cause, NoMemory, Reply, Schedule, TxnId, Verdict};
 use hek_serial::check;
-use hek_threads::{Entry, Part, Report};
+use hek_threads::{Entry, Part, Report, transcript_of};
 use std::alloc::Global;
 use std::io::Write;
 
@@ -69,31 +69,12 @@ fn end_of(part: &Part) -> Reply
     Reply::Nothing
 }
 
-/// The words of a reply come behind the text.
-fn put_reply(alloc: Global, reply: &Reply, text: &mut Vec<u8>) -> Result<(), NoMemory> {
-    let mut sink = FromWrite::new(Vec::new(alloc));
-    if write_reply(reply, &mut sink).is_err() {
-        return Err(NoMemory);
-    }
-    let words = sink.into_inner();
-    text.extend_from_slice(words.as_slice())?;
-    Ok(())
-}
-
 /// The checker's verdict on a history that is serial.
 fn judge(alloc: Global, schedule: &Schedule, history: Vec<Entry>) -> Result<Verdict, NoMemory>
     requires { IsSerial schedule.now history.items }
     ensures { IfOk result (λ v. v ≡ verdict.Serial) }
 {
-    let mut told = Transcript::new(alloc, schedule)?;
-    for entry in history {
-        let Entry {
-            worker: _,
-            event,
-            reply,
-        } = entry;
-        told.push(event, reply)?;
-    }
+    let told = transcript_of(alloc, schedule, history)?;
     check(alloc, &told)
 }
 

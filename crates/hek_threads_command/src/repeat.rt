@@ -1,6 +1,6 @@
 //! Many runs in threads, and how many different outcomes they have.
 ghost use Rattle.std.specs.Prelude.{◌≡◌, MatchResult, IfErr};
-ghost use Rattle.hek_commands.specs.Judged.{FileGives};
+ghost use Rattle.hek_commands.specs.Commands.{FileGives};
 ghost use Rattle.hek_threads_command.specs.Threaded.{IsRunFault, IsStop, ThreadsFail};
 
 use crate::outcome::outcome_text;
@@ -35,7 +35,7 @@ pub fn repeat_command<'a, T: Threads + Wait + Sync, R: Read + Drop, W: Write>(
     Ok(0)
 }
 
-/// The same for a schedule.
+/// Runs a schedule's transactions so many times, and writes what each run came to.
 fn write_outcomes<'a, T: Threads + Wait + Sync, W: Write>(
     rt: &T,
     alloc: Global,

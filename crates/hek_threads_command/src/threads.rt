@@ -32,7 +32,7 @@ pub fn threads_command<'a, T: Threads + Wait + Sync, R: Read + Drop, W: Write>(
     Ok(0)
 }
 
-/// The same for a schedule.
+/// Runs a schedule's transactions in threads, and writes the trace.
 fn write_history<'a, T: Threads + Wait + Sync, W: Write>(
     rt: &T,
     alloc: Global,

@@ -11,6 +11,7 @@ pub struct Count {
 }
 
 impl Count {
+    /// Nothing was compared yet.
     pub fn new() -> Count {
         Count {
             vectors: 0,
@@ -18,6 +19,7 @@ impl Count {
         }
     }
 
+    /// One more was compared.
     pub fn add(&mut self, differs: bool) {
         self.vectors = self.vectors.saturating_add(1);
         self.differ = self.differ.saturating_add(u64::from(differs));

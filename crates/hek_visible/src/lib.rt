@@ -4,4 +4,4 @@
 mod visibility;
 
 pub use hek_rules::Sight;
-pub use visibility::see;
+pub use visibility::{from_creator, see, under_writer};

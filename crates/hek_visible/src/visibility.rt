@@ -1,84 +1,78 @@
 //! Visibility: both tables, over the words of a version (section 2 of the paper: version visibility).
-ghost use Rattle.std.specs.Prelude.{◌≡◌, ◌<◌, true, length};
+ghost use Rattle.std.specs.Prelude.{◌≡◌, ◌<◌, length};
 ghost use Rattle.hek_rules.specs.Words.{infinity};
-ghost use Rattle.hek_rules.specs.World.{txn_in, is_present};
-ghost use Rattle.hek_rules.specs.Visibility.{under_writer, from_creator};
+ghost use Rattle.hek_rules.specs.World.{txn_in};
+ghost use Rattle.hek_rules.specs.Shown.{ender_of};
+ghost use Rattle.hek_rules.specs.Visibility.{under_writer, from_creator, end_sight, own_sight};
 ghost use Rattle.hek_rules.specs.declared.event.State.TheVariants.{Active};
 ghost use Rattle.hek_store.specs.Stored.{version_at};
 ghost use Rattle.hek_txn.specs.TxnTable.{Declared};
-ghost use Rattle.hek_visible.specs.Seen.{end_seen, own_seen, version_seen, NamesCreator, NamesWriter};
+ghost use Rattle.hek_visible.specs.Seen.{version_seen, NamesCreator, NamesWriter};
 
-use hek_rules::{BeginRecord, Sight, State, Time, TxnId, VersionId};
+use hek_rules::{BeginRecord, EndRecord, Sight, State, Time, TxnId, VersionId};
 use hek_store::Store;
 use hek_txn::Txns;
 use hek_word::EndWord;
 
-/// Another transaction is the writer.
-fn under_writer(rt: Time, u: TxnId, end: Time, state: State) -> Sight
-    requires { is_present state ≡ true }
-    ensures { result ≡ under_writer rt u end state }
+/// What a reader sees at its read time of a version that another transaction writes, by the writer's end time and state
+/// (section 2 of the paper: version visibility). A writer that hasn't begun or is terminated is never met.
+pub fn under_writer(read_time: Time, u: TxnId, end: Time, state: State) -> Sight
+    ensures { result ≡ under_writer read_time u end state }
 {
     match state {
         State::Active | State::Aborted(_) => Sight::Seen,
-        State::Preparing => {
-            if rt < end {
-                Sight::Seen
-            } else {
-                Sight::HiddenIf(u)
-            }
-        }
-        State::Committed => { if rt < end { Sight::Seen } else { Sight::Hidden } }
-        State::NotBegun | State::Terminated => unreachable!(),
+        State::Preparing if read_time < end => Sight::Seen,
+        State::Preparing => Sight::HiddenIf(u),
+        State::Committed if read_time < end => Sight::Seen,
+        State::Committed | State::NotBegun | State::Terminated => Sight::Hidden,
     }
 }
 
-/// Another transaction is the creator.
-fn from_creator(rt: Time, u: TxnId, end: Time, state: State, by_end: Sight) -> Sight
-    requires { is_present state ≡ true }
-    ensures { result ≡ from_creator rt u end state by_end }
+/// What a reader sees at its read time of a version that another transaction made, by the creator's end time and state, and
+/// by what the End word says (section 2 of the paper: version visibility). A creator that hasn't begun or is terminated is
+/// never met.
+pub fn from_creator(read_time: Time, u: TxnId, end: Time, state: State, by_end: Sight) -> Sight
+    ensures { result ≡ from_creator read_time u end state by_end }
 {
     match state {
         State::Active => Sight::HiddenActive(u),
-        State::Preparing => {
-            if rt < end {
-                Sight::Hidden
-            } else if by_end == Sight::Seen {
-                Sight::SeenIf(u)
-            } else {
-                by_end
-            }
-        }
-        State::Committed => { if rt < end { Sight::Hidden } else { by_end } }
-        State::Aborted(_) => Sight::Hidden,
-        State::NotBegun | State::Terminated => unreachable!(),
+        State::Preparing if read_time < end => Sight::Hidden,
+        State::Preparing if by_end == Sight::Seen => Sight::SeenIf(u),
+        State::Preparing => by_end,
+        State::Committed if read_time < end => Sight::Hidden,
+        State::Committed => by_end,
+        State::Aborted(_) | State::NotBegun | State::Terminated => Sight::Hidden,
     }
 }
 
-fn by_end(txns: &Txns, reader: TxnId, rt: Time, word: EndWord) -> Sight
-    requires { NamesWriter txns.now word }
-    ensures { result ≡ end_seen txns.now.cores reader rt word }
+fn by_end(txns: &Txns, reader: TxnId, read_time: Time, word: EndWord) -> Sight
+    requires names { NamesWriter txns.now word }
+    requires time { read_time < infinity }
+    ensures { result ≡ end_sight txns.now.cores reader read_time (ender_of word) }
 {
-    if let Some(time) = word.time() {
-        return if rt < time {
-            Sight::Seen
-        } else {
-            Sight::Hidden
-        };
-    }
-    match word.writer() {
-        None => Sight::Seen,
-        Some(u) => {
-            if u == reader {
-                Sight::Hidden
+    match word.content() {
+        EndRecord::Until(time) => {
+            if read_time < time {
+                Sight::Seen
             } else {
-                under_writer(rt, u, txns.end_time(u), txns.state(u))
+                Sight::Hidden
             }
         }
+        EndRecord::Lock { writer, .. } => match writer {
+            None => Sight::Seen,
+            Some(u) => {
+                if u == reader {
+                    Sight::Hidden
+                } else {
+                    under_writer(read_time, u, txns.end_time(u), txns.state(u))
+                }
+            }
+        },
     }
 }
 
 fn of_own(word: EndWord) -> Sight
-    ensures { result ≡ own_seen word }
+    ensures { result ≡ own_sight (ender_of word) }
 {
     if word == EndWord::infinity() || (word.time().is_none() && word.writer().is_none()) {
         Sight::Seen
@@ -89,30 +83,30 @@ fn of_own(word: EndWord) -> Sight
 
 /// What an active reader sees of a version at a read time below infinity. That no word names a transaction that hasn't
 /// begun or is terminated is a condition.
-pub fn see(store: &Store, txns: &Txns, reader: TxnId, rt: Time, v: VersionId) -> Sight
+pub fn see(store: &Store, txns: &Txns, reader: TxnId, read_time: Time, v: VersionId) -> Sight
     requires version { v < length store.now.versions }
     requires reader { Declared txns.now reader }
     requires active { (txn_in txns.now.cores reader).state ≡ Active }
-    requires time { rt < infinity }
+    requires time { read_time < infinity }
     requires creator { NamesCreator txns.now (version_at store.now v).begin }
     requires writer { NamesWriter txns.now (version_at store.now v).end }
-    ensures { result ≡ version_seen store.now txns.now reader rt v }
+    ensures { result ≡ version_seen store.now txns.now reader read_time v }
 {
     let word = store.end_of(v);
     match store.begin_of(v).content() {
         BeginRecord::At(time) => {
-            if rt.number() < time.number() {
+            if read_time.number() < time.number() {
                 Sight::Hidden
             } else {
-                by_end(txns, reader, rt, word)
+                by_end(txns, reader, read_time, word)
             }
         }
         BeginRecord::By(u) => {
             if u.number() == reader.number() {
                 of_own(word)
             } else {
-                let seen = by_end(txns, reader, rt, word);
-                from_creator(rt, u, txns.end_time(u), txns.state(u), seen)
+                let seen = by_end(txns, reader, read_time, word);
+                from_creator(read_time, u, txns.end_time(u), txns.state(u), seen)
             }
         }
     }

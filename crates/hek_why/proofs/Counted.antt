@@ -2,10 +2,10 @@
 use Rattle.std.proofs.Common.{◌≡◌, ℕ, zero, suc, ◌+◌, ◌<◌, ◌≤◌, Bool, true, false, List, [], ◌∷◌, ◌++◌, refl, ◌∙◌, ap, sym, subst, arith, length, length-append, ⊎_elim}
 use Rattle.std.proofs.lemmas.Bool.{cases_Bool, cases_eq}
 use Rattle.std.proofs.lemmas.Bool.Decides.{nat_tests}
-use Rattle.std.specs.Prelude.{if◌then◌else◌, ◌&&◌, ◌||◌, ◌==◌}
+use Rattle.std.specs.Prelude.{if◌then◌else◌, ◌==◌}
 use Rattle.hek_rules.specs.Listing.{has, firsts_of}
 use Rattle.hek_laws.specs.Lists.{Once}
-use Rattle.hek_squares.proofs.Pairs.{head-once, bit}
+use Rattle.hek_refinement.proofs.Pairs.{head-once, bit}
 use Rattle.hek_why.specs.Waited.{ids_where}
 
 -- how many IDs pass

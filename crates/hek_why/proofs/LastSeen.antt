@@ -1,7 +1,7 @@
 -- The last of some, over one that was seen before them.
 use Rattle.std.proofs.Common.{◌≡◌, ℕ, ◌+◌, ◌<◌, ◌≤◌, Bool, true, false, List, [], ◌∷◌, refl, ◌∙◌, ap, sym, Option, Some, None, length, drop, get_or}
 use Rattle.std.proofs.lemmas.List.{drop_more, drop_all}
-use Rattle.std.specs.Prelude.{if◌then◌else◌, filter}
+use Rattle.std.specs.Prelude.{if◌then◌else◌}
 use Rattle.hek_rules.specs.World.{World}
 use Rattle.hek_rules.specs.Walk.{last, read_time, seen_of}
 use Rattle.hek_rules.specs.Visibility.{sight, is_seen}

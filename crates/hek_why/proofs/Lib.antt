@@ -8,3 +8,4 @@ pub mod Lists
 pub mod Counted
 pub mod Numbers
 pub mod LastSeen
+pub mod Causes

@@ -1,30 +1,21 @@
 -- The words of a version that there is, and what they say: sights and refusals by words are those of the world.
-use Rattle.std.proofs.Common.{◌≡◌, ℕ, zero, suc, ◌+◌, ◌<◌, ◌≤◌, Bool, true, false, List, [], ◌∷◌, refl, ◌∙◌, ap, sym, subst, arith, Option, Some, None, length}
-use Rattle.std.proofs.lemmas.Bool.{cases_Bool}
-use Rattle.std.proofs.Common.{⊎_elim}
-use Rattle.std.specs.Prelude.{if◌then◌else◌, ◌&&◌, ◌||◌, nat_lt, slice_get, unwrap_or}
+use Rattle.std.proofs.Common.{◌≡◌, ℕ, Bool, true, false, ◌∙◌, ap, sym, arith, Option, Some, None, length}
+use Rattle.std.specs.Prelude.{if◌then◌else◌, nat_lt}
 use Rattle.hek_rules.specs.declared.event.Cause.{Cause}
 use Rattle.hek_rules.specs.declared.event.Sight.{Sight}
-use Rattle.hek_rules.specs.declared.event.Sight.TheVariants.{Hidden}
 use Rattle.hek_rules.specs.declared.word.BeginRecord.{BeginRecord}
 use Rattle.hek_rules.specs.declared.word.EndRecord.{EndRecord}
-use Rattle.hek_rules.specs.Words.{infinity}
-use Rattle.hek_rules.specs.World.{World, Version, Ender, version_in, no_version}
-use Rattle.hek_rules.specs.Listing.{has}
-use Rattle.hek_rules.specs.Waits.{readers}
-use Rattle.hek_rules.specs.Image.{begin_word, end_word, end_word_by}
-use Rattle.hek_rules.specs.Visibility.{sight}
+use Rattle.hek_rules.specs.World.{World}
+use Rattle.hek_rules.specs.Shown.{begin_word, end_word, ender_of}
+use Rattle.hek_rules.specs.Visibility.{sight, sight_by}
 use Rattle.hek_rules.specs.Walk.{read_time}
-use Rattle.hek_rules.specs.Locks.{no_read_lock, no_write_lock, reads_freely}
+use Rattle.hek_rules.specs.Locks.{no_read_lock, no_write_lock, reads_freely, write_refusal}
 use Rattle.hek_store.specs.Stored.{version_at}
-use Rattle.hek_visible.specs.Seen.{words_seen}
-use Rattle.hek_locks.specs.Locked.{cleared_word, refusal, write_refusal}
-use Rattle.hek_laws.specs.Sound.{Sound}
-use Rattle.hek_laws.proofs.Walks.Looks.{reads-past}
-use Rattle.hek_squares.proofs.Stores.{word-shown, begin-shown}
-use Rattle.hek_squares.proofs.Sights.{sight-same, read-refused, write-refused}
-use Rattle.hek_squares.proofs.ReadLocks.{free-same}
-use Rattle.hek_machine.specs.declared.parts.Parts.{Parts}
+use Rattle.hek_locks.specs.Locked.{cleared_word, word_refusal}
+use Rattle.hek_refinement.proofs.Stores.{word-shown, begin-shown}
+use Rattle.hek_refinement.proofs.Sights.{sight-same, read-refused, write-refused}
+use Rattle.hek_refinement.proofs.ReadLocks.{free-same}
+use Rattle.hek_machine.specs.declared.engine.Engine.{Engine}
 use Rattle.hek_machine.specs.Stands.{StandsFor}
 use Rattle.hek_machine.specs.Observed.{of_version}
 use Rattle.hek_why.proofs.Sounds.{sound_of}
@@ -37,37 +28,33 @@ at_version f w v x h = by (nat_lt v (length w.versions)) h
     by true e = cc
     by false e = cc
 
-pub read_early : (w : World) (t : ℕ) → Sound w → read_time w t < infinity
-read_early w t s =
-    let b = s.times.begins_below t in let p = reads-past w t (omega (arith, b)) in let c = s.bounded in omega (arith, p, c)
-
 -- what is seen by the words is what is seen
-pub sees : (m : Parts) (w : World) (t v rt : ℕ) (b : BeginRecord) (e : EndRecord) (r : Sight) → StandsFor m w →
-    of_version begin_word v w ≡ Some b → of_version end_word v w ≡ Some e → read_time w t ≡ rt → words_seen w.txns t rt b e ≡ r → sight w t (read_time w t) v ≡ r
+pub sees : (m : Engine) (w : World) (t v rt : ℕ) (b : BeginRecord) (e : EndRecord) (r : Sight) → StandsFor m w →
+    of_version begin_word v w ≡ Some b → of_version end_word v w ≡ Some e → read_time w t ≡ rt → sight_by w.txns t rt b (ender_of e) ≡ r → sight w t (read_time w t) v ≡ r
 sees m w t v rt b e r s begins ends at seen =
-    sym (sight-same m.store m.txns w t (read_time w t) v (read_early w t (sound_of m w s)) (sound_of m w s) s.shows.store s.shows.txns)
-    ∙ ap (λ ts. words_seen ts t (read_time w t) (version_at m.store v).begin (version_at m.store v).end) s.shows.txns.cores
-    ∙ ap (λ x. words_seen w.txns t (read_time w t) x (version_at m.store v).end) (begin-shown m.store w.buckets w.versions w.read_locks v s.shows.store ∙ at_version begin_word w v b begins)
-    ∙ ap (λ x. words_seen w.txns t (read_time w t) b x) (word-shown m.store w.buckets w.versions w.read_locks v s.shows.store ∙ at_version end_word w v e ends)
-    ∙ ap (λ x. words_seen w.txns t x b e) at ∙ seen
+    sym (sight-same m.store m.txns w t (read_time w t) v (sound_of m w s) s.shows.store s.shows.txns)
+    ∙ ap (λ ts. sight_by ts t (read_time w t) (version_at m.store v).begin (ender_of (version_at m.store v).end)) s.shows.txns.cores
+    ∙ ap (λ x. sight_by w.txns t (read_time w t) x (ender_of (version_at m.store v).end)) (begin-shown m.store w.buckets w.versions w.read_locks v s.shows.store ∙ at_version begin_word w v b begins)
+    ∙ ap (λ x. sight_by w.txns t (read_time w t) b (ender_of x)) (word-shown m.store w.buckets w.versions w.read_locks v s.shows.store ∙ at_version end_word w v e ends)
+    ∙ ap (λ x. sight_by w.txns t x b (ender_of e)) at ∙ seen
 
 -- a lock is refused by the word
-pub read_refused_by : (m : Parts) (w : World) (t v : ℕ) (e f : EndRecord) (r : Option Cause) → StandsFor m w → reads_freely w t v ≡ false →
-    of_version end_word v w ≡ Some e → cleared_word w.txns e ≡ f → refusal w.txns f ≡ r → no_read_lock w t v ≡ r
+pub read_refused_by : (m : Engine) (w : World) (t v : ℕ) (e f : EndRecord) (r : Option Cause) → StandsFor m w → reads_freely w t v ≡ false →
+    of_version end_word v w ≡ Some e → cleared_word w.txns e ≡ f → word_refusal w.txns f ≡ r → no_read_lock w t v ≡ r
 read_refused_by m w t v e f r s locks ends clears refuses =
     sym (read-refused m.store m.txns w t v (sound_of m w s) s.shows.store s.shows.txns)
-    ∙ ap (λ b. if b then None else refusal m.txns.cores (cleared_word m.txns.cores (version_at m.store v).end)) (free-same m.store m.txns w t v s.shows.store s.shows.txns ∙ locks)
-    ∙ ap (λ ts. refusal ts (cleared_word ts (version_at m.store v).end)) s.shows.txns.cores
-    ∙ ap (λ x. refusal w.txns (cleared_word w.txns x)) (word-shown m.store w.buckets w.versions w.read_locks v s.shows.store ∙ at_version end_word w v e ends)
-    ∙ ap (refusal w.txns) clears ∙ refuses
+    ∙ ap (λ b. if b then None else word_refusal m.txns.cores (cleared_word m.txns.cores (version_at m.store v).end)) (free-same m.store m.txns w t v s.shows.store s.shows.txns ∙ locks)
+    ∙ ap (λ ts. word_refusal ts (cleared_word ts (version_at m.store v).end)) s.shows.txns.cores
+    ∙ ap (λ x. word_refusal w.txns (cleared_word w.txns x)) (word-shown m.store w.buckets w.versions w.read_locks v s.shows.store ∙ at_version end_word w v e ends)
+    ∙ ap (word_refusal w.txns) clears ∙ refuses
 
 pub read_free : (w : World) (t v : ℕ) → reads_freely w t v ≡ true → no_read_lock w t v ≡ None
 read_free w t v free = grind (arith, free)
 
-pub write_refused_by : (m : Parts) (w : World) (v : ℕ) (e f : EndRecord) (r : Option Cause) → StandsFor m w →
-    of_version end_word v w ≡ Some e → cleared_word w.txns e ≡ f → write_refusal f ≡ r → no_write_lock w v ≡ r
+pub write_refused_by : (m : Engine) (w : World) (v : ℕ) (e f : EndRecord) (r : Option Cause) → StandsFor m w →
+    of_version end_word v w ≡ Some e → cleared_word w.txns e ≡ f → write_refusal (ender_of f) ≡ r → no_write_lock w v ≡ r
 write_refused_by m w v e f r s ends clears refuses =
     sym (write-refused m.store m.txns w v (sound_of m w s) s.shows.store s.shows.txns)
-    ∙ ap (λ ts. write_refusal (cleared_word ts (version_at m.store v).end)) s.shows.txns.cores
-    ∙ ap (λ x. write_refusal (cleared_word w.txns x)) (word-shown m.store w.buckets w.versions w.read_locks v s.shows.store ∙ at_version end_word w v e ends)
-    ∙ ap write_refusal clears ∙ refuses
+    ∙ ap (λ ts. write_refusal (ender_of (cleared_word ts (version_at m.store v).end))) s.shows.txns.cores
+    ∙ ap (λ x. write_refusal (ender_of (cleared_word w.txns x))) (word-shown m.store w.buckets w.versions w.read_locks v s.shows.store ∙ at_version end_word w v e ends)
+    ∙ ap (λ x. write_refusal (ender_of x)) clears ∙ refuses

@@ -1,23 +1,22 @@
 -- What is sound in each world that a machine stands for.
-use Rattle.std.proofs.Common.{◌≡◌, ℕ, zero, suc, ◌<◌, Bool, true, false, List, refl, arith, Option, Some, None, length}
-use Rattle.std.proofs.lemmas.Bool.Decides.{nat_tests}
+use Rattle.std.proofs.Common.{◌≡◌, ℕ, zero, suc, ◌<◌, Bool, false, refl, arith, Option, Some, None}
 use Rattle.std.specs.Prelude.{◌&&◌, ◌==◌, nat_lt}
 use Rattle.hek_rules.specs.Words.{writer_of, readers_of}
 use Rattle.hek_rules.specs.World.{World, Ender, EndedAt, Held, is_held_by}
-use Rattle.hek_rules.specs.Image.{end_word_by}
+use Rattle.hek_rules.specs.Shown.{end_word_by}
 use Rattle.hek_laws.specs.Sound.{Sound}
 use Rattle.hek_laws.proofs.Runs.Reachable.{reachable-sound}
-use Rattle.hek_machine.specs.declared.parts.Parts.{Parts}
-use Rattle.hek_machine.specs.Stands.{StandsFor, IsOrdered}
-use Rattle.hek_machine.specs.Judged.{IsShown}
+use Rattle.hek_machine.specs.declared.engine.Engine.{Engine}
+use Rattle.hek_machine.specs.Stands.{StandsFor, StandsForSome}
+use Rattle.hek_machine.specs.Judgements.{IsShown}
 
-pub sound_of : (m : Parts) (w : World) → StandsFor m w → Sound w
+pub sound_of : (m : Engine) (w : World) → StandsFor m w → Sound w
 sound_of m w s = reachable-sound w s.reachable
 
-pub some_buckets : (m : Parts) (w : World) → StandsFor m w → 0 < w.buckets
+pub some_buckets : (m : Engine) (w : World) → StandsFor m w → 0 < w.buckets
 some_buckets m w s = (sound_of m w s).buckets
 
-pub buckets_above : (m : Parts) (n : ℕ) → IsOrdered m → IsShown m (λ w. w.buckets) n → 0 < n
+pub buckets_above : (m : Engine) (n : ℕ) → StandsForSome m → IsShown m (λ w. w.buckets) n → 0 < n
 buckets_above m n o shown = let e = shown o.world o.stands in let b = some_buckets m o.world o.stands in omega (arith, e, b)
 
 -- the word names u as its writer, under a reader

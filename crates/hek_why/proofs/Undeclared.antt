@@ -19,5 +19,5 @@ undeclared_state ts u h = ap (λ (x : Txn). x.state) (undeclared ts u h)
 pub undeclared_end : (ts : List Txn) (u : ℕ) → declared ts u ≡ false → (txn_in ts u).end ≡ 0
 undeclared_end ts u h = ap (λ (x : Txn). x.end) (undeclared ts u h)
 
-pub undeclared_finished : (ts : List Txn) (u : ℕ) → declared ts u ≡ false → (txn_in ts u).finished ≡ false
-undeclared_finished ts u h = ap (λ (x : Txn). x.finished) (undeclared ts u h)
+pub undeclared_finished : (ts : List Txn) (u : ℕ) → declared ts u ≡ false → (txn_in ts u).no_more_waits ≡ false
+undeclared_finished ts u h = ap (λ (x : Txn). x.no_more_waits) (undeclared ts u h)

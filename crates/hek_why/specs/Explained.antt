@@ -11,7 +11,7 @@ use Rattle.hek_rules.specs.declared.reply.Reply.TheVariants as reply
 use Rattle.hek_rules.specs.Listing.{firsts_of}
 use Rattle.hek_rules.specs.World.{World, txn_in, declared}
 use Rattle.hek_rules.specs.Walk.{Purpose, ToRead, ToWrite, of_key, of_bucket, seen_of, last}
-use Rattle.hek_machine.specs.declared.parts.Parts.{Parts}
+use Rattle.hek_machine.specs.declared.engine.Engine.{Engine}
 use Rattle.hek_machine.specs.Stands.{StandsFor}
 use Rattle.hek_why.specs.declared.reason.Met.{Met}
 use Rattle.hek_why.specs.declared.reason.Reason.{Reason}
@@ -76,5 +76,5 @@ reasons_in w dooms t e reply.Done = Some (looks w t (walked w e))
 reasons_in w dooms t e r = None
 
 -- so it is in each world that the machine stands for
-abbrev pub AreReasons : Parts → List (ℕ × ℕ) → ℕ → Event → Reply → List Reason → Type 0
+abbrev pub AreReasons : Engine → List (ℕ × ℕ) → ℕ → Event → Reply → List Reason → Type 0
 AreReasons m dooms t e r list = (w : World) → StandsFor m w → declared w.txns t ≡ true → IfSome (reasons_in w dooms t e r) (λ said. said ≡ list)

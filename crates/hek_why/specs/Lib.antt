@@ -3,3 +3,4 @@ pub mod Waited
 pub mod Looks
 pub mod Stops
 pub mod Explained
+pub mod Causes

@@ -10,7 +10,7 @@ use Rattle.hek_rules.specs.declared.word.BeginRecord.TheVariants.{At, By}
 use Rattle.hek_rules.specs.declared.word.EndRecord.{EndRecord}
 use Rattle.hek_rules.specs.declared.word.EndRecord.TheVariants.{Until, Lock}
 use Rattle.hek_rules.specs.World.{World, txn_in}
-use Rattle.hek_rules.specs.Image.{begin_word, end_word}
+use Rattle.hek_rules.specs.Shown.{begin_word, end_word}
 use Rattle.hek_rules.specs.Visibility.{sight}
 use Rattle.hek_rules.specs.Walk.{Judgement, Refuse, Allow, Purpose, read_time, version_judged}
 use Rattle.hek_rules.specs.Walk as walk

@@ -1,13 +1,13 @@
 -- For whom a transaction waits, and on whom its commit depends, member by member.
 -- (Section 4 of the paper: wait-for dependencies; section 2: commit dependencies.)
-use Rattle.std.specs.Prelude.{ℕ, zero, suc, ◌==◌, Bool, false, if◌then◌else◌, List, [], ◌∷◌, ◌++◌, Option, Some, None, find, length, map}
+use Rattle.std.specs.Prelude.{ℕ, zero, suc, ◌==◌, Bool, false, if◌then◌else◌, List, [], ◌∷◌, ◌++◌, Option, find, length, map}
 use Rattle.std.specs.List.{list_any}
 use Rattle.hek_rules.specs.declared.event.WriteEntry.{WriteEntry}
 use Rattle.hek_rules.specs.declared.event.WriteEntry.TheVariants.{BeginOf, EndOf}
 use Rattle.hek_rules.specs.Listing.{has}
 use Rattle.hek_rules.specs.World.{World, places, bucket_of}
 use Rattle.hek_rules.specs.Waits.{is_waited_for}
-use Rattle.hek_rules.specs.Image.{bucket_set, write_set}
+use Rattle.hek_rules.specs.Shown.{bucket_set, write_set}
 use Rattle.hek_why.specs.Passed.{passes}
 use Rattle.hek_why.specs.declared.reason.Reason.{Reason}
 use Rattle.hek_why.specs.declared.reason.Reason.TheVariants.{ReadLocked, Listed, Depends}

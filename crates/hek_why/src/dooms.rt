@@ -1,5 +1,5 @@
 //! Whose abort doomed whom: told as it happens, since a machine shows only that a transaction is doomed.
-ghost use Rattle.std.specs.Prelude.{◌≡◌, [], IfOk};
+ghost use Rattle.std.specs.Prelude.{◌≡◌, [], ◌∷◌, ◌++◌, IfOk, OnOk, OnErr};
 ghost use Rattle.hek_rules.specs.Listing.{firsts_of};
 
 use crate::kept::keep_if;
@@ -37,18 +37,27 @@ impl Dooms {
     pub fn note(&mut self, before: &Machine, event: Event, reply: &Reply) -> Result<(), NoMemory> {
         match aborted_by(before, event, reply) {
             None => Ok(()),
-            Some(aborted) => self.add(before, aborted),
+            Some(aborted) => self.add_all(before, aborted),
         }
     }
 
     /// The abort of a transaction dooms those whose commit depends on it.
-    fn add(&mut self, before: &Machine, aborted: TxnId) -> Result<(), NoMemory> {
+    fn add_all(&mut self, before: &Machine, aborted: TxnId) -> Result<(), NoMemory> {
         if !before.is_declared(aborted) {
             return Ok(());
         }
         for doomed in before.dependents(aborted)?.as_slice() {
-            self.dooms.push((aborted, *doomed))?;
+            self.add(aborted, *doomed)?;
         }
+        Ok(())
+    }
+
+    /// Takes note of one who aborted, and of one whom that doomed.
+    pub fn add(&mut self, aborted: TxnId, doomed: TxnId) -> Result<(), NoMemory>
+        ensures ok { OnOk result (self.new ≡ self.old ++ (aborted, doomed) ∷ []) }
+        ensures err { OnErr result (self.new ≡ self.old) }
+    {
+        self.dooms.push((aborted, doomed))?;
         Ok(())
     }
 

@@ -4,8 +4,9 @@ ghost use Rattle.hek_rules.specs.Events.{txn_of};
 ghost use Rattle.hek_rules.specs.Listing.{firsts_of};
 ghost use Rattle.hek_rules.specs.World.{txn_in};
 ghost use Rattle.hek_txn.specs.TxnTable.{Declared};
-ghost use Rattle.hek_machine.specs.Judged.{IsShown};
+ghost use Rattle.hek_machine.specs.Judgements.{IsShown};
 ghost use Rattle.hek_why.specs.Stops.{purpose_of, target_of, first_claim};
+ghost use Rattle.hek_why.specs.Causes.{TellCause};
 ghost use Rattle.hek_why.specs.Explained.{walked, purpose_in, target_in, stopped_by, claimed_in, stops_in, abort_in, AreReasons};
 
 use crate::dooms::Dooms;
@@ -30,9 +31,10 @@ pub struct Step<'a> {
 }
 
 /// Why a step's event is answered as it is. `dooms` has whose aborts have doomed whom before it. There are no reasons where
-/// nothing had to be looked for, as of `began`, `ready` or `committed`.
+/// nothing had to be looked for, as of `began`, `ready` or `committed`. Of an abort they tell the very cause of the reply.
 pub fn reasons(alloc: Global, step: &Step<'_>, dooms: &Dooms) -> Result<Vec<Reason>, NoMemory>
-    ensures { IfOk result (λ list. IfSome (txn_of step.now.event) (λ t. AreReasons step.now.before.now dooms.now t step.now.event step.now.reply.now list.items)) }
+    ensures reasons { IfOk result (λ list. IfSome (txn_of step.now.event) (λ t. AreReasons step.now.before.now dooms.now t step.now.event step.now.reply.now list.items)) }
+    ensures cause { IfOk result (λ list. IfSome (txn_of step.now.event) (λ t. TellCause step.now.before.now t step.now.event step.now.reply.now list.items)) }
 {
     match step.event.txn() {
         Some(t) => reasons_of(alloc, step, t, dooms),

@@ -4,7 +4,7 @@ ghost use Rattle.hek_rules.specs.Listing.{has};
 ghost use Rattle.hek_rules.specs.World.{txn_in};
 ghost use Rattle.hek_rules.specs.Walk.{read_time as read_time_in};
 ghost use Rattle.hek_txn.specs.TxnTable.{Declared};
-ghost use Rattle.hek_machine.specs.Judged.{IsShown};
+ghost use Rattle.hek_machine.specs.Judgements.{IsShown};
 
 use hek_machine::Machine;
 use hek_rules::{Level, NoMemory, State, Time, TxnId, VersionId};
@@ -36,7 +36,7 @@ pub(crate) fn end_of(machine: &Machine, u: TxnId) -> Time
 /// Whether it has finished: NoMoreWaitFors.
 #[tactic(auto, using(crate::proofs::Undeclared::undeclared_finished))]
 pub(crate) fn has_finished(machine: &Machine, u: TxnId) -> bool
-    ensures { IsShown machine.now (λ w. (txn_in w.txns u).finished) result }
+    ensures { IsShown machine.now (λ w. (txn_in w.txns u).no_more_waits) result }
 {
     machine.is_declared(u) && machine.no_more_waits(u)
 }

@@ -1,10 +1,11 @@
 //! What refuses a lock, and whom a transaction meets where it is stopped.
 ghost use Rattle.std.specs.Prelude.{◌≡◌, IfOk};
 ghost use Rattle.hek_rules.specs.World.{is_made_by, version_in};
-ghost use Rattle.hek_rules.specs.Locks.{reads_freely, no_read_lock, no_write_lock};
-ghost use Rattle.hek_locks.specs.Locked.{is_stale, cleared_word, refusal, write_refusal};
+ghost use Rattle.hek_rules.specs.Shown.{ender_of};
+ghost use Rattle.hek_rules.specs.Locks.{reads_freely, no_read_lock, no_write_lock, write_refusal};
+ghost use Rattle.hek_locks.specs.Locked.{is_stale, cleared_word, word_refusal};
 ghost use Rattle.hek_txn.specs.TxnTable.{Declared};
-ghost use Rattle.hek_machine.specs.Judged.{IsShown};
+ghost use Rattle.hek_machine.specs.Judgements.{IsShown};
 ghost use Rattle.hek_why.specs.Stops.{met_at, met_by, made_at};
 
 use crate::facts::{has_finished, reads, state_of};
@@ -36,7 +37,7 @@ fn cleared(machine: &Machine, word: EndWord) -> EndWord
 
 /// What keeps a reader out of a version with this End word.
 fn read_refusal(machine: &Machine, word: EndWord) -> Option<Cause>
-    ensures { IsShown machine.now (λ w. refusal w.txns word) result }
+    ensures { IsShown machine.now (λ w. word_refusal w.txns word) result }
 {
     match word.content() {
         EndRecord::Until(_) => None,
@@ -59,7 +60,7 @@ fn read_refusal(machine: &Machine, word: EndWord) -> Option<Cause>
 
 /// What keeps a writer out of it.
 fn write_refusal(word: EndWord) -> Option<Cause>
-    ensures { result ≡ write_refusal word }
+    ensures { result ≡ write_refusal (ender_of word) }
 {
     if word.can_take_writer() {
         None

@@ -20,12 +20,14 @@ impl Model for TxnList {
 }
 
 impl TxnList {
+    /// These transactions, in this order.
     pub fn new(txns: Vec<TxnId>) -> TxnList
         ensures { result ≡ txns.items }
     {
         TxnList { txns }
     }
 
+    /// The transactions, in order.
     pub fn items(&self) -> &[TxnId]
         ensures { result.now ≡ self.now }
     {

@@ -33,8 +33,8 @@ pub(crate) fn refusal_reason(
     refusal: Refusal,
 ) -> Result<Reason, NoMemory> {
     let state = state_of(machine, t);
-    let is_over = state == State::Committed || matches!(state, State::Aborted(_));
-    if kind == EventKind::End && is_over && machine.is_declared(t) {
+    let is_decided = state == State::Committed || matches!(state, State::Aborted(_));
+    if kind == EventKind::End && is_decided && machine.is_declared(t) {
         return holdings(machine, t);
     }
     Ok(Reason::Refused {

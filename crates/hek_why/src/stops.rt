@@ -4,7 +4,7 @@ ghost use Rattle.hek_rules.specs.Walk.{version_judged, lock_judged, wait_judged}
 ghost use Rattle.hek_rules.specs.World.{txn_in};
 ghost use Rattle.hek_rules.specs.Table.{is_claim};
 ghost use Rattle.hek_txn.specs.TxnTable.{Declared};
-ghost use Rattle.hek_machine.specs.Judged.{IsShown};
+ghost use Rattle.hek_machine.specs.Judgements.{IsShown};
 ghost use Rattle.hek_why.specs.Passed.{passes};
 ghost use Rattle.hek_why.specs.Stops.{purpose_of, target_of, refused_by, stop_by, stop_at, first_stop, first_claim};
 
@@ -134,11 +134,11 @@ fn is_claim(machine: &Machine, t: TxnId, begin: BeginWord) -> bool
     ensures { IsShown machine.now (λ w. is_claim w t (txn_in w.txns t).level begin) result }
 {
     let is_snapshot = machine.level(t) == Level::Snapshot;
-    let rt = read_time(machine, t);
+    let read_time = read_time(machine, t);
     match begin.content() {
         BeginRecord::At(time) => {
             is_snapshot
-                && rt.number() < time.number()
+                && read_time.number() < time.number()
                 && EndWord::stamped(time) != EndWord::infinity()
         }
         BeginRecord::By(u) => {
@@ -146,7 +146,7 @@ fn is_claim(machine: &Machine, t: TxnId, begin: BeginWord) -> bool
             let is_active = state == State::Active;
             let is_prepared = state == State::Preparing || state == State::Committed;
             (u != t && is_active)
-                || (is_snapshot && is_prepared && rt.number() < end_of(machine, u).number())
+                || (is_snapshot && is_prepared && read_time.number() < end_of(machine, u).number())
         }
     }
 }

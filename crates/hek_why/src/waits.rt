@@ -1,10 +1,9 @@
 //! For whom a transaction waits, and on whom its commit depends.
 ghost use Rattle.std.specs.Prelude.{◌≡◌, ◌++◌, IfOk, OnOk, find, length, map};
 ghost use Rattle.std.specs.List.{All, list_any};
-ghost use Rattle.hek_rules.specs.Waits.{is_waited_for};
-ghost use Rattle.hek_rules.specs.Image.{wait_for_counter, commit_dep_counter};
+ghost use Rattle.hek_rules.specs.Waits.{is_waited_for, waits, commit_deps};
 ghost use Rattle.hek_txn.specs.TxnTable.{Declared};
-ghost use Rattle.hek_machine.specs.Judged.{IsShown};
+ghost use Rattle.hek_machine.specs.Judgements.{IsShown};
 ghost use Rattle.hek_why.specs.Passed.{passes};
 ghost use Rattle.hek_why.specs.Waited.{is_made_in, readers_in, held_over, holders_of, depended_on, shared_bucket, waits_in, commits_in};
 
@@ -167,7 +166,7 @@ fn add_holders(
 pub fn wait_reasons(alloc: Global, machine: &Machine, u: TxnId) -> Result<Vec<Reason>, NoMemory>
     requires { Declared machine.now.txns u }
     ensures members { IfOk result (λ list. IsShown machine.now (λ w. waits_in w u) list.items) }
-    ensures number { IfOk result (λ list. IsShown machine.now (λ w. wait_for_counter w u) (length list.items)) }
+    ensures number { IfOk result (λ list. IsShown machine.now (λ w. waits w u) (length list.items)) }
 {
     let versions = held_over(alloc, machine, u)?;
     let holders = holders_of(alloc, machine, u)?;
@@ -193,7 +192,7 @@ fn depends(alloc: Global, txns: &[TxnId]) -> Result<Vec<Reason>, NoMemory>
 pub fn commit_reasons(alloc: Global, machine: &Machine, t: TxnId) -> Result<Vec<Reason>, NoMemory>
     requires { Declared machine.now.txns t }
     ensures members { IfOk result (λ list. IsShown machine.now (λ w. commits_in w t) list.items) }
-    ensures number { IfOk result (λ list. IsShown machine.now (λ w. commit_dep_counter w t) (length list.items)) }
+    ensures number { IfOk result (λ list. IsShown machine.now (λ w. commit_deps w t) (length list.items)) }
 {
     let txns = depended_on(alloc, machine, t)?;
     let list = depends(alloc, txns.as_slice())?;

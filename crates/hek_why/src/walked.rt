@@ -4,7 +4,7 @@ ghost use Rattle.hek_rules.specs.World.{bucket_of};
 ghost use Rattle.hek_rules.specs.Visibility.{is_seen};
 ghost use Rattle.hek_rules.specs.Walk.{of_key, of_bucket, seen_of, last};
 ghost use Rattle.hek_txn.specs.TxnTable.{Declared};
-ghost use Rattle.hek_machine.specs.Judged.{IsShown};
+ghost use Rattle.hek_machine.specs.Judgements.{IsShown};
 ghost use Rattle.hek_why.specs.Passed.{passes};
 ghost use Rattle.hek_why.specs.Looks.{looks};
 

@@ -3,10 +3,11 @@ ghost use Rattle.std.specs.Prelude.{length, ◌<◌};
 ghost use Rattle.hek_rules.specs.Plan.{IsDeclared};
 ghost use Rattle.hek_txn.specs.TxnTable.{Declared};
 
-use crate::listed::Listed;
-use crate::word_text::{put, put_begin, put_end, put_name, state_word};
+use crate::field::Field;
+use crate::word_text::{put, put_begin, put_end, put_name};
+use hek_commands::state_text;
 use hek_machine::Machine;
-use hek_rules::{NoMemory, Schedule, Time, TxnId, VersionId};
+use hek_rules::{NoMemory, Schedule, TxnId, VersionId};
 use hek_word::{BeginWord, EndWord};
 use std::io::Write;
 
@@ -122,17 +123,15 @@ fn put_txn_changes(
     let (old, new) = (before.state(t), after.state(t));
     if old != new {
         put_txn(schedule, t, lines)?;
-        let (old, new) = (state_word(old), state_word(new));
+        let (old, new) = (state_text(old), state_text(new));
         put(writeln!(lines, " {old} -> {new}"))?;
     }
-    put_time_changes(schedule, before, after, t, lines)?;
-    put_count_changes(schedule, before, after, t, lines)?;
-    put_flag_changes(schedule, before, after, t, lines)?;
-    put_held_changes(schedule, before, after, t, lines)?;
-    put_other_changes(schedule, before, after, t, lines)
+    put_number_changes(schedule, before, after, t, lines)?;
+    put_list_changes(schedule, before, after, t, lines)
 }
 
-fn put_time_changes(
+/// The times that it drew, its counters and its flags.
+fn put_number_changes(
     schedule: &Schedule,
     before: &Machine,
     after: &Machine,
@@ -142,76 +141,45 @@ fn put_time_changes(
     requires before { Declared before.now.txns t }
     requires after { Declared after.now.txns t }
 {
-    let (old, new) = (before.begin_time(t), after.begin_time(t));
-    put_time_change(schedule, t, "begin", old, new, lines)?;
-    let (old, new) = (before.end_time(t), after.end_time(t));
-    put_time_change(schedule, t, "end", old, new, lines)
+    put_field(
+        schedule,
+        t,
+        "begin",
+        before.begin_time(t),
+        after.begin_time(t),
+        lines,
+    )?;
+    put_field(
+        schedule,
+        t,
+        "end",
+        before.end_time(t),
+        after.end_time(t),
+        lines,
+    )?;
+    put_field(schedule, t, "waits", before.waits(t), after.waits(t), lines)?;
+    put_field(
+        schedule,
+        t,
+        "commits",
+        before.commit_deps(t),
+        after.commit_deps(t),
+        lines,
+    )?;
+    let (old, new) = (before.no_more_waits(t), after.no_more_waits(t));
+    put_field(schedule, t, "no-more-waits", old, new, lines)?;
+    put_field(
+        schedule,
+        t,
+        "abort-now",
+        before.abort_now(t),
+        after.abort_now(t),
+        lines,
+    )
 }
 
-/// Drawn times begin at 1, and a time is drawn once.
-fn put_time_change(
-    schedule: &Schedule,
-    t: TxnId,
-    label: &str,
-    old: Time,
-    new: Time,
-    lines: &mut Vec<u8>,
-) -> Result<(), NoMemory> {
-    if old == new {
-        return Ok(());
-    }
-    put_txn(schedule, t, lines)?;
-    let new = new.number();
-    put(writeln!(lines, " {label} none -> {new}"))
-}
-
-fn put_count_changes(
-    schedule: &Schedule,
-    before: &Machine,
-    after: &Machine,
-    t: TxnId,
-    lines: &mut Vec<u8>,
-) -> Result<(), NoMemory>
-    requires before { Declared before.now.txns t }
-    requires after { Declared after.now.txns t }
-{
-    let (old, new) = (before.waits(t), after.waits(t));
-    if old != new {
-        put_txn(schedule, t, lines)?;
-        put(writeln!(lines, " waits {old} -> {new}"))?;
-    }
-    let (old, new) = (before.commit_deps(t), after.commit_deps(t));
-    if old != new {
-        put_txn(schedule, t, lines)?;
-        put(writeln!(lines, " commits {old} -> {new}"))?;
-    }
-    Ok(())
-}
-
-/// A flag is set, and stays set.
-fn put_flag_changes(
-    schedule: &Schedule,
-    before: &Machine,
-    after: &Machine,
-    t: TxnId,
-    lines: &mut Vec<u8>,
-) -> Result<(), NoMemory>
-    requires before { Declared before.now.txns t }
-    requires after { Declared after.now.txns t }
-{
-    if before.no_more_waits(t) != after.no_more_waits(t) {
-        put_txn(schedule, t, lines)?;
-        put(writeln!(lines, " no-more-waits clear -> set"))?;
-    }
-    if before.abort_now(t) != after.abort_now(t) {
-        put_txn(schedule, t, lines)?;
-        put(writeln!(lines, " abort-now clear -> set"))?;
-    }
-    Ok(())
-}
-
-/// What the transaction holds: read locks, versions to stamp, bucket locks.
-fn put_held_changes(
+/// What the transaction holds, who waits for it, and who depends on it.
+fn put_list_changes(
     schedule: &Schedule,
     before: &Machine,
     after: &Machine,
@@ -222,57 +190,64 @@ fn put_held_changes(
     requires after { Declared after.now.txns t }
 {
     let (old, new) = (before.read_list(t)?, after.read_list(t)?);
-    if old.as_slice() != new.as_slice() {
-        put_txn(schedule, t, lines)?;
-        put_lists("reads", old.as_slice(), new.as_slice(), lines)?;
-    }
+    put_field(schedule, t, "reads", old.as_slice(), new.as_slice(), lines)?;
     let (old, new) = (before.write_list(t)?, after.write_list(t)?);
-    if old.as_slice() != new.as_slice() {
-        put_txn(schedule, t, lines)?;
-        put_lists("writes", old.as_slice(), new.as_slice(), lines)?;
-    }
+    put_field(schedule, t, "writes", old.as_slice(), new.as_slice(), lines)?;
     let (old, new) = (before.bucket_list(t)?, after.bucket_list(t)?);
-    if old.as_slice() != new.as_slice() {
-        put_txn(schedule, t, lines)?;
-        put_lists("buckets", old.as_slice(), new.as_slice(), lines)?;
-    }
-    Ok(())
-}
-
-/// Who waits for the transaction, and who depends on it.
-fn put_other_changes(
-    schedule: &Schedule,
-    before: &Machine,
-    after: &Machine,
-    t: TxnId,
-    lines: &mut Vec<u8>,
-) -> Result<(), NoMemory>
-    requires before { Declared before.now.txns t }
-    requires after { Declared after.now.txns t }
-{
+    put_field(
+        schedule,
+        t,
+        "buckets",
+        old.as_slice(),
+        new.as_slice(),
+        lines,
+    )?;
     let (old, new) = (before.waiting_list(t)?, after.waiting_list(t)?);
-    if old.as_slice() != new.as_slice() {
-        put_txn(schedule, t, lines)?;
-        put_lists("waiting", old.as_slice(), new.as_slice(), lines)?;
-    }
+    put_field(
+        schedule,
+        t,
+        "waiting",
+        old.as_slice(),
+        new.as_slice(),
+        lines,
+    )?;
     let (old, new) = (before.dependents(t)?, after.dependents(t)?);
-    if old.as_slice() != new.as_slice() {
-        put_txn(schedule, t, lines)?;
-        put_lists("dependents", old.as_slice(), new.as_slice(), lines)?;
-    }
-    Ok(())
+    put_field(
+        schedule,
+        t,
+        "dependents",
+        old.as_slice(),
+        new.as_slice(),
+        lines,
+    )
 }
 
-fn put_lists<L: Listed + Drop>(
+/// A field of a transaction, where it differs.
+fn put_field<F: Field + PartialEq + Drop>(
+    schedule: &Schedule,
+    t: TxnId,
     label: &str,
-    old: L,
-    new: L,
+    old: F,
+    new: F,
+    lines: &mut Vec<u8>,
+) -> Result<(), NoMemory> {
+    if old == new {
+        return Ok(());
+    }
+    put_txn(schedule, t, lines)?;
+    put_values(label, &old, &new, lines)
+}
+
+fn put_values<F: Field>(
+    label: &str,
+    old: &F,
+    new: &F,
     lines: &mut Vec<u8>,
 ) -> Result<(), NoMemory> {
     put(write!(lines, " {label}"))?;
-    old.put_members(lines)?;
+    old.put_value(lines)?;
     put(write!(lines, " ->"))?;
-    new.put_members(lines)?;
+    new.put_value(lines)?;
     put(writeln!(lines))
 }
 
@@ -294,5 +269,5 @@ fn put_bucket_changes(
         put(writeln!(lines, "  bucket {bucket} locks {from} -> {to}"))?;
     }
     put(write!(lines, "  bucket {bucket}"))?;
-    put_lists("holders", old.as_slice(), new.as_slice(), lines)
+    put_values("holders", &old.as_slice(), &new.as_slice(), lines)
 }

@@ -31,8 +31,16 @@ pub fn drive_command<'a, R: Read + Drop, I: Read + Drop, W: Write>(
         dooms: Dooms::new(alloc),
         extras,
     };
-    let mut input = BufReader::new(alloc, input).map_err(|_| HekFault::NoMemory)?;
+    let mut input = lines_of(alloc, input)?;
     drive(alloc, &mut telling, &mut machine, &mut input, out)
+}
+
+/// An input that is read line by line.
+fn lines_of<'a, I: Read + Drop>(alloc: Global, input: I) -> Result<BufReader<I>, HekFault<'a>> {
+    match BufReader::new(alloc, input) {
+        Ok(reader) => Ok(reader),
+        Err(_) => Err(HekFault::NoMemory),
+    }
 }
 
 fn drive<'a, B: BufRead, W: Write>(

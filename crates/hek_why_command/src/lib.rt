@@ -4,9 +4,10 @@
 mod changes;
 mod drive;
 mod driven_line;
-mod listed;
+mod field;
 mod looked_text;
 mod met_text;
+mod one_step;
 mod reason_text;
 mod refused_text;
 mod run;
@@ -15,6 +16,7 @@ mod word_text;
 
 pub use changes::put_changes;
 pub use drive::drive_command;
+pub use one_step::explain_step;
 pub use reason_text::put_reasons;
 pub use run::explain_command;
 pub use step::Extras;

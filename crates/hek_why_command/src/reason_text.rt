@@ -2,7 +2,8 @@
 use crate::looked_text::put_looked;
 use crate::met_text::{put_end_word, put_stopped};
 use crate::refused_text::put_refused;
-use crate::word_text::{put, put_name, put_names, state_word};
+use crate::word_text::{put, put_name, put_names};
+use hek_commands::state_text;
 use hek_machine::Machine;
 use hek_rules::{Cause, NoMemory, Schedule, State, TxnId, VersionId};
 use hek_why::Reason;
@@ -144,8 +145,8 @@ fn put_aborted(
     lines: &mut Vec<u8>,
 ) -> Result<(), NoMemory> {
     put_name(schedule, t, lines)?;
-    let state = state_word(State::Aborted(cause));
-    put(write!(lines, " is {state} already"))
+    let stands = state_text(State::Aborted(cause));
+    put(write!(lines, " is {stands} already"))
 }
 
 /// `b waits for a, which read-locks version 0 (8040000000000002)`, or `b waits for a, which lists it`.

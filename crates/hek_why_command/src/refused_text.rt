@@ -1,5 +1,6 @@
 //! Why an event was refused.
-use crate::word_text::{put, put_name, state_word};
+use crate::word_text::{put, put_name};
+use hek_commands::state_text;
 use hek_rules::{NoMemory, Refusal, Schedule, State, TxnId};
 use hek_why::Phase;
 use std::io::Write;
@@ -33,8 +34,8 @@ pub(crate) fn put_refused(
     if refusal == Refusal::UnknownTxn {
         return put(write!(lines, " is not declared"));
     }
-    let state_text = state_word(state);
-    put(write!(lines, " is {state_text}"))?;
+    let stands = state_text(state);
+    put(write!(lines, " is {stands}"))?;
     match (state, finished) {
         (State::Active, true) => put(write!(lines, " and finished"))?,
         (State::Active, false) => put(write!(lines, " and not finished"))?,

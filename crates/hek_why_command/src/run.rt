@@ -71,8 +71,9 @@ fn tell_steps<'a, W: Write>(
     requires declared { AllByRecursion (NamesDeclared (length telling.old.schedule.now.txns)) steps.now }
 {
     let mut lines = Vec::new(alloc);
+    let last = limit.unwrap_or(u64::MAX);
     for place in 0..steps.len() {
-        if limit.is_some_and(|count| place as u64 >= count) {
+        if place as u64 >= last {
             break;
         }
         tell_step(alloc, telling, machine, &steps[place], &mut lines)?;

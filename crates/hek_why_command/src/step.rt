@@ -5,12 +5,11 @@ ghost use Rattle.hek_asm.specs.Trace.{NamesDeclared};
 
 use crate::changes::put_changes;
 use crate::reason_text::put_reasons;
-use hek_asm::write_line;
+use hek_commands::put_line;
 use hek_machine::Machine;
-use hek_rules::{Event, FromWrite, NoMemory, Reply, Schedule, TxnId};
+use hek_rules::{Event, NoMemory, Reply, Schedule, TxnId};
 use hek_why::{Dooms, Step, reasons};
 use std::alloc::Global;
-use std::mem;
 
 /// What stands under each line of a trace.
 #[derive(Clone, Copy, Debug, PartialEq, Eq)]
@@ -72,27 +71,6 @@ fn tell_from(
     };
     put_extras(alloc, telling, &step, lines)?;
     telling.dooms.note(before, *event, &reply)
-}
-
-/// The line of the trace.
-fn put_line(
-    alloc: Global,
-    schedule: &Schedule,
-    number: u64,
-    event: &Event,
-    reply: &Reply,
-    lines: &mut Vec<u8>,
-) -> Result<(), NoMemory>
-    requires { NamesDeclared (length schedule.now.txns) event.now }
-{
-    let mut sink = FromWrite::new(mem::replace(lines, Vec::new(alloc)));
-    match write_line(schedule, number, *event, reply, &mut sink) {
-        Ok(()) => {
-            *lines = sink.into_inner();
-            Ok(())
-        }
-        Err(_) => Err(NoMemory),
-    }
 }
 
 /// What stands under it: reasons first, then changes.

@@ -1,8 +1,8 @@
-//! Small texts: words of versions, states, lists of names.
+//! Small texts: words of versions, lists of names.
 ghost use Rattle.std.specs.Prelude.{length};
 ghost use Rattle.hek_rules.specs.Plan.{IsDeclared};
 
-use hek_rules::{BeginRecord, Cause, EndRecord, NoMemory, Schedule, State, Time, TxnId};
+use hek_rules::{BeginRecord, EndRecord, NoMemory, Schedule, Time, TxnId};
 use hek_word::{BeginWord, EndWord};
 use std::io;
 use std::io::Write;
@@ -81,23 +81,5 @@ pub(crate) fn put_end(word: EndWord, lines: &mut Vec<u8>) -> Result<(), NoMemory
             let flag = if no_more { " no-more-reads set" } else { "" };
             put(write!(lines, "{flag}"))
         }
-    }
-}
-
-/// Where a transaction stands, in the words of `hek run --state`.
-pub(crate) fn state_word(state: State) -> &'static str {
-    match state {
-        State::NotBegun => "not begun",
-        State::Active => "active",
-        State::Preparing => "preparing",
-        State::Committed => "committed",
-        State::Terminated => "terminated",
-        State::Aborted(Cause::Cascade) => "aborted cascade",
-        State::Aborted(Cause::Conflict) => "aborted conflict",
-        State::Aborted(Cause::NoMoreReads) => "aborted no-more-reads",
-        State::Aborted(Cause::ReadersFull) => "aborted readers-full",
-        State::Aborted(Cause::NoMoreWaits) => "aborted no-more-waits",
-        State::Aborted(Cause::Deadlock) => "aborted deadlock",
-        State::Aborted(Cause::Asked) => "aborted asked",
     }
 }

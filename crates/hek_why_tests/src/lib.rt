@@ -10,4 +10,8 @@ mod drives;
 #[cfg(test)]
 mod reasons;
 #[cfg(test)]
+mod refusals;
+#[cfg(test)]
+mod sessions;
+#[cfg(test)]
 mod told;

@@ -12,9 +12,9 @@ const WHY: Extras = Extras {
 };
 
 /// A schedule, and what stands under the line of one of its events.
-type Row = (&'static str, u64, &'static str);
+pub(crate) type Row = (&'static str, u64, &'static str);
 
-fn hold(rt: &impl Abort, alloc: Global, rows: &[Row]) -> Result<(), AllocError> {
+pub(crate) fn hold(rt: &impl Abort, alloc: Global, rows: &[Row]) -> Result<(), AllocError> {
     for row in rows {
         let (text, number, want) = *row;
         let got = under(rt, alloc, text, number, WHY)?;
@@ -108,11 +108,21 @@ const STOPS: &[Row] = &[
         5,
         "b made version 1, and has finished (8000000000000002)\n",
     ),
+    (
+        "buckets 2\nrow 10 100\ntxn a repeatable\ntxn b repeatable\na begin\nb begin\nb update 10 200\nb finish\na read 10\na finish\n",
+        6,
+        "a is aborted no-more-waits already\n",
+    ),
     // another writer
     (
-        "buckets 2\nrow 10 100\ntxn a repeatable\ntxn b repeatable\na begin\nb begin\na update 10 1\nb delete 10\n",
+        "buckets 2\nrow 10 100\ntxn a repeatable\ntxn b repeatable\na begin\nb begin\na update 10 1\nb delete 10\nb finish\n",
         4,
         "a writes over version 0 (8000000000000001)\n",
+    ),
+    (
+        "buckets 2\nrow 10 100\ntxn a repeatable\ntxn b repeatable\na begin\nb begin\na update 10 1\nb delete 10\nb finish\n",
+        5,
+        "b is aborted conflict already\n",
     ),
     // written over since a snapshot began
     (
@@ -126,10 +136,15 @@ const STOPS: &[Row] = &[
         4,
         "a made version 0, and is active (8000000000000001)\n",
     ),
-    // and by one that is preparing, or has stamped
+    // and by one that is preparing, has committed, or has stamped
     (
         "buckets 2\ntxn a snapshot\ntxn b repeatable\na begin\nb begin\nb insert 11 1\nb finish\nb precommit\na insert 11 2\n",
         6,
+        "b made version 0, and has end time 3 (8000000000000002)\n",
+    ),
+    (
+        "buckets 2\ntxn a snapshot\ntxn b repeatable\na begin\nb begin\nb insert 11 1\nb finish\nb precommit\nb commit\na insert 11 2\n",
+        7,
         "b made version 0, and has end time 3 (8000000000000002)\n",
     ),
     (
@@ -178,6 +193,8 @@ b precommit
 b commit
 a fail
 b commit
+b commit
+a read 11
 ";
 
 const PROMISES: &[Row] = &[
@@ -195,6 +212,14 @@ const PROMISES: &[Row] = &[
     (CASCADE, 9, "b depends on a, which is preparing\n"),
     (CASCADE, 10, ""),
     (CASCADE, 11, "b depended on a, which has aborted\n"),
+    (CASCADE, 12, "b is aborted cascade already\n"),
+    (CASCADE, 13, "a is aborted asked already\n"),
+    // each locks the bucket in which the other inserts
+    (
+        "buckets 2\ntxn a serializable\ntxn b serializable\na begin\nb begin\na scan 0\nb scan 1\na insert 11 1\nb insert 10 1\na finish\nb finish\ndetect\n",
+        9,
+        "b waits for a, which lists it\na waits for b, which lists it\n",
+    ),
 ];
 
 #[test]
@@ -223,43 +248,27 @@ const SIGHTS: &[Row] = &[
     ),
 ];
 
-#[test]
-fn what_is_seen_is_told(rt: HostRuntime) -> Result<(), Fail> {
-    hold(&rt, rt.alloc(), SIGHTS)?;
-    Ok(())
-}
+const SCANS: &str =
+    "buckets 2\nrow 10 100\nrow 11 110\nrow 12 120\ntxn a serializable\na begin\na scan 0\na insert 12 1\na read 13\n";
 
-const REFUSALS: &[Row] = &[
+const LOOKS: &[Row] = &[
     (
-        "buckets 1\nrow 10 1\ntxn a repeatable\na read 10\n",
-        1,
-        "a is not begun, and the event is for one that is active and not finished\n",
-    ),
-    (
-        "buckets 1\nrow 10 1\ntxn a repeatable\na begin\na begin\n",
+        SCANS,
         2,
-        "a is active and not finished, and the event is for one that is not begun\n",
+        "version 0 is seen at 2: made at 0, not written over (0000000000000000, 7FFFFFFFFFFFFFFF)\nversion 2 is seen at 2: made at 0, not written over (0000000000000000, 7FFFFFFFFFFFFFFF)\n",
     ),
     (
-        "buckets 1\nrow 10 1\ntxn a repeatable\na begin\na commit\n",
-        2,
-        "a is active and not finished, and the event is for one that is preparing\n",
+        SCANS,
+        3,
+        "version 2 is seen at 2: made at 0, not written over (0000000000000000, 807FFFFFFFFFFFFF)\n",
     ),
-    (
-        "buckets 1\nrow 10 1\ntxn a repeatable\na begin\na read 10\na fail\na end\na release\na end\na stamp\n",
-        4,
-        "a has left: reads 1, buckets 0, waiting 0, writes 0\n",
-    ),
-    (
-        "buckets 1\nrow 10 1\ntxn a repeatable\na begin\na read 10\na fail\na end\na release\na end\na stamp\n",
-        7,
-        "a is terminated, and the event is for one that is committed or aborted\n",
-    ),
+    (SCANS, 4, ""),
 ];
 
 #[test]
-fn refusals_are_told(rt: HostRuntime) -> Result<(), Fail> {
-    hold(&rt, rt.alloc(), REFUSALS)?;
+fn what_is_seen_is_told(rt: HostRuntime) -> Result<(), Fail> {
+    hold(&rt, rt.alloc(), SIGHTS)?;
+    hold(&rt, rt.alloc(), LOOKS)?;
     Ok(())
 }
 
@@ -300,7 +309,7 @@ fn words_are_told(rt: HostRuntime) -> Result<(), Fail> {
     Ok(())
 }
 
-/// A version with 255 readers, t1 to t255, and t256 that reads it too.
+/// A version with 255 readers, t1 to t255, and t256 that reads it too, and reads again.
 fn crowd(alloc: Global) -> Result<String, AllocError> {
     let mut text = String::from_str(alloc, "buckets 1\nrow 10 1\n")?;
     for t in 1u64..257 {
@@ -309,14 +318,19 @@ fn crowd(alloc: Global) -> Result<String, AllocError> {
     for t in 1u64..257 {
         text.push_str(format!(in alloc; "t{t} begin\nt{t} read 10\n")?.as_str())?;
     }
+    text.push_str("t256 read 10\n")?;
     Ok(text)
 }
 
 #[test]
 fn a_crowd_of_readers_is_told(rt: HostRuntime) -> Result<(), Fail> {
     let text = crowd(rt.alloc())?;
-    let got = under(&rt, rt.alloc(), text.as_str(), 512, WHY)?;
-    let want = "version 0 has 255 readers (BFFFFFFFFFFFFFFF)\n";
-    is_at(&rt, 512, got.as_str(), want);
+    for (number, want) in [
+        (512, "version 0 has 255 readers (BFFFFFFFFFFFFFFF)\n"),
+        (513, "t256 is aborted readers-full already\n"),
+    ] {
+        let got = under(&rt, rt.alloc(), text.as_str(), number, WHY)?;
+        is_at(&rt, number, got.as_str(), want);
+    }
     Ok(())
 }

@@ -113,7 +113,7 @@ module _ (rows : List (ℕ × ℕ)) (w : World) (h : History) (k : Kept rows w h
       let same = same_txn t (other t v) in
       record {
         active = ap (λ (y : Txn). y.state) (sym same) ∙ v.active;
-        hopeful = ap (λ (y : Txn). y.doomed) (sym same) ∙ v.hopeful;
+        hopeful = ap (λ (y : Txn). y.abort_now) (sym same) ∙ v.hopeful;
         depends = λ u c. sym (cond-false (u == x) true (A u) (ne_eqb u x (λ e.
             let p = subst (λ n. is_preparing (txn_in w.txns n).state ≡ true) e (k.structure.dependences.first u t c) in
             absurd (false≢true (sym (ap is_preparing a.state) ∙ p))))) ∙ v.depends u c;

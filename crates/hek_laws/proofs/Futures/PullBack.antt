@@ -44,20 +44,20 @@ preparing-unsettled w h u s p = live-uncommitted w h u s (unsettled _ p)
 
 -- what an event that commits nobody has to keep
 record Quiet (w new : World) : Type 0 where
-  doomed : (u : ℕ) → (txn_in w.txns u).doomed ≡ true → (txn_in new.txns u).doomed ≡ true
-  dependence : (u t : ℕ) → has w.dependents u t ≡ true → (has new.dependents u t ≡ true) ⊎ ((txn_in new.txns t).doomed ≡ true)
+  abort_now : (u : ℕ) → (txn_in w.txns u).abort_now ≡ true → (txn_in new.txns u).abort_now ≡ true
+  dependence : (u t : ℕ) → has w.dependents u t ≡ true → (has new.dependents u t ≡ true) ⊎ ((txn_in new.txns t).abort_now ≡ true)
 
 quiet : (w new : World) (h : History) (e : Event) (r : Reply) → Dependences w h → Settled w h → committed_in (h ++ (e, r) ∷ []) ≡ committed_in h → Quiet w new → Goes w h new (h ++ (e, r) ∷ [])
 quiet w new h e r d s i q = record {
   committed = λ u k. ap (λ xs. is_among xs u) i ∙ k;
-  doomed = λ u p bad k. ⊎_elim (λ x. x) (λ x. absurd (false≢true (sym (preparing-unsettled w h u s p) ∙ sym (ap (λ xs. is_among xs u) i) ∙ x))) (or_cases _ _ k);
-  stays = q.doomed;
+  abort_now = λ u p bad k. ⊎_elim (λ x. x) (λ x. absurd (false≢true (sym (preparing-unsettled w h u s p) ∙ sym (ap (λ xs. is_among xs u) i) ∙ x))) (or_cases _ _ k);
+  stays = q.abort_now;
   dependence = λ u t k. ⊎_elim (λ x. inl x) (λ x. inr (inr (x, ap (λ xs. is_among xs t) i ∙ d.second u t k))) (q.dependence u t k);
 }
 
 -- the one that is doomed, and what a list of the dooms has
-doomed-set : (ts : List Txn) (x : ℕ) → declared ts x ≡ true → (txn_in (set_txn ts x (record (txn_in ts x) { doomed = true })) x).doomed ≡ true
-doomed-set ts x k = ap (λ (y : Txn). y.doomed) (txn_in-set_same ts x _ k)
+doomed-set : (ts : List Txn) (x : ℕ) → declared ts x ≡ true → (txn_in (set_txn ts x (record (txn_in ts x) { abort_now = true })) x).abort_now ≡ true
+doomed-set ts x k = ap (λ (y : Txn). y.abort_now) (txn_in-set_same ts x _ k)
 
 pub declared-set : (ts : List Txn) (t : ℕ) (x : Txn) (u : ℕ) → declared ts u ≡ true → declared (set_txn ts t x) u ≡ true
 declared-set ts zero x u h = h
@@ -71,13 +71,13 @@ declared-set ts (suc i) x (suc j) h = there ts i j h
     there (y ∷ ys) (suc i) zero h = refl
     there (y ∷ ys) (suc i) (suc j) h = there ys i j h
 
-doomed-doom : (ts : List Txn) (xs : List ℕ) (x : ℕ) → declared ts x ≡ true → In x xs → (txn_in (doom ts xs) x).doomed ≡ true
+doomed-doom : (ts : List Txn) (xs : List ℕ) (x : ℕ) → declared ts x ≡ true → In x xs → (txn_in (doom ts xs) x).abort_now ≡ true
 doomed-doom ts [] x k i = absurd i
 doomed-doom ts (y ∷ ys) x k i =
-    let now = set_txn ts y (record (txn_in ts y) { doomed = true }) in
+    let now = set_txn ts y (record (txn_in ts y) { abort_now = true }) in
     ⊎_elim
-    (λ here. each_txn-doom (λ n z. n ≡ x → z.doomed ≡ true) now ys (λ n z f e. refl)
-    (λ n e. subst (λ m. (txn_in now m).doomed ≡ true) (sym (e ∙ here)) (doomed-set ts y (subst (λ m. declared ts m ≡ true) here k))) x refl)
+    (λ here. each_txn-doom (λ n z. n ≡ x → z.abort_now ≡ true) now ys (λ n z f e. refl)
+    (λ n e. subst (λ m. (txn_in now m).abort_now ≡ true) (sym (e ∙ here)) (doomed-set ts y (subst (λ m. declared ts m ≡ true) here k))) x refl)
     (λ later. doomed-doom now ys x (declared-set ts y _ x k) later) i
 
 pub In-seconds : (ps : List (ℕ × ℕ)) (a b : ℕ) → has ps a b ≡ true → In b (seconds_of ps a)
@@ -109,32 +109,32 @@ has-without_first (p ∷ ps) t a b n h =
     (cases_Bool (p.0 == t))
 
 module _ (w : World) (h : History) (d : Dependences w h) (s : Settled w h) where
-  set-quiet : (t : ℕ) (x : Txn) (new : World) → x.doomed ≡ (txn_in w.txns t).doomed → new.txns ≡ set_txn w.txns t x → new.dependents ≡ w.dependents → Quiet w new
+  set-quiet : (t : ℕ) (x : Txn) (new : World) → x.abort_now ≡ (txn_in w.txns t).abort_now → new.txns ≡ set_txn w.txns t x → new.dependents ≡ w.dependents → Quiet w new
   set-quiet t x new e is same = record {
-    doomed = λ u k. subst (λ ts. (txn_in ts u).doomed ≡ true) (sym is) (each_txn-set (λ n y. (txn_in w.txns n).doomed ≡ true → y.doomed ≡ true) w.txns t x (λ n j. j) (λ j. e ∙ j) u k);
+    abort_now = λ u k. subst (λ ts. (txn_in ts u).abort_now ≡ true) (sym is) (each_txn-set (λ n y. (txn_in w.txns n).abort_now ≡ true → y.abort_now ≡ true) w.txns t x (λ n j. j) (λ j. e ∙ j) u k);
     dependence = λ u v k. inl (ap (λ ps. has ps u v) same ∙ k);
   }
 
   walk-quiet : (t : ℕ) (es : List Effect) → Quiet w (apply_all t w es)
   walk-quiet t es = record {
-    doomed = λ u k. ap (λ ts. (txn_in ts u).doomed) (apply_all-times t w es).txns ∙ k;
+    abort_now = λ u k. ap (λ ts. (txn_in ts u).abort_now) (apply_all-times t w es).txns ∙ k;
     dependence = λ u v k. inl (depends-apply_all t w es u v k);
   }
 
   add-quiet : (t : ℕ) (es : List Effect) (key value : ℕ) → Quiet w (add_version (apply_all t w es) t key value)
-  add-quiet t es key value = record { doomed = (walk-quiet t es).doomed; dependence = (walk-quiet t es).dependence }
+  add-quiet t es key value = record { abort_now = (walk-quiet t es).abort_now; dependence = (walk-quiet t es).dependence }
 
   abort-quiet : (t : ℕ) (cause : _) → Quiet w (abort w t cause)
   abort-quiet t cause = record {
-    doomed = λ u k. each_txn-doom (λ n y. (txn_in w.txns n).doomed ≡ true → y.doomed ≡ true) _ (seconds_of w.dependents t) (λ n y f j. refl)
-        (each_txn-set (λ n y. (txn_in w.txns n).doomed ≡ true → y.doomed ≡ true) w.txns t _ (λ n j. j) (λ j. j)) u k;
+    abort_now = λ u k. each_txn-doom (λ n y. (txn_in w.txns n).abort_now ≡ true → y.abort_now ≡ true) _ (seconds_of w.dependents t) (λ n y f j. refl)
+        (each_txn-set (λ n y. (txn_in w.txns n).abort_now ≡ true → y.abort_now ≡ true) w.txns t _ (λ n j. j) (λ j. j)) u k;
     dependence = λ u v k. ⊎_elim
         (λ mine. inr (doomed-doom _ (seconds_of w.dependents t) v (declared-set w.txns t _ v (d.known u v k)) (In-seconds w.dependents t v (subst (λ n. has w.dependents n v ≡ true) (eqb-true _ _ mine) k))))
         (λ other. inl (has-without_first w.dependents t u v other k)) (cases_Bool (u == t));
   }
 
   nothing : Quiet w w
-  nothing = record { doomed = λ u k. k; dependence = λ u v k. inl k }
+  nothing = record { abort_now = λ u k. k; dependence = λ u v k. inl k }
 
   commit-goes : (t : ℕ) → IsPreparing w t → Goes w h (commit w t) (h ++ (event.Commit t, reply.Committed) ∷ [])
   commit-goes t p =
@@ -142,11 +142,11 @@ module _ (w : World) (h : History) (d : Dependences w h) (s : Settled w h) where
       let among : (u : ℕ) → has_committed (h ++ (event.Commit t, reply.Committed) ∷ []) u ≡ (has_committed h u || ((t == u) || false)) = λ u. ap (λ xs. is_among xs u) is ∙ is_among-append (committed_in h) (t ∷ []) u in
       record {
         committed = λ u k. among u ∙ or_left _ _ k;
-        doomed = λ u q bad k. ⊎_elim (λ x. x)
+        abort_now = λ u q bad k. ⊎_elim (λ x. x)
             (λ x. ⊎_elim (λ y. absurd (false≢true (sym (preparing-unsettled w h u s q) ∙ y)))
-            (λ y. ⊎_elim (λ z. absurd (false≢true (sym p.hopeful ∙ subst (λ n. (txn_in w.txns n).doomed ≡ true) (sym (eqb-true _ _ z)) bad))) (λ z. absurd (false≢true z)) (or_cases _ _ y))
+            (λ y. ⊎_elim (λ z. absurd (false≢true (sym p.hopeful ∙ subst (λ n. (txn_in w.txns n).abort_now ≡ true) (sym (eqb-true _ _ z)) bad))) (λ z. absurd (false≢true z)) (or_cases _ _ y))
             (or_cases _ _ (sym (among u) ∙ x))) (or_cases _ _ k);
-        stays = λ u k. each_txn-set (λ n y. (txn_in w.txns n).doomed ≡ true → y.doomed ≡ true) w.txns t _ (λ n j. j) (λ j. j) u k;
+        stays = λ u k. each_txn-set (λ n y. (txn_in w.txns n).abort_now ≡ true → y.abort_now ≡ true) w.txns t _ (λ n j. j) (λ j. j) u k;
         dependence = λ u v k. ⊎_elim
             (λ mine. inr (inl (among u ∙ or_right (has_committed h u) _ (or_left _ _ (eq-eqb _ _ (sym (eqb-true _ _ mine)))))))
             (λ other. inl (has-without_first w.dependents t u v other k)) (cases_Bool (u == t));
@@ -156,7 +156,7 @@ module _ (w : World) (h : History) (d : Dependences w h) (s : Settled w h) where
   quiet_reply e r i = committed_in-append h ((e, r) ∷ []) ∙ ap (λ xs. committed_in h ++ (xs ++ [])) i ∙ append-nil (committed_in h)
 
   nothing_but : {new : World} → new.txns ≡ w.txns → new.dependents ≡ w.dependents → Quiet w new
-  nothing_but a b = record { doomed = λ u k. ap (λ ts. (txn_in ts u).doomed) a ∙ k; dependence = λ u v k. inl (ap (λ ps. has ps u v) b ∙ k) }
+  nothing_but a b = record { abort_now = λ u k. ap (λ ts. (txn_in ts u).abort_now) a ∙ k; dependence = λ u v k. inl (ap (λ ps. has ps u v) b ∙ k) }
 
   abbrev pub Gone : Event → Outcome → Type 0
   Gone e o = Goes w h o.world (h ++ (e, o.reply) ∷ [])

@@ -25,13 +25,13 @@ is_drawn w h t = is_preparing (txn_in w.txns t).state || has_committed h t
 pub record Future (w : World) (h : History) (A : ℕ → Bool) : Type 0 where
   pub drawn : (u : ℕ) → A u ≡ true → is_drawn w h u ≡ true
   pub committed : (u : ℕ) → has_committed h u ≡ true → A u ≡ true
-  pub hopeful : (u : ℕ) → A u ≡ true → is_preparing (txn_in w.txns u).state ≡ true → (txn_in w.txns u).doomed ≡ false
+  pub hopeful : (u : ℕ) → A u ≡ true → is_preparing (txn_in w.txns u).state ≡ true → (txn_in w.txns u).abort_now ≡ false
   pub closed : (u t : ℕ) → has w.dependents u t ≡ true → A t ≡ true → A u ≡ true
 
 -- t may still commit in this future
 pub record Viable (w : World) (A : ℕ → Bool) (t : ℕ) : Type 0 where
   pub active : (txn_in w.txns t).state ≡ Active
-  pub hopeful : (txn_in w.txns t).doomed ≡ false
+  pub hopeful : (txn_in w.txns t).abort_now ≡ false
   pub depends : (u : ℕ) → has w.dependents u t ≡ true → A u ≡ true
 
 -- who is depended on is preparing, and who has committed depends on nobody
@@ -43,10 +43,10 @@ pub record Dependences (w : World) (h : History) : Type 0 where
 -- what one event may change of all that
 pub record Goes (w : World) (h : History) (new : World) (later : History) : Type 0 where
   pub committed : (u : ℕ) → has_committed h u ≡ true → has_committed later u ≡ true
-  pub doomed : (u : ℕ) → is_preparing (txn_in w.txns u).state ≡ true → (txn_in w.txns u).doomed ≡ true → is_drawn new later u ≡ true → is_preparing (txn_in new.txns u).state ≡ true
-  pub stays : (u : ℕ) → (txn_in w.txns u).doomed ≡ true → (txn_in new.txns u).doomed ≡ true
+  pub abort_now : (u : ℕ) → is_preparing (txn_in w.txns u).state ≡ true → (txn_in w.txns u).abort_now ≡ true → is_drawn new later u ≡ true → is_preparing (txn_in new.txns u).state ≡ true
+  pub stays : (u : ℕ) → (txn_in w.txns u).abort_now ≡ true → (txn_in new.txns u).abort_now ≡ true
   -- a dependence ends as the one that is depended on commits, or as it aborts and takes the other along
-  pub dependence : (u t : ℕ) → has w.dependents u t ≡ true → (has new.dependents u t ≡ true) ⊎ ((has_committed later u ≡ true) ⊎ ((txn_in new.txns t).doomed ≡ true) × (has_committed later t ≡ false))
+  pub dependence : (u t : ℕ) → has w.dependents u t ≡ true → (has new.dependents u t ≡ true) ⊎ ((has_committed later u ≡ true) ⊎ ((txn_in new.txns t).abort_now ≡ true) × (has_committed later t ≡ false))
 
 -- a future as it was before the event
 abbrev pub before : World → History → (ℕ → Bool) → ℕ → Bool
@@ -59,9 +59,9 @@ Future-before w h new later A g d f = record {
   hopeful = λ u k p. ⊎_elim
       (λ bad.
       let a = (and_parts (A u) (is_drawn w h u) k).0 in
-      let still = g.doomed u p bad (f.drawn u a) in
+      let still = g.abort_now u p bad (f.drawn u a) in
       absurd (false≢true (sym (f.hopeful u a still) ∙ g.stays u bad)))
-      (λ good. good) (cases_Bool (txn_in w.txns u).doomed);
+      (λ good. good) (cases_Bool (txn_in w.txns u).abort_now);
   closed = λ u t c k.
       let a = (and_parts (A t) (is_drawn w h t) k).0 in
       and_from (A u) (is_drawn w h u)

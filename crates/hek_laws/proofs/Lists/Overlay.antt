@@ -7,6 +7,7 @@ use Rattle.hek_rules.specs.Listing.{put, take_out, value_of}
 use Rattle.hek_rules.specs.declared.serial.Write.{Write}
 use Rattle.hek_rules.specs.declared.serial.Write.TheVariants.{Put, Remove}
 use Rattle.hek_rules.specs.Serial.{lay, lay_all}
+use Rattle.hek_laws.specs.Rows.{key_of}
 
 -- what a key has under a write of it, and under a write of another
 pub value_of-put : (rows : List (ℕ × ℕ)) (k x q : ℕ) → value_of (put k x rows) q ≡ (if k == q then Some x else value_of rows q)
@@ -16,10 +17,6 @@ value_of-put (p ∷ ps) k x q = let rest = value_of-put ps k x q in grind (arith
 pub value_of-take_out : (rows : List (ℕ × ℕ)) (k q : ℕ) → value_of (take_out k rows) q ≡ (if k == q then None else value_of rows q)
 value_of-take_out [] k q = cond_both (k == q) None None (λ o. None ≡ o) (λ _. refl) (λ _. refl)
 value_of-take_out (p ∷ ps) k q = let rest = value_of-take_out ps k q in grind (arith, nat_tests, rest)
-
-abbrev pub key_of : Write → ℕ
-key_of (Put key value) = key
-key_of (Remove key) = key
 
 -- whether one of the writes is of the key
 abbrev pub wrote : List Write → ℕ → Bool

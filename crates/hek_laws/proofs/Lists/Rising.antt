@@ -6,14 +6,7 @@ use Rattle.hek_rules.specs.Listing.{put, take_out, value_of}
 use Rattle.hek_rules.specs.declared.serial.Write.{Write}
 use Rattle.hek_rules.specs.declared.serial.Write.TheVariants.{Put, Remove}
 use Rattle.hek_rules.specs.Serial.{lay_all, rows_of}
-
-abbrev pub AreAbove : ℕ → List (ℕ × ℕ) → Type 0
-AreAbove k [] = Unit {0}
-AreAbove k (p ∷ ps) = (k < p.0) × AreAbove k ps
-
-abbrev pub AreRising : List (ℕ × ℕ) → Type 0
-AreRising [] = Unit {0}
-AreRising (p ∷ ps) = AreAbove p.0 ps × AreRising ps
+use Rattle.hek_laws.specs.Rows.{AreAbove, AreRising}
 
 above-lower : (k n : ℕ) (ps : List (ℕ × ℕ)) → n ≤ k → AreAbove k ps → AreAbove n ps
 above-lower k n [] h a = tt

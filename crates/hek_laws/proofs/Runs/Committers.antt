@@ -14,13 +14,13 @@ use Rattle.hek_laws.proofs.Table.Changes.{each_outcome}
 use Rattle.hek_laws.proofs.Worlds.Histories.{committed_in-append, append-nil}
 use Rattle.hek_laws.proofs.Futures.Survivors.{History, has_committed, Goes}
 use Rattle.hek_laws.proofs.Futures.PullBack.{is_among-append, each_goes, preparing-unsettled}
-use Rattle.hek_laws.proofs.Lists.Rising.{AreRising}
+use Rattle.hek_laws.specs.Rows.{AreRising}
 use Rattle.hek_laws.proofs.Runs.Opening.{base-rising}
 use Rattle.hek_laws.proofs.Runs.Whole.{Whole, whole-next}
 use Rattle.hek_laws.proofs.Runs.Reachable.{reachable-firm}
 
 -- who is doomed doesn't commit
-doomed-uncommitted : (w : World) (t : ℕ) → (txn_in w.txns t).doomed ≡ true → (e : Event) → is_among (committed_by e (reply_to w e)) t ≡ false
+doomed-uncommitted : (w : World) (t : ℕ) → (txn_in w.txns t).abort_now ≡ true → (e : Event) → is_among (committed_by e (reply_to w e)) t ≡ false
 doomed-uncommitted w t bad e = each_outcome w (λ e o. is_among (committed_by e o.reply) t ≡ false) (record {
   same = λ e r i _. ap (λ xs. is_among xs t) i.commits;
   aborts = λ e r x cause i _ _. ap (λ xs. is_among xs t) i.commits;
@@ -38,7 +38,7 @@ doomed-uncommitted w t bad e = each_outcome w (λ e o. is_among (committed_by e 
   drops = λ x v r _ i _. ap (λ xs. is_among xs t) i.commits;
   unlocks = λ x b _. refl;
   frees = λ x u _. refl;
-  commits = λ x p _. or_from _ _ (⊎_elim (λ y. absurd (false≢true (sym p.hopeful ∙ ap (λ n. (txn_in w.txns n).doomed) (eqb-true x t y) ∙ bad))) (λ n. n) (cases_Bool (x == t))) refl;
+  commits = λ x p _. or_from _ _ (⊎_elim (λ y. absurd (false≢true (sym p.hopeful ∙ ap (λ n. (txn_in w.txns n).abort_now) (eqb-true x t y) ∙ bad))) (λ n. n) (cases_Bool (x == t))) refl;
   stamps_begin = λ x v _ _ _. refl;
   stamps_end = λ x v _ _ _. refl;
   voids = λ x v _ _ _ _. refl;
@@ -54,7 +54,7 @@ module _ (rows : List (ℕ × ℕ)) (up : AreRising rows) where
   among-first w e es n = is_among-append (committed_by e (reply_to w e)) (committed_in (transcript (next w e) es)) n
 
   -- who is doomed never commits
-  doomed-never : (w : World) (h : History) → Whole rows w h → (t : ℕ) → (txn_in w.txns t).doomed ≡ true → (es : List Event) → has_committed (transcript w es) t ≡ true → ⊥
+  doomed-never : (w : World) (h : History) → Whole rows w h → (t : ℕ) → (txn_in w.txns t).abort_now ≡ true → (es : List Event) → has_committed (transcript w es) t ≡ true → ⊥
   doomed-never w h k t bad [] y = false≢true y
   doomed-never w h k t bad (e ∷ es) y =
       ⊎_elim (λ now. false≢true (sym (doomed-uncommitted w t bad e) ∙ now))

@@ -56,7 +56,7 @@ pub record Open (ts : List Txn) (count : ℕ) (e : Ender) : Type 0 where
   pub fits : (n : ℕ) → IsSoundFlag n e
   pub room : count < 255
   -- the first reader makes no writer wait that has finished
-  pub first : (u : ℕ) (b : Bool) → e ≡ Held (Some u) b → count ≡ 0 → (txn_in ts u).finished ≡ false
+  pub first : (u : ℕ) (b : Bool) → e ≡ Held (Some u) b → count ≡ 0 → (txn_in ts u).no_more_waits ≡ false
 
 pub allowed-open : (ts : List Txn) (count : ℕ) (e : Ender) → is_held e ≡ true → read_refusal ts count e ≡ None → Open ts count e
 allowed-open ts count (EndedAt time) h n = cc
@@ -69,17 +69,17 @@ allowed-open ts count (Held (Some u) false) h n =
     ⊎_elim
     (λ y.
     let rest = sym (cond-false (not (nat_lt count 255)) (Some ReadersFull) _ (ap not y)) ∙ n in
-    ⊎_elim (λ q. let z : Some NoMoreWaits ≡ None = sym (cond-true (count == 0 && (txn_in ts u).finished) (Some NoMoreWaits) None q) ∙ rest in cc)
-    (λ q. record { fits = λ m. refused m; room = ltb-true count 255 y; first = λ x b same z. waits q x b same z }) (cases_Bool (count == 0 && (txn_in ts u).finished)))
+    ⊎_elim (λ q. let z : Some NoMoreWaits ≡ None = sym (cond-true (count == 0 && (txn_in ts u).no_more_waits) (Some NoMoreWaits) None q) ∙ rest in cc)
+    (λ q. record { fits = λ m. refused m; room = ltb-true count 255 y; first = λ x b same z. waits q x b same z }) (cases_Bool (count == 0 && (txn_in ts u).no_more_waits)))
     (λ f. let z : Some ReadersFull ≡ None = sym (cond-true (not (nat_lt count 255)) (Some ReadersFull) _ (ap not f)) ∙ n in cc) (cases_Bool (nat_lt count 255))
   where
     refused : (m : ℕ) → false ≡ true → m ≡ 0
     refused m z = absurd (false≢true z)
 
-    waits : (count == 0 && (txn_in ts u).finished) ≡ false → (x : ℕ) (b : Bool) → Held (Some u) false ≡ Held (Some x) b → count ≡ 0 → (txn_in ts x).finished ≡ false
+    waits : (count == 0 && (txn_in ts u).no_more_waits) ≡ false → (x : ℕ) (b : Bool) → Held (Some u) false ≡ Held (Some x) b → count ≡ 0 → (txn_in ts x).no_more_waits ≡ false
     waits q x b same z =
         let one : u ≡ x = cc in
-        subst (λ n. (txn_in ts n).finished ≡ false) one (⊎_elim (λ no'. absurd (false≢true (sym no' ∙ eq-eqb count 0 z))) (λ f. f) (and_cases _ _ q))
+        subst (λ n. (txn_in ts n).no_more_waits ≡ false) one (⊎_elim (λ no'. absurd (false≢true (sym no' ∙ eq-eqb count 0 z))) (λ f. f) (and_cases _ _ q))
 
 -- ---- the steps
 set-fits : (ps : List (ℕ × ℕ)) (vs : List Version) (v : ℕ) (x : Version) → IsSoundFlag (readers ps v) x.ender → ((j : ℕ) → IsSoundFlag (readers ps j) (version_in vs j).ender) → (j : ℕ) → IsSoundFlag (readers ps j) (version_in (slice_set vs v x) j).ender

@@ -12,7 +12,7 @@ use Rattle.hek_rules.specs.declared.word.BeginRecord.TheVariants.{At, By}
 use Rattle.hek_rules.specs.Words.{infinity}
 use Rattle.hek_rules.specs.Listing.{has, firsts_of}
 use Rattle.hek_rules.specs.World.{World, Txn, Version, Ender, EndedAt, Held, txn_in, version_in, declared, no_txn, places, is_held_by, is_made_by, is_not_begun, is_aborted, is_committed, is_preparing, is_present}
-use Rattle.hek_rules.specs.Waits.{waits, deps, is_waited_for}
+use Rattle.hek_rules.specs.Waits.{waits, commit_deps, is_waited_for}
 use Rattle.hek_laws.specs.Lists.{In}
 use Rattle.hek_laws.specs.Sound.{Sound, TimesInOrder, OwnsNothing, IsSoundCreator, IsSoundEnder}
 use Rattle.hek_laws.proofs.Table.Changes.{declared-below}
@@ -121,7 +121,7 @@ module _ (w : World) (k : Grounded w) where
       let lists = few (length w.txns) (firsts_of w.waiters u) (once-firsts w.waiters u k.single.waiters_once) (λ t i. begun-range w.txns t (present-begun _ (k.listed.holder t u (firsts-In w.waiters t u i)))) in
       omega (arith, versions, lists)
 
-  deps-bound : (t : ℕ) → deps w t ≤ length w.txns
+  deps-bound : (t : ℕ) → commit_deps w t ≤ length w.txns
   deps-bound t =
       few (length w.txns) (firsts_of w.dependents t) (once-firsts w.dependents t k.single.dependents_once)
       (λ u i. begun-range w.txns u (preparing-begun _ (k.depended u t (firsts-In w.dependents u t i))))
@@ -174,7 +174,7 @@ module _ (w : World) (k : Grounded w) where
     waits_bound = waits-bound;
     deps_bound = deps-bound;
     waits_for_none = k.standing.idle;
-    finished = k.standing.finished;
+    no_more_waits = k.standing.no_more_waits;
     unbegun = k.standing.unbegun;
     unbegun_owns = λ t n. owns-nothing t (ap is_present n);
     unbegun_waits = unbegun-waits;
@@ -213,5 +213,5 @@ sound-grounded w s = record {
     dependent = s.dependent_begun;
     depends_on_other = s.depends_on_other;
   };
-  standing = record { finished = s.finished; idle = s.waits_for_none; unbegun = s.unbegun };
+  standing = record { no_more_waits = s.no_more_waits; idle = s.waits_for_none; unbegun = s.unbegun };
 }

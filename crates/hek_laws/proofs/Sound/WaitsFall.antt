@@ -81,7 +81,7 @@ above : (n : ℕ) → (n ≡ 0 → ⊥) → 0 < n
 above n ne = omega (arith, ne)
 
 abbrev Falls : World → World → Type 0
-Falls w new = (u : ℕ) → (txn_in w.txns u).finished ≡ true → waits new u ≤ waits w u
+Falls w new = (u : ℕ) → (txn_in w.txns u).no_more_waits ≡ true → waits new u ≤ waits w u
 
 module _ (w : World) (f : Flags w.read_locks w.versions) (enders : (v : ℕ) → IsSoundEnder w (version_in w.versions v).ender) where
   -- a version whose ender is held by no more than before
@@ -94,10 +94,10 @@ module _ (w : World) (f : Flags w.read_locks w.versions) (enders : (v : ℕ) →
       (λ e. ap (λ (z : Version). is_held_by u z.ender) (sym e) ∙ parts.0) (version_in-set w.versions v j x)) parts.1)
 
   -- the walker has not finished
-  other : (t u : ℕ) → (txn_in w.txns t).finished ≡ false → (txn_in w.txns u).finished ≡ true → (t == u) ≡ false
-  other t u a b = ne_eqb t u (λ e. false≢true (sym a ∙ ap (λ n. (txn_in w.txns n).finished) e ∙ b))
+  other : (t u : ℕ) → (txn_in w.txns t).no_more_waits ≡ false → (txn_in w.txns u).no_more_waits ≡ true → (t == u) ≡ false
+  other t u a b = ne_eqb t u (λ e. false≢true (sym a ∙ ap (λ n. (txn_in w.txns n).no_more_waits) e ∙ b))
 
-  versions-fall : (t : ℕ) (p : Purpose) (bucket : ℕ) (test : ℕ → Version → Bool) (es : List Effect) → Walking w t p bucket test es → (u : ℕ) → (txn_in w.txns u).finished ≡ true →
+  versions-fall : (t : ℕ) (p : Purpose) (bucket : ℕ) (test : ℕ → Version → Bool) (es : List Effect) → Walking w t p bucket test es → (u : ℕ) → (txn_in w.txns u).no_more_waits ≡ true →
       length (places (is_waited_for (apply_all t w es).read_locks u) 0 (apply_all t w es).versions) ≤ length (places (is_waited_for w.read_locks u) 0 w.versions)
   versions-fall t p bucket test es k u done =
       let vs = places test 0 w.versions in
@@ -112,7 +112,7 @@ module _ (w : World) (f : Flags w.read_locks w.versions) (enders : (v : ℕ) →
       (⊎_elim
       (λ less. and_from _ _
       (⊎_elim (λ e. ap (is_held_by u) (sym e) ∙ held) (λ q. ⊎_elim (λ e. cleared-held w.txns u (version_in w.versions v).ender (ap (is_held_by u) (sym e) ∙ held))
-      (λ z. absurd (false≢true (sym (other t u k.finished done) ∙ ap (is_held_by u) (sym z.0) ∙ held))) q) (moves v).ender)
+      (λ z. absurd (false≢true (sym (other t u k.no_more_waits done) ∙ ap (is_held_by u) (sym z.0) ∙ held))) q) (moves v).ender)
       (more_readers _ _ less parts.1))
       (λ new.
       let was : is_held_by u (cleared w.txns (version_in w.versions v).ender) ≡ true = ap (is_held_by u) (sym new.ender) ∙ held in
@@ -122,9 +122,9 @@ module _ (w : World) (f : Flags w.read_locks w.versions) (enders : (v : ℕ) →
       (lt-ltb 0 (readers w.read_locks v) (above (readers w.read_locks v) (λ z. false≢true (sym (free.first u name.0 name.1 z) ∙ done)))))
       (walk-locks w t p bucket test es k v)))
 
-  waiters-same : (t : ℕ) (p : Purpose) (bucket : ℕ) (test : ℕ → Version → Bool) (es : List Effect) → Walking w t p bucket test es → (u : ℕ) → (txn_in w.txns u).finished ≡ true → firsts_of (apply_all t w es).waiters u ≡ firsts_of w.waiters u
+  waiters-same : (t : ℕ) (p : Purpose) (bucket : ℕ) (test : ℕ → Version → Bool) (es : List Effect) → Walking w t p bucket test es → (u : ℕ) → (txn_in w.txns u).no_more_waits ≡ true → firsts_of (apply_all t w es).waiters u ≡ firsts_of w.waiters u
   waiters-same t p bucket test es k u done =
-      firsts-walked t w es u (λ x i. ne_eqb x u (λ e. false≢true (sym (k.warrant (MakeWait x) i).2 ∙ ap (λ n. (txn_in w.txns n).finished) e ∙ done)))
+      firsts-walked t w es u (λ x i. ne_eqb x u (λ e. false≢true (sym (k.warrant (MakeWait x) i).2 ∙ ap (λ n. (txn_in w.txns n).no_more_waits) e ∙ done)))
 
   pub walk-falls : (t : ℕ) (p : Purpose) (bucket : ℕ) (test : ℕ → Version → Bool) (es : List Effect) → Walking w t p bucket test es → Falls w (apply_all t w es)
   walk-falls t p bucket test es k u done =
@@ -142,7 +142,7 @@ module _ (w : World) (f : Flags w.read_locks w.versions) (enders : (v : ℕ) →
         let L = apply_all t w es in
         let less = versions-fall t p bucket test es k u done in
         let more = places-more (is_waited_for L.read_locks u) 0 L.versions (record { key = key; value = value; creator = By t; ender = Held None false }) (λ n. refl) in
-        let same = ap length (firsts-wait (firsts_of L.bucket_locks (bucket_of L key)) t u L.waiters (other t u k.finished done) ∙ waiters-same t p bucket test es k u done) in
+        let same = ap length (firsts-wait (firsts_of L.bucket_locks (bucket_of L key)) t u L.waiters (other t u k.no_more_waits done) ∙ waiters-same t p bucket test es k u done) in
         omega (arith, less, more, same);
     finishes = λ t _ u _. omega arith;
     prepares = λ t _ _ u _. omega arith;

@@ -17,18 +17,19 @@ use Rattle.hek_rules.specs.declared.word.BeginRecord.TheVariants.{At}
 use Rattle.hek_rules.specs.Words.{infinity}
 use Rattle.hek_rules.specs.Listing.{seconds_of, leave}
 use Rattle.hek_rules.specs.Locks.{add_version, set_ender}
-use Rattle.hek_rules.specs.Waits.{waits, deps}
+use Rattle.hek_rules.specs.Waits.{waits, commit_deps}
 use Rattle.hek_rules.specs.Walk.{Judgement, Refuse, Allow, ToRead, ToWrite, walk, apply_all, last, seen_of, of_key, of_bucket}
 use Rattle.hek_rules.specs.declared.event.Effect.{Effect}
-use Rattle.hek_rules.specs.Table.{Outcome, outcome, unchanged, refused, clock_end, holds_nothing, begin, finish, commit, end, abort, aborted, prepare, drop_read, given_back, set_creator, without_entry, after_read, after_scan, after_insert, after_update, after_delete, is_claimed, stamp_committed, stamp_aborted, detect_row, release_first, release_bucket, release_waiter, entries_of, found, pairs_of}
+use Rattle.hek_rules.specs.Table.{Outcome, outcome, unchanged, refused, holds_nothing, begin, finish, commit, end, abort, aborted, prepare, drop_read, given_back, set_creator, without_entry, after_read, after_scan, after_insert, after_update, after_delete, is_claimed, stamp_committed, stamp_aborted, detect_rule, release_first, release_bucket, release_waiter, entries_of, found, pairs_of}
+use Rattle.hek_rules.specs.Checks.{clock_end}
 use Rattle.hek_rules.specs.WaitGraph.{victim, is_node, is_edge}
-use Rattle.hek_rules.specs.Walks.{IsVictim, JoinsBelow, IsClosedWalk}
+use Rattle.hek_rules.specs.Cycles.{IsVictim, JoinsBelow, IsClosedWalk}
 use Rattle.hek_rules.proofs.VictimLaw.{victim_found}
 use Rattle.hek_rules.specs.Serial.{write_of, end_drawn, committed_by, is_of}
 use Rattle.hek_rules.specs.declared.event.State.TheVariants as state
 use Rattle.hek_rules.specs.declared.event.Event.TheVariants as event
 use Rattle.hek_rules.specs.declared.reply.Reply.TheVariants as reply
-use Rattle.hek_laws.proofs.Table.Cases.{EachRow, IsBy, IsIn, IsActive, IsPreparing, IsLive, IsPast, IsOver, is_past, each_event}
+use Rattle.hek_laws.proofs.Table.Cases.{EachRule, IsBy, IsIn, IsActive, IsPreparing, IsLive, IsPast, IsDecided, is_past, each_event}
 use Rattle.std.specs.Prelude.{zero, suc, length, slice_get, unwrap_or, is_some}
 
 -- a reply that was given by a walk
@@ -96,12 +97,12 @@ pub record EachChange (w : World) (P : Event → Outcome → Type 0) : Type 0 wh
   pub drops : (t v : ℕ) (r : Reply) → IsPast w t → IsIdle (event.Release t) r → is_answer r ≡ false → P (event.Release t) (record { reply = r; world = drop_read w t v })
   pub unlocks : (t b : ℕ) → IsPast w t → P (event.Release t) (record { reply = reply.ReleasedBucket b; world = record w { bucket_locks = leave w.bucket_locks t b } })
   pub frees : (t u : ℕ) → IsPast w t → P (event.Release t) (record { reply = reply.ReleasedWaiter u; world = record w { waiters = leave w.waiters t u } })
-  pub commits : (t : ℕ) → IsPreparing w t → deps w t ≡ 0 → P (event.Commit t) (record { reply = reply.Committed; world = commit w t })
+  pub commits : (t : ℕ) → IsPreparing w t → commit_deps w t ≡ 0 → P (event.Commit t) (record { reply = reply.Committed; world = commit w t })
   pub stamps_begin : (t v : ℕ) (es : List WriteEntry) → IsIn w t state.Committed → entries_of w.writes t ≡ BeginOf v ∷ es → P (event.Stamp t) (record { reply = reply.StampedBegin v; world = record w { versions = set_creator w.versions v (At (txn_in w.txns t).end); writes = without_entry w.writes t } })
   pub stamps_end : (t v : ℕ) (es : List WriteEntry) → IsIn w t state.Committed → entries_of w.writes t ≡ EndOf v ∷ es → P (event.Stamp t) (record { reply = reply.StampedEnd v; world = record w { versions = set_ender w.versions v (EndedAt (txn_in w.txns t).end); writes = without_entry w.writes t } })
   pub voids : (t v : ℕ) (es : List WriteEntry) (cause : Cause) → IsIn w t (state.Aborted cause) → entries_of w.writes t ≡ BeginOf v ∷ es → P (event.Stamp t) (record { reply = reply.StampedBegin v; world = record w { versions = set_creator w.versions v (At infinity); writes = without_entry w.writes t } })
   pub gives_back : (t v : ℕ) (es : List WriteEntry) (cause : Cause) (r : Reply) → IsIn w t (state.Aborted cause) → entries_of w.writes t ≡ EndOf v ∷ es → IsIdle (event.Stamp t) r → is_answer r ≡ false → P (event.Stamp t) (record { reply = r; world = record w { versions = set_ender w.versions v (given_back t (version_in w.versions v).ender); writes = without_entry w.writes t } })
-  pub ends : (t : ℕ) → IsOver w t → holds_nothing w t ≡ true → P (event.End t) (record { reply = reply.Over; world = end w t })
+  pub ends : (t : ℕ) → IsDecided w t → holds_nothing w t ≡ true → P (event.End t) (record { reply = reply.Over; world = end w t })
 
 idle_refused : (e : Event) (why : Refusal) → IsIdle e (reply.Refused why)
 idle_refused e why = record { commits = commits e; draws = λ t. draws t e; writes = λ t. writes t e }
@@ -249,11 +250,11 @@ module _ (w : World) (P : Event → Outcome → Type 0) (c : EachChange w P) whe
       told-plain true = refl
       told-plain false = refl
 
-  detects : (o : Option (ℕ × List ℕ)) → victim w ≡ o → Leaves P event.Detect (detect_row w o)
+  detects : (o : Option (ℕ × List ℕ)) → victim w ≡ o → Leaves P event.Detect (detect_rule w o)
   detects None is = plain _ _ refl (λ _. refl) (λ _. refl) refl refl (λ x h q. false≢true h)
   detects (Some found) is = record { now = c.aborts _ _ found.0 Deadlock (record { commits = refl; draws = λ _. refl; writes = λ _. refl }) (victim-live w found is) (record { unanswered = refl; nothing_owed = λ x h. inl (inl refl); begun = λ x h q. absurd (false≢true h) }) }
 
-  each_row : EachRow w (Leaves P)
+  each_row : EachRule w (Leaves P)
   each_row = record {
     refusal = refuses;
     repeated = λ e t cause p by. record { now = c.same e _ (idle_aborted e cause) (record { unanswered = refl; nothing_owed = λ x h. inr (subst (λ n. is_aborted (txn_in w.txns n).state ≡ true) (sym (by.only x h)) (ap is_aborted p.state)); begun = λ x h q. absurd (false≢true (ap is_aborted (sym q) ∙ subst (λ n. is_aborted (txn_in w.txns n).state ≡ true) (sym (by.only x h)) (ap is_aborted p.state))) }) };
@@ -269,7 +270,7 @@ module _ (w : World) (P : Event → Outcome → Type 0) (c : EachChange w P) whe
         (λ z. record { now = c.prepares t a (eqb-true _ _ z) not_full }) (λ _. plain _ _ refl (λ _. refl) (λ _. refl) refl refl (λ x h q. let z : state.NotBegun ≡ state.Active = sym (ap (λ n. (txn_in w.txns n).state) (eqb-true t x h) ∙ q) ∙ a.state in cc));
     fail = λ t l. record { now = c.aborts _ _ t Asked (record { commits = refl; draws = λ _. refl; writes = λ _. refl }) l (record { unanswered = refl; nothing_owed = λ x h. inl (inl refl); begun = λ x h q. absurd (false≢true (ap is_aborted (sym q) ∙ subst (λ n. is_aborted (txn_in (abort w t Asked).txns n).state ≡ true) (eqb-true t x h) (aborted-state w t Asked l.known))) }) };
     release = λ t p. releases t (seconds_of w.read_locks t) p;
-    commit = λ t p. cond_both (deps w t == 0) (record { reply = reply.Committed; world = commit w t }) (unchanged w (reply.WaitingCommits (deps w t))) (Leaves P _) (λ z. record { now = c.commits t p (eqb-true _ _ z) }) (λ _. plain _ _ refl (λ _. refl) (λ _. refl) refl refl (λ x h q. let z : state.NotBegun ≡ state.Preparing = sym (ap (λ n. (txn_in w.txns n).state) (eqb-true t x h) ∙ q) ∙ p.state in cc));
+    commit = λ t p. cond_both (commit_deps w t == 0) (record { reply = reply.Committed; world = commit w t }) (unchanged w (reply.WaitingCommits (commit_deps w t))) (Leaves P _) (λ z. record { now = c.commits t p (eqb-true _ _ z) }) (λ _. plain _ _ refl (λ _. refl) (λ _. refl) refl refl (λ x h q. let z : state.NotBegun ≡ state.Preparing = sym (ap (λ n. (txn_in w.txns n).state) (eqb-true t x h) ∙ q) ∙ p.state in cc));
     stamp_committed = λ t p. stamps t (entries_of w.writes t) p refl;
     stamp_aborted = λ t cause p. unstamps t cause (entries_of w.writes t) p refl;
     end = λ t p nothing. record { now = c.ends t p nothing };

@@ -35,11 +35,11 @@ pub each_txn-set : (P : ℕ → Txn → Type 0) (ts : List Txn) (t : ℕ) (x : T
 each_txn-set P ts t x all new u =
     ⊎_elim (λ p. subst (P u) (sym p.1) (subst (λ n. P n x) (sym p.0) new)) (λ e. subst (P u) (sym e) (all u)) (txn_in-set ts t u x)
 
-pub each_txn-doom : (P : ℕ → Txn → Type 0) (ts : List Txn) (xs : List ℕ) → ((u : ℕ) (x : Txn) → P u x → P u (record x { doomed = true })) → ((u : ℕ) → P u (txn_in ts u)) → (u : ℕ) → P u (txn_in (doom ts xs) u)
+pub each_txn-doom : (P : ℕ → Txn → Type 0) (ts : List Txn) (xs : List ℕ) → ((u : ℕ) (x : Txn) → P u x → P u (record x { abort_now = true })) → ((u : ℕ) → P u (txn_in ts u)) → (u : ℕ) → P u (txn_in (doom ts xs) u)
 each_txn-doom P ts [] keeps all u = all u
 each_txn-doom P ts (x ∷ xs) keeps all u =
-    each_txn-doom P (set_txn ts x (record (txn_in ts x) { doomed = true })) xs keeps
-    (each_txn-set P ts x (record (txn_in ts x) { doomed = true }) all (keeps x (txn_in ts x) (all x))) u
+    each_txn-doom P (set_txn ts x (record (txn_in ts x) { abort_now = true })) xs keeps
+    (each_txn-set P ts x (record (txn_in ts x) { abort_now = true }) all (keeps x (txn_in ts x) (all x))) u
 
 -- as many as before
 pub length-set_txn : (ts : List Txn) (t : ℕ) (x : Txn) → length (set_txn ts t x) ≡ length ts
@@ -48,4 +48,4 @@ length-set_txn ts (suc i) x = length-set ts i x
 
 pub length-doom : (ts : List Txn) (xs : List ℕ) → length (doom ts xs) ≡ length ts
 length-doom ts [] = refl
-length-doom ts (x ∷ xs) = length-doom (set_txn ts x (record (txn_in ts x) { doomed = true })) xs ∙ length-set_txn ts x _
+length-doom ts (x ∷ xs) = length-doom (set_txn ts x (record (txn_in ts x) { abort_now = true })) xs ∙ length-set_txn ts x _

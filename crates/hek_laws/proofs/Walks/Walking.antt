@@ -15,14 +15,14 @@ use Rattle.hek_laws.proofs.Walks.WriteOnce.{LocksOnce, walk-once}
 -- effects of a walk of t, over the versions of a bucket that pass a test of their keys
 pub record Walking (w : World) (t : ℕ) (p : Purpose) (bucket : ℕ) (test : ℕ → Version → Bool) (es : List Effect) : Type 0 where
   pub state : (txn_in w.txns t).state ≡ Active
-  pub finished : (txn_in w.txns t).finished ≡ false
+  pub no_more_waits : (txn_in w.txns t).no_more_waits ≡ false
   pub warrant : (e : Effect) → In e es → Warrant w t p bucket (places test 0 w.versions) e
   pub once : LocksOnce es
   pub there : bucket < w.buckets
 
-pub walking : (w : World) (t : ℕ) (p : Purpose) (bucket : ℕ) (test : ℕ → Version → Bool) (es : List Effect) → (txn_in w.txns t).state ≡ Active → (txn_in w.txns t).finished ≡ false → walk w t p bucket (places test 0 w.versions) ≡ Allow es → bucket < w.buckets → Walking w t p bucket test es
+pub walking : (w : World) (t : ℕ) (p : Purpose) (bucket : ℕ) (test : ℕ → Version → Bool) (es : List Effect) → (txn_in w.txns t).state ≡ Active → (txn_in w.txns t).no_more_waits ≡ false → walk w t p bucket (places test 0 w.versions) ≡ Allow es → bucket < w.buckets → Walking w t p bucket test es
 walking w t p bucket test es a f ok there =
-    record { state = a; finished = f; warrant = walk-warrant w t bucket (places test 0 w.versions) p es ok; once = walk-once w t p bucket test es ok; there = there }
+    record { state = a; no_more_waits = f; warrant = walk-warrant w t bucket (places test 0 w.versions) p es ok; once = walk-once w t p bucket test es ok; there = there }
 
 locks-first : (xs ys : List Effect) → LocksOnce (xs ++ ys) → LocksOnce xs
 locks-first [] ys o = tt
@@ -31,7 +31,7 @@ locks-first (x ∷ xs) ys o = ((λ v e i. o.0 v e (In-left (WriteLock v) xs ys i
 -- the first effects alone
 pub walking-first : (w : World) (t : ℕ) (p : Purpose) (bucket : ℕ) (test : ℕ → Version → Bool) (xs ys : List Effect) → Walking w t p bucket test (xs ++ ys) → Walking w t p bucket test xs
 walking-first w t p bucket test xs ys k =
-    record { state = k.state; finished = k.finished; warrant = λ e i. k.warrant e (In-left e xs ys i); once = locks-first xs ys k.once; there = k.there }
+    record { state = k.state; no_more_waits = k.no_more_waits; warrant = λ e i. k.warrant e (In-left e xs ys i); once = locks-first xs ys k.once; there = k.there }
 
 -- the version is write-locked by one of the effects, and may be
 abbrev pub Locks : World → List Effect → ℕ → Type 0

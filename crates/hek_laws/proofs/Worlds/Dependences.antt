@@ -6,9 +6,9 @@ use Rattle.hek_rules.specs.declared.event.State.{State}
 use Rattle.hek_rules.specs.declared.event.Event.{Event}
 use Rattle.hek_rules.specs.declared.reply.Reply.{Reply}
 use Rattle.hek_rules.specs.Listing.{has, is_pair, is_among, seconds_of, firsts_of}
-use Rattle.hek_rules.specs.World.{World, Txn, txn_in, set_txn, declared, is_over, is_preparing}
+use Rattle.hek_rules.specs.World.{World, Txn, txn_in, set_txn, declared, is_decided, is_preparing}
 use Rattle.hek_rules.specs.Locks.{reads_freely, add_version}
-use Rattle.hek_rules.specs.Waits.{deps}
+use Rattle.hek_rules.specs.Waits.{commit_deps}
 use Rattle.hek_rules.specs.declared.event.Effect.{Effect}
 use Rattle.hek_rules.specs.declared.event.Effect.TheVariants.{LockBucket, DependOn, MakeWait, ReadLock, WriteLock}
 use Rattle.hek_rules.specs.Walk.{Allow, Purpose, ToRead, ToWrite, walk, apply, apply_all}
@@ -27,7 +27,7 @@ use Rattle.hek_laws.proofs.Worlds.Histories.{committed_in-append}
 use Rattle.hek_laws.proofs.Futures.Survivors.{History, has_committed, is_settled, Dependences, Settled, live-uncommitted}
 use Rattle.hek_laws.proofs.Futures.PullBack.{declared-set, is_among-append}
 use Rattle.hek_laws.proofs.Futures.Invariant.{In-firsts}
-use Rattle.hek_laws.proofs.Worlds.Told.{committed-more}
+use Rattle.hek_laws.proofs.Worlds.AsTold.{committed-more}
 use Rattle.hek_laws.proofs.Walks.Warrants.{walk-warrant}
 use Rattle.hek_laws.proofs.Lists.Pairs.{has-join_from}
 
@@ -55,7 +55,7 @@ first-left t (p ∷ ps) u x h =
 
 declared-doom : (ts : List Txn) (xs : List ℕ) (u : ℕ) → declared ts u ≡ true → declared (doom ts xs) u ≡ true
 declared-doom ts [] u h = h
-declared-doom ts (x ∷ xs) u h = declared-doom (set_txn ts x (record (txn_in ts x) { doomed = true })) xs u (declared-set ts x _ u h)
+declared-doom ts (x ∷ xs) u h = declared-doom (set_txn ts x (record (txn_in ts x) { abort_now = true })) xs u (declared-set ts x _ u h)
 
 module _ (w : World) (h : History) (d : Dependences w h) (s : Settled w h) where
   plain : (new : World) (e : Event) (r : Reply) → new.dependents ≡ w.dependents → committed_by e r ≡ [] → ((u : ℕ) → is_preparing (txn_in w.txns u).state ≡ true → is_preparing (txn_in new.txns u).state ≡ true) → ((u : ℕ) → declared w.txns u ≡ true → declared new.txns u ≡ true) → Dependences new (h ++ (e, r) ∷ [])
@@ -116,14 +116,14 @@ module _ (w : World) (h : History) (d : Dependences w h) (s : Settled w h) where
     ends = λ t p _. set-plain (end w t) t _ (event.End t) _ refl refl refl (λ y. absurd (over-unprepared _ p.over y));
   }
     where
-      nobody : (t : ℕ) → deps w t ≡ 0 → (u : ℕ) → has w.dependents u t ≡ true → ⊥
+      nobody : (t : ℕ) → commit_deps w t ≡ 0 → (u : ℕ) → has w.dependents u t ≡ true → ⊥
       nobody t z u y = empty (firsts_of w.dependents t) u (In-firsts w.dependents u t y) z
         where
           empty : (xs : List ℕ) (x : ℕ) → In x xs → length xs ≡ 0 → ⊥
           empty [] x i e = i
           empty (y ∷ ys) x i e = absurd (omega (arith, e))
 
-      over-unprepared : (x : State) → is_over x ≡ true → is_preparing x ≡ true → ⊥
+      over-unprepared : (x : State) → is_decided x ≡ true → is_preparing x ≡ true → ⊥
       over-unprepared state.Committed p q = false≢true q
       over-unprepared (state.Aborted c) p q = false≢true q
       over-unprepared state.Active p q = false≢true p

@@ -25,7 +25,7 @@ use Rattle.hek_laws.proofs.Futures.PullBack.{is_among-append}
 use Rattle.hek_laws.proofs.Futures.Quiet.{idle-draws}
 use Rattle.hek_laws.proofs.Futures.Acted.{unlisted}
 use Rattle.hek_laws.proofs.Futures.Precommits.{filter-out}
-use Rattle.hek_laws.proofs.Worlds.Told.{Told, committed-more}
+use Rattle.hek_laws.proofs.Worlds.AsTold.{AsTold, committed-more}
 
 -- who has an end time stands in the order with it
 drawn-listed : (t time : ℕ) (e : Event) (r : Reply) (ys : List (ℕ × ℕ)) → end_drawn t e r ≡ Some time → In (time, t) (drawn_by e r ++ ys)
@@ -151,7 +151,7 @@ pub record InOrder (clock : ℕ) (h : History) : Type 0 where
   pub below : AllBelow clock (order_in h)
   pub committed_order : serial_order h ≡ filter (λ (x : ℕ × ℕ). has_committed h x.1) (order_in h)
 
-module _ (w : World) (h : History) (k : (u : ℕ) → Told h u (txn_in w.txns u)) (o : InOrder w.clock h) where
+module _ (w : World) (h : History) (k : (u : ℕ) → AsTold h u (txn_in w.txns u)) (o : InOrder w.clock h) where
   -- who has committed keeps its end time
   kept-end : (e : Event) (r : Reply) (t : ℕ) → In t (committed_in h) → end_of t (h ++ (e, r) ∷ []) ≡ end_of t h
   kept-end e r t i =

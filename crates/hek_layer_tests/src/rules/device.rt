@@ -5,19 +5,19 @@ use hek_rules::{
 use std::io;
 use std::io::{ErrorKind, Read, Write};
 
-// A reader and writer that always answers an error.
+// A reader and writer that always answers an error of this kind.
 #[derive(Drop)]
-struct Broken;
+struct Broken(ErrorKind);
 
 impl Read for Broken {
     fn read(&mut self, _buf: &mut [u8]) -> io::Result<usize> {
-        Err(io::Error::from(ErrorKind::Other))
+        Err(io::Error::from(self.0))
     }
 }
 
 impl Write for Broken {
     fn write(&mut self, _buf: &[u8]) -> io::Result<usize> {
-        Err(io::Error::from(ErrorKind::Other))
+        Err(io::Error::from(self.0))
     }
 
     fn flush(&mut self) -> io::Result<()> {
@@ -35,7 +35,10 @@ fn takes_from_a_reader(rt: HostRuntime) {
     is(&rt, buffer[0], b'C');
     is(&rt, source.take(&mut buffer).expect(&rt, "the end"), 0);
     assert!(rt; source.into_inner().is_empty());
-    is(&rt, FromRead::new(Broken).take(&mut buffer), None);
+    // an interrupted read is an error as any other
+    for kind in [ErrorKind::Other, ErrorKind::Interrupted] {
+        is(&rt, FromRead::new(Broken(kind)).take(&mut buffer), None);
+    }
 }
 
 #[test]
@@ -44,7 +47,9 @@ fn puts_to_a_writer(rt: HostRuntime) {
     is(&rt, sink.put(b"HK").expect(&rt, "two bytes"), 2);
     is(&rt, sink.put(b"").expect(&rt, "no byte"), 0);
     is(&rt, sink.into_inner().as_slice(), b"HK".as_slice());
-    is(&rt, FromWrite::new(Broken).put(b"HK"), None);
+    for kind in [ErrorKind::Other, ErrorKind::Interrupted] {
+        is(&rt, FromWrite::new(Broken(kind)).put(b"HK"), None);
+    }
     // a writer that takes no byte of some
     let mut none = [0u8; 0];
     is(&rt, FromWrite::new(none.as_mut_slice()).put(b"HK"), None);

@@ -21,6 +21,7 @@ impl<R: Read + Drop> Model for FromRead<R> {
 }
 
 impl<R: Read + Drop> FromRead<R> {
+    /// A source over a reader.
     pub fn new(reader: R) -> FromRead<R>
         ensures { result ≡ record { inner = reader; failed = false } }
     {
@@ -30,6 +31,7 @@ impl<R: Read + Drop> FromRead<R> {
         }
     }
 
+    /// The reader, with what it has left.
     pub fn into_inner(self) -> R
         ensures { result ≡ self.inner }
     {
@@ -71,6 +73,7 @@ impl<W: Write + Drop> Model for FromWrite<W> {
 }
 
 impl<W: Write + Drop> FromWrite<W> {
+    /// A sink over a writer.
     pub fn new(writer: W) -> FromWrite<W>
         ensures { result ≡ record { inner = writer; failed = false } }
     {
@@ -80,6 +83,7 @@ impl<W: Write + Drop> FromWrite<W> {
         }
     }
 
+    /// The writer, with what it holds.
     pub fn into_inner(self) -> W
         ensures { result ≡ self.inner }
     {

@@ -158,6 +158,7 @@ impl MemorySink {
         }
     }
 
+    /// The bytes that were put.
     pub fn bytes(&self) -> &[u8]
         ensures { result.now ≡ self.now.bytes }
     {

@@ -443,6 +443,27 @@ const CHECKED: &[(&[u8], u8, &str)] = &[
     ),
 ];
 
+// An image says the transactions of a trace as its text does.
+const CHECKED_BY_IMAGE: &[(&[u8], u8, &str, &str)] = &[
+    (b"", 0, "serial\n", ""),
+    (b"1 a read 10 -> refused 2 NotBegun\n", 0, "serial\n", ""),
+    (b"1 a commit -> committed\n", 1, "not serial 1\n", ""),
+    (b"1 b read 10 -> absent\n", 1, "", "hek: trace line 1\n"),
+];
+
+#[test]
+fn checks_by_an_image(rt: HostRuntime) -> Result<(), Fail> {
+    let files = [("image", IMAGE.as_slice())];
+    let words = ["hek", "check", "image", "-"];
+    for &(trace, status, said, fault) in CHECKED_BY_IMAGE {
+        let created = RefCell::new(None);
+        let disk = MemoryDisk::new(rt.alloc(), files.as_slice(), &created);
+        let answer = ran_in(rt.alloc(), &words, &disk, trace)?;
+        assert_said(&rt, &words, &answer, (status, said, fault));
+    }
+    Ok(())
+}
+
 #[test]
 fn checks(rt: HostRuntime) -> Result<(), Fail> {
     for &(trace, status, out) in CHECKED {

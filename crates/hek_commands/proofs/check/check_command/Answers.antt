@@ -1,7 +1,7 @@
 use Rattle.std.proofs.Common.{subst, List, ℕ}
 use Rattle.std.specs.Io.KnownBytes.{Appends}
 use Rattle.hek_asm.specs.Reading.{IsTraceOf}
-use Rattle.hek_commands.specs.Judged.{verdict_text, why_text, judged_as}
+use Rattle.hek_commands.specs.Commands.{verdict_text, why_text, judged_as}
 use Rattle.std.proofs.KnownBytes.{Appends-trans}
 use Rattle.hek_commands.proofs.check.check_command.Goals as goal
 

@@ -1,6 +1,6 @@
 use Rattle.std.proofs.Common.{rules, ◌++◌, ◌+◌, ◌∙◌, sym, subst, List, [], ℕ}
 use Rattle.hek_machine.specs.Observed.{opening_of}
-use Rattle.hek_machine.proofs.RunRows.{step_stands}
+use Rattle.hek_machine.proofs.RunRules.{step_stands}
 use Rattle.hek_asm.specs.Trace.{trace_line}
 use Rattle.hek_commands.specs.Ran.{trace_of}
 use Rattle.hek_commands.specs.Sent.{Passes}

@@ -2,7 +2,7 @@ use Rattle.std.proofs.Common.{◌≡◌, length, take}
 use Rattle.hek_rules.specs.Run.{run}
 use Rattle.hek_machine.specs.Stands.{StandsFor}
 use Rattle.hek_machine.specs.Observed.{opening_of}
-use Rattle.hek_machine.proofs.RunRows.{replies_of}
+use Rattle.hek_machine.proofs.RunRules.{replies_of}
 use Rattle.hek_machine.proofs.runs.run_at.Given as goal
 
 -- the machine stands for the world after the events so far, and their replies have been collected

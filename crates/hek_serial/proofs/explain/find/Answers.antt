@@ -2,7 +2,7 @@ use Rattle.std.proofs.Common.{◌≡◌, ◌∙◌, ◌<◌, ◌≤◌, ℕ, ap,
 use Rattle.std.specs.List.{zip}
 use Rattle.std.specs.Prelude.{filter, nat_lt}
 use Rattle.hek_rules.specs.Serial.{lay_all, writes_of, laid_over, serial_rows}
-use Rattle.hek_serial.specs.Held.{Held}
+use Rattle.hek_serial.specs.BucketRows.{BucketRows}
 use Rattle.hek_serial.specs.Replay.{at_place, IsInOrder}
 use Rattle.hek_serial.proofs.Laid.{filter-front}
 use Rattle.hek_serial.proofs.Orders.{times_rise}
@@ -23,5 +23,5 @@ returns c =
     let found : laid_over h (take n order) rows.rows ≡ serial_rows h rows.rows c.args.time =
     ap (λ xs. laid_over h xs rows.rows) (sym front) ∙ ap (λ xs. laid_over h (filter (λ (x : ℕ × ℕ). nat_lt x.0 c.args.time) xs) rows.rows) c.requires.order in
     c.in_ok-lay_writes_before.ensures
-    ∙ ap (λ (s : Held). record { buckets = s.buckets; rows = lay_all (writes_of c.args.t (take c.args.place h)) s.rows })
+    ∙ ap (λ (s : BucketRows). record { buckets = s.buckets; rows = lay_all (writes_of c.args.t (take c.args.place h)) s.rows })
     (c.in_ok-_laid.ensures.laid rows refl ∙ ap (λ xs. record { buckets = rows.buckets; rows = xs }) found)

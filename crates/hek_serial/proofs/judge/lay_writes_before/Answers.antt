@@ -1,7 +1,7 @@
 use Rattle.std.proofs.Common.{◌∙◌, ◌+◌, ◌<◌, length, ap, sym, subst, arith}
 use Rattle.std.specs.List.{zip}
 use Rattle.hek_rules.specs.Serial.{write_of, lay_all}
-use Rattle.hek_serial.specs.Held.{Held}
+use Rattle.hek_serial.specs.BucketRows.{BucketRows}
 use Rattle.hek_serial.specs.Links.{IsNextOf}
 use Rattle.hek_serial.proofs.Judged.{entry_at}
 use Rattle.hek_serial.proofs.LinkSteps.{first_is}
@@ -39,7 +39,7 @@ loop-at-preserved c =
       within = is.within;
       here = is.there;
       skipped = λ j a l. is.between j (omega (arith, a, c.loop-at-test.true)) l;
-      rows = c.in_ok-lay_at.ensures ∙ ap (λ (s : Held). record { buckets = s.buckets; rows = lay_all (write_of t e r) s.rows }) c.loop-at.invariant.rows
+      rows = c.in_ok-lay_at.ensures ∙ ap (λ (s : BucketRows). record { buckets = s.buckets; rows = lay_all (write_of t e r) s.rows }) c.loop-at.invariant.rows
           ∙ ap (λ xs. record { buckets = rows.buckets; rows = xs })
           (sym (lay_one_more t h i e r rows.rows at) ∙ ap (λ ws. lay_all ws rows.rows) (sym (writes-between t es rs (i + 1) n is.on is.between)));
     }

@@ -1,6 +1,5 @@
-use Rattle.std.proofs.Common.{subst, ◌≡◌, ◌∙◌, List, map}
-use Rattle.hek_rules.specs.declared.event.Level.{Level}
-use Rattle.hek_rules.specs.Told.{Told}
+use Rattle.std.proofs.Common.{subst, ◌≡◌, ◌∙◌, map}
+use Rattle.hek_rules.specs.Recorded.{Recorded}
 use Rattle.hek_rules.specs.Faults.{IsVerdict}
 use Rattle.hek_serial.specs.Leveled.{at_level}
 use Rattle.hek_serial.proofs.Whole.{whole}
@@ -8,9 +7,9 @@ use Rattle.hek_serial.proofs.verdict.check_at.Goals as goal
 
 pub returns : goal.returns
 returns c =
-    let told : Told = at_level c.args.level c.args.transcript.now in
+    let told : Recorded = at_level c.args.level c.args.transcript.now in
     let levels : c.as_slice.result.now ≡ map (λ _. c.args.level) c.args.transcript.now.levels = c.as_slice.ensures.value ∙ c.in_ok-levels.ensures in
-    subst (λ (s : Told). IsVerdict s c.in_ok-verdict.verdict)
+    subst (λ (s : Recorded). IsVerdict s c.in_ok-verdict.verdict)
     (whole told c.buckets.result c.rows.result.now c.as_slice.result.now c.events.result.now c.replies.result.now
     c.buckets.ensures.value c.rows.ensures levels c.events.ensures c.replies.ensures)
     c.in_ok-verdict.ensures

@@ -1,6 +1,5 @@
-use Rattle.std.proofs.Common.{ℕ, arith}
-use Rattle.std.specs.Prelude.{◌==◌}
-use Rattle.hek_rules.specs.World.{World, Version, bucket_of}
+use Rattle.std.proofs.Common.{arith}
+use Rattle.hek_rules.specs.World.{World}
 use Rattle.hek_rules.specs.Waits.{is_waited_for}
 use Rattle.hek_why.proofs.Finds.{finds_next, finds_end}
 use Rattle.hek_why.proofs.waits.held_over.Goals as goal

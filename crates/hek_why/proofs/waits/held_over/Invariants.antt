@@ -1,6 +1,4 @@
-use Rattle.std.proofs.Common.{ℕ}
-use Rattle.std.specs.Prelude.{◌==◌}
-use Rattle.hek_rules.specs.World.{World, Version, bucket_of}
+use Rattle.hek_rules.specs.World.{World}
 use Rattle.hek_rules.specs.Waits.{is_waited_for}
 use Rattle.hek_why.proofs.Finds.{Finds}
 use Rattle.hek_why.proofs.waits.held_over.Given as goal

@@ -1,4 +1,4 @@
-use Rattle.std.proofs.Common.{List, ℕ, ◌≡◌, drop}
+use Rattle.std.proofs.Common.{◌≡◌, drop}
 use Rattle.hek_rules.specs.World.{World}
 use Rattle.hek_rules.specs.Walk.{last, seen_of}
 use Rattle.hek_machine.specs.Stands.{StandsFor}

@@ -1,9 +1,8 @@
-use Rattle.std.proofs.Common.{List, ℕ, []}
+use Rattle.std.proofs.Common.{ℕ, []}
 use Rattle.hek_rules.specs.World.{World}
 use Rattle.hek_rules.specs.Walk.{read_time}
 use Rattle.hek_rules.specs.Visibility.{sight}
-use Rattle.hek_why.specs.Waited.{readers_in, shared_bucket}
-use Rattle.hek_why.specs.declared.reason.Reason.TheVariants.{ReadLocked, Listed, Depends, Looked}
+use Rattle.hek_why.specs.declared.reason.Reason.TheVariants.{Looked}
 use Rattle.hek_why.proofs.Lists.{Maps}
 use Rattle.hek_why.proofs.walked.looks.Given as goal
 

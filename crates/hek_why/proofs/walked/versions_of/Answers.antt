@@ -1,7 +1,6 @@
 use Rattle.std.proofs.Common.{ℕ, arith}
 use Rattle.std.specs.Prelude.{◌==◌}
-use Rattle.hek_rules.specs.World.{World, Version, bucket_of}
-use Rattle.hek_rules.specs.Waits.{is_waited_for}
+use Rattle.hek_rules.specs.World.{World, Version}
 use Rattle.hek_why.proofs.Finds.{finds_next, finds_end}
 use Rattle.hek_why.proofs.walked.versions_of.Goals as goal
 

@@ -1,22 +1,28 @@
 use Rattle.std.proofs.Common.{sym, ap, subst, ◌∙◌, length, IfOk}
 use Rattle.hek_rules.specs.World.{World}
 use Rattle.hek_laws.specs.Runs.{IsPlaced}
-use Rattle.hek_machine.specs.declared.parts.Parts.{Parts}
+use Rattle.hek_machine.specs.declared.engine.Engine.{Engine}
 use Rattle.hek_machine.specs.Stands.{StandsFor}
-use Rattle.hek_machine.specs.Steps.{IsSmall}
+use Rattle.hek_machine.specs.Steps.{IsSmall, IsStep}
 use Rattle.hek_machine.proofs.SmallReplies.{small_replies}
-use Rattle.hek_machine.proofs.RunRows.{ordered_after, buckets_after}
+use Rattle.hek_machine.proofs.RunRules.{ordered_after, buckets_after, steps_of_rows}
 use Rattle.hek_machine.proofs.machine.Machine.step.Goals as goal
 
 pub invariant_of-self : goal.invariant_of-self
 invariant_of-self c =
-    ordered_after _ c.self.inside.parts c.step.new.self c.step.result c.self.invariant
-    (subst (λ (m : Parts). IsPlaced (length m.buckets) c.args.event) (sym c.self.view_is) c.requires) c.step.ensures.row c.step.ensures.still
+    ordered_after _ c.self.inside.engine c.step.new.self c.step.result c.self.invariant
+    (subst (λ (m : Engine). IsPlaced (length m.buckets) c.args.event) (sym c.self.view_is) c.requires) c.step.ensures.rule c.step.ensures.still
 
 pub returns-clause-buckets : goal.returns-clause-buckets
 returns-clause-buckets c =
-    buckets_after _ c.self.inside.parts c.step.new.self c.step.result c.self.invariant c.step.ensures.row c.step.ensures.still ∙ ap (λ (m : Parts). length m.buckets) c.self.view_is
+    buckets_after _ c.self.inside.engine c.step.new.self c.step.result c.self.invariant c.step.ensures.rule c.step.ensures.still ∙ ap (λ (m : Engine). length m.buckets) c.self.view_is
 
 pub returns-clause-small : goal.returns-clause-small
 returns-clause-small c =
-    subst (λ (m : Parts). IfOk c.step.result (λ r. (w : World) → StandsFor m w → IsSmall w r)) c.self.view_is (small_replies _ c.self.inside.parts c.step.new.self c.step.result c.step.ensures.row)
+    subst (λ (m : Engine). IfOk c.step.result (λ r. (w : World) → StandsFor m w → IsSmall w r)) c.self.view_is (small_replies _ c.self.inside.engine c.step.new.self c.step.result c.step.ensures.rule)
+
+pub returns-clause-step : goal.returns-clause-step
+returns-clause-step c =
+    subst (λ (m : Engine). IfOk c.step.result (IsStep c.args.event m c.step.new.self)) c.self.view_is
+    (steps_of_rows _ c.self.inside.engine c.step.new.self c.step.result
+    (subst (λ (m : Engine). IsPlaced (length m.buckets) c.args.event) (sym c.self.view_is) c.requires) c.step.ensures.rule)

@@ -1,6 +1,6 @@
 use Rattle.std.proofs.Common.{◌∙◌, ap, sym, arith}
 use Rattle.hek_rules.specs.Serial.{rows_of}
-use Rattle.hek_serial.specs.Held.{Held}
+use Rattle.hek_serial.specs.BucketRows.{BucketRows}
 use Rattle.hek_serial.proofs.Parts.{part-read, part-past, rows_of-gathered}
 use Rattle.hek_serial.proofs.rows.Rows.bucket.Goals as goal
 
@@ -10,7 +10,7 @@ returns-in_ok-pairs c =
     let b = c.args.bucket in
     let n = c.len.ensures in
     c.in_ok-pairs.ensures ∙ part-read parts b c.index.result.now (omega (arith, c.if-bucket-len.true, n)) c.index.ensures ∙ sym (rows_of-gathered parts b c.self.invariant)
-    ∙ ap (λ (s : Held). rows_of s.buckets b s.rows) c.self.view_is
+    ∙ ap (λ (s : BucketRows). rows_of s.buckets b s.rows) c.self.view_is
 
 pub returns-else-bucket-len : goal.returns-else-bucket-len
 returns-else-bucket-len c =
@@ -18,4 +18,4 @@ returns-else-bucket-len c =
     let b = c.args.bucket in
     let n = c.len.ensures in
     c.new.ensures.items ∙ sym (part-past parts b (omega (arith, c.if-bucket-len.false, n))) ∙ sym (rows_of-gathered parts b c.self.invariant)
-    ∙ ap (λ (s : Held). rows_of s.buckets b s.rows) c.self.view_is
+    ∙ ap (λ (s : BucketRows). rows_of s.buckets b s.rows) c.self.view_is

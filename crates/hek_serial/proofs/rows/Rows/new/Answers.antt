@@ -1,5 +1,5 @@
 use Rattle.std.proofs.Common.{◌≡◌, ◌∙◌, ℕ, List, [], length, replicate, ap, sym, subst, arith}
-use Rattle.hek_serial.specs.Held.{Held, AreParts, gathered}
+use Rattle.hek_serial.specs.BucketRows.{BucketRows, AreParts, gathered}
 use Rattle.hek_serial.proofs.Parts.{gathered-empty, parts-empty, length-empty}
 use Rattle.hek_serial.proofs.rows.Rows.new.Goals as goal
 
@@ -8,7 +8,7 @@ invariant_of-result c = subst AreParts (sym c.loop-bucket.invariant) (parts-empt
 
 pub returns : goal.returns
 returns c =
-    let held : List (List (ℕ × ℕ)) → Held = λ ps. record { buckets = length ps; rows = gathered ps } in
+    let held : List (List (ℕ × ℕ)) → BucketRows = λ ps. record { buckets = length ps; rows = gathered ps } in
     let all : c.loop-bucket._bucket ≡ c.args.buckets = omega arith in
     ap held (c.loop-bucket.invariant ∙ ap (λ n. replicate n []) all)
     ∙ ap (λ n. record { buckets = n; rows = gathered (replicate c.args.buckets []) }) (length-empty c.args.buckets)

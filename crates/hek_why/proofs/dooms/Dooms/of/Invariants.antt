@@ -1,4 +1,4 @@
-use Rattle.std.proofs.Common.{◌≡◌, ℕ, ◌++◌, drop}
+use Rattle.std.proofs.Common.{◌≡◌, ◌++◌, drop}
 use Rattle.hek_rules.specs.Listing.{firsts_of}
 use Rattle.hek_why.proofs.dooms.Dooms.of.Given as goal
 

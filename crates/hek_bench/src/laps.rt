@@ -1,0 +1,64 @@
+//! The time of each phase.
+use crate::fault::Fault;
+use std::alloc::Global;
+use std::io;
+use std::time::Instant;
+
+/// A phase, and the nanoseconds that it took.
+#[derive(Clone, Copy)]
+pub struct Lap {
+    phase: &'static str,
+    nanoseconds: u64,
+}
+
+/// The phases in their order.
+#[derive(Drop)]
+pub struct Laps {
+    laps: Vec<Lap>,
+}
+
+impl Laps {
+    pub fn new(alloc: Global) -> Laps {
+        Laps {
+            laps: Vec::new(alloc),
+        }
+    }
+
+    /// The phase that began then is done.
+    pub fn done(
+        &mut self,
+        rt: &HostRuntime,
+        phase: &'static str,
+        start: &Instant,
+    ) -> Result<(), Fault> {
+        let nanoseconds = u64::try_from(start.elapsed(rt)?.as_nanos()).unwrap_or(u64::MAX);
+        if self.laps.push(Lap { phase, nanoseconds }).is_err() {
+            return Err(Fault::NoMemory);
+        }
+        Ok(())
+    }
+
+    /// Keeps the lesser time of each phase.
+    pub fn keep_least(&mut self, other: &Laps) {
+        for (lap, rival) in self.laps.iter_mut().zip(other.laps.iter()) {
+            lap.nanoseconds = lap.nanoseconds.min(rival.nanoseconds);
+        }
+    }
+
+    /// Prints to standard error how long each phase took, and how many million steps a second that is.
+    pub fn report(&self, rt: &HostRuntime, steps: usize) -> io::Result<()> {
+        for lap in &self.laps {
+            report(rt, lap, steps)?;
+        }
+        Ok(())
+    }
+}
+
+fn report(rt: &HostRuntime, lap: &Lap, steps: usize) -> io::Result<()> {
+    let phase = lap.phase;
+    let time = lap.nanoseconds.max(1);
+    let (whole, part) = (time / 1_000_000, time / 1_000 % 1_000);
+    let rate = (steps as u64).saturating_mul(100_000) / time;
+    let (millions, hundredths) = (rate / 100, rate % 100);
+    eprintln!(rt; "{phase}: {whole}.{part:03} ms {millions}.{hundredths:02} M steps/s")
+}

@@ -1,0 +1,194 @@
+//! The phases, one after another, each in a function of its own.
+ghost use Rattle.std.specs.Prelude.{◌≡◌, length, IfOk};
+ghost use Rattle.std.specs.List.{All, AllByRecursion};
+ghost use Rattle.hek_laws.specs.Runs.{IsPlaced};
+ghost use Rattle.hek_asm.specs.Trace.{NamesDeclared};
+
+use crate::fault::Fault;
+use crate::laps::Laps;
+use hek_asm::{assemble_text, canonical, read_trace, write_trace};
+use hek_image::{load_image, write_image};
+use hek_machine::Machine;
+use hek_rules::{Ending, FromWrite, MemorySource, NoMemory, Reply, Schedule, Transcript};
+use hek_serial::check;
+use std::alloc::Global;
+use std::str;
+use std::time::Instant;
+
+/// All phases once, over a text. It answers the number of steps.
+pub fn pass(rt: &HostRuntime, alloc: Global, text: &str, laps: &mut Laps) -> Result<usize, Fault> {
+    let schedule = assemble(rt, alloc, text, laps)?;
+    pass_schedule(rt, alloc, &schedule, laps)
+}
+
+fn assemble(
+    rt: &HostRuntime,
+    alloc: Global,
+    text: &str,
+    laps: &mut Laps,
+) -> Result<Schedule, Fault> {
+    let start = Instant::now(rt)?;
+    let schedule = assemble_text(alloc, text)?;
+    laps.done(rt, "assemble", &start)?;
+    Ok(schedule)
+}
+
+/// All phases but the first.
+fn pass_schedule(
+    rt: &HostRuntime,
+    alloc: Global,
+    schedule: &Schedule,
+    laps: &mut Laps,
+) -> Result<usize, Fault> {
+    write_text(rt, alloc, schedule, laps)?;
+    let image = image_of(rt, alloc, schedule, laps)?;
+    load(rt, alloc, image.as_slice(), laps)?;
+    let replies = replies_of(rt, alloc, schedule, laps)?;
+    let trace = trace_of(rt, alloc, schedule, replies.as_slice(), laps)?;
+    let Ok(trace) = str::from_utf8(trace.as_slice()) else {
+        return Err(Fault::NotText);
+    };
+    judge(rt, alloc, schedule, trace, laps)?;
+    Ok(schedule.steps().len())
+}
+
+fn write_text(
+    rt: &HostRuntime,
+    alloc: Global,
+    schedule: &Schedule,
+    laps: &mut Laps,
+) -> Result<(), Fault> {
+    let start = Instant::now(rt)?;
+    let _text = canonical(alloc, schedule)?;
+    laps.done(rt, "canonical", &start)
+}
+
+fn image_of(
+    rt: &HostRuntime,
+    alloc: Global,
+    schedule: &Schedule,
+    laps: &mut Laps,
+) -> Result<Vec<u8>, Fault> {
+    let start = Instant::now(rt)?;
+    let mut sink = FromWrite::new(Vec::new(alloc));
+    write_image(schedule, &mut sink)?;
+    laps.done(rt, "write image", &start)?;
+    Ok(sink.into_inner())
+}
+
+fn load(rt: &HostRuntime, alloc: Global, image: &[u8], laps: &mut Laps) -> Result<(), Fault> {
+    let mut source = MemorySource::new(image, 65_536, Ending::Ends);
+    let start = Instant::now(rt)?;
+    let _schedule = load_image(alloc, &mut source)?;
+    laps.done(rt, "load image", &start)
+}
+
+/// The machine is loaded, and does all steps.
+#[tactic(auto, using(hek_machine::proofs::PlacedSteps::steps_placed))]
+fn replies_of(
+    rt: &HostRuntime,
+    alloc: Global,
+    schedule: &Schedule,
+    laps: &mut Laps,
+) -> Result<Vec<Reply>, Fault>
+    ensures { IfOk result (λ replies. length replies.items ≡ length schedule.now.steps) }
+{
+    // There is a bucket.
+    let _ = schedule.buckets();
+    let mut machine = loaded(rt, alloc, schedule, laps)?;
+    run(rt, alloc, schedule, &mut machine, laps)
+}
+
+fn loaded(
+    rt: &HostRuntime,
+    alloc: Global,
+    schedule: &Schedule,
+    laps: &mut Laps,
+) -> Result<Machine, Fault>
+    ensures { IfOk result (λ m. length m.buckets ≡ schedule.now.buckets) }
+{
+    let start = Instant::now(rt)?;
+    let machine = Machine::load(alloc, schedule)?;
+    laps.done(rt, "machine load", &start)?;
+    Ok(machine)
+}
+
+fn run(
+    rt: &HostRuntime,
+    alloc: Global,
+    schedule: &Schedule,
+    machine: &mut Machine,
+    laps: &mut Laps,
+) -> Result<Vec<Reply>, Fault>
+    requires buckets { length machine.old.buckets ≡ schedule.now.buckets }
+    requires placed { All (IsPlaced schedule.now.buckets) schedule.now.steps }
+    ensures { IfOk result (λ replies. length replies.items ≡ length schedule.now.steps) }
+{
+    let start = Instant::now(rt)?;
+    let replies = replies(alloc, schedule, machine)?;
+    laps.done(rt, "run", &start)?;
+    Ok(replies)
+}
+
+/// The replies to all steps.
+fn replies(
+    alloc: Global,
+    schedule: &Schedule,
+    machine: &mut Machine,
+) -> Result<Vec<Reply>, NoMemory>
+    requires buckets { length machine.old.buckets ≡ schedule.now.buckets }
+    requires placed { All (IsPlaced schedule.now.buckets) schedule.now.steps }
+    ensures { IfOk result (λ replies. length replies.items ≡ length schedule.now.steps) }
+{
+    let steps = schedule.steps();
+    let mut replies = Vec::with_capacity(alloc, steps.len())?;
+    for event in steps {
+        let reply = machine.step(*event)?;
+        replies.push(reply)?;
+    }
+    Ok(replies)
+}
+
+#[tactic(auto, using(hek_asm::proofs::RowLemmas::steps_declared))]
+fn trace_of(
+    rt: &HostRuntime,
+    alloc: Global,
+    schedule: &Schedule,
+    replies: &[Reply],
+    laps: &mut Laps,
+) -> Result<Vec<u8>, Fault>
+    requires { length replies.now ≡ length schedule.now.steps }
+{
+    // Each step is one of this schedule.
+    let _ = schedule.buckets();
+    let start = Instant::now(rt)?;
+    let mut sink = FromWrite::new(Vec::new(alloc));
+    write_trace(schedule, schedule.steps(), replies, &mut sink)?;
+    laps.done(rt, "write trace", &start)?;
+    Ok(sink.into_inner())
+}
+
+/// A trace is read, and its transcript judged.
+fn judge(
+    rt: &HostRuntime,
+    alloc: Global,
+    schedule: &Schedule,
+    trace: &str,
+    laps: &mut Laps,
+) -> Result<(), Fault> {
+    let start = Instant::now(rt)?;
+    let told = read_trace(alloc, schedule, trace)?;
+    laps.done(rt, "read trace", &start)?;
+    check_told(rt, alloc, &told, laps)
+}
+
+fn check_told(
+    rt: &HostRuntime,
+    alloc: Global,
+    told: &Transcript,
+    laps: &mut Laps,
+) -> Result<(), Fault> {
+    let start = Instant::now(rt)?;
+    let _verdict = check(alloc, told)?;
+    laps.done(rt, "check", &start)
+}

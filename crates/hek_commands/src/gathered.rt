@@ -1,0 +1,45 @@
+//! Lines and replies, gathered in memory.
+ghost use Rattle.std.specs.Prelude.{◌≡◌, ◌++◌, length, OnOk};
+ghost use Rattle.hek_asm.specs.Lines.{joined};
+ghost use Rattle.hek_asm.specs.Trace.{NamesDeclared, reply_words, trace_line};
+
+use hek_asm::{write_line, write_reply};
+use hek_rules::{Event, FromWrite, NoMemory, Reply, Schedule};
+use std::alloc::Global;
+use std::mem;
+
+/// The line of an event and its reply in a trace comes behind the lines. After NoMemory nothing of them is left.
+pub fn put_line(
+    alloc: Global,
+    schedule: &Schedule,
+    number: u64,
+    event: &Event,
+    reply: &Reply,
+    lines: &mut Vec<u8>,
+) -> Result<(), NoMemory>
+    requires { NamesDeclared (length schedule.now.txns) event.now }
+    ensures { OnOk result (lines.new.items ≡ lines.old.items ++ trace_line schedule.now number event.now reply.now) }
+{
+    let mut sink = FromWrite::new(mem::replace(lines, Vec::new(alloc)));
+    match write_line(schedule, number, *event, reply, &mut sink) {
+        Ok(()) => {
+            *lines = sink.into_inner();
+            Ok(())
+        }
+        Err(_) => Err(NoMemory),
+    }
+}
+
+/// The words of a reply come behind the text. After NoMemory nothing of the text is left.
+pub fn put_reply(alloc: Global, reply: &Reply, lines: &mut Vec<u8>) -> Result<(), NoMemory>
+    ensures { OnOk result (lines.new.items ≡ lines.old.items ++ joined (reply_words reply.now)) }
+{
+    let mut sink = FromWrite::new(mem::replace(lines, Vec::new(alloc)));
+    match write_reply(reply, &mut sink) {
+        Ok(()) => {
+            *lines = sink.into_inner();
+            Ok(())
+        }
+        Err(_) => Err(NoMemory),
+    }
+}

@@ -1,7 +1,0 @@
-use Rattle.hek_machine.proofs.PhaseRows.{row_of_abort}
-use Rattle.hek_machine.proofs.parts.Parts.abort.Goals as goal
-
-pub returns : goal.returns
-returns c =
-    let e = c.abort.ensures in
-    row_of_abort c.args.self.now c.args.t _ _ c.abort.new.txns c.requires.known e.txns e.emptied

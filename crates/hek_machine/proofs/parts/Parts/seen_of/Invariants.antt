@@ -1,8 +1,0 @@
-use Rattle.std.proofs.Common.{◌≡◌, ◌++◌, drop}
-use Rattle.hek_machine.specs.Judged.{seen_among}
-use Rattle.hek_machine.proofs.parts.Parts.seen_of.Given as goal
-
-abbrev pub invariant-loop-v : goal.invariant-loop-v
-invariant-loop-v l = record {
-  found : l.found.items ++ seen_among l.self l.t (drop l.v-index l.vs) ≡ seen_among l.self l.t l.vs;
-}

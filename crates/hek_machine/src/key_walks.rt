@@ -1,0 +1,107 @@
+//! The walk over the versions of a key or a bucket: judged, given room, carried out (section 4 of the paper: reads and updates).
+ghost use Rattle.std.specs.Prelude.{◌≡◌, ◌<◌, ◌%◌, true, None, [], length, IfOk, OnErr};
+ghost use Rattle.std.specs.List.{All};
+ghost use Rattle.hek_rules.specs.World.{txn_in, bucket_of};
+ghost use Rattle.hek_rules.specs.Walk.{walk as walk_of, apply_all};
+ghost use Rattle.hek_rules.specs.Checks.{is_open};
+ghost use Rattle.hek_store.specs.Stored.{of_key};
+ghost use Rattle.hek_txn.specs.TxnTable.{Declared};
+ghost use Rattle.hek_machine.specs.Judgements.{IsAimed, purpose_of};
+ghost use Rattle.hek_machine.specs.Applied.{Allowed};
+ghost use Rattle.hek_machine.specs.Room.{HasRoom, KeepsAdding};
+ghost use Rattle.hek_machine.specs.Stands.{Shows, StandsFor, StandsForSome, IsRule, StillShows};
+ghost use Rattle.hek_machine.specs.Walked.{ArePlaces, After};
+ghost use Rattle.hek_machine.specs.Written.{key_walk, after_walk};
+
+use crate::engine::Engine;
+use crate::walks::Aim;
+use hek_rules::{Cause, Effect, NoMemory, Reply, TxnId, VersionId};
+
+impl Engine {
+    /// The versions of a key, in order of creation.
+    pub(crate) fn versions_of(&self, key: u64) -> Result<Vec<VersionId>, NoMemory>
+        ensures { IfOk result (λ vs. vs.items ≡ of_key self.now.store.versions key) }
+    {
+        Ok(self.store.versions_of(key).collect(self.alloc)?)
+    }
+
+    pub(crate) fn bucket_of(&self, key: u64) -> u64
+        ensures { result ≡ key % self.now.store.buckets }
+    {
+        key % self.store.buckets()
+    }
+
+    /// The effects of a walk that is allowed are done, if there is memory for them.
+    fn carry_out(&mut self, t: TxnId, effects: &[Effect]) -> Result<(), NoMemory>
+        requires known { Declared self.old.txns t }
+        requires ordered { StandsForSome self.old }
+        requires allowed { (w : _) → StandsFor self.old w → Allowed w t effects.now }
+        ensures done { IfOk result (λ _. (w : _) → StandsFor self.old w → Shows self.new (apply_all t w effects.now)) }
+        ensures room { IfOk result (λ _. HasRoom self.new t []) }
+        ensures kept { IfOk result (λ _. KeepsAdding self.old self.new t) }
+        ensures still { OnErr result (StillShows self.old self.new) }
+    {
+        // There are too few versions for a counter of waits to overflow.
+        let _ = self.store.len();
+        self.reserve(t, effects)?;
+        self.apply_all(t, effects);
+        Ok(())
+    }
+
+    /// A walk over these versions: its effects are done, or, where it is refused, the transaction aborts, and the cause
+    /// is the answer.
+    pub(crate) fn walk_over(
+        &mut self,
+        t: TxnId,
+        aim: &Aim,
+        bucket: u64,
+        vs: &[VersionId],
+    ) -> Result<Option<Cause>, NoMemory>
+        requires known { Declared self.old.txns t }
+        requires ordered { StandsForSome self.old }
+        requires walker { is_open (txn_in self.old.txns.cores t) ≡ true }
+        requires versions { All (λ v. v < length self.old.store.versions) vs.now }
+        requires places { ArePlaces self.old bucket vs.now }
+        requires aimed { IsAimed self.old t vs.now aim.now }
+        ensures after { IfOk result (λ r. (w : _) → StandsFor self.old w → After self.new t w (walk_of w t (purpose_of aim.now) bucket vs.now) r) }
+        ensures room { IfOk result (λ r. r ≡ None → HasRoom self.new t []) }
+        ensures kept { IfOk result (λ r. r ≡ None → KeepsAdding self.old self.new t) }
+        ensures still { OnErr result (StillShows self.old self.new) }
+    {
+        let walked = self.walk(t, aim, bucket, vs)?;
+        match walked.refused {
+            Some(cause) => {
+                let _ = self.abort(t, cause);
+                Ok(Some(cause))
+            }
+            None => {
+                self.carry_out(t, &walked.effects)?;
+                Ok(None)
+            }
+        }
+    }
+
+    /// The walk over the versions of a key, and then this answer.
+    pub(crate) fn walk_key(
+        &mut self,
+        t: TxnId,
+        aim: &Aim,
+        key: u64,
+        vs: &[VersionId],
+        answer: Reply,
+    ) -> Result<Reply, NoMemory>
+        requires known { Declared self.old.txns t }
+        requires ordered { StandsForSome self.old }
+        requires walker { is_open (txn_in self.old.txns.cores t) ≡ true }
+        requires versions { vs.now ≡ of_key self.old.store.versions key }
+        requires aimed { IsAimed self.old t vs.now aim.now }
+        ensures rule { IfOk result (IsRule (λ w. after_walk w t answer (key_walk w t (purpose_of aim.now) key)) self.old self.new) }
+        ensures still { OnErr result (StillShows self.old self.new) }
+    {
+        let bucket = self.bucket_of(key);
+        match self.walk_over(t, aim, bucket, vs)? {
+            None => Ok(answer),
+            Some(cause) => Ok(Reply::Aborted(cause)),
+        }
+    }
+}

@@ -1,0 +1,121 @@
+//! A version more: the room for it, the version, and the waits that it brings (section 4 of the paper: bucket locks and phantoms).
+ghost use Rattle.std.specs.Prelude.{◌≡◌, ◌<◌, ◌%◌, true, None, [], length, IfOk, OnOk, OnErr};
+ghost use Rattle.std.specs.List.{All};
+ghost use Rattle.hek_rules.specs.World.{txn_in, bucket_of};
+ghost use Rattle.hek_rules.specs.Checks.{is_open};
+ghost use Rattle.hek_store.specs.Stored.{of_key};
+ghost use Rattle.hek_txn.specs.TxnTable.{Declared};
+ghost use Rattle.hek_machine.specs.Judgements.{IsAimed, purpose_of};
+ghost use Rattle.hek_machine.specs.Room.{HasRoom, CanMake, Reserved};
+ghost use Rattle.hek_buckets.specs.LockLists.{holders_of as holders_in};
+ghost use Rattle.hek_machine.specs.Stands.{Shows, StandsForSome, IsRule, StillShows};
+ghost use Rattle.hek_machine.specs.Walked.{CanAdd, IsAdding};
+ghost use Rattle.hek_machine.specs.Written.{key_walk, after_making};
+ghost use Rattle.hek_rules.specs.Locks.{add_version as version_added};
+
+use crate::engine::Engine;
+use crate::walks::Aim;
+use hek_buckets::wait_for_holders;
+use hek_rules::{NoMemory, Reply, TxnId, VersionId, WriteEntry};
+use hek_store::Version;
+use hek_word::{BeginWord, EndWord};
+
+impl Engine {
+    /// The transactions that lock a bucket, in order of entry.
+    fn holders_of(&self, bucket: u64) -> Result<Vec<TxnId>, NoMemory>
+        requires { bucket < length self.now.buckets }
+        ensures { IfOk result (λ hs. hs.items ≡ (holders_in self.now.buckets bucket).items) }
+    {
+        Ok(
+            self.buckets
+                .holders(bucket)
+                .iter()
+                .copied()
+                .collect(self.alloc)?,
+        )
+    }
+
+    /// Room for a version of a bucket, and for its maker in the waiting lists of those who lock the bucket.
+    fn reserve_version(&mut self, t: TxnId, bucket: u64) -> Result<(), NoMemory>
+        requires bucket { bucket < length self.old.buckets }
+        requires holders { All (λ h. Declared self.old.txns h) (holders_in self.old.buckets bucket).items }
+        ensures reserved { Reserved self.old self.new }
+        ensures make { OnOk result (CanMake self.new t bucket) }
+    {
+        let holders = self.holders_of(bucket)?;
+        self.store.reserve_version()?;
+        self.reserve_joins(t, &holders)
+    }
+
+    /// The transaction makes a version, and comes to wait for those who lock its bucket.
+    #[tactic(auto, using(crate::proofs::AddRules::add_named, crate::proofs::AddRules::add_room))]
+    fn add_version(&mut self, t: TxnId, key: u64, value: u64)
+        requires able { IsAdding self.old t }
+        requires room { HasRoom self.old t [] }
+        requires make { CanMake self.old t (key % self.old.store.buckets) }
+        ensures { (w : _) → CanAdd self.old t w → Shows self.new (version_added w t key value) }
+    {
+        let made = WriteEntry::BeginOf(VersionId::new(self.store.len()));
+        let bucket = self.bucket_of(key);
+        self.store.add_version(Version {
+            key,
+            value,
+            begin: BeginWord::by(t),
+            end: EndWord::infinity(),
+        });
+        self.txns.push_write(t, made);
+        wait_for_holders(&self.buckets, &mut self.txns, bucket, t);
+    }
+
+    /// The walk over the versions of a key, and then a version is made, for which there is room.
+    fn make_with_room(
+        &mut self,
+        t: TxnId,
+        aim: &Aim,
+        key: u64,
+        value: u64,
+        vs: &[VersionId],
+    ) -> Result<Reply, NoMemory>
+        requires known { Declared self.old.txns t }
+        requires ordered { StandsForSome self.old }
+        requires walker { is_open (txn_in self.old.txns.cores t) ≡ true }
+        requires versions { vs.now ≡ of_key self.old.store.versions key }
+        requires aimed { IsAimed self.old t vs.now aim.now }
+        requires make { CanMake self.old t (key % self.old.store.buckets) }
+        ensures rule { IfOk result (IsRule (λ w. after_making w t key value (key_walk w t (purpose_of aim.now) key)) self.old self.new) }
+        ensures still { OnErr result (StillShows self.old self.new) }
+    {
+        let bucket = self.bucket_of(key);
+        // There are too few versions for a counter of waits to overflow.
+        let _ = self.store.len();
+        match self.walk_over(t, aim, bucket, vs)? {
+            None => {
+                self.add_version(t, key, value);
+                Ok(Reply::Done)
+            }
+            Some(cause) => Ok(Reply::Aborted(cause)),
+        }
+    }
+
+    /// The walk over the versions of a key, and then a version is made, if there is memory for it.
+    pub(crate) fn make(
+        &mut self,
+        t: TxnId,
+        aim: &Aim,
+        key: u64,
+        value: u64,
+        vs: &[VersionId],
+    ) -> Result<Reply, NoMemory>
+        requires known { Declared self.old.txns t }
+        requires ordered { StandsForSome self.old }
+        requires walker { is_open (txn_in self.old.txns.cores t) ≡ true }
+        requires versions { vs.now ≡ of_key self.old.store.versions key }
+        requires aimed { IsAimed self.old t vs.now aim.now }
+        ensures rule { IfOk result (IsRule (λ w. after_making w t key value (key_walk w t (purpose_of aim.now) key)) self.old self.new) }
+        ensures still { OnErr result (StillShows self.old self.new) }
+    {
+        let bucket = self.bucket_of(key);
+        self.reserve_version(t, bucket)?;
+        self.make_with_room(t, aim, key, value, vs)
+    }
+}

@@ -1,0 +1,2 @@
+pub mod MayLock
+pub mod Shows

@@ -1,0 +1,18 @@
+//! What holds in a test. A helper's call costs a proof a tenth of what an assertion in the test itself does.
+use std::fmt::Debug;
+use std::process::Abort;
+
+/// The two are equal.
+pub(crate) fn is<T: PartialEq + Debug + Drop>(rt: &impl Abort, got: T, want: T) {
+    assert!(rt; got == want, "{got:?} and not {want:?}");
+}
+
+/// It holds.
+pub(crate) fn holds(rt: &impl Abort, fact: bool) {
+    assert!(rt; fact);
+}
+
+/// Tells that a call answered NoMemory. `tools/refused_growths` wants one such line for each growth that it refuses.
+pub(crate) fn refused(rt: &impl Eprint, call: &str) {
+    let _ = eprintln!(rt; "refused: {call}");
+}

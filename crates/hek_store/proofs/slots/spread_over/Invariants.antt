@@ -1,0 +1,11 @@
+use Rattle.std.proofs.Common.{◌≡◌, take, vec_len, vec_capacity}
+use Rattle.hek_store.specs.Chained.{keys_of}
+use Rattle.hek_store.specs.Indexed.{AreBuckets}
+use Rattle.hek_store.proofs.slots.spread_over.Given as goal
+
+abbrev pub invariant-loop-place : goal.invariant-loop-place
+invariant-loop-place l = record {
+  chained : AreBuckets l.slots (keys_of (take l.place l.versions.items)) l.links.items l.ends.items;
+  len : vec_len l.links ≡ l.place;
+  room : vec_capacity l.links ≡ vec_capacity l.versions;
+}

@@ -1,0 +1,37 @@
+//! Slots: the keys of versions are spread over them, and each slot has a chain.
+ghost use Rattle.std.specs.Prelude.{◌≡◌, ◌<◌, ◌≤◌, vec_len, vec_capacity, IfOk};
+ghost use Rattle.hek_store.specs.Chained.{keys_of};
+ghost use Rattle.hek_store.specs.Indexed.{AreBuckets};
+
+use crate::chains::{Ends, append, no_ends};
+use crate::version::Version;
+use hek_rules::NoMemory;
+
+/// The number of slots, and their chains.
+#[derive(Drop)]
+pub(crate) struct Spread {
+    pub(crate) slots: u64,
+    pub(crate) links: Vec<usize>,
+    pub(crate) ends: Vec<Ends>,
+}
+
+/// The chains of these versions over about as many slots as there is room for versions, with room for as many links.
+pub(crate) fn spread_over(versions: &Vec<Version>) -> Result<Spread, NoMemory>
+    ensures any { IfOk result (λ s. 0 < s.slots) }
+    ensures chained { IfOk result (λ s. AreBuckets s.slots (keys_of versions.now.items) s.links.items s.ends.items) }
+    ensures len { IfOk result (λ s. vec_len s.links ≡ vec_len versions.now) }
+    ensures room { IfOk result (λ s. vec_capacity versions.now ≤ vec_capacity s.links) }
+{
+    let alloc = *versions.allocator();
+    let count = versions.capacity();
+    // An odd number: keys that are a power of two apart don't meet.
+    let slots = count as u64 / 2 * 2 + 1;
+    let mut links = Vec::with_capacity(alloc, count)?;
+    let mut ends = no_ends(alloc, slots)?;
+    for place in 0..versions.len() {
+        let slot = (versions[place].key % slots) as usize;
+        let now = append(&mut links, ends[slot]);
+        ends[slot] = now;
+    }
+    Ok(Spread { slots, links, ends })
+}
