@@ -20,7 +20,7 @@ use Rattle.hek_laws.proofs.Runs.Reachable.{next-reachable, run-append}
 use Rattle.hek_laws.proofs.Worlds.Fixed.{fixed-next}
 use Rattle.hek_machine.specs.declared.engine.Engine.{Engine}
 use Rattle.hek_machine.specs.Stands.{StandsFor, StandsForSome, IsRule, StillShows}
-use Rattle.hek_machine.specs.Observed.{opening_of}
+use Rattle.hek_machine.specs.Observed.{opening_of, StandsAs}
 use Rattle.hek_machine.specs.Steps.{IsStep, HasNoFaults, RowsAreSerial}
 
 -- ---- steps
@@ -40,6 +40,10 @@ steps_of_rows e m n r placed i = IfOk-weaker r (IsRule (λ w. outcome w e) m n) 
 
 still_stands : (m n : Engine) → StillShows m n → (w : World) → StandsFor m w → StandsFor n w
 still_stands m n s w k = record { reachable = k.reachable; named = k.named; shows = s.world w k.shows }
+
+pub stands_on_err : {E : Type 0} (m n : Engine) (r : Result Reply E) → OnErr r (StillShows m n) → OnErr r (StandsAs m n)
+stands_on_err m n (Ok x) s = tt
+stands_on_err m n (Err f) s = still_stands m n s
 
 pub ordered_after : {E : Type 0} (e : Event) (m n : Engine) (r : Result Reply E) → StandsForSome m → IsPlaced (length m.buckets) e → IfOk r (IsRule (λ w. outcome w e) m n) → OnErr r (StillShows m n) → StandsForSome n
 ordered_after e m n (Ok x) o placed i s = record { world = next o.world e; stands = (step_of_row e m n x placed i).world o.world o.stands }

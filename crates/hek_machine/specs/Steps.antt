@@ -7,7 +7,7 @@ use Rattle.hek_rules.specs.declared.reply.Reply.{Reply}
 use Rattle.hek_rules.specs.declared.reply.Reply.TheVariants as replies
 use Rattle.hek_rules.specs.Events.{txn_of}
 use Rattle.hek_rules.specs.Table.{passes}
-use Rattle.hek_rules.specs.World.{World, declared}
+use Rattle.hek_rules.specs.World.{World}
 use Rattle.hek_rules.specs.Run.{next, reply, run, transcript}
 use Rattle.hek_rules.specs.Plan.{Plan, levels_of}
 use Rattle.hek_rules.specs.Recorded.{Recorded}

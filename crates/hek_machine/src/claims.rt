@@ -14,7 +14,7 @@ ghost use Rattle.hek_visible.specs.Seen.{NamesCreator};
 
 use crate::engine::Engine;
 use crate::walks::Aim;
-use hek_rules::{BeginRecord, Cause, Level, NoMemory, Reply, State, TxnId, VersionId};
+use hek_rules::{BeginRecord, Cause, Effect, Level, NoMemory, Reply, State, TxnId, VersionId};
 
 /// The number of the time that never comes.
 const INFINITY: u64 = 0x7FFF_FFFF_FFFF_FFFF;
@@ -93,6 +93,7 @@ impl Engine {
         t: TxnId,
         key: u64,
         vs: &[VersionId],
+        effects: &mut Vec<Effect>,
     ) -> Result<Reply, NoMemory>
         requires known { Declared self.old.txns t }
         requires ordered { StandsForSome self.old }
@@ -102,8 +103,8 @@ impl Engine {
         ensures still { OnErr result (StillShows self.old self.new) }
     {
         let bucket = self.bucket_of(key);
-        let walked = self.walk(t, &Aim::ToRead, bucket, vs)?;
-        match walked.refused {
+        let refused = self.walk(t, &Aim::ToRead, bucket, vs, effects)?;
+        match refused {
             Some(cause) => Ok(self.abort(t, cause)),
             None => Ok(self.abort(t, Cause::Conflict)),
         }

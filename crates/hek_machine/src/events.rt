@@ -12,8 +12,9 @@ ghost use Rattle.hek_machine.specs.Walked.{deleted_reply};
 ghost use Rattle.hek_machine.specs.Written.{key_walk};
 
 use crate::engine::Engine;
+use crate::scratch::Scratch;
 use crate::walks::Aim;
-use hek_rules::{NoMemory, Reply, TxnId, VersionId};
+use hek_rules::{Effect, NoMemory, Reply, TxnId, VersionId};
 
 /// What a delete is answered with, from what it saw.
 fn deleted(target: &Option<VersionId>) -> Reply
@@ -38,49 +39,68 @@ impl Engine {
     }
 
     /// The read of a key.
-    pub(crate) fn read(&mut self, t: TxnId, key: u64) -> Result<Reply, NoMemory>
+    pub(crate) fn read(
+        &mut self,
+        t: TxnId,
+        key: u64,
+        scratch: &mut Scratch,
+    ) -> Result<Reply, NoMemory>
         requires known { Declared self.old.txns t }
         requires ordered { StandsForSome self.old }
         requires walker { is_open (txn_in self.old.txns.cores t) ≡ true }
         ensures rule { IfOk result (IsRule (λ w. read_rule w t key) self.old self.new) }
         ensures still { OnErr result (StillShows self.old self.new) }
     {
-        let vs = self.versions_of(key)?;
-        let seen = self.last_seen(t, &vs);
+        self.list_versions_of(key, &mut scratch.versions)?;
+        let vs = scratch.versions.as_slice();
+        let seen = self.last_seen(t, vs);
         let reply = self.found(seen);
-        self.walk_key(t, &Aim::ToRead, key, &vs, reply)
+        self.walk_key(t, &Aim::ToRead, key, vs, &mut scratch.effects, reply)
     }
 
     /// The delete of a key: the last version seen is write-locked.
-    pub(crate) fn delete(&mut self, t: TxnId, key: u64) -> Result<Reply, NoMemory>
+    pub(crate) fn delete(
+        &mut self,
+        t: TxnId,
+        key: u64,
+        scratch: &mut Scratch,
+    ) -> Result<Reply, NoMemory>
         requires known { Declared self.old.txns t }
         requires ordered { StandsForSome self.old }
         requires walker { is_open (txn_in self.old.txns.cores t) ≡ true }
         ensures rule { IfOk result (IsRule (λ w. delete_rule w t key) self.old self.new) }
         ensures still { OnErr result (StillShows self.old self.new) }
     {
-        let vs = self.versions_of(key)?;
-        let target = self.last_seen(t, &vs);
+        self.list_versions_of(key, &mut scratch.versions)?;
+        let vs = scratch.versions.as_slice();
+        let target = self.last_seen(t, vs);
         let reply = deleted(&target);
         let aim = Aim::ToWrite(target);
-        self.walk_key(t, &aim, key, &vs, reply)
+        self.walk_key(t, &aim, key, vs, &mut scratch.effects, reply)
     }
 
     /// The update of a key: the last version seen is write-locked, and a version is made in its place.
-    pub(crate) fn update(&mut self, t: TxnId, key: u64, value: u64) -> Result<Reply, NoMemory>
+    pub(crate) fn update(
+        &mut self,
+        t: TxnId,
+        key: u64,
+        value: u64,
+        scratch: &mut Scratch,
+    ) -> Result<Reply, NoMemory>
         requires known { Declared self.old.txns t }
         requires ordered { StandsForSome self.old }
         requires walker { is_open (txn_in self.old.txns.cores t) ≡ true }
         ensures rule { IfOk result (IsRule (λ w. update_rule w t key value) self.old self.new) }
         ensures still { OnErr result (StillShows self.old self.new) }
     {
-        let vs = self.versions_of(key)?;
-        let last = self.last_seen(t, &vs);
+        self.list_versions_of(key, &mut scratch.versions)?;
+        let vs = scratch.versions.as_slice();
+        let last = self.last_seen(t, vs);
         let target = &last;
         let aim = Aim::ToWrite(*target);
         match target {
-            Some(_) => self.make(t, &aim, key, value, &vs),
-            None => self.walk_key(t, &aim, key, &vs, Reply::Absent),
+            Some(_) => self.make(t, &aim, key, value, vs, &mut scratch.effects),
+            None => self.walk_key(t, &aim, key, vs, &mut scratch.effects, Reply::Absent),
         }
     }
 
@@ -91,6 +111,7 @@ impl Engine {
         key: u64,
         value: u64,
         vs: &[VersionId],
+        effects: &mut Vec<Effect>,
     ) -> Result<Reply, NoMemory>
         requires known { Declared self.old.txns t }
         requires ordered { StandsForSome self.old }
@@ -100,24 +121,38 @@ impl Engine {
         ensures still { OnErr result (StillShows self.old self.new) }
     {
         if self.is_claimed(t, vs) {
-            self.conflict(t, key, vs)
+            self.conflict(t, key, vs, effects)
         } else {
-            self.make(t, &Aim::ToRead, key, value, vs)
+            self.make(t, &Aim::ToRead, key, value, vs, effects)
         }
     }
 
     /// The insert of a key: it is there, or another transaction claims it, or else a version is made.
-    pub(crate) fn insert(&mut self, t: TxnId, key: u64, value: u64) -> Result<Reply, NoMemory>
+    pub(crate) fn insert(
+        &mut self,
+        t: TxnId,
+        key: u64,
+        value: u64,
+        scratch: &mut Scratch,
+    ) -> Result<Reply, NoMemory>
         requires known { Declared self.old.txns t }
         requires ordered { StandsForSome self.old }
         requires walker { is_open (txn_in self.old.txns.cores t) ≡ true }
         ensures rule { IfOk result (IsRule (λ w. insert_rule w t key value) self.old self.new) }
         ensures still { OnErr result (StillShows self.old self.new) }
     {
-        let vs = self.versions_of(key)?;
-        match self.last_seen(t, &vs) {
-            Some(_) => self.walk_key(t, &Aim::ToRead, key, &vs, Reply::Exists),
-            None => self.insert_new(t, key, value, &vs),
+        self.list_versions_of(key, &mut scratch.versions)?;
+        let vs = scratch.versions.as_slice();
+        match self.last_seen(t, vs) {
+            Some(_) => self.walk_key(
+                t,
+                &Aim::ToRead,
+                key,
+                vs,
+                &mut scratch.effects,
+                Reply::Exists,
+            ),
+            None => self.insert_new(t, key, value, vs, &mut scratch.effects),
         }
     }
 }

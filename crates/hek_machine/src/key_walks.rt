@@ -1,5 +1,5 @@
 //! The walk over the versions of a key or a bucket: judged, given room, carried out (section 4 of the paper: reads and updates).
-ghost use Rattle.std.specs.Prelude.{◌≡◌, ◌<◌, ◌%◌, true, None, [], length, IfOk, OnErr};
+ghost use Rattle.std.specs.Prelude.{◌≡◌, ◌<◌, ◌%◌, true, None, [], length, IfOk, OnOk, OnErr};
 ghost use Rattle.std.specs.List.{All};
 ghost use Rattle.hek_rules.specs.World.{txn_in, bucket_of};
 ghost use Rattle.hek_rules.specs.Walk.{walk as walk_of, apply_all};
@@ -18,11 +18,19 @@ use crate::walks::Aim;
 use hek_rules::{Cause, Effect, NoMemory, Reply, TxnId, VersionId};
 
 impl Engine {
-    /// The versions of a key, in order of creation.
-    pub(crate) fn versions_of(&self, key: u64) -> Result<Vec<VersionId>, NoMemory>
-        ensures { IfOk result (λ vs. vs.items ≡ of_key self.now.store.versions key) }
+    /// Lists the versions of a key, in order of creation, in place of what the list held.
+    pub(crate) fn list_versions_of(
+        &self,
+        key: u64,
+        versions: &mut Vec<VersionId>,
+    ) -> Result<(), NoMemory>
+        ensures { OnOk result (versions.new.items ≡ of_key self.now.store.versions key) }
     {
-        Ok(self.store.versions_of(key).collect(self.alloc)?)
+        versions.clear();
+        for v in self.store.versions_of(key) {
+            versions.push(v)?;
+        }
+        Ok(())
     }
 
     pub(crate) fn bucket_of(&self, key: u64) -> u64
@@ -56,6 +64,7 @@ impl Engine {
         aim: &Aim,
         bucket: u64,
         vs: &[VersionId],
+        effects: &mut Vec<Effect>,
     ) -> Result<Option<Cause>, NoMemory>
         requires known { Declared self.old.txns t }
         requires ordered { StandsForSome self.old }
@@ -68,14 +77,14 @@ impl Engine {
         ensures kept { IfOk result (λ r. r ≡ None → KeepsAdding self.old self.new t) }
         ensures still { OnErr result (StillShows self.old self.new) }
     {
-        let walked = self.walk(t, aim, bucket, vs)?;
-        match walked.refused {
+        let refused = self.walk(t, aim, bucket, vs, effects)?;
+        match refused {
             Some(cause) => {
                 let _ = self.abort(t, cause);
                 Ok(Some(cause))
             }
             None => {
-                self.carry_out(t, &walked.effects)?;
+                self.carry_out(t, effects)?;
                 Ok(None)
             }
         }
@@ -88,6 +97,7 @@ impl Engine {
         aim: &Aim,
         key: u64,
         vs: &[VersionId],
+        effects: &mut Vec<Effect>,
         answer: Reply,
     ) -> Result<Reply, NoMemory>
         requires known { Declared self.old.txns t }
@@ -99,7 +109,7 @@ impl Engine {
         ensures still { OnErr result (StillShows self.old self.new) }
     {
         let bucket = self.bucket_of(key);
-        match self.walk_over(t, aim, bucket, vs)? {
+        match self.walk_over(t, aim, bucket, vs, effects)? {
             None => Ok(answer),
             Some(cause) => Ok(Reply::Aborted(cause)),
         }

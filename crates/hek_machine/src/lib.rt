@@ -17,6 +17,7 @@ mod releases;
 mod room;
 mod runs;
 mod scans;
+mod scratch;
 mod steps;
 mod walks;
 

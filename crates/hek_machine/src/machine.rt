@@ -8,6 +8,7 @@ ghost use Rattle.hek_machine.specs.Observed.{opening_of, StandsAs};
 ghost use Rattle.hek_machine.specs.Steps.{NeedsNone, IsStep, IsSmall};
 
 use crate::engine::Engine;
+use crate::scratch::Scratch;
 use hek_rules::{Event, NoMemory, Reply, Schedule, Time};
 use std::alloc::Global;
 use std::marker::Model;
@@ -18,6 +19,7 @@ use std::marker::Model;
 #[derive(Drop)]
 pub struct Machine {
     pub(crate) engine: Engine,
+    pub(crate) scratch: Scratch,
 }
 
 impl Model for Machine {
@@ -49,6 +51,7 @@ impl Machine {
     {
         Ok(Machine {
             engine: Engine::load(alloc, schedule, clock)?,
+            scratch: Scratch::new(alloc),
         })
     }
 
@@ -58,6 +61,7 @@ impl Machine {
     {
         Ok(Machine {
             engine: self.engine.copy()?,
+            scratch: Scratch::new(self.engine.alloc),
         })
     }
 
@@ -73,6 +77,6 @@ impl Machine {
         ensures sure { NeedsNone self.old event → IsOk result }
         ensures buckets { length self.new.buckets ≡ length self.old.buckets }
     {
-        self.engine.step(&event)
+        self.engine.step(&event, &mut self.scratch)
     }
 }

@@ -16,25 +16,11 @@ ghost use Rattle.hek_rules.specs.Locks.{add_version as version_added};
 use crate::engine::Engine;
 use crate::walks::Aim;
 use hek_buckets::wait_for_holders;
-use hek_rules::{NoMemory, Reply, TxnId, VersionId, WriteEntry};
+use hek_rules::{Effect, NoMemory, Reply, TxnId, VersionId, WriteEntry};
 use hek_store::Version;
 use hek_word::{BeginWord, EndWord};
 
 impl Engine {
-    /// The transactions that lock a bucket, in order of entry.
-    fn holders_of(&self, bucket: u64) -> Result<Vec<TxnId>, NoMemory>
-        requires { bucket < length self.now.buckets }
-        ensures { IfOk result (λ hs. hs.items ≡ (holders_in self.now.buckets bucket).items) }
-    {
-        Ok(
-            self.buckets
-                .holders(bucket)
-                .iter()
-                .copied()
-                .collect(self.alloc)?,
-        )
-    }
-
     /// Room for a version of a bucket, and for its maker in the waiting lists of those who lock the bucket.
     fn reserve_version(&mut self, t: TxnId, bucket: u64) -> Result<(), NoMemory>
         requires bucket { bucket < length self.old.buckets }
@@ -42,9 +28,8 @@ impl Engine {
         ensures reserved { Reserved self.old self.new }
         ensures make { OnOk result (CanMake self.new t bucket) }
     {
-        let holders = self.holders_of(bucket)?;
         self.store.reserve_version()?;
-        self.reserve_joins(t, &holders)
+        self.reserve_joins(t, bucket)
     }
 
     /// The transaction makes a version, and comes to wait for those who lock its bucket.
@@ -75,6 +60,7 @@ impl Engine {
         key: u64,
         value: u64,
         vs: &[VersionId],
+        effects: &mut Vec<Effect>,
     ) -> Result<Reply, NoMemory>
         requires known { Declared self.old.txns t }
         requires ordered { StandsForSome self.old }
@@ -88,7 +74,7 @@ impl Engine {
         let bucket = self.bucket_of(key);
         // There are too few versions for a counter of waits to overflow.
         let _ = self.store.len();
-        match self.walk_over(t, aim, bucket, vs)? {
+        match self.walk_over(t, aim, bucket, vs, effects)? {
             None => {
                 self.add_version(t, key, value);
                 Ok(Reply::Done)
@@ -105,6 +91,7 @@ impl Engine {
         key: u64,
         value: u64,
         vs: &[VersionId],
+        effects: &mut Vec<Effect>,
     ) -> Result<Reply, NoMemory>
         requires known { Declared self.old.txns t }
         requires ordered { StandsForSome self.old }
@@ -116,6 +103,6 @@ impl Engine {
     {
         let bucket = self.bucket_of(key);
         self.reserve_version(t, bucket)?;
-        self.make_with_room(t, aim, key, value, vs)
+        self.make_with_room(t, aim, key, value, vs, effects)
     }
 }

@@ -4,6 +4,7 @@ ghost use Rattle.hek_laws.specs.Lists.{In};
 ghost use Rattle.hek_txn.specs.TxnTable.{Declared, read_set_of, write_set_of, bucket_set_of, waiting_list_of};
 ghost use Rattle.hek_machine.specs.Room.{reads_in, writes_in, waits_in, buckets_in, IsThere, IsReady, HasRoom, Reserved, AreReady, AreJoined};
 ghost use Rattle.std.specs.List.{All};
+ghost use Rattle.hek_buckets.specs.LockLists.{holders_of};
 
 use crate::engine::Engine;
 use hek_rules::{Effect, NoMemory, TxnId};
@@ -113,14 +114,16 @@ impl Engine {
         self.reserve_others(t, effects)
     }
 
-    /// Room for the transaction in the waiting lists of these.
-    pub(crate) fn reserve_joins(&mut self, t: TxnId, holders: &[TxnId]) -> Result<(), NoMemory>
-        requires holders { All (λ h. Declared self.old.txns h) holders.now }
+    /// Room for the transaction in the waiting lists of those who lock a bucket.
+    pub(crate) fn reserve_joins(&mut self, t: TxnId, bucket: u64) -> Result<(), NoMemory>
+        requires bucket { bucket < length self.old.buckets }
+        requires holders { All (λ h. Declared self.old.txns h) (holders_of self.old.buckets bucket).items }
         ensures reserved { Reserved self.old self.new }
-        ensures joins { OnOk result (AreJoined self.new t holders.now) }
+        ensures joins { OnOk result (AreJoined self.new t (holders_of self.old.buckets bucket).items) }
     {
-        for &h in holders {
-            self.txns.reserve_waiters(h, 1)?;
+        for place in 0..self.buckets.holders(bucket).len() {
+            let holder = self.buckets.holders(bucket)[place];
+            self.txns.reserve_waiters(holder, 1)?;
         }
         Ok(())
     }

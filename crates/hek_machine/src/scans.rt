@@ -1,5 +1,5 @@
 //! What is found of many keys at once: the scan of a bucket, and the committed rows (section 4 of the paper: reads).
-ghost use Rattle.std.specs.Prelude.{◌≡◌, ◌<◌, ◌&&◌, true, [], length, IfOk, OnErr};
+ghost use Rattle.std.specs.Prelude.{◌≡◌, ◌<◌, ◌&&◌, true, [], length, IfOk, OnOk, OnErr};
 ghost use Rattle.std.specs.List.{All};
 ghost use Rattle.hek_rules.specs.Shown.{was_made as made, lasts as is_last, committed_rows};
 ghost use Rattle.hek_rules.specs.World.{txn_in, version_in, places, is_committed as committed};
@@ -11,6 +11,7 @@ ghost use Rattle.hek_machine.specs.Judgements.{IsShown};
 ghost use Rattle.hek_machine.specs.Stands.{StandsForSome, IsRule, StillShows};
 
 use crate::engine::Engine;
+use crate::scratch::Scratch;
 use crate::walks::Aim;
 use hek_rules::{NoMemory, Pairs, Reply, State, TxnId, VersionId};
 use hek_word::{BeginWord, EndWord};
@@ -23,11 +24,15 @@ fn is_committed(state: State) -> bool
 }
 
 impl Engine {
-    /// The versions of a bucket, in order of creation.
-    fn versions_in(&self, bucket: u64) -> Result<Vec<VersionId>, NoMemory>
-        ensures { IfOk result (λ vs. vs.items ≡ of_bucket self.now.store.buckets self.now.store.versions bucket) }
+    /// Lists the versions of a bucket, in order of creation, in place of what the list held.
+    fn list_versions_in(&self, bucket: u64, versions: &mut Vec<VersionId>) -> Result<(), NoMemory>
+        ensures { OnOk result (versions.new.items ≡ of_bucket self.now.store.buckets self.now.store.versions bucket) }
     {
-        Ok(self.store.versions_in(bucket).collect(self.alloc)?)
+        versions.clear();
+        for v in self.store.versions_in(bucket) {
+            versions.push(v)?;
+        }
+        Ok(())
     }
 
     /// The pairs of these versions by key, the later ones over the earlier.
@@ -43,7 +48,12 @@ impl Engine {
     }
 
     /// The scan of a bucket.
-    pub(crate) fn scan(&mut self, t: TxnId, bucket: u64) -> Result<Reply, NoMemory>
+    pub(crate) fn scan(
+        &mut self,
+        t: TxnId,
+        bucket: u64,
+        scratch: &mut Scratch,
+    ) -> Result<Reply, NoMemory>
         requires known { Declared self.old.txns t }
         requires ordered { StandsForSome self.old }
         requires walker { is_open (txn_in self.old.txns.cores t) ≡ true }
@@ -51,10 +61,11 @@ impl Engine {
         ensures rule { IfOk result (IsRule (λ w. scan_rule w t bucket) self.old self.new) }
         ensures still { OnErr result (StillShows self.old self.new) }
     {
-        let vs = self.versions_in(bucket)?;
-        let seen = self.seen_of(t, &vs)?;
-        let pairs = self.pairs_of(&seen)?;
-        match self.walk_over(t, &Aim::ToRead, bucket, &vs)? {
+        self.list_versions_in(bucket, &mut scratch.versions)?;
+        let vs = scratch.versions.as_slice();
+        self.list_seen(t, vs, &mut scratch.seen)?;
+        let pairs = self.pairs_of(&scratch.seen)?;
+        match self.walk_over(t, &Aim::ToRead, bucket, vs, &mut scratch.effects)? {
             None => Ok(Reply::Rows(pairs)),
             Some(cause) => Ok(Reply::Aborted(cause)),
         }
@@ -86,7 +97,7 @@ impl Engine {
         }
     }
 
-    /// Whether the version is a committed rule.
+    /// Whether the version is a committed row.
     fn is_row(&self, v: VersionId) -> bool
         requires version { v < length self.now.store.versions }
         requires ordered { StandsForSome self.now }

@@ -12,11 +12,12 @@ ghost use Rattle.hek_machine.specs.Stands.{StandsForSome, IsRule, StillShows};
 ghost use Rattle.hek_machine.specs.Steps.{takes_memory, NeedsNone};
 
 use crate::engine::Engine;
+use crate::scratch::Scratch;
 use hek_rules::{Cause, Check, Event, NoMemory, Refusal, Reply, TxnId};
 
 impl Engine {
     /// The rule of an event that has passed the checks.
-    fn rule(&mut self, t: TxnId, e: &Event) -> Result<Reply, NoMemory>
+    fn rule(&mut self, t: TxnId, e: &Event, scratch: &mut Scratch) -> Result<Reply, NoMemory>
         requires known { Declared self.old.txns t }
         requires ordered { StandsForSome self.old }
         requires passed { check_of (txn_in self.old.txns.cores t) (is_idle self.old.txns t) self.old.clock e.now ≡ Passed }
@@ -27,11 +28,11 @@ impl Engine {
     {
         match *e {
             Event::Begin(_) => Ok(self.begin(t)),
-            Event::Read(_, key) => self.read(t, key),
-            Event::Scan(_, bucket) => self.scan(t, bucket),
-            Event::Insert(_, key, value) => self.insert(t, key, value),
-            Event::Update(_, key, value) => self.update(t, key, value),
-            Event::Delete(_, key) => self.delete(t, key),
+            Event::Read(_, key) => self.read(t, key, scratch),
+            Event::Scan(_, bucket) => self.scan(t, bucket, scratch),
+            Event::Insert(_, key, value) => self.insert(t, key, value, scratch),
+            Event::Update(_, key, value) => self.update(t, key, value, scratch),
+            Event::Delete(_, key) => self.delete(t, key, scratch),
             Event::Finish(_) => Ok(self.finish(t)),
             Event::Precommit(_) => Ok(self.precommit(t)),
             Event::Release(_) => Ok(self.release(t)),
@@ -44,7 +45,7 @@ impl Engine {
     }
 
     /// An event of a transaction: the first check that fits gives the answer, and else the rule does.
-    fn step_of(&mut self, t: TxnId, e: &Event) -> Result<Reply, NoMemory>
+    fn step_of(&mut self, t: TxnId, e: &Event, scratch: &mut Scratch) -> Result<Reply, NoMemory>
         requires ordered { StandsForSome self.old }
         requires placed { IsPlaced self.old.store.buckets e.now }
         ensures rule { IfOk result (IsRule (λ w. checked w t e.now) self.old self.new) }
@@ -58,13 +59,13 @@ impl Engine {
             Check::Refused(why) => Ok(Reply::Refused(why)),
             Check::Doomed => Ok(self.abort(t, Cause::Cascade)),
             Check::StillAborted(cause) => Ok(Reply::Aborted(cause)),
-            Check::Passed => self.rule(t, e),
+            Check::Passed => self.rule(t, e, scratch),
         }
     }
 
     /// What an event is answered with. Only an event that reads or writes rows or looks for a deadlock, and has passed
     /// the checks, may be answered NoMemory.
-    pub(crate) fn step(&mut self, e: &Event) -> Result<Reply, NoMemory>
+    pub(crate) fn step(&mut self, e: &Event, scratch: &mut Scratch) -> Result<Reply, NoMemory>
         requires ordered { StandsForSome self.old }
         requires placed { IsPlaced self.old.store.buckets e.now }
         ensures rule { IfOk result (IsRule (λ w. outcome w e.now) self.old self.new) }
@@ -72,7 +73,7 @@ impl Engine {
         ensures sure { NeedsNone self.old e.now → IsOk result }
     {
         match (*e).txn() {
-            Some(t) => self.step_of(t, e),
+            Some(t) => self.step_of(t, e, scratch),
             None => self.detect(),
         }
     }

@@ -7,18 +7,18 @@ use Rattle.hek_machine.proofs.KeyRules.{key_below, insert_exists, insert_sees_no
 use Rattle.hek_machine.proofs.engine.Engine.insert.Goals as goal
 
 pub last_seen-requires-clause-versions : goal.last_seen-requires-clause-versions
-last_seen-requires-clause-versions c = key_below c.args.self.now c.args.key c.deref.result.now (c.deref.ensures.value ∙ c.in_ok-vs.ensures)
+last_seen-requires-clause-versions c = key_below c.args.self.now c.args.key c.as_slice-vs.result.now (c.as_slice-vs.ensures.value ∙ c.in_ok-list_versions_of.ensures)
 
 pub returns-in-Some-clause-rule : goal.returns-in-Some-clause-rule
 returns-in-Some-clause-rule c =
     let m = c.args.self.now in
     rule_of_last m c.walk_key.new.self (λ w. insert_rule w c.args.t c.args.key c.args.value) (λ w. after_walk w c.args.t Exists (key_walk w c.args.t ToRead c.args.key)) c.walk_key.result
-    (insert_exists m c.args.t c.args.key c.args.value _ c.deref.result.now c.last_seen.result (c.deref.ensures.value ∙ c.in_ok-vs.ensures)
+    (insert_exists m c.args.t c.args.key c.args.value _ c.as_slice-vs.result.now c.last_seen.result (c.as_slice-vs.ensures.value ∙ c.in_ok-list_versions_of.ensures)
     c.last_seen.ensures c.in-Some.is) c.walk_key.ensures.rule
 
-pub returns-clause-rule : goal.returns-clause-rule
-returns-clause-rule c =
+pub returns-in-None-clause-rule : goal.returns-in-None-clause-rule
+returns-in-None-clause-rule c =
     let m = c.args.self.now in
     rule_of_last m c.insert_new.new.self (λ w. insert_rule w c.args.t c.args.key c.args.value) (λ w. after_insert w c.args.t c.args.key c.args.value None (key_walk w c.args.t ToRead c.args.key)) c.insert_new.result
-    (insert_sees_none m c.args.t c.args.key c.args.value c.deref.result.now c.last_seen.result (c.deref.ensures.value ∙ c.in_ok-vs.ensures)
+    (insert_sees_none m c.args.t c.args.key c.args.value c.as_slice-vs.result.now c.last_seen.result (c.as_slice-vs.ensures.value ∙ c.in_ok-list_versions_of.ensures)
     c.last_seen.ensures c.in-None.is) c.insert_new.ensures.rule

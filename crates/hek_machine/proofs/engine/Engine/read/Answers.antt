@@ -10,18 +10,18 @@ use Rattle.hek_machine.proofs.KeyRules.{key_below, read_row_is, rule_of_last}
 use Rattle.hek_machine.proofs.engine.Engine.read.Goals as goal
 
 pub last_seen-seen-requires-clause-versions : goal.last_seen-seen-requires-clause-versions
-last_seen-seen-requires-clause-versions c = key_below c.args.self.now c.args.key c.deref.result.now (c.deref.ensures.value ∙ c.in_ok-vs.ensures)
+last_seen-seen-requires-clause-versions c = key_below c.args.self.now c.args.key c.as_slice-vs.result.now (c.as_slice-vs.ensures.value ∙ c.in_ok-list_versions_of.ensures)
 
 pub found-reply-requires : goal.found-reply-requires
 found-reply-requires c =
     let m = c.args.self.now in
-    if_last_below (length m.store.versions) (seen_among m c.args.t c.deref.result.now) c.last_seen-seen.result
-    (filter_below (λ v. is_seen (version_seen m.store m.txns c.args.t (looks m c.args.t) v)) (length m.store.versions) c.deref.result.now
-    (key_below m c.args.key c.deref.result.now (c.deref.ensures.value ∙ c.in_ok-vs.ensures))) c.last_seen-seen.ensures
+    if_last_below (length m.store.versions) (seen_among m c.args.t c.as_slice-vs.result.now) c.last_seen-seen.result
+    (filter_below (λ v. is_seen (version_seen m.store m.txns c.args.t (looks m c.args.t) v)) (length m.store.versions) c.as_slice-vs.result.now
+    (key_below m c.args.key c.as_slice-vs.result.now (c.as_slice-vs.ensures.value ∙ c.in_ok-list_versions_of.ensures))) c.last_seen-seen.ensures
 
 pub returns-clause-rule : goal.returns-clause-rule
 returns-clause-rule c =
     let m = c.args.self.now in
     rule_of_last m c.walk_key.new.self (λ w. read_rule w c.args.t c.args.key) (λ w. after_walk w c.args.t c.found-reply.result (key_walk w c.args.t ToRead c.args.key)) c.walk_key.result
-    (read_row_is m c.args.t c.args.key c.deref.result.now c.last_seen-seen.result c.found-reply.result (c.deref.ensures.value ∙ c.in_ok-vs.ensures) c.last_seen-seen.ensures c.found-reply.ensures)
+    (read_row_is m c.args.t c.args.key c.as_slice-vs.result.now c.last_seen-seen.result c.found-reply.result (c.as_slice-vs.ensures.value ∙ c.in_ok-list_versions_of.ensures) c.last_seen-seen.ensures c.found-reply.ensures)
     c.walk_key.ensures.rule

@@ -7,18 +7,18 @@ use Rattle.hek_machine.proofs.KeyRules.{key_below, update_makes, update_sees_non
 use Rattle.hek_machine.proofs.engine.Engine.update.Goals as goal
 
 pub last_seen-last-requires-clause-versions : goal.last_seen-last-requires-clause-versions
-last_seen-last-requires-clause-versions c = key_below c.args.self.now c.args.key c.deref.result.now (c.deref.ensures.value ∙ c.in_ok-vs.ensures)
+last_seen-last-requires-clause-versions c = key_below c.args.self.now c.args.key c.as_slice-vs.result.now (c.as_slice-vs.ensures.value ∙ c.in_ok-list_versions_of.ensures)
 
 pub returns-in-Some-clause-rule : goal.returns-in-Some-clause-rule
 returns-in-Some-clause-rule c =
     let m = c.args.self.now in
     rule_of_last m c.make.new.self (λ w. update_rule w c.args.t c.args.key c.args.value) (λ w. after_making w c.args.t c.args.key c.args.value (key_walk w c.args.t ToWrite c.args.key)) c.make.result
-    (update_makes m c.args.t c.args.key c.args.value _ c.deref.result.now c.last_seen-last.result (c.deref.ensures.value ∙ c.in_ok-vs.ensures)
+    (update_makes m c.args.t c.args.key c.args.value _ c.as_slice-vs.result.now c.last_seen-last.result (c.as_slice-vs.ensures.value ∙ c.in_ok-list_versions_of.ensures)
     c.last_seen-last.ensures c.in-Some.is) c.make.ensures.rule
 
-pub returns-clause-rule : goal.returns-clause-rule
-returns-clause-rule c =
+pub returns-in-None-clause-rule : goal.returns-in-None-clause-rule
+returns-in-None-clause-rule c =
     let m = c.args.self.now in
     rule_of_last m c.walk_key.new.self (λ w. update_rule w c.args.t c.args.key c.args.value) (λ w. after_walk w c.args.t Absent (key_walk w c.args.t ToWrite c.args.key)) c.walk_key.result
-    (update_sees_none m c.args.t c.args.key c.args.value c.deref.result.now c.last_seen-last.result (c.deref.ensures.value ∙ c.in_ok-vs.ensures)
+    (update_sees_none m c.args.t c.args.key c.args.value c.as_slice-vs.result.now c.last_seen-last.result (c.as_slice-vs.ensures.value ∙ c.in_ok-list_versions_of.ensures)
     c.last_seen-last.ensures c.in-None.is) c.walk_key.ensures.rule

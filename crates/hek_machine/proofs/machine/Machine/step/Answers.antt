@@ -1,11 +1,13 @@
 use Rattle.std.proofs.Common.{sym, ap, subst, ◌∙◌, length, IfOk}
+use Rattle.std.specs.Prelude.{OnErr}
 use Rattle.hek_rules.specs.World.{World}
 use Rattle.hek_laws.specs.Runs.{IsPlaced}
 use Rattle.hek_machine.specs.declared.engine.Engine.{Engine}
 use Rattle.hek_machine.specs.Stands.{StandsFor}
 use Rattle.hek_machine.specs.Steps.{IsSmall, IsStep}
 use Rattle.hek_machine.proofs.SmallReplies.{small_replies}
-use Rattle.hek_machine.proofs.RunRules.{ordered_after, buckets_after, steps_of_rows}
+use Rattle.hek_machine.specs.Observed.{StandsAs}
+use Rattle.hek_machine.proofs.RunRules.{ordered_after, buckets_after, steps_of_rows, stands_on_err}
 use Rattle.hek_machine.proofs.machine.Machine.step.Goals as goal
 
 pub invariant_of-self : goal.invariant_of-self
@@ -26,3 +28,7 @@ returns-clause-step c =
     subst (λ (m : Engine). IfOk c.step.result (IsStep c.args.event m c.step.new.self)) c.self.view_is
     (steps_of_rows _ c.self.inside.engine c.step.new.self c.step.result
     (subst (λ (m : Engine). IsPlaced (length m.buckets) c.args.event) (sym c.self.view_is) c.requires) c.step.ensures.rule)
+
+pub returns-clause-still : goal.returns-clause-still
+returns-clause-still c =
+    subst (λ (m : Engine). OnErr c.step.result (StandsAs m c.step.new.self)) c.self.view_is (stands_on_err c.self.inside.engine c.step.new.self c.step.result c.step.ensures.still)
