@@ -63,6 +63,14 @@ fn write_text(
     laps.done(rt, "canonical", &start)
 }
 
+/// Bytes for the longest image of so many rows, transactions and steps: docs/FORMATS.md has the sizes.
+fn image_room(schedule: &Schedule) -> usize {
+    let rows = schedule.row_count().saturating_mul(16);
+    let txns = schedule.txn_count().saturating_mul(34);
+    let steps = schedule.steps().len().saturating_mul(21);
+    rows.saturating_add(txns).saturating_add(steps).saturating_add(22)
+}
+
 fn image_of(
     rt: &HostRuntime,
     alloc: Global,
@@ -70,7 +78,7 @@ fn image_of(
     laps: &mut Laps,
 ) -> Result<Vec<u8>, Fault> {
     let start = Instant::now(rt)?;
-    let mut sink = FromWrite::new(Vec::new(alloc));
+    let mut sink = FromWrite::new(Vec::with_capacity(alloc, image_room(schedule))?);
     write_image(schedule, &mut sink)?;
     laps.done(rt, "write image", &start)?;
     Ok(sink.into_inner())
