@@ -5,6 +5,7 @@ ghost use Rattle.hek_asm.specs.Likely.{likely_entry};
 ghost use Rattle.hek_asm.specs.Reading.{HasNoLine, IsFront, IsTraceOf, TraceFails};
 ghost use Rattle.hek_asm.specs.Trace.{NamesDeclared, trace_line};
 
+use crate::comparing::Comparing;
 use crate::fault::TraceFault;
 use crate::likely::{behind, likely_event, likely_reply, step_len};
 use crate::line::words;
@@ -32,6 +33,24 @@ fn likely_entry(
     let step = event;
     let reply = likely_reply(alloc, behind(rest, step_len(&step) + 1))?;
     Ok(Some((event, reply)))
+}
+
+// What follows the line of an event and a reply, if the text begins with it. None tells nothing of the text.
+fn behind_line<'t>(
+    schedule: &Schedule,
+    number: u64,
+    event: Event,
+    reply: &Reply,
+    text: &'t [u8],
+) -> Option<&'t [u8]>
+    requires { NamesDeclared (length schedule.now.txns) event }
+    ensures { IfSome result (λ after. text.now ≡ trace_line schedule.now number event reply.now ++ after.now) }
+{
+    let mut sink = Comparing::new(text);
+    match write_line(schedule, number, event, reply, &mut sink) {
+        Ok(()) => Some(sink.rest()),
+        Err(_) => None,
+    }
 }
 
 // The line of an event and a reply, written into room for so many bytes.
@@ -67,6 +86,27 @@ fn without_front<'t>(text: &'t [u8], front: &[u8]) -> Option<&'t [u8]>
     Some(after)
 }
 
+// What follows the line of an event and a reply, if the text begins with it.
+fn without_line<'t>(
+    alloc: Global,
+    room: usize,
+    schedule: &Schedule,
+    number: u64,
+    event: Event,
+    reply: &Reply,
+    text: &'t [u8],
+) -> Result<Option<&'t [u8]>, NoMemory>
+    requires { NamesDeclared (length schedule.now.txns) event }
+    ensures { IfOk result (λ o. let line = trace_line schedule.now number event reply.now in MatchOption o ((after : List ℕ) → text.now ≡ line ++ after → ⊥) (λ after. text.now ≡ line ++ after.now)) }
+{
+    let step = event;
+    if let Some(after) = behind_line(schedule, number, step, reply, text) {
+        return Ok(Some(after));
+    }
+    let front = line_text(alloc, room, schedule, number, event, reply)?;
+    Ok(without_front(text, front.as_slice()))
+}
+
 // The event and the reply of the line at the front, which has this number, and what follows it.
 fn next_entry<'t>(
     alloc: Global,
@@ -85,8 +125,7 @@ fn next_entry<'t>(
     };
     let step = event;
     let room = line.len() + 1;
-    let front = line_text(alloc, room, schedule, number, step, &reply)?;
-    match without_front(text, front.as_slice()) {
+    match without_line(alloc, room, schedule, number, step, &reply, text)? {
         None => Ok(None),
         Some(after) => Ok(Some((event, reply, after))),
     }
