@@ -8,22 +8,23 @@ ghost use Rattle.hek_asm.specs.Trace.{NamesDeclared, trace_line};
 use crate::comparing::Comparing;
 use crate::fault::TraceFault;
 use crate::likely::{behind, likely_event, likely_reply, step_len};
-use crate::line::words;
+use crate::line::read_words;
 use crate::trace::write_line;
 use hek_rules::{Event, FromWrite, NoMemory, Reply, Schedule, Transcript, next_line};
 use std::alloc::Global;
 
-// The only event and reply that the line can be of, if it can be of any.
+// The only event and reply that the line can be of, if it can be of any. The room of the words is used again.
 #[tactic(auto, unfolding(crate::specs::Likely::likely_entry))]
-fn likely_entry(
+fn likely_entry<'t>(
     alloc: Global,
     schedule: &Schedule,
-    line: &[u8],
+    words: &mut Vec<&'t [u8]>,
+    line: &'t [u8],
 ) -> Result<Option<(Event, Reply)>, NoMemory>
     ensures value { IfOk result (λ o. o ≡ likely_entry schedule.now (words_of line.now)) }
     ensures declared { IfOk result (λ o. IfSome o (λ x. NamesDeclared (length schedule.now.txns) x.0)) }
 {
-    let words = words(alloc, line)?;
+    read_words(line, words)?;
     let [_, rest @ ..] = words.as_slice() else {
         return Ok(None);
     };
@@ -111,6 +112,7 @@ fn without_line<'t>(
 fn next_entry<'t>(
     alloc: Global,
     schedule: &Schedule,
+    words: &mut Vec<&'t [u8]>,
     number: u64,
     text: &'t [u8],
 ) -> Result<Option<(Event, Reply, &'t [u8])>, NoMemory>
@@ -120,7 +122,7 @@ fn next_entry<'t>(
     let Some((line, _)) = next_line(text) else {
         return Ok(None);
     };
-    let Some((event, reply)) = likely_entry(alloc, schedule, line)? else {
+    let Some((event, reply)) = likely_entry(alloc, schedule, words, line)? else {
         return Ok(None);
     };
     let step = event;
@@ -139,9 +141,11 @@ pub fn read_trace(alloc: Global, schedule: &Schedule, text: &str) -> Result<Tran
     let mut transcript = Transcript::new(alloc, schedule)?;
     let mut rest = text.as_bytes();
     let mut number = 0u64;
+    let mut words = Vec::new(alloc);
     while !rest.is_empty() {
         number += 1;
-        let Some((event, reply, after)) = next_entry(alloc, schedule, number, rest)? else {
+        let Some((event, reply, after)) = next_entry(alloc, schedule, &mut words, number, rest)?
+        else {
             return Err(TraceFault::Line(number));
         };
         transcript.push(event, reply)?;
