@@ -1,7 +1,7 @@
 //! A sink that keeps nothing: what is put has to stand in a text, piece behind piece.
 ghost use Rattle.std.specs.Prelude.{◌≡◌, false, drop};
 
-use hek_rules::Sink;
+use hek_rules::{Sink, same_bytes};
 use std::marker::Model;
 
 /// A text, and how many of its bytes were put.
@@ -55,7 +55,7 @@ impl<'t> Sink for Comparing<'t> {
 
     fn put(&mut self, bytes: &[u8]) -> Option<usize> {
         let rest = self.rest();
-        if bytes.len() > rest.len() || rest.split_at(bytes.len()).0 != bytes {
+        if bytes.len() > rest.len() || !same_bytes(rest.split_at(bytes.len()).0, bytes) {
             self.failed = true;
             return None;
         }

@@ -7,7 +7,7 @@ ghost use Rattle.hek_asm.specs.Trace.{NamesDeclared};
 
 use hek_rules::{
     Cause, Event, EventKind, Members, NoMemory, Pairs, Refusal, Reply, Schedule, Time, TxnId,
-    VersionId, is_word, number,
+    VersionId, number, same_bytes,
 };
 use std::alloc::Global;
 
@@ -36,22 +36,22 @@ pub(crate) fn behind<'w, 't>(words: &'w [&'t [u8]], count: usize) -> &'w [&'t [u
 fn cause_named(word: &[u8]) -> Cause
     ensures { result ≡ cause_named word.now }
 {
-    if is_word(word, b"cascade") {
+    if same_bytes(word, b"cascade") {
         return Cause::Cascade;
     }
-    if is_word(word, b"conflict") {
+    if same_bytes(word, b"conflict") {
         return Cause::Conflict;
     }
-    if is_word(word, b"no-more-reads") {
+    if same_bytes(word, b"no-more-reads") {
         return Cause::NoMoreReads;
     }
-    if is_word(word, b"readers-full") {
+    if same_bytes(word, b"readers-full") {
         return Cause::ReadersFull;
     }
-    if is_word(word, b"no-more-waits") {
+    if same_bytes(word, b"no-more-waits") {
         return Cause::NoMoreWaits;
     }
-    if is_word(word, b"deadlock") {
+    if same_bytes(word, b"deadlock") {
         return Cause::Deadlock;
     }
     Cause::Asked
@@ -60,19 +60,19 @@ fn cause_named(word: &[u8]) -> Cause
 fn refusal_named(word: &[u8]) -> Refusal
     ensures { result ≡ refusal_named word.now }
 {
-    if is_word(word, b"UnknownTxn") {
+    if same_bytes(word, b"UnknownTxn") {
         return Refusal::UnknownTxn;
     }
-    if is_word(word, b"NotBegun") {
+    if same_bytes(word, b"NotBegun") {
         return Refusal::NotBegun;
     }
-    if is_word(word, b"BegunTwice") {
+    if same_bytes(word, b"BegunTwice") {
         return Refusal::BegunTwice;
     }
-    if is_word(word, b"Ended") {
+    if same_bytes(word, b"Ended") {
         return Refusal::Ended;
     }
-    if is_word(word, b"WrongPhase") {
+    if same_bytes(word, b"WrongPhase") {
         return Refusal::WrongPhase;
     }
     Refusal::ClockFull
@@ -124,25 +124,25 @@ fn members(alloc: Global, words: &[&[u8]]) -> Result<Vec<TxnId>, NoMemory>
 fn of_one_word(word: &[u8]) -> Reply
     ensures { result ≡ of_one_word word.now }
 {
-    if is_word(word, b"done") {
+    if same_bytes(word, b"done") {
         return Reply::Done;
     }
-    if is_word(word, b"exists") {
+    if same_bytes(word, b"exists") {
         return Reply::Exists;
     }
-    if is_word(word, b"ready") {
+    if same_bytes(word, b"ready") {
         return Reply::Ready;
     }
-    if is_word(word, b"nothing") {
+    if same_bytes(word, b"nothing") {
         return Reply::Nothing;
     }
-    if is_word(word, b"committed") {
+    if same_bytes(word, b"committed") {
         return Reply::Committed;
     }
-    if is_word(word, b"failed") {
+    if same_bytes(word, b"failed") {
         return Reply::Failed;
     }
-    if is_word(word, b"over") {
+    if same_bytes(word, b"over") {
         return Reply::Over;
     }
     Reply::Absent
@@ -151,22 +151,22 @@ fn of_one_word(word: &[u8]) -> Reply
 fn of_two_words(word: &[u8], behind: &[u8]) -> Reply
     ensures { result ≡ of_two_words word.now behind.now }
 {
-    if is_word(word, b"began") {
+    if same_bytes(word, b"began") {
         return Reply::Began(Time::new(value(behind)));
     }
-    if is_word(word, b"found") {
+    if same_bytes(word, b"found") {
         return Reply::Found(value(behind));
     }
-    if is_word(word, b"waiting") {
+    if same_bytes(word, b"waiting") {
         return Reply::Waiting(value(behind));
     }
-    if is_word(word, b"precommitted") {
+    if same_bytes(word, b"precommitted") {
         return Reply::Precommitted(Time::new(value(behind)));
     }
-    if is_word(word, b"left") {
+    if same_bytes(word, b"left") {
         return Reply::Left(VersionId::new(value(behind)));
     }
-    if is_word(word, b"aborted") {
+    if same_bytes(word, b"aborted") {
         return Reply::Aborted(cause_named(behind));
     }
     Reply::NoCycle
@@ -175,22 +175,22 @@ fn of_two_words(word: &[u8], behind: &[u8]) -> Reply
 fn of_three_words(first: &[u8], second: &[u8], third: &[u8]) -> Reply
     ensures { result ≡ of_three_words first.now second.now third.now }
 {
-    if is_word(first, b"refused") {
+    if same_bytes(first, b"refused") {
         return Reply::Refused(refusal_named(third));
     }
-    if is_word(second, b"bucket") {
+    if same_bytes(second, b"bucket") {
         return Reply::ReleasedBucket(value(third));
     }
-    if is_word(second, b"waiter") {
+    if same_bytes(second, b"waiter") {
         return Reply::ReleasedWaiter(TxnId::new(value(third)));
     }
-    if is_word(second, b"commits") {
+    if same_bytes(second, b"commits") {
         return Reply::WaitingCommits(value(third));
     }
-    if is_word(second, b"begin") {
+    if same_bytes(second, b"begin") {
         return Reply::StampedBegin(VersionId::new(value(third)));
     }
-    if is_word(second, b"end") {
+    if same_bytes(second, b"end") {
         return Reply::StampedEnd(VersionId::new(value(third)));
     }
     Reply::ReleasedRead(VersionId::new(value(third)), None)
@@ -221,11 +221,11 @@ pub(crate) fn likely_reply(alloc: Global, words: &[&[u8]]) -> Result<Reply, NoMe
     let [word, rest @ ..] = words else {
         return Ok(Reply::Absent);
     };
-    if is_word(word, b"rows") {
+    if same_bytes(word, b"rows") {
         let pairs = pairs(alloc, rest)?;
         return Ok(Reply::Rows(Pairs::new(pairs)));
     }
-    if is_word(word, b"victim") {
+    if same_bytes(word, b"victim") {
         let txn = TxnId::new(first_value(rest));
         let members = members(alloc, behind(rest, 2))?;
         return Ok(Reply::Victim(txn, Members::new(members)));
@@ -261,7 +261,7 @@ pub(crate) fn likely_event(schedule: &Schedule, words: &[&[u8]]) -> Option<Event
     let [word, rest @ ..] = words else {
         return None;
     };
-    if is_word(word, b"detect") {
+    if same_bytes(word, b"detect") {
         return Some(Event::Detect);
     }
     step_named(schedule, word, rest)

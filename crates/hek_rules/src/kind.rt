@@ -4,7 +4,7 @@ ghost use Rattle.hek_rules.specs.Events.{word_of, kind_named, opcode_of, kind_co
 
 use crate::event::Event;
 use crate::id::TxnId;
-use crate::text::is_word;
+use crate::text::same_bytes;
 
 /// The kind of an event.
 #[derive(Clone, Copy, Debug, PartialEq, Eq)]
@@ -66,46 +66,46 @@ impl EventKind {
     pub fn named(word: &[u8]) -> Option<EventKind>
         ensures { result ≡ kind_named word.now }
     {
-        if is_word(word, b"begin") {
+        if same_bytes(word, b"begin") {
             return Some(EventKind::Begin);
         }
-        if is_word(word, b"read") {
+        if same_bytes(word, b"read") {
             return Some(EventKind::Read);
         }
-        if is_word(word, b"scan") {
+        if same_bytes(word, b"scan") {
             return Some(EventKind::Scan);
         }
-        if is_word(word, b"insert") {
+        if same_bytes(word, b"insert") {
             return Some(EventKind::Insert);
         }
-        if is_word(word, b"update") {
+        if same_bytes(word, b"update") {
             return Some(EventKind::Update);
         }
-        if is_word(word, b"delete") {
+        if same_bytes(word, b"delete") {
             return Some(EventKind::Delete);
         }
-        if is_word(word, b"finish") {
+        if same_bytes(word, b"finish") {
             return Some(EventKind::Finish);
         }
-        if is_word(word, b"precommit") {
+        if same_bytes(word, b"precommit") {
             return Some(EventKind::Precommit);
         }
-        if is_word(word, b"release") {
+        if same_bytes(word, b"release") {
             return Some(EventKind::Release);
         }
-        if is_word(word, b"commit") {
+        if same_bytes(word, b"commit") {
             return Some(EventKind::Commit);
         }
-        if is_word(word, b"fail") {
+        if same_bytes(word, b"fail") {
             return Some(EventKind::Fail);
         }
-        if is_word(word, b"stamp") {
+        if same_bytes(word, b"stamp") {
             return Some(EventKind::Stamp);
         }
-        if is_word(word, b"end") {
+        if same_bytes(word, b"end") {
             return Some(EventKind::End);
         }
-        if is_word(word, b"detect") {
+        if same_bytes(word, b"detect") {
             return Some(EventKind::Detect);
         }
         None

@@ -3,7 +3,7 @@ ghost use Rattle.std.specs.Prelude.{◌≡◌, MatchOption, IsTrue, false};
 ghost use Rattle.std.specs.List.{list_all};
 ghost use Rattle.hek_rules.specs.Name.{is_letter, is_name_byte, is_reserved, is_name};
 
-use crate::text::is_word;
+use crate::text::same_bytes;
 use std::str;
 
 fn is_letter(byte: u8) -> bool
@@ -21,10 +21,10 @@ fn is_name_byte(byte: u8) -> bool
 fn is_reserved(word: &[u8]) -> bool
     ensures { result ≡ is_reserved word.now }
 {
-    is_word(word, b"buckets")
-        || is_word(word, b"row")
-        || is_word(word, b"txn")
-        || is_word(word, b"detect")
+    same_bytes(word, b"buckets")
+        || same_bytes(word, b"row")
+        || same_bytes(word, b"txn")
+        || same_bytes(word, b"detect")
 }
 
 fn all_name_bytes(word: &[u8]) -> bool

@@ -86,11 +86,21 @@ pub fn next_word(line: &[u8]) -> Option<(&[u8], &[u8])>
     Some(line.split_at(len))
 }
 
-/// Whether a word is this one. Most words have another length, which is looked at first.
-pub fn is_word(word: &[u8], other: &[u8]) -> bool
-    ensures { result ≡ bytes_eq word.now other.now }
+/// Whether both are the same bytes. It is written out at each call, so that no loop is left where one of them is a
+/// literal.
+#[inline(always)]
+pub fn same_bytes(bytes: &[u8], other: &[u8]) -> bool
+    ensures { result ≡ bytes_eq bytes.now other.now }
 {
-    word.len() == other.len() && word == other
+    if bytes.len() != other.len() {
+        return false;
+    }
+    for (i, byte) in other.iter().enumerate() {
+        if bytes[i] != *byte {
+            return false;
+        }
+    }
+    true
 }
 
 /// The value of 1 to 20 decimal digits, if it is below 2^64. Leading zeros are accepted, signs and blanks are not.

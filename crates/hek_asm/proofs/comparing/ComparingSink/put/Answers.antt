@@ -7,6 +7,6 @@ pub returns-clause-bytes : goal.returns-clause-bytes
 returns-clause-bytes c = λ _.
     let old : Compared = c.args.self.now in
     let bytes : List ℕ = c.args.bytes.now in
-    let same : c.split_at.result.0.now ≡ bytes = search (rules, c.if-ne.ensures) in
+    let same : c.split_at.result.0.now ≡ bytes = search (rules, c.if-not-same_bytes.false) in
     let front = sym (ap (take (length bytes)) c.rest-rest.ensures) ∙ sym c.split_at.ensures.front ∙ same in
     subst (λ (s : Compared). length s.text ∷ (s.text ++ take (s.place + length bytes) s.text) ≡ length old.text ∷ ((old.text ++ take old.place old.text) ++ take (length bytes) bytes)) (sym c.self.view_is) (put_more old.text bytes old.place front)
