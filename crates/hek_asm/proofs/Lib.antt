@@ -13,3 +13,4 @@ mod EntryAgain
 mod SmallEntry
 mod TraceSteps
 mod TraceLaws
+mod Compares

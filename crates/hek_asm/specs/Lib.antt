@@ -6,3 +6,4 @@ pub mod Gives
 pub mod Laws
 pub mod Likely
 pub mod Reading
+pub mod Comparing

@@ -26,10 +26,11 @@ fn body(alloc: Global, schedule: Schedule, number: u64, rest: &[u8]) -> Result<S
     let mut schedule = schedule;
     let mut number = number;
     let mut rest = rest;
+    let mut words = Vec::new(alloc);
     while let Some((line, after)) = next_line(rest) {
         number += 1;
         rest = after;
-        if let Err(fault) = body_line(alloc, &mut schedule, line) {
+        if let Err(fault) = body_line(&mut schedule, &mut words, line) {
             return Err(at_line(number, fault));
         }
     }

@@ -2,6 +2,7 @@
 #![tactic(auto)]
 
 mod assemble;
+mod comparing;
 mod fault;
 mod laws;
 mod likely;

@@ -7,7 +7,7 @@ ghost use Rattle.hek_asm.specs.Trace.{NamesDeclared};
 
 use hek_rules::{
     Cause, Event, EventKind, Members, NoMemory, Pairs, Refusal, Reply, Schedule, Time, TxnId,
-    VersionId, number,
+    VersionId, number, same_bytes,
 };
 use std::alloc::Global;
 
@@ -36,22 +36,22 @@ pub(crate) fn behind<'w, 't>(words: &'w [&'t [u8]], count: usize) -> &'w [&'t [u
 fn cause_named(word: &[u8]) -> Cause
     ensures { result ≡ cause_named word.now }
 {
-    if word == b"cascade".as_slice() {
+    if same_bytes(word, b"cascade") {
         return Cause::Cascade;
     }
-    if word == b"conflict".as_slice() {
+    if same_bytes(word, b"conflict") {
         return Cause::Conflict;
     }
-    if word == b"no-more-reads".as_slice() {
+    if same_bytes(word, b"no-more-reads") {
         return Cause::NoMoreReads;
     }
-    if word == b"readers-full".as_slice() {
+    if same_bytes(word, b"readers-full") {
         return Cause::ReadersFull;
     }
-    if word == b"no-more-waits".as_slice() {
+    if same_bytes(word, b"no-more-waits") {
         return Cause::NoMoreWaits;
     }
-    if word == b"deadlock".as_slice() {
+    if same_bytes(word, b"deadlock") {
         return Cause::Deadlock;
     }
     Cause::Asked
@@ -60,19 +60,19 @@ fn cause_named(word: &[u8]) -> Cause
 fn refusal_named(word: &[u8]) -> Refusal
     ensures { result ≡ refusal_named word.now }
 {
-    if word == b"UnknownTxn".as_slice() {
+    if same_bytes(word, b"UnknownTxn") {
         return Refusal::UnknownTxn;
     }
-    if word == b"NotBegun".as_slice() {
+    if same_bytes(word, b"NotBegun") {
         return Refusal::NotBegun;
     }
-    if word == b"BegunTwice".as_slice() {
+    if same_bytes(word, b"BegunTwice") {
         return Refusal::BegunTwice;
     }
-    if word == b"Ended".as_slice() {
+    if same_bytes(word, b"Ended") {
         return Refusal::Ended;
     }
-    if word == b"WrongPhase".as_slice() {
+    if same_bytes(word, b"WrongPhase") {
         return Refusal::WrongPhase;
     }
     Refusal::ClockFull
@@ -124,25 +124,25 @@ fn members(alloc: Global, words: &[&[u8]]) -> Result<Vec<TxnId>, NoMemory>
 fn of_one_word(word: &[u8]) -> Reply
     ensures { result ≡ of_one_word word.now }
 {
-    if word == b"done".as_slice() {
+    if same_bytes(word, b"done") {
         return Reply::Done;
     }
-    if word == b"exists".as_slice() {
+    if same_bytes(word, b"exists") {
         return Reply::Exists;
     }
-    if word == b"ready".as_slice() {
+    if same_bytes(word, b"ready") {
         return Reply::Ready;
     }
-    if word == b"nothing".as_slice() {
+    if same_bytes(word, b"nothing") {
         return Reply::Nothing;
     }
-    if word == b"committed".as_slice() {
+    if same_bytes(word, b"committed") {
         return Reply::Committed;
     }
-    if word == b"failed".as_slice() {
+    if same_bytes(word, b"failed") {
         return Reply::Failed;
     }
-    if word == b"over".as_slice() {
+    if same_bytes(word, b"over") {
         return Reply::Over;
     }
     Reply::Absent
@@ -151,22 +151,22 @@ fn of_one_word(word: &[u8]) -> Reply
 fn of_two_words(word: &[u8], behind: &[u8]) -> Reply
     ensures { result ≡ of_two_words word.now behind.now }
 {
-    if word == b"began".as_slice() {
+    if same_bytes(word, b"began") {
         return Reply::Began(Time::new(value(behind)));
     }
-    if word == b"found".as_slice() {
+    if same_bytes(word, b"found") {
         return Reply::Found(value(behind));
     }
-    if word == b"waiting".as_slice() {
+    if same_bytes(word, b"waiting") {
         return Reply::Waiting(value(behind));
     }
-    if word == b"precommitted".as_slice() {
+    if same_bytes(word, b"precommitted") {
         return Reply::Precommitted(Time::new(value(behind)));
     }
-    if word == b"left".as_slice() {
+    if same_bytes(word, b"left") {
         return Reply::Left(VersionId::new(value(behind)));
     }
-    if word == b"aborted".as_slice() {
+    if same_bytes(word, b"aborted") {
         return Reply::Aborted(cause_named(behind));
     }
     Reply::NoCycle
@@ -175,22 +175,22 @@ fn of_two_words(word: &[u8], behind: &[u8]) -> Reply
 fn of_three_words(first: &[u8], second: &[u8], third: &[u8]) -> Reply
     ensures { result ≡ of_three_words first.now second.now third.now }
 {
-    if first == b"refused".as_slice() {
+    if same_bytes(first, b"refused") {
         return Reply::Refused(refusal_named(third));
     }
-    if second == b"bucket".as_slice() {
+    if same_bytes(second, b"bucket") {
         return Reply::ReleasedBucket(value(third));
     }
-    if second == b"waiter".as_slice() {
+    if same_bytes(second, b"waiter") {
         return Reply::ReleasedWaiter(TxnId::new(value(third)));
     }
-    if second == b"commits".as_slice() {
+    if same_bytes(second, b"commits") {
         return Reply::WaitingCommits(value(third));
     }
-    if second == b"begin".as_slice() {
+    if same_bytes(second, b"begin") {
         return Reply::StampedBegin(VersionId::new(value(third)));
     }
-    if second == b"end".as_slice() {
+    if same_bytes(second, b"end") {
         return Reply::StampedEnd(VersionId::new(value(third)));
     }
     Reply::ReleasedRead(VersionId::new(value(third)), None)
@@ -221,11 +221,11 @@ pub(crate) fn likely_reply(alloc: Global, words: &[&[u8]]) -> Result<Reply, NoMe
     let [word, rest @ ..] = words else {
         return Ok(Reply::Absent);
     };
-    if *word == b"rows".as_slice() {
+    if same_bytes(word, b"rows") {
         let pairs = pairs(alloc, rest)?;
         return Ok(Reply::Rows(Pairs::new(pairs)));
     }
-    if *word == b"victim".as_slice() {
+    if same_bytes(word, b"victim") {
         let txn = TxnId::new(first_value(rest));
         let members = members(alloc, behind(rest, 2))?;
         return Ok(Reply::Victim(txn, Members::new(members)));
@@ -261,7 +261,7 @@ pub(crate) fn likely_event(schedule: &Schedule, words: &[&[u8]]) -> Option<Event
     let [word, rest @ ..] = words else {
         return None;
     };
-    if *word == b"detect".as_slice() {
+    if same_bytes(word, b"detect") {
         return Some(Event::Detect);
     }
     step_named(schedule, word, rest)

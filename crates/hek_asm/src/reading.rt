@@ -5,24 +5,26 @@ ghost use Rattle.hek_asm.specs.Likely.{likely_entry};
 ghost use Rattle.hek_asm.specs.Reading.{HasNoLine, IsFront, IsTraceOf, TraceFails};
 ghost use Rattle.hek_asm.specs.Trace.{NamesDeclared, trace_line};
 
+use crate::comparing::Comparing;
 use crate::fault::TraceFault;
 use crate::likely::{behind, likely_event, likely_reply, step_len};
-use crate::line::words;
+use crate::line::read_words;
 use crate::trace::write_line;
 use hek_rules::{Event, FromWrite, NoMemory, Reply, Schedule, Transcript, next_line};
 use std::alloc::Global;
 
-// The only event and reply that the line can be of, if it can be of any.
+// The only event and reply that the line can be of, if it can be of any. The room of the words is used again.
 #[tactic(auto, unfolding(crate::specs::Likely::likely_entry))]
-fn likely_entry(
+fn likely_entry<'t>(
     alloc: Global,
     schedule: &Schedule,
-    line: &[u8],
+    words: &mut Vec<&'t [u8]>,
+    line: &'t [u8],
 ) -> Result<Option<(Event, Reply)>, NoMemory>
     ensures value { IfOk result (λ o. o ≡ likely_entry schedule.now (words_of line.now)) }
     ensures declared { IfOk result (λ o. IfSome o (λ x. NamesDeclared (length schedule.now.txns) x.0)) }
 {
-    let words = words(alloc, line)?;
+    read_words(line, words)?;
     let [_, rest @ ..] = words.as_slice() else {
         return Ok(None);
     };
@@ -32,6 +34,24 @@ fn likely_entry(
     let step = event;
     let reply = likely_reply(alloc, behind(rest, step_len(&step) + 1))?;
     Ok(Some((event, reply)))
+}
+
+// What follows the line of an event and a reply, if the text begins with it. None tells nothing of the text.
+fn behind_line<'t>(
+    schedule: &Schedule,
+    number: u64,
+    event: Event,
+    reply: &Reply,
+    text: &'t [u8],
+) -> Option<&'t [u8]>
+    requires { NamesDeclared (length schedule.now.txns) event }
+    ensures { IfSome result (λ after. text.now ≡ trace_line schedule.now number event reply.now ++ after.now) }
+{
+    let mut sink = Comparing::new(text);
+    match write_line(schedule, number, event, reply, &mut sink) {
+        Ok(()) => Some(sink.rest()),
+        Err(_) => None,
+    }
 }
 
 // The line of an event and a reply, written into room for so many bytes.
@@ -67,10 +87,32 @@ fn without_front<'t>(text: &'t [u8], front: &[u8]) -> Option<&'t [u8]>
     Some(after)
 }
 
+// What follows the line of an event and a reply, if the text begins with it.
+fn without_line<'t>(
+    alloc: Global,
+    room: usize,
+    schedule: &Schedule,
+    number: u64,
+    event: Event,
+    reply: &Reply,
+    text: &'t [u8],
+) -> Result<Option<&'t [u8]>, NoMemory>
+    requires { NamesDeclared (length schedule.now.txns) event }
+    ensures { IfOk result (λ o. let line = trace_line schedule.now number event reply.now in MatchOption o ((after : List ℕ) → text.now ≡ line ++ after → ⊥) (λ after. text.now ≡ line ++ after.now)) }
+{
+    let step = event;
+    if let Some(after) = behind_line(schedule, number, step, reply, text) {
+        return Ok(Some(after));
+    }
+    let front = line_text(alloc, room, schedule, number, event, reply)?;
+    Ok(without_front(text, front.as_slice()))
+}
+
 // The event and the reply of the line at the front, which has this number, and what follows it.
 fn next_entry<'t>(
     alloc: Global,
     schedule: &Schedule,
+    words: &mut Vec<&'t [u8]>,
     number: u64,
     text: &'t [u8],
 ) -> Result<Option<(Event, Reply, &'t [u8])>, NoMemory>
@@ -80,13 +122,12 @@ fn next_entry<'t>(
     let Some((line, _)) = next_line(text) else {
         return Ok(None);
     };
-    let Some((event, reply)) = likely_entry(alloc, schedule, line)? else {
+    let Some((event, reply)) = likely_entry(alloc, schedule, words, line)? else {
         return Ok(None);
     };
     let step = event;
     let room = line.len() + 1;
-    let front = line_text(alloc, room, schedule, number, step, &reply)?;
-    match without_front(text, front.as_slice()) {
+    match without_line(alloc, room, schedule, number, step, &reply, text)? {
         None => Ok(None),
         Some(after) => Ok(Some((event, reply, after))),
     }
@@ -100,9 +141,11 @@ pub fn read_trace(alloc: Global, schedule: &Schedule, text: &str) -> Result<Tran
     let mut transcript = Transcript::new(alloc, schedule)?;
     let mut rest = text.as_bytes();
     let mut number = 0u64;
+    let mut words = Vec::new(alloc);
     while !rest.is_empty() {
         number += 1;
-        let Some((event, reply, after)) = next_entry(alloc, schedule, number, rest)? else {
+        let Some((event, reply, after)) = next_entry(alloc, schedule, &mut words, number, rest)?
+        else {
             return Err(TraceFault::Line(number));
         };
         transcript.push(event, reply)?;

@@ -4,6 +4,7 @@ ghost use Rattle.hek_rules.specs.Events.{word_of, kind_named, opcode_of, kind_co
 
 use crate::event::Event;
 use crate::id::TxnId;
+use crate::text::same_bytes;
 
 /// The kind of an event.
 #[derive(Clone, Copy, Debug, PartialEq, Eq)]
@@ -65,46 +66,46 @@ impl EventKind {
     pub fn named(word: &[u8]) -> Option<EventKind>
         ensures { result ≡ kind_named word.now }
     {
-        if word == b"begin".as_slice() {
+        if same_bytes(word, b"begin") {
             return Some(EventKind::Begin);
         }
-        if word == b"read".as_slice() {
+        if same_bytes(word, b"read") {
             return Some(EventKind::Read);
         }
-        if word == b"scan".as_slice() {
+        if same_bytes(word, b"scan") {
             return Some(EventKind::Scan);
         }
-        if word == b"insert".as_slice() {
+        if same_bytes(word, b"insert") {
             return Some(EventKind::Insert);
         }
-        if word == b"update".as_slice() {
+        if same_bytes(word, b"update") {
             return Some(EventKind::Update);
         }
-        if word == b"delete".as_slice() {
+        if same_bytes(word, b"delete") {
             return Some(EventKind::Delete);
         }
-        if word == b"finish".as_slice() {
+        if same_bytes(word, b"finish") {
             return Some(EventKind::Finish);
         }
-        if word == b"precommit".as_slice() {
+        if same_bytes(word, b"precommit") {
             return Some(EventKind::Precommit);
         }
-        if word == b"release".as_slice() {
+        if same_bytes(word, b"release") {
             return Some(EventKind::Release);
         }
-        if word == b"commit".as_slice() {
+        if same_bytes(word, b"commit") {
             return Some(EventKind::Commit);
         }
-        if word == b"fail".as_slice() {
+        if same_bytes(word, b"fail") {
             return Some(EventKind::Fail);
         }
-        if word == b"stamp".as_slice() {
+        if same_bytes(word, b"stamp") {
             return Some(EventKind::Stamp);
         }
-        if word == b"end".as_slice() {
+        if same_bytes(word, b"end") {
             return Some(EventKind::End);
         }
-        if word == b"detect".as_slice() {
+        if same_bytes(word, b"detect") {
             return Some(EventKind::Detect);
         }
         None

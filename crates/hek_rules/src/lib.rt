@@ -33,6 +33,6 @@ pub use name::{name_ok, name_text};
 pub use reply::{Refusal, Reply, ReplyParts};
 pub use schedule::{MAX_BUCKETS, MAX_ROWS, MAX_STEPS, MAX_TXNS, Schedule};
 pub use serial::{Verdict, Write};
-pub use text::{next_line, next_word, number};
+pub use text::{next_line, next_word, number, same_bytes};
 pub use transcript::Transcript;
 pub use word::{BeginRecord, Dropped, EndRecord};

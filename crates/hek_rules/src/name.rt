@@ -3,6 +3,7 @@ ghost use Rattle.std.specs.Prelude.{◌≡◌, MatchOption, IsTrue, false};
 ghost use Rattle.std.specs.List.{list_all};
 ghost use Rattle.hek_rules.specs.Name.{is_letter, is_name_byte, is_reserved, is_name};
 
+use crate::text::same_bytes;
 use std::str;
 
 fn is_letter(byte: u8) -> bool
@@ -20,10 +21,10 @@ fn is_name_byte(byte: u8) -> bool
 fn is_reserved(word: &[u8]) -> bool
     ensures { result ≡ is_reserved word.now }
 {
-    word == b"buckets".as_slice()
-        || word == b"row".as_slice()
-        || word == b"txn".as_slice()
-        || word == b"detect".as_slice()
+    same_bytes(word, b"buckets")
+        || same_bytes(word, b"row")
+        || same_bytes(word, b"txn")
+        || same_bytes(word, b"detect")
 }
 
 fn all_name_bytes(word: &[u8]) -> bool

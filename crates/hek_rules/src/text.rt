@@ -1,6 +1,7 @@
 //! What is read of texts: lines, words and numbers.
 ghost use Rattle.std.specs.Prelude.{◌≡◌, ◌<◌, ◌≤◌, [], ◌∷◌, length, MatchOption, IfSome};
 ghost use Rattle.std.specs.List.{position_or_len, prefix_len};
+ghost use Rattle.std.specs.Str.{bytes_eq};
 ghost use Rattle.hek_rules.specs.Text.{lines_of, words_of, is_line_end, is_blank, ends_word, number_of};
 
 // How long the line at the front is.
@@ -83,6 +84,23 @@ pub fn next_word(line: &[u8]) -> Option<(&[u8], &[u8])>
         return None;
     }
     Some(line.split_at(len))
+}
+
+/// Whether both are the same bytes. It is written out at each call, so that no loop is left where one of them is a
+/// literal.
+#[inline(always)]
+pub fn same_bytes(bytes: &[u8], other: &[u8]) -> bool
+    ensures { result ≡ bytes_eq bytes.now other.now }
+{
+    if bytes.len() != other.len() {
+        return false;
+    }
+    for (i, byte) in other.iter().enumerate() {
+        if bytes[i] != *byte {
+            return false;
+        }
+    }
+    true
 }
 
 /// The value of 1 to 20 decimal digits, if it is below 2^64. Leading zeros are accepted, signs and blanks are not.

@@ -1,0 +1,65 @@
+//! A sink that keeps nothing: what is put has to stand in a text, piece behind piece.
+ghost use Rattle.std.specs.Prelude.{◌≡◌, false, drop};
+
+use hek_rules::{Sink, same_bytes};
+use std::marker::Model;
+
+/// A text, and how many of its bytes were put.
+#[derive(Drop)]
+pub(crate) struct Comparing<'t> {
+    text: &'t [u8],
+    place: usize,
+    failed: bool,
+}
+
+impl<'t> Model for Comparing<'t> {
+    ghost use Rattle.std.specs.Prelude.{◌≤◌, length};
+    ghost use Rattle.hek_asm.specs.Comparing.{Compared};
+
+    ghost Value = { Compared };
+
+    ghost view = { λ c. record { text = c.text.now; place = c.place; failed = c.failed } };
+
+    ghost invariant = { λ c. c.place ≤ length c.text.now };
+}
+
+impl<'t> Comparing<'t> {
+    /// A sink that takes the text, from its first byte on.
+    pub(crate) fn new(text: &'t [u8]) -> Comparing<'t>
+        ensures { result ≡ record { text = text.now; place = 0; failed = false } }
+    {
+        Comparing {
+            text,
+            place: 0,
+            failed: false,
+        }
+    }
+
+    /// What follows the bytes that were put.
+    pub(crate) fn rest(&self) -> &'t [u8]
+        ensures { result.now ≡ drop self.now.place self.now.text }
+    {
+        self.text.split_at(self.place).1
+    }
+}
+
+impl<'t> Sink for Comparing<'t> {
+    ghost use Rattle.std.specs.Prelude.{true};
+    ghost use Rattle.hek_asm.specs.Comparing.{held};
+
+    ghost holds = { held };
+
+    ghost tells = { λ c. true };
+
+    ghost failed = { λ c. c.failed };
+
+    fn put(&mut self, bytes: &[u8]) -> Option<usize> {
+        let rest = self.rest();
+        if bytes.len() > rest.len() || !same_bytes(rest.split_at(bytes.len()).0, bytes) {
+            self.failed = true;
+            return None;
+        }
+        self.place += bytes.len();
+        Some(bytes.len())
+    }
+}
