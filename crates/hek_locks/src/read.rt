@@ -1,9 +1,10 @@
 //! Read locks (section 4 of the paper: record locks).
 ghost use Rattle.std.specs.Prelude.{◌≡◌, ◌+◌, ◌<◌, ◌≤◌, false, length};
 ghost use Rattle.hek_rules.specs.Words.{CanAdd};
+ghost use Rattle.hek_rules.specs.World.{is_made_by};
 ghost use Rattle.hek_store.specs.Stored.{version_at};
 ghost use Rattle.hek_txn.specs.TxnTable.{Declared, read_set_of, with_read_set};
-ghost use Rattle.hek_locks.specs.Locked.{KnowsWriter, CanFree, CanWait, writer_waits, cleared_word, cleared_waits, reads_freely as freely, read_refused, answer_of, read_locked, read_lock_waits, read_lock_reads};
+ghost use Rattle.hek_locks.specs.Locked.{KnowsWriter, CanFree, CanWait, writer_waits, cleared_word, cleared_waits, reads_freely as freely, word_refusal, read_refused, answer_of, read_locked, read_lock_waits, read_lock_reads};
 
 use crate::clear::{cleared, free_stale};
 use hek_rules::{Cause, EndRecord, TxnId, VersionId};
@@ -11,25 +12,27 @@ use hek_store::Store;
 use hek_txn::Txns;
 use hek_word::EndWord;
 
+fn is_maker(store: &Store, t: TxnId, v: VersionId) -> bool
+    requires { v < length store.now.versions }
+    ensures { result ≡ is_made_by t (version_at store.now v).begin }
+{
+    store.begin_of(v).txn() == Some(t)
+}
+
 fn reads_freely(store: &Store, txns: &Txns, t: TxnId, v: VersionId) -> bool
     requires version { v < length store.now.versions }
     requires txn { Declared txns.now t }
     ensures { result ≡ freely store.now txns.now t v }
 {
-    store.begin_of(v).txn() == Some(t) || txns.reads(t, v)
+    is_maker(store, t, v) || txns.reads(t, v)
 }
 
-/// Whether t may read-lock v, or why not. It may where it made v or read-locks it already.
-pub fn can_read_lock(store: &Store, txns: &Txns, t: TxnId, v: VersionId) -> Result<(), Cause>
-    requires version { v < length store.now.versions }
-    requires txn { Declared txns.now t }
-    requires writer { KnowsWriter txns.now (version_at store.now v).end }
-    ensures { result ≡ answer_of (read_refused store.now txns.now t v) }
+/// What the word says to one that doesn't read the version yet.
+fn judge_word(txns: &Txns, word: EndWord) -> Result<(), Cause>
+    requires { KnowsWriter txns.now word }
+    ensures { result ≡ answer_of (word_refusal txns.now.cores (cleared_word txns.now.cores word)) }
 {
-    if reads_freely(store, txns, t, v) {
-        return Ok(());
-    }
-    match cleared(txns, store.end_of(v)).content() {
+    match cleared(txns, word).content() {
         EndRecord::Until(_) => Ok(()),
         EndRecord::Lock { no_more: true, .. } => Err(Cause::NoMoreReads),
         EndRecord::Lock { readers: 255, .. } => Err(Cause::ReadersFull),
@@ -45,6 +48,26 @@ pub fn can_read_lock(store: &Store, txns: &Txns, t: TxnId, v: VersionId) -> Resu
             }
         }
         EndRecord::Lock { .. } => Ok(()),
+    }
+}
+
+/// Whether t may read-lock v, or why not. It may where it made v or read-locks it already. The word is asked first, since
+/// it mostly allows a reader.
+pub fn can_read_lock(store: &Store, txns: &Txns, t: TxnId, v: VersionId) -> Result<(), Cause>
+    requires version { v < length store.now.versions }
+    requires txn { Declared txns.now t }
+    requires writer { KnowsWriter txns.now (version_at store.now v).end }
+    ensures { result ≡ answer_of (read_refused store.now txns.now t v) }
+{
+    match judge_word(txns, store.end_of(v)) {
+        Ok(()) => Ok(()),
+        Err(cause) => {
+            if reads_freely(store, txns, t, v) {
+                Ok(())
+            } else {
+                Err(cause)
+            }
+        }
     }
 }
 
@@ -76,7 +99,7 @@ pub fn read_lock(store: &mut Store, txns: &mut Txns, t: TxnId, v: VersionId)
     ensures reads { (read_set_of txns.new t).items ≡ read_lock_reads store.old txns.old t v }
     ensures room { (read_set_of txns.old t).room ≤ (read_set_of txns.new t).room + 1 }
 {
-    if reads_freely(store, txns, t, v) {
+    if is_maker(store, t, v) || !txns.enter_read(t, v) {
         return;
     }
     let word = store.end_of(v);
@@ -84,5 +107,4 @@ pub fn read_lock(store: &mut Store, txns: &mut Txns, t: TxnId, v: VersionId)
     free_stale(txns, word);
     count_first(txns, held);
     store.set_end(v, held.add_reader());
-    txns.push_read(t, v);
 }

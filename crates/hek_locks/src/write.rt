@@ -1,13 +1,13 @@
 //! Write locks (section 4 of the paper: record locks).
 ghost use Rattle.std.specs.Prelude.{◌≡◌, ◌+◌, ◌<◌, ◌≤◌, ◌^◌, true, nat_eq, nat_lt, if◌then◌else◌, length};
 ghost use Rattle.std.specs.Set.{remove_key};
-ghost use Rattle.hek_rules.specs.Words.{IsTxn, CanTakeWriter, readers_of};
+ghost use Rattle.hek_rules.specs.Words.{IsTxn, CanTakeWriter, readers_of, without_reader};
 ghost use Rattle.hek_rules.specs.declared.event.WriteEntry.TheVariants.{EndOf};
 ghost use Rattle.hek_rules.specs.Listing.{is_among};
 ghost use Rattle.hek_store.specs.Stored.{version_at};
 ghost use Rattle.hek_txn.specs.Entries.{joined, same_entry};
 ghost use Rattle.hek_txn.specs.TxnTable.{Declared, waits_of, read_set_of, write_set_of, with_read_set, with_write_set};
-ghost use Rattle.hek_locks.specs.Locked.{KnowsWriter, CanFree, cleared_word, cleared_waits, given_up as without_own, more_waits, write_refused, answer_of, to_write, write_locked, write_lock_waits};
+ghost use Rattle.hek_locks.specs.Locked.{KnowsWriter, CanFree, cleared_word, cleared_waits, more_waits, write_refused, answer_of, to_write, write_locked, write_lock_waits};
 
 use crate::clear::{cleared, free_stale};
 use hek_rules::{Cause, EndRecord, TxnId, VersionId, WriteEntry};
@@ -28,13 +28,25 @@ pub fn can_write_lock(store: &Store, txns: &Txns, v: VersionId) -> Result<(), Ca
     }
 }
 
-/// The word without t's own read lock, where t has one.
-fn given_up(txns: &Txns, t: TxnId, v: VersionId, word: EndWord) -> EndWord
-    requires txn { Declared txns.now t }
-    requires reader { is_among (read_set_of txns.now t).items v ≡ true → 0 < readers_of word }
-    ensures { result ≡ without_own txns.now t v word }
+/// t gives up its own read lock of v, and tells whether it had one. It had none where the word, which is that of v, has no
+/// readers.
+fn give_up(txns: &mut Txns, t: TxnId, v: VersionId, word: EndWord) -> bool
+    requires txn { Declared txns.old t }
+    requires reader { is_among (read_set_of txns.old t).items v ≡ true → 0 < readers_of word }
+    ensures told { result ≡ is_among (read_set_of txns.old t).items v }
+    ensures txns { txns.new ≡ with_read_set txns.old t (read_set_of txns.new t) }
+    ensures reads { (read_set_of txns.new t).items ≡ remove_key (nat_eq v) (read_set_of txns.old t).items }
+    ensures room { (read_set_of txns.old t).room ≤ (read_set_of txns.new t).room }
 {
-    if txns.reads(t, v) {
+    word.readers() > 0 && txns.take_read(t, v)
+}
+
+/// The word without a reader, where one gave its lock up.
+fn left_by(word: EndWord, gave_up: bool) -> EndWord
+    requires { gave_up ≡ true → 0 < readers_of word }
+    ensures { result ≡ (if gave_up then without_reader word else word) }
+{
+    if gave_up {
         let (left, _) = word.drop_reader();
         left
     } else {
@@ -75,10 +87,9 @@ pub fn write_lock(store: &mut Store, txns: &mut Txns, t: TxnId, v: VersionId)
 {
     let word = store.end_of(v);
     let held = cleared(txns, word);
-    let free = given_up(txns, t, v, held);
+    let free = left_by(held, give_up(txns, t, v, held));
     free_stale(txns, word);
     count_readers(txns, t, free);
     store.set_end(v, free.take_writer(t));
-    txns.remove_read(t, v);
     txns.push_write(t, WriteEntry::EndOf(v));
 }
