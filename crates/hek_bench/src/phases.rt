@@ -68,7 +68,9 @@ fn image_room(schedule: &Schedule) -> usize {
     let rows = schedule.row_count().saturating_mul(16);
     let txns = schedule.txn_count().saturating_mul(34);
     let steps = schedule.steps().len().saturating_mul(21);
-    rows.saturating_add(txns).saturating_add(steps).saturating_add(22)
+    rows.saturating_add(txns)
+        .saturating_add(steps)
+        .saturating_add(22)
 }
 
 fn image_of(
