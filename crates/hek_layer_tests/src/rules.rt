@@ -6,6 +6,7 @@ mod transcript;
 use crate::asserts::{is, is_at};
 use hek_rules::{
     Cause, Event, EventKind, Level, Members, Pairs, Refusal, Reply, Time, TxnId, VersionId, number,
+    same_bytes,
 };
 use std::alloc::{AllocError, Global};
 use std::test::Fail;
@@ -22,6 +23,15 @@ fn reads_numbers(rt: HostRuntime) {
     is(&rt, number(b"+1"), None);
     is(&rt, number(b"1 "), None);
     is(&rt, number(b"a"), None);
+}
+
+#[test]
+fn compares_bytes(rt: HostRuntime) {
+    is(&rt, same_bytes(b"read", b"read"), true);
+    is(&rt, same_bytes(b"", b""), true);
+    is(&rt, same_bytes(b"read", b"rear"), false);
+    is(&rt, same_bytes(b"read", b"reads"), false);
+    is(&rt, same_bytes(b"reads", b"read"), false);
 }
 
 #[test]

@@ -159,6 +159,18 @@ fn copied_list(rt: &impl Abort, list: &EntryList<u64>) -> EntryList<u64> {
 }
 
 #[test]
+fn entries_tell_whether_the_list_changed(rt: HostRuntime) {
+    let mut list = EntryList::new(rt.alloc());
+    assert!(rt; list.reserve(3).is_ok() || list.reserve(3).is_ok());
+    is(&rt, list.enter(20), true);
+    is(&rt, list.enter(10), true);
+    is(&rt, list.enter(20), false);
+    is(&rt, list.take(10), true);
+    is(&rt, list.take(10), false);
+    is(&rt, list.as_slice(), [20].as_slice());
+}
+
+#[test]
 fn entries_stand_once_in_order_of_entry(rt: HostRuntime) {
     let mut list = EntryList::new(rt.alloc());
     assert!(rt; list.reserve(3).is_ok() || list.reserve(3).is_ok());

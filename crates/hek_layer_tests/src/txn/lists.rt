@@ -24,6 +24,26 @@ fn keeps_read_sets(rt: HostRuntime) {
     assert_same_lists(&rt, &txns, &before, B);
 }
 
+#[test]
+fn tells_whether_a_read_set_changed(rt: HostRuntime) {
+    let mut txns = loaded(&rt, rt.alloc());
+    let before = copied(&rt, &txns);
+    let v = VersionId::new(5);
+    for is_new in [true, false] {
+        let a = declared(&rt, &txns, A);
+        if txns.reserve_reads(a, 1).is_err() {
+            assert!(rt; txns.reserve_reads(a, 1).is_ok());
+        }
+        is(&rt, txns.enter_read(a, v), is_new);
+    }
+    for was_there in [true, false] {
+        let a = declared(&rt, &txns, A);
+        is(&rt, txns.take_read(a, v), was_there);
+    }
+    assert_same_lists(&rt, &txns, &before, A);
+    assert_same_lists(&rt, &txns, &before, B);
+}
+
 fn ended() -> WriteEntry {
     WriteEntry::EndOf(VersionId::new(0))
 }
