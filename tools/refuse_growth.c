@@ -1,5 +1,6 @@
 /* Loaded before a program (LD_PRELOAD), refuses one of its growths: the one whose number the variable HEK_REFUSE has, counted from 1 over all
-   calls of malloc, calloc and realloc. Says so on standard error. tools/refused_growths builds it. */
+   calls of malloc, calloc and realloc; with HEK_NEXT set the one behind it too. Says so on standard error, once. tools/refused_growths
+   builds it. */
 #define _GNU_SOURCE
 #include <dlfcn.h>
 #include <errno.h>
@@ -11,6 +12,7 @@ static void *(*next_malloc)(size_t);
 static void *(*next_calloc)(size_t, size_t);
 static void *(*next_realloc)(void *, size_t);
 static atomic_long left;
+static long last;
 
 /* What dlsym wants before the calls behind these are known. */
 static char early[4096];
@@ -23,14 +25,16 @@ __attribute__((constructor)) static void begin(void)
     next_realloc = dlsym(RTLD_NEXT, "realloc");
     const char *number = getenv("HEK_REFUSE");
     atomic_store(&left, number ? atol(number) : 0);
+    last = getenv("HEK_NEXT") ? 0 : 1;
 }
 
 static int is_refused(void)
 {
     static const char said[] = "growth refused\n";
-    if (atomic_load(&left) <= 0 || atomic_fetch_sub(&left, 1) != 1)
+    long now = atomic_load(&left) < last ? last - 1 : atomic_fetch_sub(&left, 1);
+    if (now > 1 || now < last)
         return 0;
-    if (write(2, said, sizeof said - 1) < 0)
+    if (now == 1 && write(2, said, sizeof said - 1) < 0)
         abort();
     errno = ENOMEM;
     return 1;
