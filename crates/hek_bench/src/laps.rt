@@ -1,5 +1,5 @@
 //! The time of each phase.
-use crate::fault::Fault;
+use hek_stored::Fault;
 use std::alloc::Global;
 use std::io;
 use std::time::Instant;

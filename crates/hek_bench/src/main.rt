@@ -4,11 +4,10 @@
 //! speed.
 #![tactic(auto)]
 
-mod fault;
 mod laps;
 mod phases;
 
-use fault::Fault;
+use hek_stored::Fault;
 use laps::Laps;
 use phases::pass;
 use std::alloc::Global;

@@ -4,13 +4,13 @@ ghost use Rattle.std.specs.List.{All, AllByRecursion};
 ghost use Rattle.hek_laws.specs.Runs.{IsPlaced};
 ghost use Rattle.hek_asm.specs.Trace.{NamesDeclared};
 
-use crate::fault::Fault;
 use crate::laps::Laps;
 use hek_asm::{assemble_text, canonical, read_trace, write_trace};
 use hek_image::{load_image, write_image};
 use hek_machine::Machine;
 use hek_rules::{Ending, FromWrite, MemorySource, NoMemory, Reply, Schedule, Transcript};
 use hek_serial::check;
+use hek_stored::Fault;
 use std::alloc::Global;
 use std::str;
 use std::time::Instant;

@@ -5,7 +5,7 @@ use clap::error::ErrorKind as ClapKind;
 use clap::{ArgMatches, Error};
 use hek_asm::level_named;
 use hek_commands::{
-    HekFault, INPUT, ScheduleFile, asm_command, check_command, dis_command, read_text,
+    HekFault, INPUT, ScheduleFile, asm_command, buffered, check_command, dis_command, read_text,
     release_command, report, run_command, state_command, word_command,
 };
 use hek_debug_commands::{debug_command, debug_session};
@@ -395,7 +395,7 @@ fn schedule_file<'a, D: Disk, I: Read + Drop>(
     if found.get_flag("text") {
         return Ok(ScheduleFile::Text(read_text(alloc, file, name)?));
     }
-    let image = BufReader::new(alloc, file).map_err(|_| HekFault::NoMemory)?;
+    let image = buffered(alloc, file)?;
     Ok(ScheduleFile::Image(image))
 }
 

@@ -1,12 +1,10 @@
 //! The command `word`.
 use crate::fault::{HekFault, read_fault};
+use crate::input::{INPUT, buffered};
 use crate::release::hex_number;
 use hek_word::{BeginWord, EndWord};
 use std::alloc::Global;
-use std::io::{BufRead, BufReader, ErrorKind, Read, Write};
-
-/// The name that stands for standard input where a file or words are read.
-pub const INPUT: &str = "-";
+use std::io::{BufRead, ErrorKind, Read, Write};
 
 /// Decodes words of 16 hexadecimal digits, and in place of `-` those of the input, one a line, and writes a line for
 /// each. The answer is the exit status: 1 if any was not a word.
@@ -22,7 +20,7 @@ pub fn word_command<'a, I: Read + Drop, W: Write>(
     {
         return Err(HekFault::BadArgument);
     }
-    let mut lines = BufReader::new(alloc, input).map_err(|_| HekFault::NoMemory)?;
+    let mut lines = buffered(alloc, input)?;
     let mut are_words = true;
     for word in words {
         if *word == INPUT {

@@ -2,11 +2,13 @@
 use crate::debug::do_one;
 use crate::pages::put_answer;
 use crate::question::{Question, read_question};
-use hek_commands::{HekFault, INPUT, ScheduleFile, read_fault, report, schedule_in, send};
+use hek_commands::{
+    HekFault, INPUT, ScheduleFile, buffered, read_fault, report, schedule_in, send,
+};
 use hek_debug::{CommandLine, Debugger, read_command};
 use hek_rules::next_line;
 use std::alloc::Global;
-use std::io::{BufRead, BufReader, Read, Write};
+use std::io::{BufRead, Read, Write};
 
 /// What stands before each line that is typed.
 const PROMPT: &[u8] = b"hek> ";
@@ -33,19 +35,11 @@ pub fn debug_session<'a, R: Read + Drop, I: Read + Drop, W: Write, E: Write>(
 ) -> Result<u8, HekFault<'a>> {
     let schedule = schedule_in(alloc, file)?;
     let mut debugger = Debugger::open(alloc, schedule)?;
-    let mut lines = lines_of(alloc, input)?;
+    let mut lines = buffered(alloc, input)?;
     if prompts {
         greet(&debugger, out)?;
     }
     answer_lines(alloc, &mut debugger, &mut lines, prompts, out, faults)
-}
-
-/// An input that is read line by line.
-fn lines_of<'a, I: Read + Drop>(alloc: Global, input: I) -> Result<BufReader<I>, HekFault<'a>> {
-    match BufReader::new(alloc, input) {
-        Ok(reader) => Ok(reader),
-        Err(_) => Err(HekFault::NoMemory),
-    }
 }
 
 /// Says what there is to step through, and where to begin.

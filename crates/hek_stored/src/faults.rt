@@ -1,18 +1,22 @@
-//! Why a vector can't be compared.
-use hek_asm::AsmFault;
+//! Why a stored run can't be compared, or the phases of a run can't be timed.
+use hek_asm::{AsmFault, TraceFault};
 use hek_image::LoadFault;
 use hek_rules::{NoMemory, WriteFault};
 use std::alloc::{AllocError, AllocFailed};
 use std::io;
 use thiserror::Error;
 
-/// Why a stored run can't be compared.
+/// Why what a program has read can't be compared or timed.
 #[derive(Debug, Drop, Error)]
 pub enum Fault {
     #[error("{0}")]
     Text(AsmFault),
+    #[error("no text")]
+    NotText,
     #[error("image: {0}")]
     Image(LoadFault),
+    #[error("trace: {0}")]
+    Trace(TraceFault),
     /// A line of SUMMARY, by its number.
     #[error("SUMMARY: line {0}")]
     Summary(usize),
@@ -31,6 +35,12 @@ impl From<AsmFault> for Fault {
 impl From<LoadFault> for Fault {
     fn from(fault: LoadFault) -> Fault {
         Fault::Image(fault)
+    }
+}
+
+impl From<TraceFault> for Fault {
+    fn from(fault: TraceFault) -> Fault {
+        Fault::Trace(fault)
     }
 }
 

@@ -6,12 +6,12 @@ use crate::driven_line::read_event;
 use crate::step::{Extras, Telling, tell_step};
 use crate::word_text::put;
 use hek_asm::AsmKind;
-use hek_commands::{HekFault, INPUT, ScheduleFile, read_fault, schedule_in, send};
+use hek_commands::{HekFault, INPUT, ScheduleFile, buffered, read_fault, schedule_in, send};
 use hek_machine::Machine;
 use hek_rules::{Event, NoMemory, next_line};
 use hek_why::Dooms;
 use std::alloc::Global;
-use std::io::{BufRead, BufReader, Read, Write};
+use std::io::{BufRead, Read, Write};
 
 /// Reads events, one a line, does each on the machine of the rows and transactions that a file says, and answers it at once:
 /// by its line of the trace, with what is asked for under it. A line at fault is answered by its number and its fault, and
@@ -31,16 +31,8 @@ pub fn drive_command<'a, R: Read + Drop, I: Read + Drop, W: Write>(
         dooms: Dooms::new(alloc),
         extras,
     };
-    let mut input = lines_of(alloc, input)?;
+    let mut input = buffered(alloc, input)?;
     drive(alloc, &mut telling, &mut machine, &mut input, out)
-}
-
-/// An input that is read line by line.
-fn lines_of<'a, I: Read + Drop>(alloc: Global, input: I) -> Result<BufReader<I>, HekFault<'a>> {
-    match BufReader::new(alloc, input) {
-        Ok(reader) => Ok(reader),
-        Err(_) => Err(HekFault::NoMemory),
-    }
 }
 
 fn drive<'a, B: BufRead, W: Write>(
