@@ -4,5 +4,9 @@ pub mod Cycle
 pub mod GraphRows
 pub mod Waiting
 pub mod Shown
+pub mod Rising
+pub mod Placed
+pub mod Searched
+pub mod Detected
 pub mod Short
 pub mod WorldWalks

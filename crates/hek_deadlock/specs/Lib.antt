@@ -1,4 +1,5 @@
 pub mod Edges
+pub mod Places
 pub mod Rows
 pub mod Shown
 pub mod Victims

@@ -4,6 +4,7 @@ ghost use Rattle.hek_deadlock.specs.Edges.{is_edge, victim_in, IsWaiting};
 ghost use Rattle.hek_deadlock.specs.Victims.{IsVictimOrNone};
 
 use crate::graph::wait_graph;
+use crate::nodes::{answer_at, nodes};
 use crate::search::find_victim;
 use hek_rules::{Members, NoMemory, TxnId};
 use hek_store::Store;
@@ -12,7 +13,8 @@ use std::alloc::Global;
 
 /// The victim among the transactions that have finished and wait, and its cycle: the greatest on any cycle, with the
 /// shortest cycle through it, from it, the least member next at each place (section 4 of the paper: deadlock detection).
-/// The graph takes time linear in the read sets and waiting lists, and the search at most transactions times waits.
+/// It looks at each transaction once. Then only those that wait count: the graph takes time linear in their read sets and
+/// waiting lists, but for a search by halves for each waiter, and the search for a cycle at most nodes times waits.
 pub fn detect(
     alloc: Global,
     store: &Store,
@@ -23,6 +25,8 @@ pub fn detect(
     ensures waiting { IfOk result (λ answer. IfSome answer (λ a. IsWaiting txns.now a.0)) }
     ensures short { IfOk result (λ answer. IfSome answer (λ a. length a.1 ≤ length txns.now.cores)) }
 {
-    let rows = wait_graph(alloc, store, txns)?;
-    find_victim(alloc, &rows)
+    let ids = nodes(alloc, txns)?;
+    let rows = wait_graph(alloc, store, txns, &ids)?;
+    let found = find_victim(alloc, &rows)?;
+    answer_at(alloc, &ids, found)
 }

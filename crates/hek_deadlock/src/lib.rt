@@ -5,6 +5,7 @@ mod detector;
 mod graph;
 mod laws;
 mod levels;
+mod nodes;
 mod search;
 
 pub use detector::detect;

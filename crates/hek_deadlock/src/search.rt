@@ -1,4 +1,5 @@
-//! The detector: candidates from the greatest down, with marks level by level.
+//! The search over a wait graph: candidates from the greatest down, with marks level by level. Its numbers are the places of
+//! the rows.
 ghost use Rattle.std.specs.Prelude.{◌≡◌, ◌&&◌, ◌∷◌, ◌<◌, ℕ, length, IfOk, Some};
 ghost use Rattle.hek_rules.specs.Victim.{least, between, victim_of};
 ghost use Rattle.hek_rules.specs.Listing.{is_among};
@@ -66,7 +67,7 @@ fn cycle(
     Ok(Members::new(members))
 }
 
-/// The victim and its cycle, or none.
+/// The victim and its cycle, or none, by their rows' places.
 pub(crate) fn find_victim(
     alloc: Global,
     waiters: &[Vec<usize>],

@@ -1,41 +1,46 @@
-use Rattle.std.proofs.Common.{ℕ, ◌≡◌, ◌+◌, ◌≤◌, length, List, Vec, Global, ap, ◌∙◌}
+use Rattle.std.proofs.Common.{ℕ, ◌≡◌, ◌≤◌, length, List, ap, ◌∙◌, sym, subst}
 use Rattle.std.specs.Prelude.{IfSome}
 use Rattle.std.proofs.lemmas.Result.{IfOk-weaker}
-use Rattle.hek_rules.specs.Victim.{victim_of}
-use Rattle.hek_rules.proofs.Agree.{victim_of-agree}
-use Rattle.hek_store.specs.Stored.{Stored}
-use Rattle.hek_txn.specs.TxnTable.{TxnTable}
 use Rattle.hek_deadlock.specs.Edges.{is_edge, victim_in, IsWaiting}
-use Rattle.hek_deadlock.specs.Rows.{waits}
+use Rattle.hek_deadlock.specs.Places.{ArePlaces, answer_at}
 use Rattle.hek_deadlock.specs.Victims.{IsVictimOrNone}
 use Rattle.hek_deadlock.proofs.Waiting.{victim_waits, victim_of_walks}
 use Rattle.hek_deadlock.proofs.Short.{victim_short}
+use Rattle.hek_deadlock.proofs.Detected.{graph_of, found_in, found_places, found_victim}
 use Rattle.hek_deadlock.proofs.detector.detect.Goals as goal
 
--- the victim of the rows is that of the store and the transactions
-same_victim : (s : Stored) (x : TxnTable) (found rows : List (Vec ℕ Global)) → found ≡ rows → length rows ≡ length x.cores + 1 → ((u t : ℕ) → waits rows u t ≡ is_edge s x u t) → victim_of (waits found) (length found) ≡ victim_in s x
-same_victim s x found rows same count edges =
-    ap (λ (r : List (Vec ℕ Global)). victim_of (waits r) (length r)) same
-    ∙ ap (λ (n : ℕ). victim_of (waits rows) n) count
-    ∙ victim_of-agree (waits rows) (is_edge s x) (length x.cores + 1) edges
+pub answer_at-requires : goal.answer_at-requires
+answer_at-requires c =
+    let graph = graph_of c.args.store.now c.args.txns.now c.in_ok-ids.ids.items c.deref.result.now c.in_ok-rows.rows.items c.in_ok-ids.ensures.rising c.in_ok-ids.ensures.nodes c.deref.ensures.value c.in_ok-rows.ensures in
+    let found = found_in c.in_ok-rows.rows.items c.deref-2.result.now c.in_ok-found.found c.deref-2.ensures.value c.in_ok-found.ensures in
+    subst (λ (ids : List ℕ). IfSome c.in_ok-found.found (ArePlaces ids)) (sym c.deref-3.ensures.value)
+    (found_places c.args.store.now c.args.txns.now c.in_ok-ids.ids.items c.in_ok-rows.rows.items graph c.in_ok-found.found found)
+
+pub returns-clause-victim : goal.returns-clause-victim
+returns-clause-victim c =
+    let graph = graph_of c.args.store.now c.args.txns.now c.in_ok-ids.ids.items c.deref.result.now c.in_ok-rows.rows.items c.in_ok-ids.ensures.rising c.in_ok-ids.ensures.nodes c.deref.ensures.value c.in_ok-rows.ensures in
+    let found = found_in c.in_ok-rows.rows.items c.deref-2.result.now c.in_ok-found.found c.deref-2.ensures.value c.in_ok-found.ensures in
+    IfOk-weaker c.answer_at.result (λ answer. answer ≡ answer_at c.deref-3.result.now c.in_ok-found.found) (λ answer. answer ≡ victim_in c.args.store.now c.args.txns.now)
+    (λ answer e.
+    e
+    ∙ ap (λ (ids : List ℕ). answer_at ids c.in_ok-found.found) c.deref-3.ensures.value
+    ∙ found_victim c.args.store.now c.args.txns.now c.in_ok-ids.ids.items c.in_ok-rows.rows.items graph c.in_ok-found.found found)
+    c.answer_at.ensures
 
 pub returns-clause-walks : goal.returns-clause-walks
 returns-clause-walks c =
-    let same = same_victim c.args.store.now c.args.txns.now c.deref.result.now c.in_ok-rows.rows.items c.deref.ensures.value c.in_ok-rows.ensures.count c.in_ok-rows.ensures.edges in
-    IfOk-weaker c.find_victim.result (λ answer. answer ≡ victim_of (waits c.deref.result.now) (length c.deref.result.now)) (IsVictimOrNone (is_edge c.args.store.now c.args.txns.now))
-    (λ answer e. victim_of_walks c.args.store.now c.args.txns.now answer (e ∙ same))
-    c.find_victim.ensures
+    IfOk-weaker c.answer_at.result (λ answer. answer ≡ victim_in c.args.store.now c.args.txns.now) (IsVictimOrNone (is_edge c.args.store.now c.args.txns.now))
+    (λ answer e. victim_of_walks c.args.store.now c.args.txns.now answer e)
+    (returns-clause-victim c)
 
 pub returns-clause-waiting : goal.returns-clause-waiting
 returns-clause-waiting c =
-    let same = same_victim c.args.store.now c.args.txns.now c.deref.result.now c.in_ok-rows.rows.items c.deref.ensures.value c.in_ok-rows.ensures.count c.in_ok-rows.ensures.edges in
-    IfOk-weaker c.find_victim.result (λ answer. answer ≡ victim_of (waits c.deref.result.now) (length c.deref.result.now)) (λ answer. IfSome answer (λ a. IsWaiting c.args.txns.now a.0))
-    (λ answer e. victim_waits c.args.store.now c.args.txns.now answer (e ∙ same))
-    c.find_victim.ensures
+    IfOk-weaker c.answer_at.result (λ answer. answer ≡ victim_in c.args.store.now c.args.txns.now) (λ answer. IfSome answer (λ a. IsWaiting c.args.txns.now a.0))
+    (λ answer e. victim_waits c.args.store.now c.args.txns.now answer e)
+    (returns-clause-victim c)
 
 pub returns-clause-short : goal.returns-clause-short
 returns-clause-short c =
-    let same = same_victim c.args.store.now c.args.txns.now c.deref.result.now c.in_ok-rows.rows.items c.deref.ensures.value c.in_ok-rows.ensures.count c.in_ok-rows.ensures.edges in
-    IfOk-weaker c.find_victim.result (λ answer. answer ≡ victim_of (waits c.deref.result.now) (length c.deref.result.now)) (λ answer. IfSome answer (λ a. length a.1 ≤ length c.args.txns.now.cores))
-    (λ answer e. victim_short c.args.store.now c.args.txns.now answer (e ∙ same))
-    c.find_victim.ensures
+    IfOk-weaker c.answer_at.result (λ answer. answer ≡ victim_in c.args.store.now c.args.txns.now) (λ answer. IfSome answer (λ a. length a.1 ≤ length c.args.txns.now.cores))
+    (λ answer e. victim_short c.args.store.now c.args.txns.now answer e)
+    (returns-clause-victim c)

@@ -1,0 +1,73 @@
+//! Those that can wait for one another, listed: each has a number, and a place in the list.
+ghost use Rattle.std.specs.Prelude.{◌≡◌, ◌<◌, ℕ, IfOk, IfSome, length, map};
+ghost use Rattle.std.specs.List.{All};
+ghost use Rattle.hek_rules.specs.Listing.{is_among};
+ghost use Rattle.hek_deadlock.specs.Edges.{is_node};
+ghost use Rattle.hek_deadlock.specs.Places.{id_at, answer_at, IsRising, ArePlaces};
+
+use crate::graph::is_node;
+use hek_rules::{Members, NoMemory, TxnId};
+use hek_txn::Txns;
+use std::alloc::Global;
+
+/// The nodes, in ascending order.
+pub(crate) fn nodes(alloc: Global, txns: &Txns) -> Result<Vec<TxnId>, NoMemory>
+    ensures rising { IfOk result (λ ids. IsRising ids.items) }
+    ensures nodes { IfOk result (λ ids. (u : ℕ) → is_among ids.items u ≡ is_node txns.now u) }
+{
+    let mut ids = Vec::new(alloc);
+    for t in 0..txns.count() {
+        let id = TxnId::new(t + 1);
+        if is_node(txns, id) {
+            ids.push(id)?;
+        }
+    }
+    Ok(ids)
+}
+
+/// The places of those that are in the list.
+pub(crate) fn places(
+    alloc: Global,
+    ids: &[TxnId],
+    waiters: &[TxnId],
+) -> Result<Vec<usize>, NoMemory>
+    requires { IsRising ids.now }
+    ensures range { IfOk result (λ places. All (λ i. i < length ids.now) places.items) }
+    ensures each { IfOk result (λ places. (i : ℕ) → i < length ids.now → is_among places.items i ≡ is_among waiters.now (id_at ids.now i)) }
+{
+    let mut places = Vec::with_capacity(alloc, waiters.len())?;
+    for waiter in waiters {
+        if let Ok(i) = ids.binary_search(waiter) {
+            places.push(i)?;
+        }
+    }
+    Ok(places)
+}
+
+/// Those at these places.
+fn members_at(alloc: Global, ids: &[TxnId], places: &[TxnId]) -> Result<Members, NoMemory>
+    requires { All (λ i. i < length ids.now) places.now }
+    ensures { IfOk result (λ members. members ≡ map (id_at ids.now) places.now) }
+{
+    let mut members = Vec::with_capacity(alloc, places.len())?;
+    for place in places {
+        members.push(ids[place.number() as usize])?;
+    }
+    Ok(Members::new(members))
+}
+
+/// The victim and its cycle by number, where they are given by place.
+pub(crate) fn answer_at(
+    alloc: Global,
+    ids: &[TxnId],
+    found: Option<(TxnId, Members)>,
+) -> Result<Option<(TxnId, Members)>, NoMemory>
+    requires { IfSome found (ArePlaces ids.now) }
+    ensures { IfOk result (λ answer. answer ≡ answer_at ids.now found) }
+{
+    let Some((place, places)) = found else {
+        return Ok(None);
+    };
+    let members = members_at(alloc, ids, places.items())?;
+    Ok(Some((ids[place.number() as usize], members)))
+}
