@@ -1,5 +1,5 @@
 -- One more waiter is searched for, and its place is noted where it has one.
-use Rattle.std.proofs.Common.{ℕ, ◌≡◌, ◌+◌, ◌<◌, ◌≤◌, Bool, ◌||◌, eqb, List, [], ◌∷◌, ◌++◌, length, take, get_or, sym, ap, ◌∙◌, inl, inr, arith, Result, Ok, Err}
+use Rattle.std.proofs.Common.{ℕ, ◌≡◌, ◌+◌, ◌<◌, ◌≤◌, Bool, ◌||◌, eqb, List, [], ◌∷◌, ◌++◌, length, take, get_or, sym, ap, ◌∙◌, subst, inl, inr, arith, Result, Ok, Err}
 use Rattle.std.specs.List.Sorted.{IsBinarySearchResult}
 use Rattle.std.specs.Ordering.{nat_cmp}
 use Rattle.std.specs.Result.{MatchResult}
@@ -37,8 +37,9 @@ place_missed ids waiters old k u lt at absent inv i li =
     ∙ sym (among_more waiters k u (id_at ids i) lt at)
 
 -- what the search says of a list that rises
-pub search_says : (ids : List ℕ) (u : ℕ) (r : Result ℕ ℕ) → IsRising ids → IsBinarySearchResult (λ y. nat_cmp y u) ids r → MatchResult r (λ p. (p < length ids) × (id_at ids p ≡ u)) (λ p. (i : ℕ) → i < length ids → u ≡ id_at ids i → ⊥)
-search_says ids u r rising position = at r (searched ids u r position (kept ids rising))
+pub search_says : (ids : List ℕ) (u : ℕ) (result r : Result ℕ ℕ) → result ≡ r → IsRising ids → IsBinarySearchResult (λ y. nat_cmp y u) ids result → MatchResult r (λ p. (p < length ids) × (id_at ids p ≡ u)) (λ p. (i : ℕ) → i < length ids → u ≡ id_at ids i → ⊥)
+search_says ids u result r is rising position =
+    at r (searched ids u r (subst (λ (v : Result ℕ ℕ). IsBinarySearchResult (λ y. nat_cmp y u) ids v) is position) (kept ids rising))
   where
     at : (r : Result ℕ ℕ) → MatchResult r (λ i. (i < length ids) × (get_or ids i 0 ≡ u)) (λ i. (i ≤ length ids) × ((k : ℕ) → k < i → get_or ids k 0 < u) × ((k : ℕ) → i ≤ k → k < length ids → u < get_or ids k 0)) → MatchResult r (λ p. (p < length ids) × (id_at ids p ≡ u)) (λ p. (i : ℕ) → i < length ids → u ≡ id_at ids i → ⊥)
     at (Ok p) m = m
