@@ -27,3 +27,8 @@ pub record ArePlaces (ids : List ℕ) (found : ℕ × List ℕ) : Type 0 where
 abbrev pub answer_at : List ℕ → Option (ℕ × List ℕ) → Option (ℕ × List ℕ)
 answer_at ids None = None
 answer_at ids (Some found) = Some (id_at ids found.0, map (id_at ids) found.1)
+
+-- what the search found, as a victim and a list
+abbrev pub by_place : Option (ℕ × Vec ℕ Global) → Option (ℕ × List ℕ)
+by_place None = None
+by_place (Some found) = Some (found.0, found.1.items)

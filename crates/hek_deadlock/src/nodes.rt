@@ -3,7 +3,7 @@ ghost use Rattle.std.specs.Prelude.{◌≡◌, ◌<◌, ℕ, IfOk, IfSome, lengt
 ghost use Rattle.std.specs.List.{All};
 ghost use Rattle.hek_rules.specs.Listing.{is_among};
 ghost use Rattle.hek_deadlock.specs.Edges.{is_node};
-ghost use Rattle.hek_deadlock.specs.Places.{id_at, answer_at, IsRising, ArePlaces};
+ghost use Rattle.hek_deadlock.specs.Places.{id_at, answer_at, by_place, IsRising, ArePlaces};
 
 use crate::graph::is_node;
 use hek_rules::{Members, NoMemory, TxnId};
@@ -45,13 +45,13 @@ pub(crate) fn places(
 }
 
 /// Those at these places.
-fn members_at(alloc: Global, ids: &[TxnId], places: &[TxnId]) -> Result<Members, NoMemory>
+fn members_at(alloc: Global, ids: &[TxnId], places: &[usize]) -> Result<Members, NoMemory>
     requires { All (λ i. i < length ids.now) places.now }
     ensures { IfOk result (λ members. members ≡ map (id_at ids.now) places.now) }
 {
     let mut members = Vec::with_capacity(alloc, places.len())?;
     for place in places {
-        members.push(ids[place.number() as usize])?;
+        members.push(ids[*place])?;
     }
     Ok(Members::new(members))
 }
@@ -60,14 +60,14 @@ fn members_at(alloc: Global, ids: &[TxnId], places: &[TxnId]) -> Result<Members,
 pub(crate) fn answer_at(
     alloc: Global,
     ids: &[TxnId],
-    found: Option<(TxnId, Members)>,
+    found: Option<(usize, Vec<usize>)>,
 ) -> Result<Option<(TxnId, Members)>, NoMemory>
-    requires { IfSome found (ArePlaces ids.now) }
-    ensures { IfOk result (λ answer. answer ≡ answer_at ids.now found) }
+    requires { IfSome (by_place found) (ArePlaces ids.now) }
+    ensures { IfOk result (λ answer. answer ≡ answer_at ids.now (by_place found)) }
 {
     let Some((place, places)) = found else {
         return Ok(None);
     };
-    let members = members_at(alloc, ids, places.items())?;
-    Ok(Some((ids[place.number() as usize], members)))
+    let members = members_at(alloc, ids, &places)?;
+    Ok(Some((ids[place], members)))
 }

@@ -3,10 +3,11 @@
 ghost use Rattle.std.specs.Prelude.{◌≡◌, ◌&&◌, ◌∷◌, ◌<◌, ℕ, length, IfOk, Some};
 ghost use Rattle.hek_rules.specs.Victim.{least, between, victim_of};
 ghost use Rattle.hek_rules.specs.Listing.{is_among};
+ghost use Rattle.hek_deadlock.specs.Places.{by_place};
 ghost use Rattle.hek_deadlock.specs.Rows.{waits, IsInRange, AreLevels, level_at, is_level};
 
 use crate::levels::levels_to;
-use hek_rules::{Members, NoMemory, TxnId};
+use hek_rules::NoMemory;
 use std::alloc::Global;
 
 /// Whether `x` is in the row, and the row's number stands at the wanted level.
@@ -44,36 +45,36 @@ fn cycle(
     levels: &[Option<usize>],
     victim: usize,
     count: usize,
-) -> Result<Members, NoMemory>
+) -> Result<Vec<usize>, NoMemory>
     requires levels { AreLevels waiters.now victim levels.now }
     requires victim { victim < length waiters.now }
     requires count { level_at levels.now victim ≡ Some count }
     ensures { IfOk result (λ members.
-        members ≡ victim ∷ between (waits waiters.now) (length waiters.now) count victim victim) }
+        members.items ≡ victim ∷ between (waits waiters.now) (length waiters.now) count victim victim) }
 {
-    let mut members = vec![in alloc; TxnId::new(victim as u64)]?;
+    let mut members = vec![in alloc; victim]?;
     let mut x = victim;
     let mut left = count;
     while left > 0 {
         left -= 1;
         match next_member(waiters, levels, x, left) {
             Some(y) => {
-                members.push(TxnId::new(y as u64))?;
+                members.push(y)?;
                 x = y;
             }
-            None => return Ok(Members::new(members)),
+            None => return Ok(members),
         }
     }
-    Ok(Members::new(members))
+    Ok(members)
 }
 
 /// The victim and its cycle, or none, by their rows' places.
 pub(crate) fn find_victim(
     alloc: Global,
     waiters: &[Vec<usize>],
-) -> Result<Option<(TxnId, Members)>, NoMemory>
+) -> Result<Option<(usize, Vec<usize>)>, NoMemory>
     requires { IsInRange waiters.now }
-    ensures { IfOk result (λ answer. answer ≡ victim_of (waits waiters.now) (length waiters.now)) }
+    ensures { IfOk result (λ answer. by_place answer ≡ victim_of (waits waiters.now) (length waiters.now)) }
 {
     let mut candidate = waiters.len();
     while candidate > 0 {
@@ -84,7 +85,7 @@ pub(crate) fn find_victim(
         let levels = levels_to(alloc, waiters, candidate)?;
         if let Some(count) = levels[candidate] {
             let members = cycle(alloc, waiters, &levels, candidate, count)?;
-            return Ok(Some((TxnId::new(candidate as u64), members)));
+            return Ok(Some((candidate, members)));
         }
     }
     Ok(None)

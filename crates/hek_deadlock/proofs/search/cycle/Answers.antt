@@ -6,7 +6,7 @@ use Rattle.hek_deadlock.proofs.search.cycle.Goals as goal
 
 pub loop-left-init : goal.loop-left-init
 loop-left-init c = record {
-  rest = rw (c.in_ok-members.ensures.items, c.new.ensures) refl;
+  rest = rw c.in_ok-members.ensures.items refl;
   within = c.requires.victim;
   level = c.requires.count;
 }
@@ -19,7 +19,7 @@ loop-left-preserved c =
     let on : IsOn c.args.waiters.now c.args.levels.now k c.in-Some.y = next_on c.args.waiters.now c.args.levels.now k c.loop-left.x c.in-Some.y c.in-Some.ensures in
     record {
       rest =
-          walk_more c.loop-left.members.items c.push.new.self.items (between (waits c.args.waiters.now) (length c.args.waiters.now) k c.in-Some.y c.args.victim) (between (waits c.args.waiters.now) (length c.args.waiters.now) c.loop-left.left c.loop-left.x c.args.victim) _ c.in-Some.y (rw (sym c.new-in-Some.ensures) c.in_ok-push-in-Some.ensures.items)
+          walk_more c.loop-left.members.items c.push.new.self.items (between (waits c.args.waiters.now) (length c.args.waiters.now) k c.in-Some.y c.args.victim) (between (waits c.args.waiters.now) (length c.args.waiters.now) c.loop-left.left c.loop-left.x c.args.victim) _ c.in-Some.y c.in_ok-push-in-Some.ensures.items
           (between-at (waits c.args.waiters.now) (length c.args.waiters.now) k c.loop-left.left c.loop-left.x c.args.victim _ same
           (between-some c.args.waiters.now c.args.victim c.args.levels.now c.requires.levels k c.loop-left.x c.in-Some.y c.loop-left.invariant.within level c.in-Some.ensures))
           c.loop-left.invariant.rest;
@@ -32,8 +32,7 @@ returns-in-None c =
     let k : ℕ = c.loop-left.left - 1 in
     let same : c.loop-left.left ≡ suc k = omega arith in
     let level : level_at c.args.levels.now c.loop-left.x ≡ Some (suc k) = subst (λ (i : ℕ). level_at c.args.levels.now c.loop-left.x ≡ Some i) same c.loop-left.invariant.level in
-    c.new-in-None.ensures
-    ∙ walk_end c.loop-left.members.items (between (waits c.args.waiters.now) (length c.args.waiters.now) c.loop-left.left c.loop-left.x c.args.victim) _
+    walk_end c.loop-left.members.items (between (waits c.args.waiters.now) (length c.args.waiters.now) c.loop-left.left c.loop-left.x c.args.victim) _
     (between-at (waits c.args.waiters.now) (length c.args.waiters.now) k c.loop-left.left c.loop-left.x c.args.victim _ same
     (between-none c.args.waiters.now c.args.victim c.args.levels.now c.requires.levels k c.loop-left.x c.loop-left.invariant.within level c.in-None.ensures))
     c.loop-left.invariant.rest
@@ -41,7 +40,6 @@ returns-in-None c =
 pub returns : goal.returns
 returns c =
     let none_left : c.loop-left.left ≡ 0 = omega arith in
-    c.new-2.ensures
-    ∙ walk_end c.loop-left.members.items (between (waits c.args.waiters.now) (length c.args.waiters.now) c.loop-left.left c.loop-left.x c.args.victim) _
+    walk_end c.loop-left.members.items (between (waits c.args.waiters.now) (length c.args.waiters.now) c.loop-left.left c.loop-left.x c.args.victim) _
     (between-zero (waits c.args.waiters.now) (length c.args.waiters.now) c.loop-left.left c.loop-left.x c.args.victim none_left)
     c.loop-left.invariant.rest

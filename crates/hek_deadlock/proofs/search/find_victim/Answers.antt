@@ -21,8 +21,7 @@ returns-in-Some c =
     let lt : k < length c.args.waiters.now = omega arith in
     let long : length c.in_ok-levels.levels.items ≡ length c.args.waiters.now = c.in_ok-levels.ensures.long in
     let level : level_at c.in_ok-levels.levels.items k ≡ Some c.in-Some.count = level_read c.in_ok-levels.levels.items k c.index.result.now (omega arith) c.index.ensures ∙ c.in-Some.is in
-    ap (λ (n : ℕ). pair_of n c.in_ok-members.members) c.new.ensures
-    ∙ answer_with k (length c.args.waiters.now) c.in-Some.count (waits c.args.waiters.now) c.in_ok-members.members c.in_ok-members.ensures
+    answer_with k (length c.args.waiters.now) c.in-Some.count (waits c.args.waiters.now) c.in_ok-members.members.items c.in_ok-members.ensures
     (same_answer c.loop-candidate.candidate k (length c.args.waiters.now) (waits c.args.waiters.now) (Some c.in-Some.count) suc_is c.loop-candidate.invariant.same (sym (c.in_ok-levels.ensures.least k lt) ∙ level))
 
 pub loop-candidate-preserved : goal.loop-candidate-preserved
