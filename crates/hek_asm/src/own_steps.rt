@@ -2,14 +2,14 @@
 //! words need not be read, only compared with the text. A line of anything else is left to the words.
 ghost use Rattle.std.specs.Prelude.{◌≡◌, ◌++◌, length, IfOk, IfSome};
 ghost use Rattle.hek_rules.specs.Plan.{IsStep};
-ghost use Rattle.hek_asm.specs.Reading.{IsFront};
+ghost use Rattle.hek_asm.specs.Reading.{is_small, IsSmallReply, IsFront, IsRest};
 ghost use Rattle.hek_asm.specs.Trace.{NamesDeclared, line_front, line_rest};
 
 use crate::comparing::Comparing;
 use crate::likely::likely_reply;
 use crate::line::read_words;
 use crate::trace::{write_front, write_rest};
-use hek_rules::{Event, NoMemory, Reply, Schedule, next_line};
+use hek_rules::{Event, NoMemory, Reply, Schedule, Time, VersionId, next_line};
 use std::alloc::Global;
 
 // The schedule's step of this number, counted from 1, if it has so many.
@@ -52,6 +52,85 @@ fn behind_rest<'t>(reply: &Reply, text: &'t [u8]) -> Option<&'t [u8]>
     }
 }
 
+// The number that the digits behind so many bytes write, or its last 64 bits.
+fn digits_at(text: &[u8], place: usize) -> u64
+    ensures { is_small result }
+{
+    let mut value = 0u64;
+    for byte in text.split_at(place.min(text.len())).1 {
+        if !byte.is_ascii_digit() {
+            return value;
+        }
+        value = value.wrapping_mul(10).wrapping_add(u64::from(*byte - b'0'));
+    }
+    value
+}
+
+// A reply that the first letters stand for, of those that come often. Whether the text has it is told by writing it.
+fn reply_by_letters(text: &[u8]) -> Option<Reply>
+    ensures { IfSome result IsSmallReply }
+{
+    let [first, _, third, ..] = text else {
+        return None;
+    };
+    match (*first, *third) {
+        (b'a', b's') => Some(Reply::Absent),
+        (b'b', _) => Some(Reply::Began(Time::new(digits_at(text, 6)))),
+        (b'c', _) => Some(Reply::Committed),
+        (b'd', _) => Some(Reply::Done),
+        (b'f', b'u') => Some(Reply::Found(digits_at(text, 6))),
+        (b'l', _) => Some(Reply::Left(VersionId::new(digits_at(text, 5)))),
+        (b'n', b't') => Some(Reply::Nothing),
+        (b'o', _) => Some(Reply::Over),
+        (b'p', _) => Some(Reply::Precommitted(Time::new(digits_at(text, 13)))),
+        (b'r', b'a') => Some(Reply::Ready),
+        _ => None,
+    }
+}
+
+// The reply that the first letters stand for, and what follows the line, if the text begins so. None tells nothing of the
+// text.
+fn rest_by_letters<'t>(text: &'t [u8]) -> Option<(Reply, &'t [u8])>
+    ensures { IfSome result (λ x. IsRest x.0 text.now x.1.now) }
+{
+    let reply = reply_by_letters(text)?;
+    let after = behind_rest(&reply, text)?;
+    Some((reply, after))
+}
+
+// The reply that the words of the line's rest say, and what follows the line. None tells nothing of the text.
+fn rest_by_words<'t>(
+    alloc: Global,
+    words: &mut Vec<&'t [u8]>,
+    text: &'t [u8],
+) -> Result<Option<(Reply, &'t [u8])>, NoMemory>
+    ensures { IfOk result (λ o. IfSome o (λ x. IsRest x.0 text.now x.1.now)) }
+{
+    let Some((line, _)) = next_line(text) else {
+        return Ok(None);
+    };
+    read_words(line, words)?;
+    let reply = likely_reply(alloc, words.as_slice())?;
+    let Some(after) = behind_rest(&reply, text) else {
+        return Ok(None);
+    };
+    Ok(Some((reply, after)))
+}
+
+// The reply at the front of what follows an arrow, and what follows the line. None tells nothing of the text.
+fn likely_rest<'t>(
+    alloc: Global,
+    words: &mut Vec<&'t [u8]>,
+    text: &'t [u8],
+) -> Result<Option<(Reply, &'t [u8])>, NoMemory>
+    ensures { IfOk result (λ o. IfSome o (λ x. IsRest x.0 text.now x.1.now)) }
+{
+    if let Some(rest) = rest_by_letters(text) {
+        return Ok(Some(rest));
+    }
+    rest_by_words(alloc, words, text)
+}
+
 /// The event and the reply of the line at the front, and what follows it, where the event is the schedule's step of the
 /// line's number. None tells nothing of the text. The room of the words is used again.
 pub(crate) fn entry_by_step<'t>(
@@ -70,12 +149,7 @@ pub(crate) fn entry_by_step<'t>(
     let Some(rest) = behind_front(schedule, number, &event, text) else {
         return Ok(None);
     };
-    let Some((line, _)) = next_line(rest) else {
-        return Ok(None);
-    };
-    read_words(line, words)?;
-    let reply = likely_reply(alloc, words.as_slice())?;
-    let Some(after) = behind_rest(&reply, rest) else {
+    let Some((reply, after)) = likely_rest(alloc, words, rest)? else {
         return Ok(None);
     };
     Ok(Some((event, reply, after)))
