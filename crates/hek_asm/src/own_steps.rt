@@ -66,6 +66,29 @@ fn digits_at(text: &[u8], place: usize) -> u64
     value
 }
 
+// The reply of a stamped word, by the first letter of its second word.
+fn stamped(text: &[u8]) -> Option<Reply>
+    ensures { IfSome result IsSmallReply }
+{
+    let letter = text.get(8)?;
+    if *letter == b'b' {
+        return Some(Reply::StampedBegin(VersionId::new(digits_at(text, 14))));
+    }
+    Some(Reply::StampedEnd(VersionId::new(digits_at(text, 12))))
+}
+
+// The reply of a lock let go that nobody waited for, by the first letter of its second word.
+fn released(text: &[u8]) -> Option<Reply>
+    ensures { IfSome result IsSmallReply }
+{
+    let letter = text.get(9)?;
+    if *letter == b'b' {
+        return Some(Reply::ReleasedBucket(digits_at(text, 16)));
+    }
+    let version = VersionId::new(digits_at(text, 14));
+    Some(Reply::ReleasedRead(version, None))
+}
+
 // A reply that the first letters stand for, of those that come often. Whether the text has it is told by writing it.
 fn reply_by_letters(text: &[u8]) -> Option<Reply>
     ensures { IfSome result IsSmallReply }
@@ -84,6 +107,8 @@ fn reply_by_letters(text: &[u8]) -> Option<Reply>
         (b'o', _) => Some(Reply::Over),
         (b'p', _) => Some(Reply::Precommitted(Time::new(digits_at(text, 13)))),
         (b'r', b'a') => Some(Reply::Ready),
+        (b'r', b'l') => released(text),
+        (b's', _) => stamped(text),
         _ => None,
     }
 }
