@@ -11,6 +11,7 @@ mod LikelyReply
 mod LikelyEvent
 mod EntryAgain
 mod SmallEntry
+mod OwnSteps
 mod TraceSteps
 mod TraceLaws
 mod Compares

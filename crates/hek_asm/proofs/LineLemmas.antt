@@ -7,7 +7,7 @@ use Rattle.hek_rules.specs.declared.reply.Reply.TheVariants as reply
 use Rattle.hek_rules.specs.Plan.{Plan}
 use Rattle.hek_asm.specs.Lines.{spaced, joined}
 use Rattle.hek_asm.specs.Canonical.{step_words}
-use Rattle.hek_asm.specs.Trace.{reply_words, trace_line}
+use Rattle.hek_asm.specs.Trace.{reply_words, line_front, line_rest, trace_line}
 
 pub spaced_append : (vs ws : List (List ℕ)) → spaced (vs ++ ws) ≡ spaced vs ++ spaced ws
 spaced_append [] ws = refl
@@ -55,8 +55,16 @@ released_parts old v ws =
     append_assoc old (codes "released read" ++ spaced (decimal v ∷ [])) (spaced ws)
     ∙ ap (λ (bs : List ℕ). old ++ (codes "released read" ++ 32 ∷ bs)) (append_assoc (decimal v) [] (spaced ws))
 
--- five parts that are written one after another
-pub five_parts : (a b c d e f v w x y z : List ℕ) → b ≡ a ++ v → c ≡ b ++ w → d ≡ c ++ x → e ≡ d ++ y → f ≡ e ++ z → f ≡ a ++ (v ++ (w ++ (x ++ (y ++ z))))
-five_parts a b c d e f v w x y z p q r s t =
-    t ∙ ap (λ (l : List ℕ). l ++ z) (s ∙ ap (λ (l : List ℕ). l ++ y) (r ∙ ap (λ (l : List ℕ). l ++ x) (q ∙ ap (λ (l : List ℕ). l ++ w) p)))
-    ∙ simp append_assoc
+-- a line is its two parts
+pub line_halves : (p : Plan) (n : ℕ) (e : Event) (r : Reply) → trace_line p n e r ≡ line_front p n e ++ line_rest r
+line_halves p n e r =
+    line_parts p n e r
+    ∙ ap (λ (bs : List ℕ). decimal n ++ bs) (sym (append_assoc (spaced (step_words p e)) (codes " -> ") (line_rest r)))
+    ∙ sym (append_assoc (decimal n) (spaced (step_words p e) ++ codes " -> ") (line_rest r))
+
+-- parts that are written one after another
+pub two_parts : (a b c v w : List ℕ) → b ≡ a ++ v → c ≡ b ++ w → c ≡ a ++ (v ++ w)
+two_parts a b c v w p q = q ∙ ap (λ (l : List ℕ). l ++ w) p ∙ append_assoc a v w
+
+pub three_parts : (a b c d v w x : List ℕ) → b ≡ a ++ v → c ≡ b ++ w → d ≡ c ++ x → d ≡ a ++ (v ++ (w ++ x))
+three_parts a b c d v w x p q r = two_parts a b d v (w ++ x) p (two_parts b c d w x q r)

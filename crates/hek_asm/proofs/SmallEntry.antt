@@ -80,7 +80,7 @@ few_small (a ∷ b ∷ c ∷ []) = three_small a b c
 few_small (a ∷ b ∷ c ∷ d ∷ []) = tt
 few_small (a ∷ b ∷ c ∷ d ∷ e ∷ ws) = (value_small c, value_small e)
 
-reply_small : (ws : List (List ℕ)) → IsSmallReply (likely_reply ws)
+pub reply_small : (ws : List (List ℕ)) → IsSmallReply (likely_reply ws)
 unfolding likely_reply
 reply_small [] = tt
 reply_small (w ∷ ws) =
@@ -88,10 +88,10 @@ reply_small (w ∷ ws) =
     (pick IsSmallReply (bytes_eq w (codes "victim")) (reply.Victim (first_value ws) (map value_of (drop 2 ws))) (of_few_words (w ∷ ws)) (first_small ws, values_small (drop 2 ws)) (few_small (w ∷ ws)))
 
 -- ---- events
-abbrev IsSmallEvent : Event → Type 0
+abbrev pub IsSmallEvent : Event → Type 0
 IsSmallEvent e = is_small (first_of e) × is_small (second_of e)
 
-zero_small : is_small 0
+pub zero_small : is_small 0
 zero_small = omega arith
 
 of_small : (k : EventKind) (t a b : ℕ) → is_small a → is_small b → IsSmallEvent (event_of k t a b)

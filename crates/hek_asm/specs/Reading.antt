@@ -9,7 +9,7 @@ use Rattle.hek_rules.specs.Plan.{Plan, IsPlan, levels_of}
 use Rattle.hek_rules.specs.Recorded.{Recorded}
 use Rattle.hek_asm.specs.declared.fault.TraceFault.{TraceFault}
 use Rattle.hek_asm.specs.declared.fault.TraceFault.TheVariants as fault
-use Rattle.hek_asm.specs.Trace.{NamesDeclared, trace_line, trace}
+use Rattle.hek_asm.specs.Trace.{NamesDeclared, line_rest, trace_line, trace}
 
 abbrev pub is_small : ℕ → Type 0
 is_small n = n < 2 ^ 64
@@ -86,6 +86,11 @@ TraceFails p text (fault.Line n) = StopsAt p n text
 pub record IsFront (p : Plan) (n : ℕ) (x : Event × Reply) (text after : List ℕ) : Type 0 where
   pub entry : IsEntry (length p.txns) x
   pub is : text ≡ trace_line p n x.0 x.1 ++ after
+
+-- the front of the text is a reply, to the line's end
+pub record IsRest (r : Reply) (text after : List ℕ) : Type 0 where
+  pub small : IsSmallReply r
+  pub is : text ≡ line_rest r ++ after
 
 -- a text is the trace of one transcript at most, which reading it gives; a trace has no line at fault; and a text has one
 -- first line at fault at most

@@ -7,6 +7,7 @@ mod fault;
 mod laws;
 mod likely;
 mod line;
+mod own_steps;
 mod putting;
 mod reading;
 mod reply;

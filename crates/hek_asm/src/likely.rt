@@ -104,7 +104,7 @@ fn pair(word: &[u8]) -> (u64, u64)
 fn pairs(alloc: Global, words: &[&[u8]]) -> Result<Vec<(u64, u64)>, NoMemory>
     ensures { IfOk result (λ v. v.items ≡ map pair_of (map (λ w. w.now) words.now)) }
 {
-    let mut pairs = Vec::new(alloc);
+    let mut pairs = Vec::with_capacity(alloc, words.len())?;
     for word in words {
         pairs.push(pair(word))?;
     }

@@ -9,6 +9,7 @@ use crate::comparing::Comparing;
 use crate::fault::TraceFault;
 use crate::likely::{behind, likely_event, likely_reply, step_len};
 use crate::line::read_words;
+use crate::own_steps::entry_by_step;
 use crate::trace::write_line;
 use hek_rules::{Event, FromWrite, NoMemory, Reply, Schedule, Transcript, next_line};
 use std::alloc::Global;
@@ -108,8 +109,8 @@ fn without_line<'t>(
     Ok(without_front(text, front.as_slice()))
 }
 
-// The event and the reply of the line at the front, which has this number, and what follows it.
-fn next_entry<'t>(
+// The event and the reply of the line at the front, as its words say them, and what follows it.
+fn entry_by_words<'t>(
     alloc: Global,
     schedule: &Schedule,
     words: &mut Vec<&'t [u8]>,
@@ -131,6 +132,22 @@ fn next_entry<'t>(
         None => Ok(None),
         Some(after) => Ok(Some((event, reply, after))),
     }
+}
+
+// The event and the reply of the line at the front, which has this number, and what follows it.
+fn next_entry<'t>(
+    alloc: Global,
+    schedule: &Schedule,
+    words: &mut Vec<&'t [u8]>,
+    number: u64,
+    text: &'t [u8],
+) -> Result<Option<(Event, Reply, &'t [u8])>, NoMemory>
+    ensures { IfOk result (λ o. MatchOption o (HasNoLine schedule.now number text.now) (λ x. IsFront schedule.now number (x.0, x.1) text.now x.2.now)) }
+{
+    if let Some(entry) = entry_by_step(alloc, schedule, words, number, text)? {
+        return Ok(Some(entry));
+    }
+    entry_by_words(alloc, schedule, words, number, text)
 }
 
 /// The transcript over the schedule's rows and levels whose trace, with the schedule's names, the text is, else the first

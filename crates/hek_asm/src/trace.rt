@@ -4,7 +4,7 @@ ghost use Rattle.std.specs.List.{AllByRecursion};
 ghost use Rattle.hek_rules.specs.Plan.{IsDeclared};
 ghost use Rattle.hek_asm.specs.Lines.{spaced};
 ghost use Rattle.hek_asm.specs.Canonical.{name_words, operand_words, step_words};
-ghost use Rattle.hek_asm.specs.Trace.{NamesDeclared, trace_line, trace};
+ghost use Rattle.hek_asm.specs.Trace.{NamesDeclared, line_front, line_rest, trace_line, trace};
 
 use crate::putting::{put_item, put_number, put_text, put_word};
 use crate::reply::write_reply;
@@ -66,6 +66,35 @@ pub fn write_step<S: Sink>(
     put_operands(kind.operand_count(), event.first(), event.second(), sink)
 }
 
+/// Writes a line up to the reply: the number, the step and the arrow.
+pub(crate) fn write_front<S: Sink>(
+    schedule: &Schedule,
+    number: u64,
+    event: &Event,
+    sink: &mut S,
+) -> Result<(), WriteFault>
+    requires works { S.failed sink.old ≡ false }
+    requires declared { NamesDeclared (length schedule.now.txns) event.now }
+    ensures ok { OnOk result (IsTrue (S.tells sink.old) → S.holds sink.new ≡ S.holds sink.old ++ line_front schedule.now number event.now) }
+    ensures tells { IsTrue (S.tells sink.old) → IsTrue (S.tells sink.new) }
+    ensures fails { S.failed sink.new ≡ is_err result }
+{
+    put_number(number, sink)?;
+    write_step(schedule, event, sink)?;
+    put_text(" -> ", sink)
+}
+
+/// Writes the rest of a line: the reply and the line's end.
+pub(crate) fn write_rest<S: Sink>(reply: &Reply, sink: &mut S) -> Result<(), WriteFault>
+    requires { S.failed sink.old ≡ false }
+    ensures ok { OnOk result (IsTrue (S.tells sink.old) → S.holds sink.new ≡ S.holds sink.old ++ line_rest reply.now) }
+    ensures tells { IsTrue (S.tells sink.old) → IsTrue (S.tells sink.new) }
+    ensures fails { S.failed sink.new ≡ is_err result }
+{
+    write_reply(reply, sink)?;
+    put_text("\n", sink)
+}
+
 /// Writes the line of the event that has this number, with its reply. After a fault nothing is known of how much went
 /// out.
 pub fn write_line<S: Sink>(
@@ -81,11 +110,8 @@ pub fn write_line<S: Sink>(
     ensures tells { IsTrue (S.tells sink.old) → IsTrue (S.tells sink.new) }
     ensures fails { S.failed sink.new ≡ is_err result }
 {
-    put_number(number, sink)?;
-    write_step(schedule, &event, sink)?;
-    put_text(" -> ", sink)?;
-    write_reply(reply, sink)?;
-    put_text("\n", sink)
+    write_front(schedule, number, &event, sink)?;
+    write_rest(reply, sink)
 }
 
 /// Writes the trace of events with their replies, a line each. After a fault nothing is known of how much went out.

@@ -6,7 +6,7 @@ use Rattle.hek_rules.specs.Text.{lines_of, words_of}
 use Rattle.hek_asm.specs.Likely.{likely_entry}
 use Rattle.hek_asm.proofs.EntryAgain.{no_lines, none_likely, other_line}
 use Rattle.hek_asm.proofs.SmallEntry.{likely_small}
-use Rattle.hek_asm.proofs.reading.next_entry.Goals as goal
+use Rattle.hek_asm.proofs.reading.entry_by_words.Goals as goal
 
 -- what follows a line in a text, if the text begins with it
 abbrev Behind : List ℕ → List ℕ → Option (Bor (List ℕ)) → Type 0

@@ -1,0 +1,181 @@
+//! Lines of a run of the schedule itself: the step that a line is of is the schedule's own step of the line's number. So its
+//! words need not be read, only compared with the text. A line of anything else is left to the words.
+ghost use Rattle.std.specs.Prelude.{◌≡◌, ◌++◌, length, IfOk, IfSome};
+ghost use Rattle.hek_rules.specs.Plan.{IsStep};
+ghost use Rattle.hek_asm.specs.Reading.{is_small, IsSmallReply, IsFront, IsRest};
+ghost use Rattle.hek_asm.specs.Trace.{NamesDeclared, line_front, line_rest};
+
+use crate::comparing::Comparing;
+use crate::likely::likely_reply;
+use crate::line::read_words;
+use crate::trace::{write_front, write_rest};
+use hek_rules::{Event, NoMemory, Reply, Schedule, Time, VersionId, next_line};
+use std::alloc::Global;
+
+// The schedule's step of this number, counted from 1, if it has so many.
+fn own_step(schedule: &Schedule, number: u64) -> Option<Event>
+    ensures { IfSome result (λ e. IsStep schedule.now.buckets (length schedule.now.txns) e) }
+{
+    let _buckets = schedule.buckets();
+    let steps = schedule.steps();
+    if number == 0 || number > steps.len() as u64 {
+        return None;
+    }
+    Some(steps[(number - 1) as usize])
+}
+
+// What follows the number, the step and the arrow, if the text begins with them. None tells nothing of the text.
+fn behind_front<'t>(
+    schedule: &Schedule,
+    number: u64,
+    event: &Event,
+    text: &'t [u8],
+) -> Option<&'t [u8]>
+    requires { NamesDeclared (length schedule.now.txns) event.now }
+    ensures { IfSome result (λ after. text.now ≡ line_front schedule.now number event.now ++ after.now) }
+{
+    let mut sink = Comparing::new(text);
+    match write_front(schedule, number, event, &mut sink) {
+        Ok(()) => Some(sink.rest()),
+        Err(_) => None,
+    }
+}
+
+// What follows the reply and the line's end, if the text begins with them. None tells nothing of the text.
+fn behind_rest<'t>(reply: &Reply, text: &'t [u8]) -> Option<&'t [u8]>
+    ensures { IfSome result (λ after. text.now ≡ line_rest reply.now ++ after.now) }
+{
+    let mut sink = Comparing::new(text);
+    match write_rest(reply, &mut sink) {
+        Ok(()) => Some(sink.rest()),
+        Err(_) => None,
+    }
+}
+
+// The number that the digits behind so many bytes write, or its last 64 bits.
+fn digits_at(text: &[u8], place: usize) -> u64
+    ensures { is_small result }
+{
+    let mut value = 0u64;
+    for byte in text.split_at(place.min(text.len())).1 {
+        if !byte.is_ascii_digit() {
+            return value;
+        }
+        value = value.wrapping_mul(10).wrapping_add(u64::from(*byte - b'0'));
+    }
+    value
+}
+
+// The reply of a stamped word, by the first letter of its second word.
+fn stamped(text: &[u8]) -> Option<Reply>
+    ensures { IfSome result IsSmallReply }
+{
+    let letter = text.get(8)?;
+    if *letter == b'b' {
+        return Some(Reply::StampedBegin(VersionId::new(digits_at(text, 14))));
+    }
+    Some(Reply::StampedEnd(VersionId::new(digits_at(text, 12))))
+}
+
+// The reply of a lock let go that nobody waited for, by the first letter of its second word.
+fn released(text: &[u8]) -> Option<Reply>
+    ensures { IfSome result IsSmallReply }
+{
+    let letter = text.get(9)?;
+    if *letter == b'b' {
+        return Some(Reply::ReleasedBucket(digits_at(text, 16)));
+    }
+    let version = VersionId::new(digits_at(text, 14));
+    Some(Reply::ReleasedRead(version, None))
+}
+
+// A reply that the first letters stand for, of those that come often. Whether the text has it is told by writing it.
+fn reply_by_letters(text: &[u8]) -> Option<Reply>
+    ensures { IfSome result IsSmallReply }
+{
+    let [first, _, third, ..] = text else {
+        return None;
+    };
+    match (*first, *third) {
+        (b'a', b's') => Some(Reply::Absent),
+        (b'b', _) => Some(Reply::Began(Time::new(digits_at(text, 6)))),
+        (b'c', _) => Some(Reply::Committed),
+        (b'd', _) => Some(Reply::Done),
+        (b'f', b'u') => Some(Reply::Found(digits_at(text, 6))),
+        (b'l', _) => Some(Reply::Left(VersionId::new(digits_at(text, 5)))),
+        (b'n', b't') => Some(Reply::Nothing),
+        (b'o', _) => Some(Reply::Over),
+        (b'p', _) => Some(Reply::Precommitted(Time::new(digits_at(text, 13)))),
+        (b'r', b'a') => Some(Reply::Ready),
+        (b'r', b'l') => released(text),
+        (b's', _) => stamped(text),
+        _ => None,
+    }
+}
+
+// The reply that the first letters stand for, and what follows the line, if the text begins so. None tells nothing of the
+// text.
+fn rest_by_letters<'t>(text: &'t [u8]) -> Option<(Reply, &'t [u8])>
+    ensures { IfSome result (λ x. IsRest x.0 text.now x.1.now) }
+{
+    let reply = reply_by_letters(text)?;
+    let after = behind_rest(&reply, text)?;
+    Some((reply, after))
+}
+
+// The reply that the words of the line's rest say, and what follows the line. None tells nothing of the text.
+fn rest_by_words<'t>(
+    alloc: Global,
+    words: &mut Vec<&'t [u8]>,
+    text: &'t [u8],
+) -> Result<Option<(Reply, &'t [u8])>, NoMemory>
+    ensures { IfOk result (λ o. IfSome o (λ x. IsRest x.0 text.now x.1.now)) }
+{
+    let Some((line, _)) = next_line(text) else {
+        return Ok(None);
+    };
+    read_words(line, words)?;
+    let reply = likely_reply(alloc, words.as_slice())?;
+    let Some(after) = behind_rest(&reply, text) else {
+        return Ok(None);
+    };
+    Ok(Some((reply, after)))
+}
+
+// The reply at the front of what follows an arrow, and what follows the line. None tells nothing of the text.
+fn likely_rest<'t>(
+    alloc: Global,
+    words: &mut Vec<&'t [u8]>,
+    text: &'t [u8],
+) -> Result<Option<(Reply, &'t [u8])>, NoMemory>
+    ensures { IfOk result (λ o. IfSome o (λ x. IsRest x.0 text.now x.1.now)) }
+{
+    if let Some(rest) = rest_by_letters(text) {
+        return Ok(Some(rest));
+    }
+    rest_by_words(alloc, words, text)
+}
+
+/// The event and the reply of the line at the front, and what follows it, where the event is the schedule's step of the
+/// line's number. None tells nothing of the text. The room of the words is used again.
+pub(crate) fn entry_by_step<'t>(
+    alloc: Global,
+    schedule: &Schedule,
+    words: &mut Vec<&'t [u8]>,
+    number: u64,
+    text: &'t [u8],
+) -> Result<Option<(Event, Reply, &'t [u8])>, NoMemory>
+    ensures { IfOk result (λ o. IfSome o (λ x. IsFront schedule.now number (x.0, x.1) text.now x.2.now)) }
+{
+    let _buckets = schedule.buckets();
+    let Some(event) = own_step(schedule, number) else {
+        return Ok(None);
+    };
+    let Some(rest) = behind_front(schedule, number, &event, text) else {
+        return Ok(None);
+    };
+    let Some((reply, after)) = likely_rest(alloc, words, rest)? else {
+        return Ok(None);
+    };
+    Ok(Some((event, reply, after)))
+}
