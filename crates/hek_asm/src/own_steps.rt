@@ -52,12 +52,12 @@ fn behind_rest<'t>(reply: &Reply, text: &'t [u8]) -> Option<&'t [u8]>
     }
 }
 
-// The number that the digits behind so many bytes write, or its last 64 bits.
-fn digits_at(text: &[u8], place: usize) -> u64
+// The number that the digits behind these words write, or its last 64 bits.
+fn number_behind(text: &[u8], words: &str) -> u64
     ensures { is_small result }
 {
     let mut value = 0u64;
-    for byte in text.split_at(place.min(text.len())).1 {
+    for byte in text.split_at(words.len().min(text.len())).1 {
         if !byte.is_ascii_digit() {
             return value;
         }
@@ -70,22 +70,22 @@ fn digits_at(text: &[u8], place: usize) -> u64
 fn stamped(text: &[u8]) -> Option<Reply>
     ensures { IfSome result IsSmallReply }
 {
-    let letter = text.get(8)?;
+    let letter = text.get("stamped ".len())?;
     if *letter == b'b' {
-        return Some(Reply::StampedBegin(VersionId::new(digits_at(text, 14))));
+        return Some(Reply::StampedBegin(VersionId::new(number_behind(text, "stamped begin "))));
     }
-    Some(Reply::StampedEnd(VersionId::new(digits_at(text, 12))))
+    Some(Reply::StampedEnd(VersionId::new(number_behind(text, "stamped end "))))
 }
 
 // The reply of a lock let go that nobody waited for, by the first letter of its second word.
 fn released(text: &[u8]) -> Option<Reply>
     ensures { IfSome result IsSmallReply }
 {
-    let letter = text.get(9)?;
+    let letter = text.get("released ".len())?;
     if *letter == b'b' {
-        return Some(Reply::ReleasedBucket(digits_at(text, 16)));
+        return Some(Reply::ReleasedBucket(number_behind(text, "released bucket ")));
     }
-    let version = VersionId::new(digits_at(text, 14));
+    let version = VersionId::new(number_behind(text, "released read "));
     Some(Reply::ReleasedRead(version, None))
 }
 
@@ -98,14 +98,14 @@ fn reply_by_letters(text: &[u8]) -> Option<Reply>
     };
     match (*first, *third) {
         (b'a', b's') => Some(Reply::Absent),
-        (b'b', _) => Some(Reply::Began(Time::new(digits_at(text, 6)))),
+        (b'b', _) => Some(Reply::Began(Time::new(number_behind(text, "began ")))),
         (b'c', _) => Some(Reply::Committed),
         (b'd', _) => Some(Reply::Done),
-        (b'f', b'u') => Some(Reply::Found(digits_at(text, 6))),
-        (b'l', _) => Some(Reply::Left(VersionId::new(digits_at(text, 5)))),
+        (b'f', b'u') => Some(Reply::Found(number_behind(text, "found "))),
+        (b'l', _) => Some(Reply::Left(VersionId::new(number_behind(text, "left ")))),
         (b'n', b't') => Some(Reply::Nothing),
         (b'o', _) => Some(Reply::Over),
-        (b'p', _) => Some(Reply::Precommitted(Time::new(digits_at(text, 13)))),
+        (b'p', _) => Some(Reply::Precommitted(Time::new(number_behind(text, "precommitted ")))),
         (b'r', b'a') => Some(Reply::Ready),
         (b'r', b'l') => released(text),
         (b's', _) => stamped(text),

@@ -6,11 +6,21 @@ use hek_rules::{Cause, Event, Pairs, Refusal, Reply, Time, Transcript, TxnId, Ve
 use std::alloc::Global;
 use std::process::Abort;
 
-// One bucket, one row, two transactions.
+// One bucket, one row, two transactions: without steps, with `scan` as the first, and with each `begin`. A line of a trace is
+// read another way where it is of the schedule's own step.
 const SCHEDULE: &str = "buckets 1\nrow 10 100\ntxn a repeatable\ntxn b repeatable\n";
 
-fn read(rt: &impl Abort, alloc: Global, text: &str) -> Result<Transcript, TraceFault> {
-    let schedule = assembled(rt, alloc, SCHEDULE);
+const SCANNED: &str = "buckets 1\nrow 10 100\ntxn a repeatable\ntxn b repeatable\nb scan 0\n";
+
+const BEGUN: &str = "buckets 1\nrow 10 100\ntxn a repeatable\ntxn b repeatable\na begin\nb begin\n";
+
+fn read(
+    rt: &impl Abort,
+    alloc: Global,
+    schedule: &str,
+    text: &str,
+) -> Result<Transcript, TraceFault> {
+    let schedule = assembled(rt, alloc, schedule);
     read_trace(alloc, &schedule, text)
 }
 
@@ -30,23 +40,30 @@ fn reads_a_trace(rt: HostRuntime) {
 
 #[test]
 fn reads_a_trace_of_nothing(rt: HostRuntime) {
-    let told = read(&rt, rt.alloc(), "").expect(&rt, "a transcript");
+    let told = read(&rt, rt.alloc(), SCHEDULE, "").expect(&rt, "a transcript");
     assert!(rt; told.events().is_empty());
     assert!(rt; told.row_count() == 1);
 }
 
 // The one reply of a trace of one line.
-fn only_reply(rt: &impl Abort, alloc: Global, text: &str) -> Reply {
-    let line = format!(in alloc; "1 b scan 7 -> {text}\n").expect(rt, "memory");
-    let told = read(rt, alloc, line.as_str()).expect(rt, "a transcript");
+fn only_reply(rt: &impl Abort, alloc: Global, schedule: &str, text: &str) -> Reply {
+    let line = format!(in alloc; "1 b scan 0 -> {text}\n").expect(rt, "memory");
+    let told = read(rt, alloc, schedule, line.as_str()).expect(rt, "a transcript");
     is(
         rt,
         told.events(),
-        [Event::Scan(TxnId::new(2), 7)].as_slice(),
+        [Event::Scan(TxnId::new(2), 0)].as_slice(),
     );
     match told.replies() {
         [reply] => reply.copy().expect(rt, "memory"),
         _ => Reply::Nothing,
+    }
+}
+
+// The reply is read so, of the schedule's own step and of another.
+fn is_read(rt: &impl Abort, alloc: Global, text: &str, reply: &Reply) {
+    for schedule in [SCHEDULE, SCANNED, BEGUN] {
+        assert!(rt; only_reply(rt, alloc, schedule, text).same(reply));
     }
 }
 
@@ -92,7 +109,7 @@ fn reads_each_reply(rt: HostRuntime) {
         (Reply::Refused(Refusal::WrongPhase), "refused 5 WrongPhase"),
         (Reply::Refused(Refusal::ClockFull), "refused 6 ClockFull"),
     ] {
-        assert!(rt; only_reply(&rt, rt.alloc(), text).same(&reply));
+        is_read(&rt, rt.alloc(), text, &reply);
     }
 }
 
@@ -100,11 +117,11 @@ fn reads_each_reply(rt: HostRuntime) {
 fn reads_the_lists_of_replies(rt: HostRuntime) {
     let pairs = vec![in rt.alloc(); (10, 100), (12, 120)].expect(&rt, "memory");
     let rows = Reply::Rows(Pairs::new(pairs));
-    assert!(rt; only_reply(&rt, rt.alloc(), "rows 10=100 12=120").same(&rows));
+    is_read(&rt, rt.alloc(), "rows 10=100 12=120", &rows);
     let none = Reply::Rows(Pairs::new(Vec::new(rt.alloc())));
-    assert!(rt; only_reply(&rt, rt.alloc(), "rows").same(&none));
+    is_read(&rt, rt.alloc(), "rows", &none);
     let text = "1 detect -> victim 2 cycle 2 1\n2 detect -> no cycle\n";
-    let told = read(&rt, rt.alloc(), text).expect(&rt, "a transcript");
+    let told = read(&rt, rt.alloc(), SCHEDULE, text).expect(&rt, "a transcript");
     is(
         &rt,
         told.events(),
@@ -160,12 +177,14 @@ fn finds_the_first_line_at_fault(rt: HostRuntime) {
         ("1 a begin -> began 1\n1 b begin -> began 2\n", 2),
         ("1 a begin -> began 1\n2 b begin -> begun 2\n3 c\n", 2),
     ] {
-        is_at(
-            &rt,
-            text,
-            read(&rt, rt.alloc(), text).err(),
-            Some(TraceFault::Line(line)),
-        );
+        for schedule in [SCHEDULE, BEGUN] {
+            is_at(
+                &rt,
+                text,
+                read(&rt, rt.alloc(), schedule, text).err(),
+                Some(TraceFault::Line(line)),
+            );
+        }
     }
 }
 
