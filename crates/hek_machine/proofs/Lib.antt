@@ -6,6 +6,7 @@ pub mod StampRules
 pub mod WalkRules
 pub mod EffectRules
 pub mod EffectShows
+pub mod PairPlaces
 pub mod Needs
 pub mod Reserves
 pub mod EffectTurns

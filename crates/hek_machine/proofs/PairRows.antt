@@ -16,9 +16,15 @@ use Rattle.hek_machine.specs.Stands.{StandsFor}
 abbrev pub Left : Engine → List ℕ → List (ℕ × ℕ) → List ℕ → Type 0
 Left m vs pairs rest = (w : World) → StandsFor m w → pairs_of w.versions pairs rest ≡ pairs_of w.versions [] vs
 
+-- a version's pair is put over those so far
+pub one_row : (m : Engine) (vs : List ℕ) (i v : ℕ) (before after : List (ℕ × ℕ)) → i < length vs → v ≡ get_or vs i v →
+    after ≡ put (version_at m.store v).key (version_at m.store v).value before → Left m vs before (drop i vs) → Left m vs after (drop (i + 1) vs)
+one_row m vs i v before after below at grown left w s =
+    ap (λ ps. pairs_of w.versions ps (drop (i + 1) vs))
+    (grown ∙ ap (λ (x : StoredVersion). put x.key x.value before) (s.shows.store.versions v))
+    ∙ sym (ap (pairs_of w.versions before) (drop_more vs i v below ∙ ap (λ n. n ∷ drop (i + 1) vs) (sym at))) ∙ left w s
+
 pub one_put : (m : Engine) (vs : List ℕ) (i v : ℕ) (before after : List (ℕ × ℕ)) → i < length vs → v ≡ get_or vs i v →
     after ≡ insert_entry nat_cmp before (version_at m.store v).key (version_at m.store v).value → Left m vs before (drop i vs) → Left m vs after (drop (i + 1) vs)
-one_put m vs i v before after below at grown left w s =
-    ap (λ ps. pairs_of w.versions ps (drop (i + 1) vs))
-    (grown ∙ insert-put before (version_at m.store v).key (version_at m.store v).value ∙ ap (λ (x : StoredVersion). put x.key x.value before) (s.shows.store.versions v))
-    ∙ sym (ap (pairs_of w.versions before) (drop_more vs i v below ∙ ap (λ n. n ∷ drop (i + 1) vs) (sym at))) ∙ left w s
+one_put m vs i v before after below at grown left =
+    one_row m vs i v before after below at (grown ∙ insert-put before (version_at m.store v).key (version_at m.store v).value) left

@@ -7,3 +7,4 @@ pub mod Walked
 pub mod Written
 pub mod Observed
 pub mod Steps
+pub mod Places

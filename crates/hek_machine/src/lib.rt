@@ -12,6 +12,7 @@ mod lists;
 mod machine;
 mod new_versions;
 mod observers;
+mod pairs;
 mod phases;
 mod releases;
 mod room;

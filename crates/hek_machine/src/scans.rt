@@ -11,11 +11,15 @@ ghost use Rattle.hek_machine.specs.Judgements.{IsShown};
 ghost use Rattle.hek_machine.specs.Stands.{StandsForSome, IsRule, StillShows};
 
 use crate::engine::Engine;
+use crate::pairs::put;
 use crate::scratch::Scratch;
 use crate::walks::Aim;
 use hek_rules::{NoMemory, Pairs, Reply, State, TxnId, VersionId};
 use hek_word::{BeginWord, EndWord};
 use std::collections::BTreeMap;
+
+/// So many versions are put in order one by one, and more by way of a tree.
+const FEW: usize = 128;
 
 fn is_committed(state: State) -> bool
     ensures { result ≡ committed state }
@@ -35,16 +39,42 @@ impl Engine {
         Ok(())
     }
 
-    /// The pairs of these versions by key, the later ones over the earlier.
-    fn pairs_of(&self, vs: &[VersionId]) -> Result<Pairs, NoMemory>
+    /// The pairs of a few versions by key, the later ones over the earlier. At worst it takes time in the
+    /// square of their number.
+    fn few_pairs(&self, vs: &[VersionId]) -> Result<Vec<(u64, u64)>, NoMemory>
         requires { All (λ v. v < length self.now.store.versions) vs.now }
-        ensures { IfOk result (IsShown self.now (λ w. pairs_in w.versions [] vs.now)) }
+        ensures { IfOk result (λ pairs. IsShown self.now (λ w. pairs_in w.versions [] vs.now) pairs.items) }
+    {
+        let mut pairs = Vec::with_capacity(self.alloc, vs.len())?;
+        for &v in vs {
+            put(&mut pairs, self.store.key_of(v), self.store.value_of(v))?;
+        }
+        Ok(pairs)
+    }
+
+    /// The pairs of these versions by key, the later ones over the earlier, by way of a tree.
+    fn many_pairs(&self, vs: &[VersionId]) -> Result<Vec<(u64, u64)>, NoMemory>
+        requires { All (λ v. v < length self.now.store.versions) vs.now }
+        ensures { IfOk result (λ pairs. IsShown self.now (λ w. pairs_in w.versions [] vs.now) pairs.items) }
     {
         let mut pairs = BTreeMap::new(self.alloc);
         for &v in vs {
             pairs.insert(self.store.key_of(v), self.store.value_of(v))?;
         }
-        Ok(Pairs::new(pairs.into_iter().collect(self.alloc)?))
+        Ok(pairs.into_iter().collect(self.alloc)?)
+    }
+
+    /// The pairs of these versions by key, the later ones over the earlier.
+    fn pairs_of(&self, vs: &[VersionId]) -> Result<Pairs, NoMemory>
+        requires { All (λ v. v < length self.now.store.versions) vs.now }
+        ensures { IfOk result (IsShown self.now (λ w. pairs_in w.versions [] vs.now)) }
+    {
+        let pairs = if vs.len() <= FEW {
+            self.few_pairs(vs)?
+        } else {
+            self.many_pairs(vs)?
+        };
+        Ok(Pairs::new(pairs))
     }
 
     /// The scan of a bucket.

@@ -1,6 +1,6 @@
 use Rattle.std.proofs.Common.{rules}
 use Rattle.hek_machine.proofs.PairRows.{one_put}
-use Rattle.hek_machine.proofs.engine.Engine.pairs_of.Goals as goal
+use Rattle.hek_machine.proofs.engine.Engine.many_pairs.Goals as goal
 
 pub loop-v-preserved : goal.loop-v-preserved
 loop-v-preserved c = record {

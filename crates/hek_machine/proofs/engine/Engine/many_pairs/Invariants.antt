@@ -1,6 +1,6 @@
 use Rattle.std.proofs.Common.{drop}
 use Rattle.hek_machine.proofs.PairRows.{Left}
-use Rattle.hek_machine.proofs.engine.Engine.pairs_of.Given as goal
+use Rattle.hek_machine.proofs.engine.Engine.many_pairs.Given as goal
 
 abbrev pub invariant-loop-v : goal.invariant-loop-v
 invariant-loop-v l = record {
