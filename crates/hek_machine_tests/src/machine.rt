@@ -6,6 +6,7 @@ mod commits;
 mod locks;
 mod looks;
 mod runs;
+mod scans;
 mod scene;
 mod script;
 mod shown;
