@@ -37,11 +37,10 @@ pub(crate) fn link(
 {
     match event.txn() {
         None => Ok(count),
-        Some(t) => {
-            let next = place_of(first, t, count);
-            first.put(t.number(), place as u64)?;
-            Ok(next)
-        }
+        Some(t) => match first.put(t.number(), place as u64)? {
+            Some(next) => Ok(next as usize),
+            None => Ok(count),
+        },
     }
 }
 

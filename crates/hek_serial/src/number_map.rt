@@ -35,13 +35,14 @@ impl NumberMap {
         }
     }
 
-    /// The key has this value from now on.
-    pub(crate) fn put(&mut self, key: u64, value: u64) -> Result<(), NoMemory>
+    /// The key has this value from now on. Answers the one that it had.
+    pub(crate) fn put(&mut self, key: u64, value: u64) -> Result<Option<u64>, NoMemory>
+        ensures value { IfOk result (λ before. before ≡ value_in self.old key) }
         ensures ok { OnOk result (self.new ≡ put_in key value self.old) }
         ensures err { OnErr result (self.new ≡ self.old) }
     {
-        self.map.insert(key, value)?;
-        Ok(())
+        let before = self.map.insert(key, value)?;
+        Ok(before)
     }
 
     /// The key has no value from now on. Answers the one that it had.
@@ -58,7 +59,10 @@ impl NumberMap {
         ensures err { OnErr result (self.new ≡ self.old) }
     {
         match write {
-            Write::Put(key, value) => self.put(key, value),
+            Write::Put(key, value) => {
+                let _before = self.put(key, value)?;
+                Ok(())
+            }
             Write::Remove(key) => {
                 let _value = self.take_out(key);
                 Ok(())
