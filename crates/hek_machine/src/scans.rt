@@ -19,7 +19,7 @@ use hek_word::{BeginWord, EndWord};
 use std::collections::BTreeMap;
 
 /// So many versions are put in order one by one, and more by way of a tree.
-const FEW: usize = 128;
+const FEW: usize = 64;
 
 fn is_committed(state: State) -> bool
     ensures { result ≡ committed state }

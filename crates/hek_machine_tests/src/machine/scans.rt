@@ -41,7 +41,7 @@ fn assert_lists_by_key(rt: &impl Abort, alloc: Global, count: u64) {
 
 #[test]
 fn a_scan_lists_few_rows_and_many_by_key(rt: HostRuntime) {
-    for count in [1, 2, 127, 128, 129, 300] {
+    for count in [1, 2, 63, 64, 65, 200] {
         assert_lists_by_key(&rt, rt.alloc(), count);
     }
 }
