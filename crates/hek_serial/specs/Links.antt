@@ -1,5 +1,5 @@
 -- Where the events of each transaction stand.
-use Rattle.std.specs.Prelude.{ℕ, ◌≡◌, ◌+◌, ◌<◌, ◌≤◌, Bool, true, false, List, Option, Some, None, length, slice_get, slice_index, unwrap_or}
+use Rattle.std.specs.Prelude.{ℕ, ◌≡◌, ◌+◌, ◌<◌, ◌≤◌, Bool, true, false, List, Option, Some, None, length, slice_get, slice_index, slice_set, unwrap_or, nat_lt, if◌then◌else◌}
 use Rattle.hek_rules.specs.declared.event.Event.{Event}
 use Rattle.hek_rules.specs.Serial.{is_of}
 use Rattle.hek_rules.specs.Listing.{put, value_of}
@@ -19,21 +19,26 @@ pub record IsNextOf (t : ℕ) (es : List Event) (from n : ℕ) : Type 0 where
   pub between : (j : ℕ) → from ≤ j → j < n → comes_at t es j ≡ false
   pub there : n < length es → comes_at t es n ≡ true
 
--- the place that is kept for t, or the number of places
-abbrev pub place_in : List (ℕ × ℕ) → ℕ → ℕ → ℕ
-place_in first count t = unwrap_or (value_of first t) count
+-- the place that is kept for t, or the number of places; those of low numbers are kept in a list
+abbrev pub place_in : List ℕ → List (ℕ × ℕ) → ℕ → ℕ → ℕ
+place_in near far count t = if nat_lt t (length near) then slice_index near t else unwrap_or (value_of far t) count
 
 -- the place that is kept for the transaction of an event, if there is one
-abbrev pub next_in : List (ℕ × ℕ) → ℕ → Option ℕ → ℕ
-next_in first count None = count
-next_in first count (Some t) = place_in first count t
+abbrev pub next_in : List ℕ → List (ℕ × ℕ) → ℕ → Option ℕ → ℕ
+next_in near far count None = count
+next_in near far count (Some t) = place_in near far count t
 
--- a place is kept for the transaction of an event, if there is one
-abbrev pub with_place : List (ℕ × ℕ) → ℕ → Option ℕ → List (ℕ × ℕ)
-with_place first place None = first
-with_place first place (Some t) = put t place first
+-- a place is kept for the transaction of an event, if there is one and its number is low
+abbrev pub with_near : List ℕ → ℕ → Option ℕ → List ℕ
+with_near near place None = near
+with_near near place (Some t) = if nat_lt t (length near) then slice_set near t place else near
 
-pub record AreLinks (es : List Event) (first : List (ℕ × ℕ)) (next : List ℕ) : Type 0 where
+-- the same, if its number isn't low
+abbrev pub with_far : List ℕ → List (ℕ × ℕ) → ℕ → Option ℕ → List (ℕ × ℕ)
+with_far near far place None = far
+with_far near far place (Some t) = if nat_lt t (length near) then far else put t place far
+
+pub record AreLinks (es : List Event) (near : List ℕ) (far : List (ℕ × ℕ)) (next : List ℕ) : Type 0 where
   pub long : length next ≡ length es
-  pub starts : (t : ℕ) → IsNextOf t es 0 (place_in first (length es) t)
+  pub starts : (t : ℕ) → IsNextOf t es 0 (place_in near far (length es) t)
   pub follows : (t i : ℕ) → comes_at t es i ≡ true → IsNextOf t es (i + 1) (slice_index next i)

@@ -1,67 +1,98 @@
 //! Where the events of each transaction stand, so that one can go along them.
-ghost use Rattle.std.specs.Prelude.{◌≡◌, ◌<◌, ℕ, length, slice_index, IfOk, OnOk};
+ghost use Rattle.std.specs.Prelude.{◌≡◌, ◌<◌, ℕ, Some, length, slice_index, IfOk, OnOk};
 ghost use Rattle.hek_rules.specs.Events.{txn_of as txn_in};
-ghost use Rattle.hek_serial.specs.Links.{AreLinks, place_in, next_in, with_place};
+ghost use Rattle.hek_serial.specs.Links.{AreLinks, place_in, next_in, with_near, with_far};
 
 use crate::number_map::NumberMap;
 use hek_rules::{Event, NoMemory, TxnId};
 use std::alloc::Global;
 
-/// The first place of each transaction, and the next of the same behind each place.
+/// The first place of each transaction, and the next of the same behind each place. The first places of transactions of low
+/// numbers stand in a list.
 #[derive(Drop)]
 pub(crate) struct Links {
-    first: NumberMap,
+    near: Vec<usize>,
+    far: NumberMap,
     next: Vec<usize>,
 }
 
 /// The place that is kept for t, or the number of places.
-pub(crate) fn place_of(first: &NumberMap, t: TxnId, count: usize) -> usize
-    ensures { result ≡ place_in first.now count t }
+pub(crate) fn place_of(near: &[usize], far: &NumberMap, t: TxnId, count: usize) -> usize
+    ensures { result ≡ place_in near.now far.now count t }
 {
-    match first.value_of(t.number()) {
-        Some(place) => place as usize,
-        None => count,
+    if t.number() < near.len() as u64 {
+        near[t.number() as usize]
+    } else {
+        match far.value_of(t.number()) {
+            Some(place) => place as usize,
+            None => count,
+        }
+    }
+}
+
+/// A place is kept for t. Answers the one that was kept before, or the number of places.
+pub(crate) fn keep_place(
+    near: &mut [usize],
+    far: &mut NumberMap,
+    t: TxnId,
+    place: usize,
+    count: usize,
+) -> Result<usize, NoMemory>
+    ensures before { IfOk result (λ n. n ≡ place_in near.old far.old count t) }
+    ensures near { OnOk result (near.new ≡ with_near near.old place (Some t)) }
+    ensures far { OnOk result (far.new ≡ with_far near.old far.old place (Some t)) }
+{
+    if t.number() < near.len() as u64 {
+        let before = near[t.number() as usize];
+        near[t.number() as usize] = place;
+        Ok(before)
+    } else {
+        match far.put(t.number(), place as u64)? {
+            Some(before) => Ok(before as usize),
+            None => Ok(count),
+        }
     }
 }
 
 /// An event is put before those of its transaction that follow. Answers the place of the first of these, or the number of
 /// places.
 pub(crate) fn link(
-    first: &mut NumberMap,
+    near: &mut [usize],
+    far: &mut NumberMap,
     event: Event,
     place: usize,
     count: usize,
 ) -> Result<usize, NoMemory>
-    ensures next { IfOk result (λ n. n ≡ next_in first.old count (txn_in event)) }
-    ensures first { OnOk result (first.new ≡ with_place first.old place (txn_in event)) }
+    ensures next { IfOk result (λ n. n ≡ next_in near.old far.old count (txn_in event)) }
+    ensures near { OnOk result (near.new ≡ with_near near.old place (txn_in event)) }
+    ensures far { OnOk result (far.new ≡ with_far near.old far.old place (txn_in event)) }
 {
     match event.txn() {
         None => Ok(count),
-        Some(t) => match first.put(t.number(), place as u64)? {
-            Some(next) => Ok(next as usize),
-            None => Ok(count),
-        },
+        Some(t) => keep_place(near, far, t, place, count),
     }
 }
 
 impl Links {
-    pub(crate) fn new(alloc: Global, events: &[Event]) -> Result<Links, NoMemory>
-        ensures { IfOk result (λ links. AreLinks events.now links.first links.next.items) }
+    /// The first places of transactions below a number stand in a list.
+    pub(crate) fn new(alloc: Global, below: usize, events: &[Event]) -> Result<Links, NoMemory>
+        ensures { IfOk result (λ links. AreLinks events.now links.near.items links.far links.next.items) }
     {
         let count = events.len();
-        let mut first = NumberMap::new(alloc);
+        let mut near = vec![in alloc; count; below]?;
+        let mut far = NumberMap::new(alloc);
         let mut next = vec![in alloc; count; count]?;
         for place in (0..count).rev() {
-            next[place] = link(&mut first, events[place], place, count)?;
+            next[place] = link(&mut near, &mut far, events[place], place, count)?;
         }
-        Ok(Links { first, next })
+        Ok(Links { near, far, next })
     }
 
     /// The first place of t, or the number of places.
     pub(crate) fn first(&self, t: TxnId) -> usize
-        ensures { result ≡ place_in self.now.first (length self.now.next.items) t }
+        ensures { result ≡ place_in self.now.near.items self.now.far (length self.now.next.items) t }
     {
-        place_of(&self.first, t, self.next.len())
+        place_of(&self.near, &self.far, t, self.next.len())
     }
 
     /// The next place of the transaction that has an event at a place, or the number of places.

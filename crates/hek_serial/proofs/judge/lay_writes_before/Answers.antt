@@ -13,7 +13,7 @@ pub loop-at-init : goal.loop-at-init
 loop-at-init c =
     let t = c.args.t in
     let rows = c.args.rows.now in
-    let is = first_is c.args.events.now c.args.links.now.first c.args.links.now.next.items t c.first-at.result c.requires.links c.first-at.ensures in
+    let is = first_is c.args.events.now c.args.links.now.near.items c.args.links.now.far c.args.links.now.next.items t c.first-at.result c.requires.links c.first-at.ensures in
     record {
       within = is.within;
       here = is.there;
