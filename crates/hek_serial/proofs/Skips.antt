@@ -1,5 +1,5 @@
 -- What stands between two events of a transaction writes nothing for it, and is right for it.
-use Rattle.std.proofs.Common.{◌≡◌, ℕ, zero, suc, ◌+◌, ◌<◌, ◌≤◌, false, List, [], ◌∷◌, ◌++◌, refl, ◌∙◌, ap, sym, subst, Some, None, take, arith, ⊎_elim}
+use Rattle.std.proofs.Common.{◌≡◌, ℕ, zero, suc, ◌+◌, ◌<◌, ◌≤◌, false, List, [], ◌∷◌, ◌++◌, length, refl, ◌∙◌, ap, sym, subst, Some, None, take, arith, ⊎_elim}
 use Rattle.std.proofs.lemmas.Bool.{cond-false, false≢true, cases_eq, cases_lt}
 use Rattle.std.specs.Prelude.{slice_get, ◌==◌}
 use Rattle.std.specs.List.{zip}
@@ -50,6 +50,9 @@ right-between level buckets t rows es rs j h =
       | Some p ↦ λ at mine. absurd (false≢true (sym h ∙ ap (is_event_of t) (zip-event es rs j p at) ∙ mine))
     ] refl
 
+above : (a b : ℕ) → b ≤ a → (a ≡ b → ⊥) → b + 1 ≤ a
+above a b m n = omega (arith, m, n)
+
 -- one place more, and those up to the next of the same transaction
 pub right-on : (level : Level) (buckets t : ℕ) (rows : List (ℕ × ℕ)) (es : List Event) (rs : List Reply) (i n : ℕ) → ((j : ℕ) → j < i → IsRightFor level buckets t rows (zip es rs) j) →
     IsRightFor level buckets t rows (zip es rs) i → ((j : ℕ) → i + 1 ≤ j → j < n → comes_at t es j ≡ false) → (j : ℕ) → j < n → IsRightFor level buckets t rows (zip es rs) j
@@ -59,6 +62,42 @@ right-on level buckets t rows es rs i n before here between j l =
     ⊎_elim (λ same. subst (IsRightFor level buckets t rows (zip es rs)) (sym same) here)
     (λ other. right-between level buckets t rows es rs j (between j (above j i more other) l)) (cases_eq j i))
     (cases_lt j i)
-  where
-    above : (a b : ℕ) → b ≤ a → (a ≡ b → ⊥) → b + 1 ≤ a
-    above a b m n = omega (arith, m, n)
+
+-- n is the first place before another at which a reply to t isn't right, or the number of places
+pub record IsWrongBefore (level : Level) (buckets t : ℕ) (rows : List (ℕ × ℕ)) (h : List (Event × Reply)) (at n : ℕ) : Type 0 where
+  pub within : n ≤ length h
+  pub early : n < length h → n < at
+  pub right : (j : ℕ) → j < n → j < at → IsRightFor level buckets t rows h j
+  pub wrong : n < length h → IsRightFor level buckets t rows h n → ⊥
+
+pub wrong-none : (level : Level) (buckets t : ℕ) (rows : List (ℕ × ℕ)) (es : List Event) (rs : List Reply) (n : ℕ) → ((j : ℕ) → 0 ≤ j → j < n → comes_at t es j ≡ false) →
+    IsWrongBefore level buckets t rows (zip es rs) n (length (zip es rs))
+wrong-none level buckets t rows es rs n between =
+    record {
+      within = omega arith;
+      early = λ l. absurd (omega (arith, l));
+      right = λ j _ l. right-between level buckets t rows es rs j (between j (omega arith) l);
+      wrong = λ l. absurd (omega (arith, l));
+    }
+
+-- the first wrong one stands here
+pub wrong-here : (level : Level) (buckets t : ℕ) (rows : List (ℕ × ℕ)) (h : List (Event × Reply)) (i n w : ℕ) → IsWrongBefore level buckets t rows h i w → w ≡ length h → i < length h → i < n →
+    (IsRightFor level buckets t rows h i → ⊥) → IsWrongBefore level buckets t rows h n i
+wrong-here level buckets t rows h i n w before none l on bad =
+    record { within = omega (arith, l); early = λ _. on; right = λ j a _. before.right j (omega (arith, a, l, none)) a; wrong = λ _. bad }
+
+-- none stands here, or one stood before
+pub wrong-on : (level : Level) (buckets t : ℕ) (rows : List (ℕ × ℕ)) (es : List Event) (rs : List Reply) (i n w : ℕ) → IsWrongBefore level buckets t rows (zip es rs) i w → i < n →
+    (i < w → IsRightFor level buckets t rows (zip es rs) i) → ((j : ℕ) → i + 1 ≤ j → j < n → comes_at t es j ≡ false) → IsWrongBefore level buckets t rows (zip es rs) n w
+wrong-on level buckets t rows es rs i n w before on here between =
+    record {
+      within = before.within;
+      early = λ l. let e = before.early l in omega (arith, e, on);
+      right = λ j a l.
+          ⊎_elim (λ (less : j < i). before.right j a less)
+          (λ (more : i ≤ j).
+          ⊎_elim (λ same. subst (IsRightFor level buckets t rows (zip es rs)) (sym same) (here (subst (λ m. m < w) same a)))
+          (λ other. right-between level buckets t rows es rs j (between j (above j i more other) l)) (cases_eq j i))
+          (cases_lt j i);
+      wrong = before.wrong;
+    }
