@@ -1,4 +1,4 @@
-use Rattle.std.proofs.Common.{◌≡◌, ◌∙◌, ◌+◌, ◌<◌, ◌≤◌, ℕ, length, ap, sym, subst, arith}
+use Rattle.std.proofs.Common.{◌≡◌, ◌∙◌, ◌+◌, ◌<◌, ◌≤◌, ℕ, ap, sym, subst, arith}
 use Rattle.std.specs.List.{zip}
 use Rattle.hek_rules.specs.Serial.{write_of, writes_of, lay_all, IsRightAt}
 use Rattle.hek_rules.proofs.Zips.{zip-length}
@@ -61,29 +61,29 @@ loop-at-preserved c =
           (sym (lay_one_more t h i e r rows.rows at) ∙ ap (λ ws. lay_all ws rows.rows) (sym (writes-between t es rs (i + 1) n is.on is.between)));
       first = elim c.if-wrong-events.branch as (λ _. IsWrongBefore level rows.buckets t rows.rows h n c.if-wrong-events.wrong) [
         | then-wrong-events+then-not-is_right_to w ↦
-          let x = w.index-events-at.result in
-          let y = w.index-replies-at.result in
-          let there = entry_at es rs i x y c.requires.same c.loop-at-test.true w.index-events-at.is w.index-replies-at.is in
-          subst (IsWrongBefore level rows.buckets t rows.rows h n) (sym w.wrong-is)
-          (wrong-here level rows.buckets t rows.rows h i n c.loop-at.wrong first (w.if-wrong-events.true ∙ sym long) (omega (arith, long, c.loop-at-test.true)) (omega (arith, on))
-          (λ right.
-          true_false w.is_right_to.result
-          (w.is_right_to.ensures.1 (λ mine. subst (λ b. IsRightAt level b c.loop-at.rows.rows x y) (sym buckets) (right_to level rows.buckets t rows.rows c.loop-at.rows.rows h i x y there found right mine)))
-          w.if-not-is_right_to.true))
+            let x = w.index-events-at.result in
+            let y = w.index-replies-at.result in
+            let there = entry_at es rs i x y c.requires.same c.loop-at-test.true w.index-events-at.is w.index-replies-at.is in
+            subst (IsWrongBefore level rows.buckets t rows.rows h n) (sym w.wrong-is)
+            (wrong-here level rows.buckets t rows.rows h i n c.loop-at.wrong first (w.if-wrong-events.true ∙ sym long) (omega (arith, long, c.loop-at-test.true)) (omega (arith, on))
+            (λ right.
+            true_false w.is_right_to.result
+            (w.is_right_to.ensures.1 (λ mine. subst (λ b. IsRightAt level b c.loop-at.rows.rows x y) (sym buckets) (right_to level rows.buckets t rows.rows c.loop-at.rows.rows h i x y there found right mine)))
+            w.if-not-is_right_to.true))
         | else-wrong-events w ↦
-          subst (IsWrongBefore level rows.buckets t rows.rows h n) (sym w.wrong-is)
-          (elim w.else-wrong-events.branch as (λ _. IsWrongBefore level rows.buckets t rows.rows h n c.loop-at.wrong) [
-            | else-wrong-events-via-then-wrong-events+else-not-is_right_to v ↦
-              let x = v.index-events-at.result in
-              let y = v.index-replies-at.result in
-              let there = entry_at es rs i x y c.requires.same c.loop-at-test.true v.index-events-at.is v.index-replies-at.is in
-              wrong-on level rows.buckets t rows.rows es rs i n c.loop-at.wrong first (omega (arith, on))
-              (λ _. right_from level rows.buckets t rows.rows c.loop-at.rows.rows h i x y there found
-              (λ mine. subst (λ b. IsRightAt level b c.loop-at.rows.rows x y) buckets (v.is_right_to.ensures.0 v.if-not-is_right_to.false mine))) is.between
-            | else-wrong-events-via-else-wrong-events v ↦
-              wrong-on level rows.buckets t rows.rows es rs i n c.loop-at.wrong first (omega (arith, on))
-              (λ l. absurd (past first.within first.early (λ e. v.if-wrong-events.false (e ∙ long)) l)) is.between
-          ])
+            subst (IsWrongBefore level rows.buckets t rows.rows h n) (sym w.wrong-is)
+            (elim w.else-wrong-events.branch as (λ _. IsWrongBefore level rows.buckets t rows.rows h n c.loop-at.wrong) [
+              | else-wrong-events-via-then-wrong-events+else-not-is_right_to v ↦
+                  let x = v.index-events-at.result in
+                  let y = v.index-replies-at.result in
+                  let there = entry_at es rs i x y c.requires.same c.loop-at-test.true v.index-events-at.is v.index-replies-at.is in
+                  wrong-on level rows.buckets t rows.rows es rs i n c.loop-at.wrong first (omega (arith, on))
+                  (λ _. right_from level rows.buckets t rows.rows c.loop-at.rows.rows h i x y there found
+                  (λ mine. subst (λ b. IsRightAt level b c.loop-at.rows.rows x y) buckets (v.is_right_to.ensures.0 v.if-not-is_right_to.false mine))) is.between
+              | else-wrong-events-via-else-wrong-events v ↦
+                  wrong-on level rows.buckets t rows.rows es rs i n c.loop-at.wrong first (omega (arith, on))
+                  (λ l. absurd (past first.within first.early (λ e. v.if-wrong-events.false (e ∙ long)) l)) is.between
+            ])
       ];
     }
   where
