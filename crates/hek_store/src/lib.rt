@@ -3,6 +3,7 @@
 
 mod adding;
 mod chains;
+mod living;
 mod places;
 mod slots;
 mod store;

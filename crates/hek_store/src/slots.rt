@@ -1,5 +1,5 @@
 //! Slots: the keys of versions are spread over them, and each slot has a chain.
-ghost use Rattle.std.specs.Prelude.{◌≡◌, ◌<◌, ◌≤◌, vec_len, vec_capacity, IfOk};
+ghost use Rattle.std.specs.Prelude.{◌≡◌, ◌<◌, ◌≤◌, vec_len, vec_capacity, map, IfOk};
 ghost use Rattle.hek_store.specs.Chained.{keys_of};
 ghost use Rattle.hek_store.specs.Indexed.{AreBuckets};
 
@@ -7,12 +7,13 @@ use crate::chains::{Ends, append, no_ends};
 use crate::version::Version;
 use hek_rules::NoMemory;
 
-/// The number of slots, and their chains.
+/// The number of slots, their chains, and the links to where these begin.
 #[derive(Drop)]
 pub(crate) struct Spread {
     pub(crate) slots: u64,
     pub(crate) links: Vec<usize>,
     pub(crate) ends: Vec<Ends>,
+    pub(crate) starts: Vec<usize>,
 }
 
 /// The chains of these versions over about as many slots as there is room for versions, with room for as many links.
@@ -21,6 +22,7 @@ pub(crate) fn spread_over(versions: &Vec<Version>) -> Result<Spread, NoMemory>
     ensures chained { IfOk result (λ s. AreBuckets s.slots (keys_of versions.now.items) s.links.items s.ends.items) }
     ensures len { IfOk result (λ s. vec_len s.links ≡ vec_len versions.now) }
     ensures room { IfOk result (λ s. vec_capacity versions.now ≤ vec_capacity s.links) }
+    ensures starts { IfOk result (λ s. s.starts.items ≡ map (λ e. e.first) s.ends.items) }
 {
     let alloc = *versions.allocator();
     let count = versions.capacity();
@@ -33,5 +35,9 @@ pub(crate) fn spread_over(versions: &Vec<Version>) -> Result<Spread, NoMemory>
         let now = append(&mut links, ends[slot]);
         ends[slot] = now;
     }
-    Ok(Spread { slots, links, ends })
+    let mut starts = Vec::with_capacity(alloc, ends.len())?;
+    for slot in 0..ends.len() {
+        starts.push_reserved(ends[slot].first);
+    }
+    Ok(Spread { slots, links, ends, starts })
 }

@@ -1,6 +1,7 @@
 use Rattle.std.proofs.Common.{rules, ◌-◌, ◌<◌, ◌∷◌, ◌∙◌, ap, arith, length, slice_index_or, sym}
 use Rattle.hek_store.proofs.Linked.{chain_step}
-use Rattle.hek_store.proofs.Found.{left, left_here, left_there, left_none}
+use Rattle.hek_store.proofs.Found.{left_here, left_there, left_none}
+use Rattle.hek_store.specs.Places.{left}
 use Rattle.hek_store.proofs.places.KeyVersionsIterator.next.Goals as goal
 
 pub returns-then-self-place-clause-steps : goal.returns-then-self-place-clause-steps

@@ -1,0 +1,122 @@
+//! The living: the versions of a key without some of the first, which are over.
+ghost use Rattle.std.specs.Prelude.{◌≡◌, ℕ, ◌%◌, ◌<◌, ◌≤◌, length, slice_index_or, slice_set, OnOk};
+ghost use Rattle.hek_rules.specs.Words.{end_time};
+ghost use Rattle.hek_store.specs.Stored.{of_key};
+ghost use Rattle.hek_store.specs.Chained.{AreLinks, keys_of, next_links, no_ends};
+ghost use Rattle.hek_store.specs.Living.{IsLiving, IsStart, is_over, is_past};
+ghost use Rattle.hek_store.specs.Places.{left};
+
+use crate::chains::Ends;
+use crate::store::Store;
+use crate::version::Version;
+use hek_rules::{NoMemory, Time, VersionId};
+use hek_word::EndWord;
+
+/// The number of the time that never comes.
+const INFINITY: u64 = 0x7FFF_FFFF_FFFF_FFFF;
+
+/// A key with fewer versions than these to go along is left as it is.
+const MANY: usize = 4;
+
+/// Whether the word is a time that isn't later than this one.
+pub(crate) fn is_past(end: EndWord, time: Time) -> bool
+    ensures { result ≡ is_past time (end_time end) }
+{
+    match end.time() {
+        Some(until) => until <= time,
+        None => false,
+    }
+}
+
+/// Whether nobody sees the version who looks at this time or later: its Begin never comes, or is a time, and its End has come.
+fn is_over(version: &Version, time: Time) -> bool
+    ensures { result ≡ is_over time version.now }
+{
+    match version.begin.time() {
+        Some(from) => is_past(version.end, time) || from.number() == INFINITY,
+        None => false,
+    }
+}
+
+/// The link to the first version of a slot's chain, from a link on, that isn't over.
+fn next_left(links: &[usize], versions: &[Version], start: usize, time: Time) -> usize
+    requires rising { AreLinks links.now }
+    requires within { start ≤ length links.now }
+    requires paired { length versions.now ≡ length links.now }
+    ensures { (slots slot : ℕ)
+        → links.now ≡ next_links (λ k. k % slots) 0 (keys_of versions.now)
+        → IsStart slots slot time versions.now start
+        → IsStart slots slot time versions.now result }
+{
+    let mut link = start;
+    while link != 0 && is_over(&versions[link - 1], time) {
+        link = links[link - 1];
+    }
+    link
+}
+
+/// Lists the versions of a key from a link on, in place of what the list held.
+fn list_from(
+    links: &[usize],
+    versions: &[Version],
+    key: u64,
+    start: usize,
+    list: &mut Vec<VersionId>,
+) -> Result<(), NoMemory>
+    requires rising { AreLinks links.now }
+    requires within { start ≤ length links.now }
+    requires paired { length versions.now ≡ length links.now }
+    ensures { OnOk result (list.new.items ≡ left versions.now key links.now start) }
+{
+    list.clear();
+    let mut link = start;
+    while link != 0 {
+        let place = link - 1;
+        link = links[place];
+        if versions[place].key == key {
+            list.push(VersionId::new(place as u64))?;
+        }
+    }
+    Ok(())
+}
+
+/// A version of this key that was passed over may be seen again: those of its slot are looked at anew.
+pub(crate) fn look_again(starts: &mut Vec<usize>, ends: &Vec<Ends>, slots: u64, key: u64)
+    requires any { 0 < slots }
+    requires begun { length starts.old.items ≡ slots }
+    requires count { length ends.now.items ≡ slots }
+    ensures { starts.new.items
+        ≡ slice_set starts.old.items (key % slots) (slice_index_or ends.now.items (key % slots) no_ends).first }
+{
+    let slot = (key % slots) as usize;
+    starts[slot] = ends[slot].first;
+}
+
+impl Store {
+    /// Lists the versions of a key in order of creation, in place of what the list held, without some of the first, which are
+    /// over by this time: nobody sees them who looks then or later. Each takes time in the versions of other keys that share
+    /// its slot. Where they are many, those that are over are passed over from now on.
+    pub fn list_living(
+        &mut self,
+        key: u64,
+        time: Time,
+        living: &mut Vec<VersionId>,
+    ) -> Result<(), NoMemory>
+        ensures store { self.new ≡ self.old }
+        ensures living { OnOk result (IsLiving self.old.versions key time living.new.items) }
+    {
+        let slot = (key % self.slots) as usize;
+        if time < self.passed {
+            let first = self.ends_of[slot].first;
+            return list_from(self.next_of.as_slice(), self.versions.as_slice(), key, first, living);
+        }
+        let start = self.starts[slot];
+        list_from(self.next_of.as_slice(), self.versions.as_slice(), key, start, living)?;
+        if living.len() >= MANY {
+            let next = next_left(self.next_of.as_slice(), self.versions.as_slice(), start, time);
+            self.passed = time;
+            self.starts[slot] = next;
+        }
+        Ok(())
+    }
+}
