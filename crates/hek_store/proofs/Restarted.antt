@@ -1,0 +1,141 @@
+-- The starts of a store's slots, once one of them has changed.
+use Rattle.std.proofs.Common.{◌≡◌, ℕ, zero, suc, ◌+◌, ◌%◌, ◌<◌, ◌≤◌, ◌≢◌, true, false, ◌==◌, List, [], ◌∷◌, ◌++◌, length, slice_index_or, slice_set, refl, sym, ap, subst, ◌∙◌, ⊎_elim, arith, get_or-set_same, get_or-set_other, mod-lt}
+use Rattle.std.specs.Prelude.{map, Option, Some, None, is_some, not, nat_lt, ◌||◌}
+use Rattle.std.proofs.lemmas.List.{get_or-map}
+use Rattle.std.proofs.lemmas.Bool.{cases_eq, or_cases, or_right, both_ways}
+use Rattle.hek_rules.specs.Words.{infinity, begin_time, end_time}
+use Rattle.hek_store.specs.declared.version.Version.{Version}
+use Rattle.hek_store.specs.declared.chains.Ends.{Ends}
+use Rattle.hek_store.specs.Stored.{no_version}
+use Rattle.hek_store.specs.Chained.{keys_of, no_ends, link_or, first_link, next_links, AreLinks}
+use Rattle.hek_store.specs.Indexed.{AreBuckets}
+use Rattle.hek_store.specs.Living.{is_past, is_over_by, is_over, IsStart, IsLiving}
+use Rattle.hek_store.specs.Places.{left}
+use Rattle.hek_store.proofs.Linked.{length_next, next_are_links}
+use Rattle.hek_store.proofs.Added.{same_item}
+use Rattle.hek_store.proofs.Found.{length_keys}
+use Rattle.hek_store.proofs.Started.{start_first, start_later, start_more, start_new, start_set, living_from}
+
+-- ---- the links of a store, as slices show them
+
+pub shown_links : (slots : ℕ) (vs : List Version) (links out : List ℕ) (ends : List Ends) → AreBuckets slots (keys_of vs) links ends → out ≡ links → AreLinks out
+shown_links slots vs links out ends h same = subst AreLinks (sym (same ∙ h.linked)) (next_are_links (λ k. k % slots) (keys_of vs))
+
+pub shown_count : (slots : ℕ) (vs shown : List Version) (links out : List ℕ) (ends : List Ends) → AreBuckets slots (keys_of vs) links ends → out ≡ links → shown ≡ vs → length shown ≡ length out
+shown_count slots vs shown links out ends h same all = ap length all ∙ sym (ap length (same ∙ h.linked) ∙ length_next (λ k. k % slots) 0 (keys_of vs) ∙ length_keys vs)
+
+pub shown_within : (slots slot time link : ℕ) (vs : List Version) (links out : List ℕ) (ends : List Ends) → AreBuckets slots (keys_of vs) links ends → out ≡ links → IsStart slots slot time vs link → link ≤ length out
+shown_within slots slot time link vs links out ends h same s =
+    let count = shown_count slots vs vs links out ends h same refl in
+    let within = s.within in
+    omega (arith, count, within)
+
+-- what is listed along them from a start on
+pub shown_living : (slots key time link : ℕ) (vs shown : List Version) (links out : List ℕ) (ends : List Ends) (listed : List ℕ) → AreBuckets slots (keys_of vs) links ends → out ≡ links → shown ≡ vs →
+    IsStart slots (key % slots) time vs link → listed ≡ left shown key out link → IsLiving vs key time listed
+shown_living slots key time link vs shown links out ends listed h same all s is =
+    living_from slots key time vs links link listed h.linked s (is ∙ ap (λ xs. left xs key out link) all ∙ ap (λ ns. left vs key ns link) same)
+
+-- ---- the start of a slot
+
+-- where its chain begins
+pub start_of_ends : (slots slot time : ℕ) (vs : List Version) (links : List ℕ) (ends : List Ends) → AreBuckets slots (keys_of vs) links ends → slot < slots →
+    IsStart slots slot time vs (slice_index_or ends slot no_ends).first
+start_of_ends slots slot time vs links ends h below = start_first slots slot time vs (slice_index_or ends slot no_ends).first (ap (λ e. e.first) (h.ended slot below))
+
+pub start_of_end : (slots slot time : ℕ) (vs : List Version) (links : List ℕ) (ends : List Ends) (e : Ends) → AreBuckets slots (keys_of vs) links ends → slot < slots → e ≡ slice_index_or ends slot e →
+    IsStart slots slot time vs e.first
+start_of_end slots slot time vs links ends e h below at =
+    let count = h.count in
+    subst (λ x. IsStart slots slot time vs x.first) (sym (at ∙ same_item ends slot e no_ends (omega (arith, count, below)))) (start_of_ends slots slot time vs links ends h below)
+
+-- the one that the store has
+pub start_of : (slots slot passed time : ℕ) (vs : List Version) (starts : List ℕ) (link : ℕ) → length starts ≡ slots → ((b : ℕ) → b < slots → IsStart slots b passed vs (slice_index_or starts b 0)) →
+    slot < slots → passed ≤ time → link ≡ slice_index_or starts slot link → IsStart slots slot time vs link
+start_of slots slot passed time vs starts link begun are below later at =
+    subst (λ l. IsStart slots slot time vs l) (sym (at ∙ same_item starts slot link 0 (omega (arith, begun, below)))) (start_later slots slot passed time vs (slice_index_or starts slot 0) later (are slot below))
+
+-- ---- all starts, where that of one slot is another one now
+
+pub restarted : (slots slot time : ℕ) (vs : List Version) (starts : List ℕ) (link : ℕ) → length starts ≡ slots → slot < slots →
+    ((b : ℕ) → b < slots → b ≢ slot → IsStart slots b time vs (slice_index_or starts b 0)) → IsStart slots slot time vs link →
+    (b : ℕ) → b < slots → IsStart slots b time vs (slice_index_or (slice_set starts slot link) b 0)
+restarted slots slot time vs starts link begun below others new = λ b l.
+    ⊎_elim
+    (λ e. subst (λ c. IsStart slots c time vs (slice_index_or (slice_set starts slot link) c 0)) (sym e)
+    (subst (λ n. IsStart slots slot time vs n) (sym (get_or-set_same starts slot link 0 (omega (arith, begun, below)))) new))
+    (λ other. subst (λ n. IsStart slots b time vs n) (sym (get_or-set_other starts slot b link 0 other)) (others b l other))
+    (cases_eq b slot)
+
+-- a later time, and what is passed over by then
+pub starts_passed : (slots slot passed time : ℕ) (vs : List Version) (starts : List ℕ) (link : ℕ) → length starts ≡ slots → slot < slots → passed ≤ time →
+    ((b : ℕ) → b < slots → IsStart slots b passed vs (slice_index_or starts b 0)) → IsStart slots slot time vs link →
+    (b : ℕ) → b < slots → IsStart slots b time vs (slice_index_or (slice_set starts slot link) b 0)
+starts_passed slots slot passed time vs starts link begun below later are new =
+    restarted slots slot time vs starts link begun below (λ b l other. start_later slots b passed time vs (slice_index_or starts b 0) later (are b l)) new
+
+-- a version more
+pub starts_more : (slots time : ℕ) (vs : List Version) (x : Version) (starts : List ℕ) (link last : ℕ) → 0 < slots → length starts ≡ slots →
+    ((b : ℕ) → b < slots → IsStart slots b time vs (slice_index_or starts b 0)) → link ≡ slice_index_or starts (x.key % slots) link → last ≡ length vs + 1 →
+    (b : ℕ) → b < slots → IsStart slots b time (vs ++ x ∷ []) (slice_index_or (slice_set starts (x.key % slots) (link_or link last)) b 0)
+starts_more slots time vs x starts link last any begun are at is =
+    let slot = x.key % slots in
+    let below : slot < slots = mod-lt x.key any in
+    let now : IsStart slots slot time vs link = start_of slots slot time time vs starts link begun are below (omega arith) at in
+    restarted slots slot time (vs ++ x ∷ []) starts (link_or link last) begun below
+    (λ b l other. start_more slots b time vs x (slice_index_or starts b 0) (λ _ e. other (sym e)) (are b l))
+    (by link now)
+  where
+    by : (n : ℕ) → IsStart slots (x.key % slots) time vs n → IsStart slots (x.key % slots) time (vs ++ x ∷ []) (link_or n last)
+    by zero s = subst (λ n. IsStart slots (x.key % slots) time (vs ++ x ∷ []) n) (sym is) (start_new slots (x.key % slots) time vs x refl s)
+    by (suc n) s = start_more slots (x.key % slots) time vs x (suc n) (λ e. absurd (omega (arith, e))) s
+
+-- another version of the same key in place of one, and the start of its slot where its chain begins
+pub starts_again : (slots time u : ℕ) (vs : List Version) (was x : Version) (links starts new : List ℕ) (ends : List Ends) → 0 < slots → u < length vs → was ≡ slice_index_or vs u was → x.key ≡ was.key →
+    keys_of (slice_set vs u x) ≡ keys_of vs → AreBuckets slots (keys_of vs) links ends → length starts ≡ slots → ((b : ℕ) → b < slots → IsStart slots b time vs (slice_index_or starts b 0)) →
+    new ≡ slice_set starts (was.key % slots) (slice_index_or ends (was.key % slots) no_ends).first →
+    (b : ℕ) → b < slots → IsStart slots b time (slice_set vs u x) (slice_index_or new b 0)
+starts_again slots time u vs was x links starts new ends any there at same keys h begun are is =
+    let slot = was.key % slots in
+    let below : slot < slots = mod-lt was.key any in
+    let old : was.key ≡ (slice_index_or vs u no_version).key = ap (λ y. y.key) (at ∙ same_item vs u was no_version there) in
+    let first = (slice_index_or ends slot no_ends).first in
+    let all = restarted slots slot time (slice_set vs u x) starts first begun below
+    (λ b l other. start_set slots b time vs (slice_index_or starts b 0) u x there (same ∙ old) (λ e o. absurd (other (sym (ap (λ k. k % slots) (sym same) ∙ e)))) (are b l))
+    (start_first slots slot time (slice_set vs u x) first (ap (λ e. e.first) (h.ended slot below) ∙ ap (λ ks. first_link (λ k. k % slots == slot) 0 ks) (sym keys))) in
+    λ b l. subst (λ ns. IsStart slots b time (slice_set vs u x) (slice_index_or ns b 0)) (sym is) (all b l)
+
+-- the same, where what was over there still is
+pub starts_stay : (slots time u : ℕ) (vs : List Version) (was x : Version) (starts : List ℕ) → u < length vs → was ≡ slice_index_or vs u was → x.key ≡ was.key →
+    (is_over time was ≡ true → is_over time x ≡ true) → ((b : ℕ) → b < slots → IsStart slots b time vs (slice_index_or starts b 0)) →
+    (b : ℕ) → b < slots → IsStart slots b time (slice_set vs u x) (slice_index_or starts b 0)
+starts_stay slots time u vs was x starts there at same over are = λ b l.
+    let old : was ≡ slice_index_or vs u no_version = at ∙ same_item vs u was no_version there in
+    start_set slots b time vs (slice_index_or starts b 0) u x there (same ∙ ap (λ y. y.key) old) (λ _ o. over (ap (is_over time) old ∙ o)) (are b l)
+
+-- which versions may be over
+begin-none : (time : ℕ) (from until : Option ℕ) → is_some from ≡ false → is_over_by time from until ≡ true → false ≡ true
+begin-none time None until e o = o
+begin-none time (Some from) until e o = sym e
+
+pub not_over : (time : ℕ) (x y : Version) → is_some (begin_time x.begin) ≡ false → is_over time x ≡ true → is_over time y ≡ true
+not_over time x y e o = let no = begin-none time (begin_time x.begin) (end_time x.end) e o in cc
+
+end-none : (time : ℕ) (from until other : Option ℕ) → is_past time until ≡ false → is_over_by time from until ≡ true → is_over_by time from other ≡ true
+end-none time None until other e o = o
+end-none time (Some from) until other e o =
+    ⊎_elim
+    (λ past. absurd (both_ways (is_past time until) e past))
+    (λ never. or_right (is_past time other) (from == infinity) never)
+    (or_cases (is_past time until) (from == infinity) o)
+
+pub still_over : (time : ℕ) (x y : Version) → y.begin ≡ x.begin → is_past time (end_time x.end) ≡ false → is_over time x ≡ true → is_over time y ≡ true
+still_over time x y same e o = ap (λ w. is_over_by time (begin_time w) (end_time y.end)) same ∙ end-none time (begin_time x.begin) (end_time x.end) (end_time y.end) e o
+
+-- a store whose starts are where the chains begin
+pub starts_fresh : (slots time : ℕ) (vs : List Version) (links starts : List ℕ) (ends : List Ends) → AreBuckets slots (keys_of vs) links ends → starts ≡ map (λ e. e.first) ends →
+    (b : ℕ) → b < slots → IsStart slots b time vs (slice_index_or starts b 0)
+starts_fresh slots time vs links starts ends h is = λ b l.
+    let count = h.count in
+    let at : slice_index_or starts b 0 ≡ (slice_index_or ends b no_ends).first = ap (λ ns. slice_index_or ns b 0) is ∙ get_or-map (λ e. e.first) ends b no_ends 0 (omega (arith, count, l)) in
+    subst (λ n. IsStart slots b time vs n) (sym at) (start_of_ends slots b time vs links ends h l)
