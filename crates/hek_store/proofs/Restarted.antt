@@ -1,13 +1,13 @@
 -- The starts of a store's slots, once one of them has changed.
 use Rattle.std.proofs.Common.{◌≡◌, ℕ, zero, suc, ◌+◌, ◌%◌, ◌<◌, ◌≤◌, ◌≢◌, true, false, ◌==◌, List, [], ◌∷◌, ◌++◌, length, slice_index_or, slice_set, refl, sym, ap, subst, ◌∙◌, ⊎_elim, arith, get_or-set_same, get_or-set_other, mod-lt}
-use Rattle.std.specs.Prelude.{map, Option, Some, None, is_some, not, nat_lt, ◌||◌}
+use Rattle.std.specs.Prelude.{map, Option, Some, None, is_some}
 use Rattle.std.proofs.lemmas.List.{get_or-map}
 use Rattle.std.proofs.lemmas.Bool.{cases_eq, or_cases, or_right, both_ways}
 use Rattle.hek_rules.specs.Words.{infinity, begin_time, end_time}
 use Rattle.hek_store.specs.declared.version.Version.{Version}
 use Rattle.hek_store.specs.declared.chains.Ends.{Ends}
 use Rattle.hek_store.specs.Stored.{no_version}
-use Rattle.hek_store.specs.Chained.{keys_of, no_ends, link_or, first_link, next_links, AreLinks}
+use Rattle.hek_store.specs.Chained.{keys_of, no_ends, link_or, first_link, AreLinks}
 use Rattle.hek_store.specs.Indexed.{AreBuckets}
 use Rattle.hek_store.specs.Living.{is_past, is_over_by, is_over, IsStart, IsLiving}
 use Rattle.hek_store.specs.Places.{left}

@@ -1,15 +1,15 @@
 -- The starts of slots: what stands before them is over, and a chain from one on has the places from there on.
 use Rattle.std.proofs.Common.{◌≡◌, ℕ, zero, suc, ◌+◌, ◌-◌, ◌%◌, ◌<◌, ◌≤◌, ◌≢◌, Bool, true, false, if◌then◌else◌, ◌==◌, List, [], ◌∷◌, ◌++◌, length, slice_index_or, slice_set, refl, sym, ap, subst, ◌∙◌, ⊎_elim, arith, eqb-true, eq-eqb, get_or-set_same, get_or-set_other, length-set, length-append}
-use Rattle.std.specs.Prelude.{filter, not, nat_lt, Option, Some, None, ◌||◌}
+use Rattle.std.specs.Prelude.{filter, not, nat_lt, Option, Some, None}
 use Rattle.std.proofs.Math.Seq.{get_or-append_seam}
 use Rattle.std.proofs.lemmas.List.{get_or_append_left}
 use Rattle.std.proofs.lemmas.Bool.{cond-true, cond-false, cases_Bool, cases_order, cases_eq, cases_lt, lt-ltb, le-ltb, ltb-false, not-true, not_from_false, not_from_true, or_cases, or_left, or_right, both_ways}
 use Rattle.std.proofs.lemmas.Bool.Decides.{nat_tests}
 use Rattle.hek_rules.specs.Words.{infinity, begin_time, end_time}
 use Rattle.hek_store.specs.declared.version.Version.{Version}
-use Rattle.hek_store.specs.Stored.{places, of_key, no_version}
-use Rattle.hek_store.specs.Chained.{keys_of, first_link, next_links, chain, AreLinks}
-use Rattle.hek_store.specs.Living.{is_past, is_over_by, is_over, place_of, IsStart, IsLiving}
+use Rattle.hek_store.specs.Stored.{places, no_version}
+use Rattle.hek_store.specs.Chained.{keys_of, first_link, next_links, chain}
+use Rattle.hek_store.specs.Living.{is_over_by, is_over, place_of, IsStart, IsLiving}
 use Rattle.hek_store.specs.Places.{left}
 use Rattle.hek_store.proofs.Linked.{first-within, first-after, length_next, next-after, next_are_links, chain_places, chain_none, chain-here, chain-there}
 use Rattle.hek_store.proofs.Found.{length_keys, filter-places}
@@ -117,7 +117,7 @@ start_first slots slot time vs link is =
           ∙ eqb-true (slice_index_or (keys_of vs) (link - 1) 0 % slots) slot (first-hit test 0 (link - 1) (keys_of vs) (sym is ∙ omega (arith, p)));
       over = λ v before l same.
           let miss : test (slice_index_or (keys_of vs) v 0) ≡ false = first-miss test 0 v (keys_of vs) (omega (arith, l, long))
-              (λ p. let some : 0 < link = omega (arith, is, p) in let more = place-before (length vs) link v before some in omega (arith, is, more)) in
+          (λ p. let some : 0 < link = omega (arith, is, p) in let more = place-before (length vs) link v before some in omega (arith, is, more)) in
           let hit : test (slice_index_or (keys_of vs) v 0) ≡ true = eq-eqb (slice_index_or (keys_of vs) v 0 % slots) slot (ap (λ k. k % slots) (key-at vs v) ∙ same) in
           absurd (both_ways (test (slice_index_or (keys_of vs) v 0)) miss hit);
     }

@@ -108,12 +108,29 @@ impl Store {
         let slot = (key % self.slots) as usize;
         if time < self.passed {
             let first = self.ends_of[slot].first;
-            return list_from(self.next_of.as_slice(), self.versions.as_slice(), key, first, living);
+            return list_from(
+                self.next_of.as_slice(),
+                self.versions.as_slice(),
+                key,
+                first,
+                living,
+            );
         }
         let start = self.starts[slot];
-        list_from(self.next_of.as_slice(), self.versions.as_slice(), key, start, living)?;
+        list_from(
+            self.next_of.as_slice(),
+            self.versions.as_slice(),
+            key,
+            start,
+            living,
+        )?;
         if living.len() >= MANY {
-            let next = next_left(self.next_of.as_slice(), self.versions.as_slice(), start, time);
+            let next = next_left(
+                self.next_of.as_slice(),
+                self.versions.as_slice(),
+                start,
+                time,
+            );
             self.passed = time;
             self.starts[slot] = next;
         }

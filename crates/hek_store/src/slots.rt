@@ -39,5 +39,10 @@ pub(crate) fn spread_over(versions: &Vec<Version>) -> Result<Spread, NoMemory>
     for slot in 0..ends.len() {
         starts.push_reserved(ends[slot].first);
     }
-    Ok(Spread { slots, links, ends, starts })
+    Ok(Spread {
+        slots,
+        links,
+        ends,
+        starts,
+    })
 }

@@ -1,4 +1,4 @@
-use Rattle.std.proofs.Common.{◌≡◌, ◌%◌, ◌<◌, ◌≤◌, ◌∙◌, ap, sym, subst, refl, arith, mod-lt, length-set}
+use Rattle.std.proofs.Common.{◌%◌, ◌<◌, ◌≤◌, ◌∙◌, ap, sym, subst, arith, mod-lt, length-set}
 use Rattle.std.proofs.lemmas.Map.Keys.{ge_from_not_lt}
 use Rattle.std.proofs.lemmas.Result.{on_ok_weaker}
 use Rattle.hek_store.specs.Chained.{keys_of, next_links}

@@ -1,6 +1,5 @@
-use Rattle.std.proofs.Common.{◌≡◌, ap, sym, subst, ◌∙◌, rules, arith, length, length-map}
-use Rattle.hek_store.specs.Chained.{keys_of}
-use Rattle.hek_store.specs.Living.{IsStart}
+use Rattle.std.proofs.Common.{ap, ◌∙◌, rules, length}
+use Rattle.std.proofs.lemmas.List.{length-map}
 use Rattle.hek_store.proofs.Restarted.{starts_fresh}
 use Rattle.hek_store.proofs.store.Store.reserve.Goals as goal
 
