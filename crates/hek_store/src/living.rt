@@ -15,9 +15,6 @@ use hek_word::EndWord;
 /// The number of the time that never comes.
 const INFINITY: u64 = 0x7FFF_FFFF_FFFF_FFFF;
 
-/// A key with fewer versions than these to go along is left as it is.
-const MANY: usize = 4;
-
 /// Whether the word is a time that isn't later than this one.
 pub(crate) fn is_past(end: EndWord, time: Time) -> bool
     ensures { result ≡ is_past time (end_time end) }
@@ -95,15 +92,14 @@ pub(crate) fn look_again(starts: &mut Vec<usize>, ends: &Vec<Ends>, slots: u64, 
 impl Store {
     /// Lists the versions of a key in order of creation, in place of what the list held, without some of the first, which are
     /// over by this time: nobody sees them who looks then or later. Each takes time in the versions of other keys that share
-    /// its slot. Where they are many, those that are over are passed over from now on.
+    /// its slot.
     pub fn list_living(
-        &mut self,
+        &self,
         key: u64,
         time: Time,
         living: &mut Vec<VersionId>,
     ) -> Result<(), NoMemory>
-        ensures store { self.new ≡ self.old }
-        ensures living { OnOk result (IsLiving self.old.versions key time living.new.items) }
+        ensures { OnOk result (IsLiving self.now.versions key time living.new.items) }
     {
         let slot = (key % self.slots) as usize;
         if time < self.passed {
@@ -123,17 +119,25 @@ impl Store {
             key,
             start,
             living,
-        )?;
-        if living.len() >= MANY {
-            let next = next_left(
-                self.next_of.as_slice(),
-                self.versions.as_slice(),
-                start,
-                time,
-            );
-            self.passed = time;
-            self.starts[slot] = next;
+        )
+    }
+
+    /// The first versions of the key's slot, as far as they are over by this time, are passed over from now on, for those who look
+    /// then or later; unless some are passed over for a later time. It takes time in those passed over, each of them once.
+    pub fn pass_over(&mut self, key: u64, time: Time)
+        ensures { self.new ≡ self.old }
+    {
+        if time < self.passed {
+            return;
         }
-        Ok(())
+        let slot = (key % self.slots) as usize;
+        let next = next_left(
+            self.next_of.as_slice(),
+            self.versions.as_slice(),
+            self.starts[slot],
+            time,
+        );
+        self.passed = time;
+        self.starts[slot] = next;
     }
 }

@@ -1,9 +1,8 @@
-use Rattle.std.proofs.Common.{◌%◌, ◌<◌, ◌≤◌, ◌∙◌, ap, sym, subst, arith, mod-lt, length-set}
+use Rattle.std.proofs.Common.{◌%◌, ◌<◌, ◌≤◌, sym, subst, arith, mod-lt}
 use Rattle.std.proofs.lemmas.Map.Keys.{ge_from_not_lt}
 use Rattle.std.proofs.lemmas.Result.{on_ok_weaker}
-use Rattle.hek_store.specs.Chained.{keys_of, next_links}
-use Rattle.hek_store.specs.Living.{IsStart, IsLiving}
-use Rattle.hek_store.proofs.Restarted.{shown_links, shown_count, shown_within, shown_living, start_of_end, start_of, starts_passed}
+use Rattle.hek_store.specs.Living.{IsLiving}
+use Rattle.hek_store.proofs.Restarted.{shown_links, shown_count, shown_within, shown_living, start_of_end, start_of}
 use Rattle.hek_store.proofs.store.Store.list_living.Goals as goal
 
 pub list_from-requires-clause-rising : goal.list_from-requires-clause-rising
@@ -23,8 +22,8 @@ list_from-requires-clause-paired c =
     let s = c.self.inside in
     shown_count s.slots s.versions.items c.as_slice-then-lt.result.now s.next_of.items c.as_slice.result.now s.ends_of.items c.self.invariant.in_slots c.as_slice.ensures.value c.as_slice-then-lt.ensures.value
 
-pub returns-then-lt-clause-living : goal.returns-then-lt-clause-living
-returns-then-lt-clause-living c =
+pub returns-then-lt : goal.returns-then-lt
+returns-then-lt c =
     let s = c.self.inside in
     let slot = c.args.key % s.slots in
     let start = start_of_end s.slots slot c.args.time s.versions.items s.next_of.items s.ends_of.items c.index.result.now c.self.invariant.in_slots (mod-lt c.args.key c.self.invariant.any) c.index.ensures in
@@ -51,66 +50,15 @@ list_from-requires-2-clause-paired c =
     let s = c.self.inside in
     shown_count s.slots s.versions.items c.as_slice-3.result.now s.next_of.items c.as_slice-2.result.now s.ends_of.items c.self.invariant.in_slots c.as_slice-2.ensures.value c.as_slice-3.ensures.value
 
-pub next_left-next-requires-clause-rising : goal.next_left-next-requires-clause-rising
-next_left-next-requires-clause-rising c =
-    let s = c.self.inside in
-    shown_links s.slots s.versions.items s.next_of.items c.as_slice-then-len-ge-MANY.result.now s.ends_of.items c.self.invariant.in_slots c.as_slice-then-len-ge-MANY.ensures.value
-
-pub next_left-next-requires-clause-within : goal.next_left-next-requires-clause-within
-next_left-next-requires-clause-within c =
-    let s = c.self.inside in
-    let slot = c.args.key % s.slots in
-    let start = start_of s.slots slot s.passed s.passed s.versions.items s.starts.items c.index-start.result.now c.self.invariant.begun c.self.invariant.starts (mod-lt c.args.key c.self.invariant.any) (omega arith) c.index-start.ensures in
-    shown_within s.slots slot s.passed c.index-start.result.now s.versions.items s.next_of.items c.as_slice-then-len-ge-MANY.result.now s.ends_of.items c.self.invariant.in_slots c.as_slice-then-len-ge-MANY.ensures.value start
-
-pub next_left-next-requires-clause-paired : goal.next_left-next-requires-clause-paired
-next_left-next-requires-clause-paired c =
-    let s = c.self.inside in
-    shown_count s.slots s.versions.items c.as_slice-then-len-ge-MANY-2.result.now s.next_of.items c.as_slice-then-len-ge-MANY.result.now s.ends_of.items c.self.invariant.in_slots
-    c.as_slice-then-len-ge-MANY.ensures.value c.as_slice-then-len-ge-MANY-2.ensures.value
-
-pub invariant_of-self : goal.invariant_of-self
-invariant_of-self c =
+pub returns : goal.returns
+returns c =
     let s = c.self.inside in
     let slot = c.args.key % s.slots in
     let below : slot < s.slots = mod-lt c.args.key c.self.invariant.any in
     let later : s.passed ≤ c.args.time = ge_from_not_lt c.args.time s.passed (sym c.if-lt.ensures) in
     let start = start_of s.slots slot s.passed c.args.time s.versions.items s.starts.items c.index-start.result.now c.self.invariant.begun c.self.invariant.starts below later c.index-start.ensures in
-    let shown = c.as_slice-then-len-ge-MANY-2.ensures.value in
-    let next : IsStart s.slots slot c.args.time s.versions.items c.next_left-next.result =
-    subst (λ vs. IsStart s.slots slot c.args.time vs c.next_left-next.result) shown
-    (c.next_left-next.ensures s.slots slot (c.as_slice-then-len-ge-MANY.ensures.value ∙ c.self.invariant.in_slots.linked ∙ ap (λ vs. next_links (λ k. k % s.slots) 0 (keys_of vs)) (sym shown))
-    (subst (λ vs. IsStart s.slots slot c.args.time vs c.index-start.result.now) (sym shown) start)) in
-    record {
-      some = c.self.invariant.some;
-      in_buckets = c.self.invariant.in_buckets;
-      any = c.self.invariant.any;
-      in_slots = c.self.invariant.in_slots;
-      roomy = c.self.invariant.roomy;
-      roomy_in = c.self.invariant.roomy_in;
-      roomy_of = c.self.invariant.roomy_of;
-      begun = length-set s.starts.items slot c.next_left-next.result ∙ c.self.invariant.begun;
-      starts = starts_passed s.slots slot s.passed c.args.time s.versions.items s.starts.items c.next_left-next.result c.self.invariant.begun below later c.self.invariant.starts next;
-    }
-
-pub returns-then-len-ge-MANY-clause-living : goal.returns-then-len-ge-MANY-clause-living
-returns-then-len-ge-MANY-clause-living c =
-    let s = c.self.inside in
-    let slot = c.args.key % s.slots in
-    let below : slot < s.slots = mod-lt c.args.key c.self.invariant.any in
-    let later : s.passed ≤ c.args.time = ge_from_not_lt c.args.time s.passed (sym c.if-lt.ensures) in
-    let start = start_of s.slots slot s.passed c.args.time s.versions.items s.starts.items c.index-start.result.now c.self.invariant.begun c.self.invariant.starts below later c.index-start.ensures in
-    subst (λ x. IsLiving x.versions c.args.key c.args.time c.list_from-2.new.list.items) c.self.view_is
+    on_ok_weaker c.list_from-2.result
+    (λ is. subst (λ x. IsLiving x.versions c.args.key c.args.time c.list_from-2.new.list.items) c.self.view_is
     (shown_living s.slots c.args.key c.args.time c.index-start.result.now s.versions.items c.as_slice-3.result.now s.next_of.items c.as_slice-2.result.now s.ends_of.items c.list_from-2.new.list.items
-    c.self.invariant.in_slots c.as_slice-2.ensures.value c.as_slice-3.ensures.value start c.in_ok-list_from.ensures)
-
-pub returns-else-len-ge-MANY-clause-living : goal.returns-else-len-ge-MANY-clause-living
-returns-else-len-ge-MANY-clause-living c =
-    let s = c.self.inside in
-    let slot = c.args.key % s.slots in
-    let below : slot < s.slots = mod-lt c.args.key c.self.invariant.any in
-    let later : s.passed ≤ c.args.time = ge_from_not_lt c.args.time s.passed (sym c.if-lt.ensures) in
-    let start = start_of s.slots slot s.passed c.args.time s.versions.items s.starts.items c.index-start.result.now c.self.invariant.begun c.self.invariant.starts below later c.index-start.ensures in
-    subst (λ x. IsLiving x.versions c.args.key c.args.time c.list_from-2.new.list.items) c.self.view_is
-    (shown_living s.slots c.args.key c.args.time c.index-start.result.now s.versions.items c.as_slice-3.result.now s.next_of.items c.as_slice-2.result.now s.ends_of.items c.list_from-2.new.list.items
-    c.self.invariant.in_slots c.as_slice-2.ensures.value c.as_slice-3.ensures.value start c.in_ok-list_from.ensures)
+    c.self.invariant.in_slots c.as_slice-2.ensures.value c.as_slice-3.ensures.value start is))
+    c.list_from-2.ensures
