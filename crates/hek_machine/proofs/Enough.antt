@@ -1,7 +1,7 @@
 -- Versions of a key that are enough: those left out bring nothing to a walk, aren't seen, and claim nothing.
 use Rattle.std.proofs.Common.{◌≡◌, ℕ, zero, suc, ◌+◌, ◌<◌, ◌%◌, Bool, true, false, List, [], ◌∷◌, refl, ◌∙◌, ap, sym, subst, arith, length, Option, ⊎_elim}
 use Rattle.std.proofs.lemmas.Bool.{cases_Bool, cases_lt, cond-true, cond-false, cond_both, eqb-true, false≢true, le-ltb, lt-ltb}
-use Rattle.std.specs.Prelude.{◌==◌, ◌≤◌, not, nat_lt, Some, None, ◌&&◌, ◌||◌, filter, if◌then◌else◌, slice_index_or}
+use Rattle.std.specs.Prelude.{◌==◌, ◌≤◌, ◌⊎◌, not, nat_lt, None, ◌&&◌, ◌||◌, filter, if◌then◌else◌, slice_index_or}
 use Rattle.std.specs.List.{All, AllByRecursion, list_any}
 use Rattle.hek_rules.specs.World.{World, Version, Txn, EndedAt, Held, txn_in, version_in, bucket_of, places}
 use Rattle.hek_rules.specs.Words.{infinity, begin_time, end_time}
@@ -29,7 +29,7 @@ use Rattle.hek_machine.proofs.KeyPlaces.{of_key-below, of_key-same, filter_below
 use Rattle.hek_machine.proofs.RuleWalks.{key_places}
 use Rattle.hek_machine.proofs.WalkRules.{sight-shown, sight_time}
 use Rattle.hek_machine.proofs.ClaimRules.{claim_told}
-use Rattle.hek_machine.specs.LivingTmp.{IsLiving, is_over, is_over_by, is_past}
+use Rattle.hek_store.specs.Living.{IsLiving, is_over, is_over_by, is_past}
 
 -- ---- lists without some of their members
 
@@ -211,3 +211,7 @@ living_enough m t key vs o now living =
   where
     before : (v from : ℕ) → not (nat_lt v from) ≡ false → v < from
     before v from n = ⊎_elim (λ (l : v < from). l) (λ (g : from ≤ v). absurd (false≢true (sym n ∙ ap not (le-ltb v from g)))) (cases_lt v from)
+
+pub now_by_level : (level told : Level) → told ≡ level → (told ≡ Serializable) ⊎ (told ≡ Repeatable) → LooksNow level
+now_by_level level told same which =
+    subst LooksNow same (⊎_elim (λ s. subst LooksNow (sym s) tt) (λ r. subst LooksNow (sym r) tt) which)

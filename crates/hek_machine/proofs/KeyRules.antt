@@ -19,7 +19,7 @@ use Rattle.hek_laws.proofs.Runs.Reachable.{reachable-sound}
 use Rattle.hek_laws.proofs.Sound.InWalks.{part-sound}
 use Rattle.hek_laws.proofs.Sound.WaitsFall.{length-walked}
 use Rattle.hek_laws.proofs.Table.Unchanged.{apply_all-times}
-use Rattle.hek_store.specs.Stored.{of_key}
+use Rattle.hek_store.specs.declared.version.Version.{Version}
 use Rattle.hek_txn.specs.TxnTable.{Declared}
 use Rattle.hek_buckets.specs.LockLists.{holders_of}
 use Rattle.hek_refinement.proofs.Known.{begun-known, present-known, has-first}
@@ -30,20 +30,29 @@ use Rattle.hek_machine.specs.Stands.{Shows, StandsFor, StandsForSome, IsRule, St
 use Rattle.hek_machine.specs.Judgements.{IsShown, IsAimed, seen_among}
 use Rattle.hek_machine.specs.Room.{Reserved, CanMake, KeepsAdding}
 use Rattle.hek_machine.specs.Walked.{ArePlaces, After, CanAdd, IsAdding, deleted_reply}
-use Rattle.hek_machine.specs.Written.{key_walk, after_walk, after_making, after_conflict}
+use Rattle.hek_machine.specs.Written.{AreEnough, key_walk, after_walk, after_making, after_conflict}
 use Rattle.hek_machine.proofs.Joining.{can_make_kept}
-use Rattle.hek_machine.proofs.KeyPlaces.{of_key-below, of_key-same}
 use Rattle.hek_machine.proofs.Reserves.{reserved-shows}
-use Rattle.hek_machine.proofs.RuleWalks.{Came, came-over, open_active, key_places, key-walk, last-seen, rule_refused, rule_allowed, reserved-stands}
+use Rattle.hek_machine.proofs.RuleWalks.{Came, open_active, rule_refused, rule_allowed, reserved-stands, reserved-back}
 use Rattle.hek_machine.proofs.WalkRules.{seen-same}
 
 -- ---- the versions of a key
 
-pub key_below : (m : Engine) (key : ℕ) (vs : List ℕ) → vs ≡ of_key m.store.versions key → All (λ v. v < length m.store.versions) vs
-key_below m key vs e = subst (All (λ v. v < length m.store.versions)) (sym e) (of_key-below m.store key)
+pub bucket_places : (m : Engine) (t key bucket : ℕ) (vs : List ℕ) → bucket ≡ key % m.store.buckets → AreEnough m t key vs → ArePlaces m bucket vs
+bucket_places m t key bucket vs a e = subst (λ n. ArePlaces m n vs) (sym a) e.places
 
-pub bucket_places : (m : Engine) (key bucket : ℕ) (vs : List ℕ) → StandsForSome m → bucket ≡ key % m.store.buckets → vs ≡ of_key m.store.versions key → ArePlaces m bucket vs
-bucket_places m key bucket vs o a b = subst (λ n. ArePlaces m n vs) (sym a) (subst (ArePlaces m (key % m.store.buckets)) (sym b) (key_places m key o))
+pub enough_as : (m : Engine) (t key : ℕ) (vs xs : List ℕ) → vs ≡ xs → AreEnough m t key xs → AreEnough m t key vs
+enough_as m t key vs xs e h = subst (AreEnough m t key) (sym e) h
+
+-- the walk over those versions, by the number of their bucket
+walk-enough : (m : Engine) (w : World) (t key bucket : ℕ) (vs : List ℕ) (p : Purpose) → StandsFor m w → bucket ≡ key % m.store.buckets → AreEnough m t key vs →
+    walk w t p bucket vs ≡ key_walk w t p key
+walk-enough m w t key bucket vs p s a e = ap (λ n. walk w t p n vs) (a ∙ ap (λ n. key % n) s.shows.store.buckets) ∙ e.walked w p s
+
+came-on : (m n : Engine) (t key bucket : ℕ) (vs : List ℕ) (p : Purpose) (o other : Option Cause) → bucket ≡ key % m.store.buckets → AreEnough m t key vs → o ≡ other → Came m n t p bucket vs o →
+    (w : World) → StandsFor m w → After n t w (key_walk w t p key) other
+came-on m n t key bucket vs p o other a b c came w s =
+    subst (λ x. After n t w (key_walk w t p key) x) c (subst (λ j. After n t w j o) (walk-enough m w t key bucket vs p s a b) (came w s))
 
 -- ---- rows
 
@@ -56,18 +65,16 @@ rule_same m n f g r same rule = record {
 
 -- a walk that is refused
 pub key_refused : (m n : Engine) (t key bucket : ℕ) (vs : List ℕ) (p : Purpose) (after : World → Judgement → Outcome) (o : Option Cause) (cause : Cause) →
-    ((w : World) (c : Cause) → after w (Refuse c) ≡ aborted w t c) → bucket ≡ key % m.store.buckets → vs ≡ of_key m.store.versions key → o ≡ Some cause → Came m n t p bucket vs o →
+    ((w : World) (c : Cause) → after w (Refuse c) ≡ aborted w t c) → bucket ≡ key % m.store.buckets → AreEnough m t key vs → o ≡ Some cause → Came m n t p bucket vs o →
     IsRule (λ w. after w (key_walk w t p key)) m n (reply.Aborted cause)
 key_refused m n t key bucket vs p after o cause is a b some came =
-    rule_refused m n t (λ w. after w (key_walk w t p key)) (λ w. walk w t p (key % m.store.buckets) (of_key m.store.versions key)) cause
-    (λ w c s j. ap (after w) (sym (key-walk m w t key p s) ∙ j) ∙ is w c) (came-over m n t key bucket vs p o (Some cause) a b some came)
+    rule_refused m n t (λ w. after w (key_walk w t p key)) (λ w. key_walk w t p key) cause (λ w c s j. ap (after w) j ∙ is w c) (came-on m n t key bucket vs p o (Some cause) a b some came)
 
 -- one that is allowed
-pub key_walked : (m n : Engine) (t key bucket : ℕ) (vs : List ℕ) (p : Purpose) (answer : Reply) (o : Option Cause) → bucket ≡ key % m.store.buckets → vs ≡ of_key m.store.versions key → o ≡ None →
+pub key_walked : (m n : Engine) (t key bucket : ℕ) (vs : List ℕ) (p : Purpose) (answer : Reply) (o : Option Cause) → bucket ≡ key % m.store.buckets → AreEnough m t key vs → o ≡ None →
     Came m n t p bucket vs o → IsRule (λ w. after_walk w t answer (key_walk w t p key)) m n answer
 key_walked m n t key bucket vs p answer o a b none came =
-    rule_allowed m n t (λ w. after_walk w t answer (key_walk w t p key)) (λ w. walk w t p (key % m.store.buckets) (of_key m.store.versions key)) answer
-    (λ w es s j. ap (after_walk w t answer) (sym (key-walk m w t key p s) ∙ j)) (came-over m n t key bucket vs p o None a b none came)
+    rule_allowed m n t (λ w. after_walk w t answer (key_walk w t p key)) (λ w. key_walk w t p key) answer (λ w es s j. ap (after_walk w t answer) j) (came-on m n t key bucket vs p o None a b none came)
 
 -- ---- room
 
@@ -83,6 +90,19 @@ still_after_room m k n reserved s = record { world = λ w h. s.world w ((reserve
 pub aimed_after_room : (m n : Engine) (t : ℕ) (vs : List ℕ) (aim : Aim) → Reserved m n → StandsForSome m → IsAimed m t vs aim → IsAimed n t vs aim
 aimed_after_room m n t vs aims.ToRead r o a = tt
 aimed_after_room m n t vs (aims.ToWrite target) r o a = a ∙ ap last (sym (seen-same m t vs o.world o.stands) ∙ seen-same n t vs o.world (reserved-stands m n r o.world o.stands))
+
+pub enough_after_room : (m n : Engine) (t key : ℕ) (vs : List ℕ) → Reserved m n → AreEnough m t key vs → AreEnough n t key vs
+enough_after_room m n t key vs r e = record {
+  below = subst (λ (xs : List Version). All (λ v. v < length xs) vs) (sym r.versions) e.below;
+  places = record {
+    test = e.places.test;
+    same = λ w s. e.places.same w (reserved-back m n r w s);
+    there = λ w s. subst (λ b. key % b < w.buckets) (sym r.store_buckets) (e.places.there w (reserved-back m n r w s));
+  };
+  walked = λ w p s. e.walked w p (reserved-back m n r w s);
+  seen = λ w s. e.seen w (reserved-back m n r w s);
+  claimed = λ w s. e.claimed w (reserved-back m n r w s);
+}
 
 pub holders_declared : (m : Engine) (b : ℕ) → StandsForSome m → All (λ h. Declared m.txns h) (holders_of m.buckets b).items
 holders_declared m b o k d l =
@@ -130,15 +150,14 @@ pub record CanMakeIt (m n : Engine) (t key : ℕ) : Type 0 where
   pub buckets : n.store.buckets ≡ m.store.buckets
 
 pub walk_makes : (m n : Engine) (t key bucket : ℕ) (vs : List ℕ) (p : Purpose) (o : Option Cause) → StandsForSome m → is_open (txn_in m.txns.cores t) ≡ true → length m.store.versions < 2 ^ 58 →
-    bucket ≡ key % m.store.buckets → vs ≡ of_key m.store.versions key → o ≡ None → Came m n t p bucket vs o → CanMakeIt m n t key
+    bucket ≡ key % m.store.buckets → AreEnough m t key vs → o ≡ None → Came m n t p bucket vs o → CanMakeIt m n t key
 walk_makes m n t key bucket vs p o order open_now small a b none came =
     let w : World = order.world in
-    let over = came-over m n t key bucket vs p o None a b none came in
-    let r = each_allowed m n w t (key % m.store.buckets) (of_key m.store.versions key) p _ refl (over w order.stands) in
+    let r = each_allowed m n w t bucket vs p _ refl (subst (After n t w (walk w t p bucket vs)) none (came w order.stands)) in
     record {
       able = record {
         world = apply_all t w r.0;
-        can = can_add m n w t (key % m.store.buckets) (of_key m.store.versions key) p r.0 order.stands (key_places m key order) open_now small r.1 r.2;
+        can = can_add m n w t bucket vs p r.0 order.stands (bucket_places m t key bucket vs a b) open_now small r.1 r.2;
       };
       buckets = r.2.store.buckets ∙ (apply_all-times t w r.0).buckets ∙ sym order.stands.shows.store.buckets;
     }
@@ -147,26 +166,26 @@ pub room_left : (m n : Engine) (t key : ℕ) → KeepsAdding m n t → n.store.b
 room_left m n t key kept same make = subst (λ b. CanMake n t (key % b)) (sym same) (can_make_kept m n t (key % m.store.buckets) kept make)
 
 pub key_made : (m n new : Engine) (t key value bucket : ℕ) (vs : List ℕ) (p : Purpose) (o : Option Cause) → StandsForSome m → is_open (txn_in m.txns.cores t) ≡ true → length m.store.versions < 2 ^ 58 →
-    bucket ≡ key % m.store.buckets → vs ≡ of_key m.store.versions key → o ≡ None → Came m n t p bucket vs o → ((w : World) → CanAdd n t w → Shows new (add_version w t key value)) →
+    bucket ≡ key % m.store.buckets → AreEnough m t key vs → o ≡ None → Came m n t p bucket vs o → ((w : World) → CanAdd n t w → Shows new (add_version w t key value)) →
     IsRule (λ w. after_making w t key value (key_walk w t p key)) m new reply.Done
 key_made m n new t key value bucket vs p o order open_now small a b none came added = record {
   reply = λ w s. ap (λ (x : Outcome). x.reply) (sym (same w s));
   shows = λ w s. subst (λ (x : Outcome). Shows new x.world) (sym (same w s)) (added (apply_all t w (found_in w s).0) (can w s));
 }
   where
-    found_in : (w : World) → StandsFor m w → (es : List Effect) × (walk w t p (key % m.store.buckets) (of_key m.store.versions key) ≡ Allow es) × Shows n (apply_all t w es)
-    found_in w s = each_allowed m n w t (key % m.store.buckets) (of_key m.store.versions key) p _ refl (came-over m n t key bucket vs p o None a b none came w s)
+    found_in : (w : World) → StandsFor m w → (es : List Effect) × (walk w t p bucket vs ≡ Allow es) × Shows n (apply_all t w es)
+    found_in w s = each_allowed m n w t bucket vs p _ refl (subst (After n t w (walk w t p bucket vs)) none (came w s))
 
     same : (w : World) (s : StandsFor m w) → after_making w t key value (key_walk w t p key) ≡ record { reply = reply.Done; world = add_version (apply_all t w (found_in w s).0) t key value }
-    same w s = ap (after_making w t key value) (sym (key-walk m w t key p s) ∙ (found_in w s).1)
+    same w s = ap (after_making w t key value) (sym (walk-enough m w t key bucket vs p s a b) ∙ (found_in w s).1)
 
     can : (w : World) (s : StandsFor m w) → CanAdd n t (apply_all t w (found_in w s).0)
-    can w s = can_add m n w t (key % m.store.buckets) (of_key m.store.versions key) p (found_in w s).0 s (key_places m key order) open_now small (found_in w s).1 (found_in w s).2
+    can w s = can_add m n w t bucket vs p (found_in w s).0 s (bucket_places m t key bucket vs a b) open_now small (found_in w s).1 (found_in w s).2
 
 -- ---- what was seen
 
-seen-target : (m : Engine) (w : World) (t key : ℕ) (vs : List ℕ) (target : Option ℕ) → StandsFor m w → vs ≡ of_key m.store.versions key → target ≡ last (seen_among m t vs) → last (seen_of w t (walking.of_key w key)) ≡ target
-seen-target m w t key vs target s b e = sym (e ∙ ap (λ x. last (seen_among m t x)) b ∙ last-seen m w t key s)
+seen-target : (m : Engine) (w : World) (t key : ℕ) (vs : List ℕ) (target : Option ℕ) → StandsFor m w → AreEnough m t key vs → target ≡ last (seen_among m t vs) → last (seen_of w t (walking.of_key w key)) ≡ target
+seen-target m w t key vs target s b e = ap last (sym (b.seen w s) ∙ seen-same m t vs w s) ∙ sym e
 
 -- ---- the rows of each event
 
@@ -174,7 +193,7 @@ read-is : (w : World) (t : ℕ) (target : Option ℕ) (j : Judgement) → after_
 read-is w t target (Refuse cause) = refl
 read-is w t target (Allow es) = refl
 
-pub read_row_is : (m : Engine) (t key : ℕ) (vs : List ℕ) (target : Option ℕ) (r : Reply) → vs ≡ of_key m.store.versions key → target ≡ last (seen_among m t vs) → IsShown m (λ w. found w target) r →
+pub read_row_is : (m : Engine) (t key : ℕ) (vs : List ℕ) (target : Option ℕ) (r : Reply) → AreEnough m t key vs → target ≡ last (seen_among m t vs) → IsShown m (λ w. found w target) r →
     (w : World) → StandsFor m w → read_rule w t key ≡ after_walk w t r (key_walk w t ToRead key)
 read_row_is m t key vs target r b e shown w s =
     read-is w t (last (seen_of w t (walking.of_key w key))) (key_walk w t ToRead key)
@@ -186,7 +205,7 @@ delete-is w t (Some v) (Refuse cause) = refl
 delete-is w t None (Allow es) = refl
 delete-is w t (Some v) (Allow es) = refl
 
-pub delete_row_is : (m : Engine) (t key : ℕ) (vs : List ℕ) (target : Option ℕ) (r : Reply) → vs ≡ of_key m.store.versions key → target ≡ last (seen_among m t vs) → r ≡ deleted_reply target →
+pub delete_row_is : (m : Engine) (t key : ℕ) (vs : List ℕ) (target : Option ℕ) (r : Reply) → AreEnough m t key vs → target ≡ last (seen_among m t vs) → r ≡ deleted_reply target →
     (w : World) → StandsFor m w → delete_rule w t key ≡ after_walk w t r (key_walk w t ToWrite key)
 delete_row_is m t key vs target r b e g w s =
     delete-is w t (last (seen_of w t (walking.of_key w key))) (key_walk w t ToWrite key)
@@ -202,12 +221,12 @@ update-none w t key value None (Refuse cause) e = refl
 update-none w t key value None (Allow es) e = refl
 update-none w t key value (Some x) j e = cc
 
-pub update_makes : (m : Engine) (t key value v : ℕ) (vs : List ℕ) (target : Option ℕ) → vs ≡ of_key m.store.versions key → target ≡ last (seen_among m t vs) → target ≡ Some v →
+pub update_makes : (m : Engine) (t key value v : ℕ) (vs : List ℕ) (target : Option ℕ) → AreEnough m t key vs → target ≡ last (seen_among m t vs) → target ≡ Some v →
     (w : World) → StandsFor m w → update_rule w t key value ≡ after_making w t key value (key_walk w t ToWrite key)
 update_makes m t key value v vs target b e some w s =
     update-some w t key value v (last (seen_of w t (walking.of_key w key))) (key_walk w t ToWrite key) (seen-target m w t key vs target s b e ∙ some)
 
-pub update_sees_none : (m : Engine) (t key value : ℕ) (vs : List ℕ) (target : Option ℕ) → vs ≡ of_key m.store.versions key → target ≡ last (seen_among m t vs) → target ≡ None →
+pub update_sees_none : (m : Engine) (t key value : ℕ) (vs : List ℕ) (target : Option ℕ) → AreEnough m t key vs → target ≡ last (seen_among m t vs) → target ≡ None →
     (w : World) → StandsFor m w → update_rule w t key value ≡ after_walk w t reply.Absent (key_walk w t ToWrite key)
 update_sees_none m t key value vs target b e none w s =
     update-none w t key value (last (seen_of w t (walking.of_key w key))) (key_walk w t ToWrite key) (seen-target m w t key vs target s b e ∙ none)
@@ -217,12 +236,12 @@ insert-some w t key value v None j e = cc
 insert-some w t key value v (Some x) (Refuse cause) e = refl
 insert-some w t key value v (Some x) (Allow es) e = refl
 
-pub insert_exists : (m : Engine) (t key value v : ℕ) (vs : List ℕ) (target : Option ℕ) → vs ≡ of_key m.store.versions key → target ≡ last (seen_among m t vs) → target ≡ Some v →
+pub insert_exists : (m : Engine) (t key value v : ℕ) (vs : List ℕ) (target : Option ℕ) → AreEnough m t key vs → target ≡ last (seen_among m t vs) → target ≡ Some v →
     (w : World) → StandsFor m w → insert_rule w t key value ≡ after_walk w t reply.Exists (key_walk w t ToRead key)
 insert_exists m t key value v vs target b e some w s =
     insert-some w t key value v (last (seen_of w t (walking.of_key w key))) (key_walk w t ToRead key) (seen-target m w t key vs target s b e ∙ some)
 
-pub insert_sees_none : (m : Engine) (t key value : ℕ) (vs : List ℕ) (target : Option ℕ) → vs ≡ of_key m.store.versions key → target ≡ last (seen_among m t vs) → target ≡ None →
+pub insert_sees_none : (m : Engine) (t key value : ℕ) (vs : List ℕ) (target : Option ℕ) → AreEnough m t key vs → target ≡ last (seen_among m t vs) → target ≡ None →
     (w : World) → StandsFor m w → insert_rule w t key value ≡ after_insert w t key value None (key_walk w t ToRead key)
 insert_sees_none m t key value vs target b e none w s =
     ap (λ x. after_insert w t key value x (key_walk w t ToRead key)) (seen-target m w t key vs target s b e ∙ none)
@@ -235,14 +254,14 @@ unclaimed-is : (w : World) (t key value : ℕ) (j : Judgement) → is_claimed w 
 unclaimed-is w t key value (Refuse cause) h = refl
 unclaimed-is w t key value (Allow es) h = ap (λ b. if b then aborted w t Conflict else after_making w t key value (Allow es)) h
 
-claimed-key : (m : Engine) (w : World) (t key : ℕ) (vs : List ℕ) (b : Bool) → StandsFor m w → vs ≡ of_key m.store.versions key → IsShown m (λ w. is_claimed w t vs) b → is_claimed w t (walking.of_key w key) ≡ b
-claimed-key m w t key vs b s e shown = ap (is_claimed w t) (sym (e ∙ of_key-same m.store w key s.shows.store)) ∙ shown w s
+claimed-key : (m : Engine) (w : World) (t key : ℕ) (vs : List ℕ) (b : Bool) → StandsFor m w → AreEnough m t key vs → IsShown m (λ w. is_claimed w t vs) b → is_claimed w t (walking.of_key w key) ≡ b
+claimed-key m w t key vs b s e shown = sym (e.claimed w s) ∙ shown w s
 
-pub insert_claimed : (m : Engine) (t key value : ℕ) (vs : List ℕ) (b : Bool) → vs ≡ of_key m.store.versions key → IsShown m (λ w. is_claimed w t vs) b → b ≡ true →
+pub insert_claimed : (m : Engine) (t key value : ℕ) (vs : List ℕ) (b : Bool) → AreEnough m t key vs → IsShown m (λ w. is_claimed w t vs) b → b ≡ true →
     (w : World) → StandsFor m w → after_insert w t key value None (key_walk w t ToRead key) ≡ after_conflict w t (key_walk w t ToRead key)
 insert_claimed m t key value vs b e shown met w s = claimed-is w t key value (key_walk w t ToRead key) (claimed-key m w t key vs b s e shown ∙ met)
 
-pub insert_unclaimed : (m : Engine) (t key value : ℕ) (vs : List ℕ) (b : Bool) → vs ≡ of_key m.store.versions key → IsShown m (λ w. is_claimed w t vs) b → b ≡ false →
+pub insert_unclaimed : (m : Engine) (t key value : ℕ) (vs : List ℕ) (b : Bool) → AreEnough m t key vs → IsShown m (λ w. is_claimed w t vs) b → b ≡ false →
     (w : World) → StandsFor m w → after_insert w t key value None (key_walk w t ToRead key) ≡ after_making w t key value (key_walk w t ToRead key)
 insert_unclaimed m t key value vs b e shown none w s = unclaimed-is w t key value (key_walk w t ToRead key) (claimed-key m w t key vs b s e shown ∙ none)
 
@@ -255,9 +274,9 @@ pub rule_of_last : {E : Type 0} (m n : Engine) (f g : World → Outcome) (r : Re
 rule_of_last m n f g r same i = IfOk-weaker r (IsRule g m n) (IsRule f m n) (λ x rule. rule_same m n f g x same rule) i
 
 -- an abort, where the walk is refused and where it is allowed
-pub conflict_rule : (m n : Engine) (t key bucket : ℕ) (vs : List ℕ) (j : Judgement) (cause : Cause) (r : Reply) → bucket ≡ key % m.store.buckets → vs ≡ of_key m.store.versions key →
+pub conflict_rule : (m n : Engine) (t key bucket : ℕ) (vs : List ℕ) (j : Judgement) (cause : Cause) (r : Reply) → bucket ≡ key % m.store.buckets → AreEnough m t key vs →
     IsShown m (λ w. walk w t ToRead bucket vs) j → ((w : World) → after_conflict w t j ≡ aborted w t cause) → IsRule (λ w. aborted w t cause) m n r →
     IsRule (λ w. after_conflict w t (key_walk w t ToRead key)) m n r
 conflict_rule m n t key bucket vs j cause r a b judged is rule =
     rule_same m n (λ w. after_conflict w t (key_walk w t ToRead key)) (λ w. aborted w t cause) r
-    (λ w s. ap (after_conflict w t) (sym (key-walk m w t key ToRead s) ∙ ap (λ n. walk w t ToRead n (of_key m.store.versions key)) (sym a) ∙ ap (walk w t ToRead bucket) (sym b) ∙ judged w s) ∙ is w) rule
+    (λ w s. ap (after_conflict w t) (sym (walk-enough m w t key bucket vs ToRead s a b) ∙ judged w s) ∙ is w) rule

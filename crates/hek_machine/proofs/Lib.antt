@@ -12,6 +12,7 @@ pub mod Reserves
 pub mod EffectTurns
 pub mod KeyPlaces
 pub mod RuleWalks
+pub mod Enough
 pub mod AddRules
 pub mod Joining
 pub mod KeyRules

@@ -9,7 +9,7 @@ use Rattle.hek_rules.specs.declared.event.Effect.TheVariants.{LockBucket, Depend
 use Rattle.hek_rules.specs.declared.event.State.TheVariants.{Active}
 use Rattle.hek_rules.specs.declared.reply.Reply.{Reply}
 use Rattle.hek_rules.specs.declared.reply.Reply.TheVariants as reply
-use Rattle.hek_rules.specs.World.{World, Txn, txn_in, bucket_of}
+use Rattle.hek_rules.specs.World.{World, Txn, txn_in}
 use Rattle.hek_rules.specs.Walk.{Judgement, Refuse, Allow, walk, apply_all, last, seen_of}
 use Rattle.hek_rules.specs.Walk as walking
 use Rattle.hek_rules.specs.Table.{Outcome, aborted}
@@ -23,13 +23,12 @@ use Rattle.hek_refinement.proofs.Known.{begun-known}
 use Rattle.hek_machine.specs.declared.engine.Engine.{Engine}
 use Rattle.hek_machine.specs.declared.walks.Aim.{Aim}
 use Rattle.hek_machine.specs.Stands.{Shows, StandsFor, StandsForSome, IsRule}
-use Rattle.hek_machine.specs.Judgements.{IsShown, purpose_of, verdict, seen_among}
+use Rattle.hek_machine.specs.Judgements.{IsShown, purpose_of, verdict}
 use Rattle.hek_machine.specs.Room.{Reserved, IsThere}
 use Rattle.hek_machine.specs.Applied.{Allowed}
 use Rattle.hek_machine.specs.Walked.{ArePlaces, After}
 use Rattle.hek_machine.proofs.Loads.{copied-shows}
 use Rattle.hek_machine.proofs.Reserves.{reserved-shows}
-use Rattle.hek_machine.proofs.WalkRules.{seen-same}
 use Rattle.hek_machine.proofs.KeyPlaces.{of_key-same}
 use Rattle.hek_machine.proofs.EffectTurns.{begun_preparing}
 
@@ -142,16 +141,6 @@ key_places m key o = record {
       subst (λ n. key % n < w.buckets) (sym e) (mod-lt key some);
 }
 
--- a walk over a key is the table's
-pub key-walk : (m : Engine) (w : World) (t key : ℕ) (p : walking.Purpose) → StandsFor m w →
-    walk w t p (key % m.store.buckets) (of_key m.store.versions key) ≡ walk w t p (bucket_of w key) (walking.of_key w key)
-key-walk m w t key p s =
-    ap (λ n. walk w t p (key % n) (of_key m.store.versions key)) s.shows.store.buckets ∙ ap (walk w t p (bucket_of w key)) (of_key-same m.store w key s.shows.store)
-
-pub last-seen : (m : Engine) (w : World) (t key : ℕ) → StandsFor m w → last (seen_among m t (of_key m.store.versions key)) ≡ last (seen_of w t (walking.of_key w key))
-last-seen m w t key s =
-    ap last (sym (seen-same m t (of_key m.store.versions key) w s)) ∙ ap (λ vs. last (seen_of w t vs)) (of_key-same m.store w key s.shows.store)
-
 -- ---- answers
 
 pub on_err : {A E : Type 0} (r : Result A E) (P : Type 0) → P → OnErr r P
@@ -161,9 +150,3 @@ on_err (Err e) P p = p
 -- what a walk over these versions of this bucket came to
 abbrev pub Came : Engine → Engine → ℕ → walking.Purpose → ℕ → List ℕ → Option Cause → Type 0
 Came m n t p bucket vs o = (w : World) → StandsFor m w → After n t w (walk w t p bucket vs) o
-
-pub came-over : (m n : Engine) (t key bucket : ℕ) (vs : List ℕ) (p : walking.Purpose) (o other : Option Cause) → bucket ≡ key % m.store.buckets → vs ≡ of_key m.store.versions key → o ≡ other →
-    Came m n t p bucket vs o → Came m n t p (key % m.store.buckets) (of_key m.store.versions key) other
-came-over m n t key bucket vs p o other a b c came w s =
-    subst (λ x. After n t w (walk w t p (key % m.store.buckets) (of_key m.store.versions key)) x) c
-    (subst (λ xs. After n t w (walk w t p (key % m.store.buckets) xs) o) b (subst (λ k. After n t w (walk w t p k vs) o) a (came w s)))

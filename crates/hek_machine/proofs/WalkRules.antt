@@ -52,7 +52,7 @@ read-early w t s =
 pub sight_time : (m : Engine) (t : ℕ) → StandsForSome m → looks m t < infinity
 sight_time m t o = let e = looks-same m o.world t o.stands in let l = read-early o.world t (sound m o) in omega (arith, e, l)
 
-sight-shown : (m : Engine) (w : World) (t v : ℕ) → StandsFor m w → version_seen m.store m.txns t (looks m t) v ≡ sight w t (read_time w t) v
+pub sight-shown : (m : Engine) (w : World) (t v : ℕ) → StandsFor m w → version_seen m.store m.txns t (looks m t) v ≡ sight w t (read_time w t) v
 sight-shown m w t v s =
     let o = reachable-sound w s.reachable in
     ap (λ n. version_seen m.store m.txns t n v) (looks-same m w t s) ∙ sight-same m.store m.txns w t (read_time w t) v o s.shows.store s.shows.txns

@@ -5,11 +5,10 @@ ghost use Rattle.hek_rules.specs.World.{txn_in, bucket_of, version_in};
 ghost use Rattle.hek_rules.specs.Walk.{ToRead};
 ghost use Rattle.hek_rules.specs.Table.{is_claim as claim, is_claimed as claimed, is_made_by_other as made_by_other, is_made_later as made_later, claims};
 ghost use Rattle.hek_rules.specs.Checks.{is_open};
-ghost use Rattle.hek_store.specs.Stored.{of_key};
 ghost use Rattle.hek_txn.specs.TxnTable.{Declared};
 ghost use Rattle.hek_machine.specs.Judgements.{IsShown, looks};
 ghost use Rattle.hek_machine.specs.Stands.{StandsForSome, IsRule, StillShows};
-ghost use Rattle.hek_machine.specs.Written.{key_walk, after_conflict};
+ghost use Rattle.hek_machine.specs.Written.{AreEnough, key_walk, after_conflict};
 ghost use Rattle.hek_visible.specs.Seen.{NamesCreator};
 
 use crate::engine::Engine;
@@ -98,7 +97,7 @@ impl Engine {
         requires known { Declared self.old.txns t }
         requires ordered { StandsForSome self.old }
         requires walker { is_open (txn_in self.old.txns.cores t) ≡ true }
-        requires versions { vs.now ≡ of_key self.old.store.versions key }
+        requires versions { AreEnough self.old t key vs.now }
         ensures rule { IfOk result (IsRule (λ w. after_conflict w t (key_walk w t ToRead key)) self.old self.new) }
         ensures still { OnErr result (StillShows self.old self.new) }
     {

@@ -4,12 +4,11 @@ ghost use Rattle.hek_rules.specs.World.{txn_in};
 ghost use Rattle.hek_rules.specs.Walk.{ToRead};
 ghost use Rattle.hek_rules.specs.Table.{found as found_row, read_rule, delete_rule, after_insert, insert_rule, update_rule, claims};
 ghost use Rattle.hek_rules.specs.Checks.{is_open};
-ghost use Rattle.hek_store.specs.Stored.{of_key};
 ghost use Rattle.hek_txn.specs.TxnTable.{Declared};
 ghost use Rattle.hek_machine.specs.Judgements.{IsShown};
 ghost use Rattle.hek_machine.specs.Stands.{StandsForSome, IsRule, StillShows};
 ghost use Rattle.hek_machine.specs.Walked.{deleted_reply};
-ghost use Rattle.hek_machine.specs.Written.{key_walk};
+ghost use Rattle.hek_machine.specs.Written.{AreEnough, key_walk};
 
 use crate::engine::Engine;
 use crate::scratch::Scratch;
@@ -51,7 +50,7 @@ impl Engine {
         ensures rule { IfOk result (IsRule (λ w. read_rule w t key) self.old self.new) }
         ensures still { OnErr result (StillShows self.old self.new) }
     {
-        self.list_versions_of(key, &mut scratch.versions)?;
+        self.list_versions_of(t, key, &mut scratch.versions)?;
         let vs = scratch.versions.as_slice();
         let seen = self.last_seen(t, vs);
         let reply = self.found(seen);
@@ -71,7 +70,7 @@ impl Engine {
         ensures rule { IfOk result (IsRule (λ w. delete_rule w t key) self.old self.new) }
         ensures still { OnErr result (StillShows self.old self.new) }
     {
-        self.list_versions_of(key, &mut scratch.versions)?;
+        self.list_versions_of(t, key, &mut scratch.versions)?;
         let vs = scratch.versions.as_slice();
         let target = self.last_seen(t, vs);
         let reply = deleted(&target);
@@ -93,7 +92,7 @@ impl Engine {
         ensures rule { IfOk result (IsRule (λ w. update_rule w t key value) self.old self.new) }
         ensures still { OnErr result (StillShows self.old self.new) }
     {
-        self.list_versions_of(key, &mut scratch.versions)?;
+        self.list_versions_of(t, key, &mut scratch.versions)?;
         let vs = scratch.versions.as_slice();
         let last = self.last_seen(t, vs);
         let target = &last;
@@ -116,7 +115,7 @@ impl Engine {
         requires known { Declared self.old.txns t }
         requires ordered { StandsForSome self.old }
         requires walker { is_open (txn_in self.old.txns.cores t) ≡ true }
-        requires versions { vs.now ≡ of_key self.old.store.versions key }
+        requires versions { AreEnough self.old t key vs.now }
         ensures rule { IfOk result (IsRule (λ w. after_insert w t key value None (key_walk w t ToRead key)) self.old self.new) }
         ensures still { OnErr result (StillShows self.old self.new) }
     {
@@ -141,7 +140,7 @@ impl Engine {
         ensures rule { IfOk result (IsRule (λ w. insert_rule w t key value) self.old self.new) }
         ensures still { OnErr result (StillShows self.old self.new) }
     {
-        self.list_versions_of(key, &mut scratch.versions)?;
+        self.list_versions_of(t, key, &mut scratch.versions)?;
         let vs = scratch.versions.as_slice();
         match self.last_seen(t, vs) {
             Some(_) => self.walk_key(

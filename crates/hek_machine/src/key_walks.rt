@@ -11,19 +11,18 @@ ghost use Rattle.hek_machine.specs.Applied.{Allowed};
 ghost use Rattle.hek_machine.specs.Room.{HasRoom, KeepsAdding};
 ghost use Rattle.hek_machine.specs.Stands.{Shows, StandsFor, StandsForSome, IsRule, StillShows};
 ghost use Rattle.hek_machine.specs.Walked.{ArePlaces, After};
-ghost use Rattle.hek_machine.specs.Written.{key_walk, after_walk};
+ghost use Rattle.hek_machine.specs.Written.{AreEnough, key_walk, after_walk};
 
 use crate::engine::Engine;
 use crate::walks::Aim;
-use hek_rules::{Cause, Effect, NoMemory, Reply, TxnId, VersionId};
+use hek_rules::{Cause, Effect, Event, Level, NoMemory, Reply, TxnId, VersionId};
+
+/// An event that met fewer versions of its key than these leaves them as they are.
+const MANY: usize = 4;
 
 impl Engine {
     /// Lists the versions of a key, in order of creation, in place of what the list held.
-    pub(crate) fn list_versions_of(
-        &self,
-        key: u64,
-        versions: &mut Vec<VersionId>,
-    ) -> Result<(), NoMemory>
+    fn list_all_of(&self, key: u64, versions: &mut Vec<VersionId>) -> Result<(), NoMemory>
         ensures { OnOk result (versions.new.items ≡ of_key self.now.store.versions key) }
     {
         versions.clear();
@@ -31,6 +30,43 @@ impl Engine {
             versions.push(v)?;
         }
         Ok(())
+    }
+
+    /// Lists those versions of a key, in order of creation, that are enough for the transaction, in place of what the list held:
+    /// one that looks at the clock has no use for what is over by now.
+    pub(crate) fn list_versions_of(
+        &self,
+        t: TxnId,
+        key: u64,
+        versions: &mut Vec<VersionId>,
+    ) -> Result<(), NoMemory>
+        requires known { Declared self.now.txns t }
+        requires ordered { StandsForSome self.now }
+        ensures { OnOk result (AreEnough self.now t key versions.new.items) }
+    {
+        match self.txns.level(t) {
+            Level::Serializable | Level::Repeatable => {
+                self.store.list_living(key, self.clock, versions)
+            }
+            Level::Snapshot => self.list_all_of(key, versions),
+        }
+    }
+
+    /// Where an event met many versions of its key, those that are over by now are passed over from now on. The machine shows the
+    /// same.
+    pub(crate) fn pass_over(&mut self, event: Event, met: usize)
+        ensures { self.new ≡ self.old }
+    {
+        if met < MANY {
+            return;
+        }
+        match event {
+            Event::Read(_, key)
+            | Event::Insert(_, key, _)
+            | Event::Update(_, key, _)
+            | Event::Delete(_, key) => self.store.pass_over(key, self.clock),
+            _ => {}
+        }
     }
 
     pub(crate) fn bucket_of(&self, key: u64) -> u64
@@ -103,7 +139,7 @@ impl Engine {
         requires known { Declared self.old.txns t }
         requires ordered { StandsForSome self.old }
         requires walker { is_open (txn_in self.old.txns.cores t) ≡ true }
-        requires versions { vs.now ≡ of_key self.old.store.versions key }
+        requires versions { AreEnough self.old t key vs.now }
         requires aimed { IsAimed self.old t vs.now aim.now }
         ensures rule { IfOk result (IsRule (λ w. after_walk w t answer (key_walk w t (purpose_of aim.now) key)) self.old self.new) }
         ensures still { OnErr result (StillShows self.old self.new) }

@@ -3,14 +3,13 @@ ghost use Rattle.std.specs.Prelude.{◌≡◌, ◌<◌, ◌%◌, true, None, [],
 ghost use Rattle.std.specs.List.{All};
 ghost use Rattle.hek_rules.specs.World.{txn_in, bucket_of};
 ghost use Rattle.hek_rules.specs.Checks.{is_open};
-ghost use Rattle.hek_store.specs.Stored.{of_key};
 ghost use Rattle.hek_txn.specs.TxnTable.{Declared};
 ghost use Rattle.hek_machine.specs.Judgements.{IsAimed, purpose_of};
 ghost use Rattle.hek_machine.specs.Room.{HasRoom, CanMake, Reserved};
 ghost use Rattle.hek_buckets.specs.LockLists.{holders_of as holders_in};
 ghost use Rattle.hek_machine.specs.Stands.{Shows, StandsForSome, IsRule, StillShows};
 ghost use Rattle.hek_machine.specs.Walked.{CanAdd, IsAdding};
-ghost use Rattle.hek_machine.specs.Written.{key_walk, after_making};
+ghost use Rattle.hek_machine.specs.Written.{AreEnough, key_walk, after_making};
 ghost use Rattle.hek_rules.specs.Locks.{add_version as version_added};
 
 use crate::engine::Engine;
@@ -65,7 +64,7 @@ impl Engine {
         requires known { Declared self.old.txns t }
         requires ordered { StandsForSome self.old }
         requires walker { is_open (txn_in self.old.txns.cores t) ≡ true }
-        requires versions { vs.now ≡ of_key self.old.store.versions key }
+        requires versions { AreEnough self.old t key vs.now }
         requires aimed { IsAimed self.old t vs.now aim.now }
         requires make { CanMake self.old t (key % self.old.store.buckets) }
         ensures rule { IfOk result (IsRule (λ w. after_making w t key value (key_walk w t (purpose_of aim.now) key)) self.old self.new) }
@@ -96,7 +95,7 @@ impl Engine {
         requires known { Declared self.old.txns t }
         requires ordered { StandsForSome self.old }
         requires walker { is_open (txn_in self.old.txns.cores t) ≡ true }
-        requires versions { vs.now ≡ of_key self.old.store.versions key }
+        requires versions { AreEnough self.old t key vs.now }
         requires aimed { IsAimed self.old t vs.now aim.now }
         ensures rule { IfOk result (IsRule (λ w. after_making w t key value (key_walk w t (purpose_of aim.now) key)) self.old self.new) }
         ensures still { OnErr result (StillShows self.old self.new) }

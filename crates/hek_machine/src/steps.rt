@@ -65,7 +65,7 @@ impl Engine {
 
     /// What an event is answered with. Only an event that reads or writes rows or looks for a deadlock, and has passed
     /// the checks, may be answered NoMemory.
-    pub(crate) fn step(&mut self, e: &Event, scratch: &mut Scratch) -> Result<Reply, NoMemory>
+    fn answer(&mut self, e: &Event, scratch: &mut Scratch) -> Result<Reply, NoMemory>
         requires ordered { StandsForSome self.old }
         requires placed { IsPlaced self.old.store.buckets e.now }
         ensures rule { IfOk result (IsRule (λ w. outcome w e.now) self.old self.new) }
@@ -76,5 +76,18 @@ impl Engine {
             Some(t) => self.step_of(t, e, scratch),
             None => self.detect(),
         }
+    }
+
+    /// The same. Where it met many versions of a key, those that are over are passed over from now on.
+    pub(crate) fn step(&mut self, e: &Event, scratch: &mut Scratch) -> Result<Reply, NoMemory>
+        requires ordered { StandsForSome self.old }
+        requires placed { IsPlaced self.old.store.buckets e.now }
+        ensures rule { IfOk result (IsRule (λ w. outcome w e.now) self.old self.new) }
+        ensures still { OnErr result (StillShows self.old self.new) }
+        ensures sure { NeedsNone self.old e.now → IsOk result }
+    {
+        let reply = self.answer(e, scratch)?;
+        self.pass_over(*e, scratch.versions.len());
+        Ok(reply)
     }
 }

@@ -2,11 +2,11 @@ use Rattle.std.proofs.Common.{refl, ap, ◌∙◌}
 use Rattle.hek_rules.specs.declared.event.Cause.TheVariants.{Conflict}
 use Rattle.hek_rules.specs.Walk.{Refuse, Allow}
 use Rattle.hek_machine.specs.Judgements.{verdict}
-use Rattle.hek_machine.proofs.KeyRules.{key_below, conflict_rule}
+use Rattle.hek_machine.proofs.KeyRules.{conflict_rule}
 use Rattle.hek_machine.proofs.engine.Engine.conflict.Goals as goal
 
 pub walk-requires-clause-versions : goal.walk-requires-clause-versions
-walk-requires-clause-versions c = key_below c.args.self.now c.args.key c.args.vs.now c.requires.versions
+walk-requires-clause-versions c = c.requires.versions.below
 
 pub returns-in-Some-clause-rule : goal.returns-in-Some-clause-rule
 returns-in-Some-clause-rule c =

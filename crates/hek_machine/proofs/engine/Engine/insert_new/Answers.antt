@@ -2,11 +2,11 @@ use Rattle.std.proofs.Common.{None}
 use Rattle.hek_rules.specs.Walk.{ToRead}
 use Rattle.hek_rules.specs.Table.{after_insert}
 use Rattle.hek_machine.specs.Written.{key_walk, after_conflict, after_making}
-use Rattle.hek_machine.proofs.KeyRules.{key_below, insert_claimed, insert_unclaimed, rule_of_last}
+use Rattle.hek_machine.proofs.KeyRules.{insert_claimed, insert_unclaimed, rule_of_last}
 use Rattle.hek_machine.proofs.engine.Engine.insert_new.Goals as goal
 
 pub is_claimed-requires-clause-versions : goal.is_claimed-requires-clause-versions
-is_claimed-requires-clause-versions c = key_below c.args.self.now c.args.key c.args.vs.now c.requires.versions
+is_claimed-requires-clause-versions c = c.requires.versions.below
 
 pub returns-then-is_claimed-clause-rule : goal.returns-then-is_claimed-clause-rule
 returns-then-is_claimed-clause-rule c =

@@ -6,7 +6,7 @@ use Rattle.hek_machine.specs.Judgements.{purpose_of}
 use Rattle.hek_machine.specs.Written.{key_walk, after_making}
 use Rattle.hek_machine.proofs.Reserves.{reserved-shows}
 use Rattle.hek_machine.proofs.RuleWalks.{reserved-ordered, on_err}
-use Rattle.hek_machine.proofs.KeyRules.{rule_after_room, still_after_room, aimed_after_room, holders_declared, bucket_there, err_weaker}
+use Rattle.hek_machine.proofs.KeyRules.{rule_after_room, still_after_room, aimed_after_room, enough_after_room, holders_declared, bucket_there, err_weaker}
 use Rattle.hek_machine.proofs.engine.Engine.make.Goals as goal
 
 pub reserve_version-requires-clause-bucket : goal.reserve_version-requires-clause-bucket
@@ -36,3 +36,7 @@ pub returns-clause-still : goal.returns-clause-still
 returns-clause-still c =
     err_weaker c.make_with_room.result (StillShows c.reserve_version.new.self c.make_with_room.new.self) (StillShows c.args.self.now c.make_with_room.new.self)
     (still_after_room c.args.self.now c.reserve_version.new.self c.make_with_room.new.self c.reserve_version.ensures.reserved) c.make_with_room.ensures.still
+
+pub make_with_room-requires-clause-versions : goal.make_with_room-requires-clause-versions
+make_with_room-requires-clause-versions c =
+    enough_after_room c.args.self.now c.reserve_version.new.self c.args.t c.args.key c.args.vs.now c.reserve_version.ensures.reserved c.requires.versions

@@ -1,15 +1,15 @@
 use Rattle.std.proofs.Common.{refl, subst, ◌<◌, ◌^◌}
 use Rattle.hek_machine.specs.Judgements.{purpose_of}
 use Rattle.hek_machine.specs.Written.{after_making}
-use Rattle.hek_machine.proofs.KeyRules.{key_below, bucket_places, key_refused, key_made, walk_makes, room_left}
+use Rattle.hek_machine.proofs.KeyRules.{bucket_places, key_refused, key_made, walk_makes, room_left}
 use Rattle.hek_machine.proofs.engine.Engine.make_with_room.Goals as goal
 
 pub walk_over-requires-clause-versions : goal.walk_over-requires-clause-versions
-walk_over-requires-clause-versions c = key_below c.args.self.now c.args.key c.args.vs.now c.requires.versions
+walk_over-requires-clause-versions c = c.requires.versions.below
 
 pub walk_over-requires-clause-places : goal.walk_over-requires-clause-places
 walk_over-requires-clause-places c =
-    bucket_places c.args.self.now c.args.key c.bucket_of-bucket.result c.args.vs.now c.requires.ordered c.bucket_of-bucket.ensures c.requires.versions
+    bucket_places c.args.self.now c.args.t c.args.key c.bucket_of-bucket.result c.args.vs.now c.bucket_of-bucket.ensures c.requires.versions
 
 pub add_version-requires-clause-able : goal.add_version-requires-clause-able
 add_version-requires-clause-able c =

@@ -1,7 +1,7 @@
 use Rattle.std.proofs.Common.{ap, sym, ◌∙◌}
 use Rattle.hek_rules.specs.Table.{checked, outcome, outcome_of}
 use Rattle.hek_machine.proofs.KeyRules.{rule_of_last}
-use Rattle.hek_machine.proofs.engine.Engine.step.Goals as goal
+use Rattle.hek_machine.proofs.engine.Engine.answer.Goals as goal
 
 pub returns-in-Some-clause-rule : goal.returns-in-Some-clause-rule
 returns-in-Some-clause-rule c =
