@@ -32,7 +32,7 @@ loop-at-smaller c =
     let is = c.requires.links.follows c.args.t c.loop-at.at (c.loop-at.invariant.here c.loop-at-test.true) in
     let on = is.on in
     let within = is.within in
-    omega (arith, on, within, c.next-at.ensures, c.loop-at-test.true)
+    omega (arith, on, within, c.next-next.ensures, c.loop-at-test.true)
 
 pub loop-at-preserved : goal.loop-at-preserved
 loop-at-preserved c =
@@ -41,12 +41,12 @@ loop-at-preserved c =
     let h = zip es rs in
     let t = c.args.t in
     let i = c.loop-at.at in
-    let n = c.next-at.result in
+    let n = c.next-next.result in
     let e = c.index-events-at-in-loop-at.result in
     let r = c.index-replies-at-in-loop-at.result in
     let rows = c.args.rows.now in
     let at = entry_at es rs i e r c.requires.same c.loop-at-test.true c.index-events-at-in-loop-at.is c.index-replies-at-in-loop-at.is in
-    let is = subst (IsNextOf t es (i + 1)) (sym c.next-at.ensures) (c.requires.links.follows t i (c.loop-at.invariant.here c.loop-at-test.true)) in
+    let is = subst (IsNextOf t es (i + 1)) (sym c.next-next.ensures) (c.requires.links.follows t i (c.loop-at.invariant.here c.loop-at-test.true)) in
     let long = zip-length es rs c.requires.same in
     let buckets = ap (λ (s : BucketRows). s.buckets) c.loop-at.invariant.rows in
     let found = ap (λ (s : BucketRows). s.rows) c.loop-at.invariant.rows in
@@ -90,8 +90,8 @@ loop-at-preserved c =
     past : {w i m : ℕ} → w ≤ m → (w < m → w < i) → (w ≡ m → ⊥) → i < w → ⊥
     past within early other l = omega (arith, within, early, other, l)
 
-pub next-at-requires : goal.next-at-requires
-next-at-requires c = let long = c.requires.links.long in omega (arith, long, c.loop-at-test.true)
+pub next-next-requires : goal.next-next-requires
+next-next-requires c = let long = c.requires.links.long in omega (arith, long, c.loop-at-test.true)
 
 pub returns-clause-first : goal.returns-clause-first
 returns-clause-first c =
