@@ -123,7 +123,8 @@ impl Store {
     }
 
     /// The first versions of the key's slot, as far as they are over by this time, are passed over from now on, for those who look
-    /// then or later; unless some are passed over for a later time. It takes time in those passed over, each of them once.
+    /// then or later; unless some are passed over for a later time. It takes time in those passed over, each of them once between two
+    /// growths of the store, which begin anew.
     pub fn pass_over(&mut self, key: u64, time: Time)
         ensures { self.new ≡ self.old }
     {
