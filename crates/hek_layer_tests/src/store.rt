@@ -128,21 +128,18 @@ fn add_of_ten(rt: &impl Abort, store: &mut Store, begin: BeginWord, end: EndWord
     });
 }
 
-// The places of the versions of key 10 that are listed for this time.
-fn assert_living(rt: &impl Abort, alloc: Global, store: &Store, time: u64, places: &[u64]) {
-    let mut living = Vec::new(alloc);
-    if store.list_living(10, Time::new(time), &mut living).is_err() {
-        assert!(rt; store.list_living(10, Time::new(time), &mut living).is_ok());
+// The places of the versions of key 10 that one goes along who looks at this time.
+fn assert_living(rt: &impl Abort, store: &Store, time: u64, places: &[u64]) {
+    let mut living = store.living_of(10, Time::new(time));
+    for place in places {
+        is(rt, living.next(), Some(VersionId::new(*place)));
     }
-    is(rt, living.len(), places.len());
-    for (v, place) in living.iter().zip(places.iter()) {
-        is(rt, v.index(), *place);
-    }
+    is(rt, living.next(), None);
 }
 
 // Of key 10 the first two versions end at 5 and at 7, the third never begins, the last lasts.
 #[test]
-fn lists_the_living(rt: HostRuntime) {
+fn goes_along_the_living(rt: HostRuntime) {
     let mut store = loaded(&rt, rt.alloc());
     let v = version(&rt, &store, 0);
     store.set_end(v, EndWord::stamped(Time::new(5)));
@@ -156,18 +153,18 @@ fn lists_the_living(rt: HostRuntime) {
     add_of_ten(&rt, &mut store, BeginWord::infinity(), EndWord::infinity());
     add_of_ten(&rt, &mut store, BeginWord::at(until), EndWord::infinity());
     let all = [0, 3, 4, 5];
-    assert_living(&rt, rt.alloc(), &store, 9, &all);
+    assert_living(&rt, &store, 9, &all);
     store.pass_over(10, Time::new(6));
-    assert_living(&rt, rt.alloc(), &store, 6, &[3, 4, 5]);
-    assert_living(&rt, rt.alloc(), &store, 5, &all);
+    assert_living(&rt, &store, 6, &[3, 4, 5]);
+    assert_living(&rt, &store, 5, &all);
     store.pass_over(10, Time::new(7));
-    assert_living(&rt, rt.alloc(), &store, 7, &[5]);
+    assert_living(&rt, &store, 7, &[5]);
     store.pass_over(10, Time::new(5));
-    assert_living(&rt, rt.alloc(), &store, 8, &[5]);
-    assert_living(&rt, rt.alloc(), &copied(&rt, &store), 7, &[5]);
+    assert_living(&rt, &store, 8, &[5]);
+    assert_living(&rt, &copied(&rt, &store), 7, &[5]);
     let v = version(&rt, &store, 0);
     store.set_end(v, EndWord::infinity());
-    assert_living(&rt, rt.alloc(), &store, 9, &all);
+    assert_living(&rt, &store, 9, &all);
 }
 
 // Run with each allocation failing in turn: a refused growth changes nothing, and made again it succeeds.

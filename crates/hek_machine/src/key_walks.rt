@@ -4,7 +4,7 @@ ghost use Rattle.std.specs.List.{All};
 ghost use Rattle.hek_rules.specs.World.{txn_in, bucket_of};
 ghost use Rattle.hek_rules.specs.Walk.{walk as walk_of, apply_all};
 ghost use Rattle.hek_rules.specs.Checks.{is_open};
-ghost use Rattle.hek_store.specs.Stored.{of_key};
+ghost use Rattle.hek_store.specs.Places.{key_versions_left};
 ghost use Rattle.hek_txn.specs.TxnTable.{Declared};
 ghost use Rattle.hek_machine.specs.Judgements.{IsAimed, purpose_of};
 ghost use Rattle.hek_machine.specs.Applied.{Allowed};
@@ -16,22 +16,23 @@ ghost use Rattle.hek_machine.specs.Written.{AreEnough, key_walk, after_walk};
 use crate::engine::Engine;
 use crate::walks::Aim;
 use hek_rules::{Cause, Effect, Event, Level, NoMemory, Reply, TxnId, VersionId};
+use hek_store::KeyVersions;
 
 /// An event that met fewer versions of its key than these leaves them as they are.
 const MANY: usize = 4;
 
-impl Engine {
-    /// Lists the versions of a key, in order of creation, in place of what the list held.
-    fn list_all_of(&self, key: u64, versions: &mut Vec<VersionId>) -> Result<(), NoMemory>
-        ensures { OnOk result (versions.new.items ≡ of_key self.now.store.versions key) }
-    {
-        versions.clear();
-        for v in self.store.versions_of(key) {
-            versions.push(v)?;
-        }
-        Ok(())
+/// Lists these versions, in place of what the list held.
+fn list(found: KeyVersions<'_>, versions: &mut Vec<VersionId>) -> Result<(), NoMemory>
+    ensures { OnOk result (versions.new.items ≡ key_versions_left found.entry) }
+{
+    versions.clear();
+    for v in found {
+        versions.push(v)?;
     }
+    Ok(())
+}
 
+impl Engine {
     /// Lists those versions of a key, in order of creation, that are enough for the transaction, in place of what the list held:
     /// one that looks at the clock has no use for what is over by now.
     pub(crate) fn list_versions_of(
@@ -46,9 +47,9 @@ impl Engine {
     {
         match self.txns.level(t) {
             Level::Serializable | Level::Repeatable => {
-                self.store.list_living(key, self.clock, versions)
+                list(self.store.living_of(key, self.clock), versions)
             }
-            Level::Snapshot => self.list_all_of(key, versions),
+            Level::Snapshot => list(self.store.versions_of(key), versions),
         }
     }
 

@@ -7,7 +7,7 @@ use Rattle.std.proofs.lemmas.Bool.{cond-true, cond-false, cases_Bool, cases_orde
 use Rattle.std.proofs.lemmas.Bool.Decides.{nat_tests}
 use Rattle.hek_rules.specs.Words.{infinity, begin_time, end_time}
 use Rattle.hek_store.specs.declared.version.Version.{Version}
-use Rattle.hek_store.specs.Stored.{places, no_version}
+use Rattle.hek_store.specs.Stored.{places, no_version, of_key}
 use Rattle.hek_store.specs.Chained.{keys_of, first_link, next_links, chain}
 use Rattle.hek_store.specs.Living.{is_over_by, is_over, place_of, IsStart, IsLiving}
 use Rattle.hek_store.specs.Places.{left}
@@ -320,3 +320,11 @@ living_from slots key time vs links link listed linked s is =
           ∙ ap (filter far) (filter-places test (λ k. k % slots) key 0 vs (λ p l. let here : 0 + p ≡ p = omega arith in ap test here));
       over = λ v before l same. s.over v before l (ap (λ k. k % slots) same);
     }
+
+-- all versions of a key, none of which is left out
+pub living_all : (vs : List Version) (key time : ℕ) (listed : List ℕ) → listed ≡ of_key vs key → IsLiving vs key time listed
+living_all vs key time listed is = record { from = 0; left = is ∙ sym (none (of_key vs key)); over = λ v l. absurd (omega (arith, l)) }
+  where
+    none : (xs : List ℕ) → filter (λ v. not (nat_lt v 0)) xs ≡ xs
+    none [] = refl
+    none (x ∷ xs) = cond-true (not (nat_lt x 0)) (x ∷ filter (λ v. not (nat_lt v 0)) xs) (filter (λ v. not (nat_lt v 0)) xs) (ap not (le-ltb x 0 (omega arith))) ∙ ap (λ ys. x ∷ ys) (none xs)

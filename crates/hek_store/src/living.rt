@@ -1,15 +1,15 @@
 //! The living: the versions of a key without some of the first, which are over.
-ghost use Rattle.std.specs.Prelude.{◌≡◌, ℕ, ◌%◌, ◌<◌, ◌≤◌, length, slice_index_or, slice_set, OnOk};
+ghost use Rattle.std.specs.Prelude.{◌≡◌, ℕ, ◌%◌, ◌<◌, ◌≤◌, length, slice_index_or, slice_set};
 ghost use Rattle.hek_rules.specs.Words.{end_time};
-ghost use Rattle.hek_store.specs.Stored.{of_key};
 ghost use Rattle.hek_store.specs.Chained.{AreLinks, keys_of, next_links, no_ends};
 ghost use Rattle.hek_store.specs.Living.{IsLiving, IsStart, is_over, is_past};
-ghost use Rattle.hek_store.specs.Places.{left};
+ghost use Rattle.hek_store.specs.Places.{key_versions_left};
 
 use crate::chains::Ends;
+use crate::places::KeyVersions;
 use crate::store::Store;
 use crate::version::Version;
-use hek_rules::{NoMemory, Time, VersionId};
+use hek_rules::Time;
 use hek_word::EndWord;
 
 /// The number of the time that never comes.
@@ -52,31 +52,6 @@ fn next_left(links: &[usize], versions: &[Version], start: usize, time: Time) ->
     link
 }
 
-/// Lists the versions of a key from a link on, in place of what the list held.
-fn list_from(
-    links: &[usize],
-    versions: &[Version],
-    key: u64,
-    start: usize,
-    list: &mut Vec<VersionId>,
-) -> Result<(), NoMemory>
-    requires rising { AreLinks links.now }
-    requires within { start ≤ length links.now }
-    requires paired { length versions.now ≡ length links.now }
-    ensures { OnOk result (list.new.items ≡ left versions.now key links.now start) }
-{
-    list.clear();
-    let mut link = start;
-    while link != 0 {
-        let place = link - 1;
-        link = links[place];
-        if versions[place].key == key {
-            list.push(VersionId::new(place as u64))?;
-        }
-    }
-    Ok(())
-}
-
 /// A version of this key that was passed over may be seen again: those of its slot are looked at anew.
 pub(crate) fn look_again(starts: &mut Vec<usize>, ends: &Vec<Ends>, slots: u64, key: u64)
     requires any { 0 < slots }
@@ -90,36 +65,21 @@ pub(crate) fn look_again(starts: &mut Vec<usize>, ends: &Vec<Ends>, slots: u64, 
 }
 
 impl Store {
-    /// Lists the versions of a key in order of creation, in place of what the list held, without some of the first, which are
-    /// over by this time: nobody sees them who looks then or later. Each takes time in the versions of other keys that share
-    /// its slot.
-    pub fn list_living(
-        &self,
-        key: u64,
-        time: Time,
-        living: &mut Vec<VersionId>,
-    ) -> Result<(), NoMemory>
-        ensures { OnOk result (IsLiving self.now.versions key time living.new.items) }
+    /// The versions of a key in order of creation, without some of the first, which are over by this time: nobody sees them who
+    /// looks then or later. Each takes time in the versions of other keys that share its slot.
+    pub fn living_of(&self, key: u64, time: Time) -> KeyVersions<'_>
+        ensures { IsLiving self.now.versions key time (key_versions_left result) }
     {
-        let slot = (key % self.slots) as usize;
         if time < self.passed {
-            let first = self.ends_of[slot].first;
-            return list_from(
-                self.next_of.as_slice(),
-                self.versions.as_slice(),
-                key,
-                first,
-                living,
-            );
+            return self.versions_of(key);
         }
-        let start = self.starts[slot];
-        list_from(
-            self.next_of.as_slice(),
-            self.versions.as_slice(),
+        let slot = (key % self.slots) as usize;
+        KeyVersions {
+            links: self.next_of.as_slice(),
+            versions: self.versions.as_slice(),
             key,
-            start,
-            living,
-        )
+            link: self.starts[slot],
+        }
     }
 
     /// The first versions of the key's slot, as far as they are over by this time, are passed over from now on, for those who look
