@@ -75,20 +75,19 @@ starts_passed slots slot passed time vs starts link begun below later are new =
     restarted slots slot time vs starts link begun below (λ b l other. start_later slots b passed time vs (slice_index_or starts b 0) later (are b l)) new
 
 -- a version more
-pub starts_more : (slots time : ℕ) (vs : List Version) (x : Version) (starts : List ℕ) (link last : ℕ) → 0 < slots → length starts ≡ slots →
-    ((b : ℕ) → b < slots → IsStart slots b time vs (slice_index_or starts b 0)) → link ≡ slice_index_or starts (x.key % slots) link → last ≡ length vs + 1 →
-    (b : ℕ) → b < slots → IsStart slots b time (vs ++ x ∷ []) (slice_index_or (slice_set starts (x.key % slots) (link_or link last)) b 0)
-starts_more slots time vs x starts link last any begun are at is =
-    let slot = x.key % slots in
-    let below : slot < slots = mod-lt x.key any in
+pub starts_more : (slots slot time : ℕ) (vs : List Version) (x : Version) (starts : List ℕ) (link last : ℕ) → 0 < slots → slot ≡ x.key % slots → length starts ≡ slots →
+    ((b : ℕ) → b < slots → IsStart slots b time vs (slice_index_or starts b 0)) → link ≡ slice_index_or starts slot link → last ≡ length vs + 1 →
+    (b : ℕ) → b < slots → IsStart slots b time (vs ++ x ∷ []) (slice_index_or (slice_set starts slot (link_or link last)) b 0)
+starts_more slots slot time vs x starts link last any hit begun are at is =
+    let below : slot < slots = subst (λ n. n < slots) (sym hit) (mod-lt x.key any) in
     let now : IsStart slots slot time vs link = start_of slots slot time time vs starts link begun are below (omega arith) at in
     restarted slots slot time (vs ++ x ∷ []) starts (link_or link last) begun below
-    (λ b l other. start_more slots b time vs x (slice_index_or starts b 0) (λ _ e. other (sym e)) (are b l))
+    (λ b l other. start_more slots b time vs x (slice_index_or starts b 0) (λ _ e. other (sym (hit ∙ e))) (are b l))
     (by link now)
   where
-    by : (n : ℕ) → IsStart slots (x.key % slots) time vs n → IsStart slots (x.key % slots) time (vs ++ x ∷ []) (link_or n last)
-    by zero s = subst (λ n. IsStart slots (x.key % slots) time (vs ++ x ∷ []) n) (sym is) (start_new slots (x.key % slots) time vs x refl s)
-    by (suc n) s = start_more slots (x.key % slots) time vs x (suc n) (λ e. absurd (omega (arith, e))) s
+    by : (n : ℕ) → IsStart slots slot time vs n → IsStart slots slot time (vs ++ x ∷ []) (link_or n last)
+    by zero s = subst (λ n. IsStart slots slot time (vs ++ x ∷ []) n) (sym is) (start_new slots slot time vs x (sym hit) s)
+    by (suc n) s = start_more slots slot time vs x (suc n) (λ e. absurd (omega (arith, e))) s
 
 -- another version of the same key in place of one, and the start of its slot where its chain begins
 pub starts_again : (slots time u : ℕ) (vs : List Version) (was x : Version) (links starts new : List ℕ) (ends : List Ends) → 0 < slots → u < length vs → was ≡ slice_index_or vs u was → x.key ≡ was.key →

@@ -7,6 +7,7 @@ ghost use Rattle.hek_store.specs.Places.{key_versions_left};
 
 use crate::chains::Ends;
 use crate::places::KeyVersions;
+use crate::slots::slot_of;
 use crate::store::Store;
 use crate::version::Version;
 use hek_rules::Time;
@@ -60,7 +61,7 @@ pub(crate) fn look_again(starts: &mut Vec<usize>, ends: &Vec<Ends>, slots: u64, 
     ensures { starts.new.items
         ≡ slice_set starts.old.items (key % slots) (slice_index_or ends.now.items (key % slots) no_ends).first }
 {
-    let slot = (key % slots) as usize;
+    let slot = slot_of(key, slots);
     starts[slot] = ends[slot].first;
 }
 
@@ -73,7 +74,7 @@ impl Store {
         if time < self.passed {
             return self.versions_of(key);
         }
-        let slot = (key % self.slots) as usize;
+        let slot = slot_of(key, self.slots);
         KeyVersions {
             links: self.next_of.as_slice(),
             versions: self.versions.as_slice(),
@@ -91,7 +92,7 @@ impl Store {
         if time < self.passed {
             return;
         }
-        let slot = (key % self.slots) as usize;
+        let slot = slot_of(key, self.slots);
         let next = next_left(
             self.next_of.as_slice(),
             self.versions.as_slice(),

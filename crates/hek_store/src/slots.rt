@@ -1,5 +1,5 @@
 //! Slots: the keys of versions are spread over them, and each slot has a chain.
-ghost use Rattle.std.specs.Prelude.{◌≡◌, ◌<◌, ◌≤◌, vec_len, vec_capacity, map, IfOk};
+ghost use Rattle.std.specs.Prelude.{◌≡◌, ◌%◌, ◌<◌, ◌≤◌, vec_len, vec_capacity, map, IfOk};
 ghost use Rattle.hek_store.specs.Chained.{keys_of};
 ghost use Rattle.hek_store.specs.Indexed.{AreBuckets};
 
@@ -14,6 +14,18 @@ pub(crate) struct Spread {
     pub(crate) links: Vec<usize>,
     pub(crate) ends: Vec<Ends>,
     pub(crate) starts: Vec<usize>,
+}
+
+/// The slot of a key. A key below the number of slots spares the division.
+pub(crate) fn slot_of(key: u64, slots: u64) -> usize
+    requires { 0 < slots }
+    ensures { result ≡ key % slots }
+{
+    if key < slots {
+        key as usize
+    } else {
+        (key % slots) as usize
+    }
 }
 
 /// The chains of these versions over about as many slots as there is room for versions, with room for as many links.

@@ -13,8 +13,8 @@ next_left-next-requires-clause-rising c =
 pub next_left-next-requires-clause-within : goal.next_left-next-requires-clause-within
 next_left-next-requires-clause-within c =
     let s = c.self.inside in
-    let slot = c.args.key % s.slots in
-    let start = start_of s.slots slot s.passed s.passed s.versions.items s.starts.items c.index.result.now c.self.invariant.begun c.self.invariant.starts (mod-lt c.args.key c.self.invariant.any) (omega arith) c.index.ensures in
+    let slot = c.slot_of-slot.result in
+    let start = start_of s.slots slot s.passed s.passed s.versions.items s.starts.items c.index.result.now c.self.invariant.begun c.self.invariant.starts (subst (λ n. n < s.slots) (sym c.slot_of-slot.ensures) (mod-lt c.args.key c.self.invariant.any)) (omega arith) c.index.ensures in
     shown_within s.slots slot s.passed c.index.result.now s.versions.items s.next_of.items c.as_slice.result.now s.ends_of.items c.self.invariant.in_slots c.as_slice.ensures.value start
 
 pub next_left-next-requires-clause-paired : goal.next_left-next-requires-clause-paired
@@ -26,8 +26,8 @@ next_left-next-requires-clause-paired c =
 pub invariant_of-self : goal.invariant_of-self
 invariant_of-self c =
     let s = c.self.inside in
-    let slot = c.args.key % s.slots in
-    let below : slot < s.slots = mod-lt c.args.key c.self.invariant.any in
+    let slot = c.slot_of-slot.result in
+    let below : slot < s.slots = subst (λ n. n < s.slots) (sym c.slot_of-slot.ensures) (mod-lt c.args.key c.self.invariant.any) in
     let later : s.passed ≤ c.args.time = ge_from_not_lt c.args.time s.passed (sym c.if-lt.ensures) in
     let start = start_of s.slots slot s.passed c.args.time s.versions.items s.starts.items c.index.result.now c.self.invariant.begun c.self.invariant.starts below later c.index.ensures in
     let shown = c.as_slice-2.ensures.value in
