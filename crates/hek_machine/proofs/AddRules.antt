@@ -47,7 +47,7 @@ holders-few w b o =
 
 -- ---- the table with the write entry
 
-pub add_holders : (m : Engine) (t b : ℕ) (x : TxnTable) → IsAdding m t → HasRoom m t [] → CanMake m t b → x ≡ with_write_set m.txns t (write_set_of x t) →
+pub add_holders : (m : Engine) (t b : ℕ) (x : TxnTable) → IsAdding m t → HasRoom m t 1 [] → CanMake m t b → x ≡ with_write_set m.txns t (write_set_of x t) →
     All (λ h. Declared x h × IsReady x t h) (holders_of m.buckets b).items
 add_holders m t b x a r c is k d l = rw is
     (let known = holder-known m a.world t b h a.can there in (

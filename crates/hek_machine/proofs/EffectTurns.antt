@@ -98,17 +98,17 @@ may-turn w t before (WriteLock v) after a =
     }
 
 -- what has been done of a walk
-pub record Done (m : Engine) (t : ℕ) (effects : List Effect) (i : ℕ) (cur : Engine) : Type 0 where
+pub record Done (m : Engine) (t made : ℕ) (effects : List Effect) (i : ℕ) (cur : Engine) : Type 0 where
   pub shows : (w : World) → StandsFor m w → Shows cur (apply_all t w (take i effects))
-  pub room : HasRoom cur t (drop i effects)
+  pub room : HasRoom cur t made (drop i effects)
   pub kept : KeepsAdding m cur t
 
 split : (es : List Effect) (i : ℕ) (e : Effect) → i < length es → e ≡ get_or es i e → es ≡ take i es ++ e ∷ drop (i + 1) es
 split es i e l at = sym (take-append-drop i es) ∙ ap (λ xs. take i es ++ xs) (drop_more es i e l ∙ ap (λ x. x ∷ drop (i + 1) es) (sym at))
 
-can-turn : (m cur : Engine) (t i : ℕ) (e : Effect) (es : List Effect) (w : World) → i < length es → e ≡ get_or es i e → length m.store.versions < 2 ^ 58 → StandsFor m w →
-    Allowed w t es → Done m t es i cur → CanApply cur t e (apply_all t w (take i es))
-can-turn m cur t i e es w l at small s a d =
+can-turn : (m cur : Engine) (t made i : ℕ) (e : Effect) (es : List Effect) (w : World) → i < length es → e ≡ get_or es i e → length m.store.versions < 2 ^ 58 → StandsFor m w →
+    Allowed w t es → Done m t made es i cur → CanApply cur t e (apply_all t w (take i es))
+can-turn m cur t made i e es w l at small s a d =
     let before : List Effect = take i es in
     let b : Allowed w t (take i es ++ e ∷ drop (i + 1) es) = subst (Allowed w t) (split es i e l at) a in
     let shows = d.shows w s in
@@ -124,11 +124,11 @@ can-turn m cur t i e es w l at small s a d =
       may = may-turn w t (take i es) e (drop (i + 1) es) b;
     }
 
-pub able_turn : (m cur : Engine) (t i : ℕ) (e : Effect) (es : List Effect) → StandsForSome m → i < length es → e ≡ get_or es i e → length m.store.versions < 2 ^ 58 →
-    ((w : World) → StandsFor m w → Allowed w t es) → Done m t es i cur → IsAble cur t e
-able_turn m cur t i e es o l at small a d = record {
+pub able_turn : (m cur : Engine) (t made i : ℕ) (e : Effect) (es : List Effect) → StandsForSome m → i < length es → e ≡ get_or es i e → length m.store.versions < 2 ^ 58 →
+    ((w : World) → StandsFor m w → Allowed w t es) → Done m t made es i cur → IsAble cur t e
+able_turn m cur t made i e es o l at small a d = record {
   world = apply_all t o.world (take i es);
-  can = can-turn m cur t i e es o.world l at small o.stands (a o.world o.stands) d;
+  can = can-turn m cur t made i e es o.world l at small o.stands (a o.world o.stands) d;
 }
 
 -- ---- room for the turn
@@ -143,9 +143,9 @@ pub record RoomNow (m : Engine) (t : ℕ) (e : Effect) : Type 0 where
   pub waits : waits_in (e ∷ []) ≤ (waiting_list_of m.txns t).room
   pub buckets : buckets_in (e ∷ []) ≤ (bucket_set_of m.txns t).room
 
-pub room_now : (m cur : Engine) (t i : ℕ) (e : Effect) (es : List Effect) → i < length es → e ≡ get_or es i e → Done m t es i cur → RoomNow cur t e
-room_now m cur t i e es l at d =
-    let r : HasRoom cur t (e ∷ drop (i + 1) es) = subst (HasRoom cur t) (first-left es i e l at) d.room in
+pub room_now : (m cur : Engine) (t made i : ℕ) (e : Effect) (es : List Effect) → i < length es → e ≡ get_or es i e → Done m t made es i cur → RoomNow cur t e
+room_now m cur t made i e es l at d =
+    let r : HasRoom cur t made (e ∷ drop (i + 1) es) = subst (HasRoom cur t made) (first-left es i e l at) d.room in
     let a = reads-first e (drop (i + 1) es) in let b = writes-first e (drop (i + 1) es) in let c = waits-first e (drop (i + 1) es) in let k = buckets-first e (drop (i + 1) es) in
     let x = r.reads in let y = r.writes in let z = r.waits in let u = r.buckets in
     record {
@@ -156,8 +156,8 @@ room_now m cur t i e es l at d =
       buckets = omega (arith, k, u);
     }
 
-left-room : (cur new : Engine) (t : ℕ) (e : Effect) (es : List Effect) → KeepsRoom cur new t e → HasRoom cur t (e ∷ es) → HasRoom new t es
-left-room cur new t e es k r =
+left-room : (cur new : Engine) (t made : ℕ) (e : Effect) (es : List Effect) → KeepsRoom cur new t e → HasRoom cur t made (e ∷ es) → HasRoom new t made es
+left-room cur new t made e es k r =
     let a = reads-first e es in let b = writes-first e es in let c = waits-first e es in let d = buckets-first e es in
     let x = r.reads in let y = r.writes in let z = r.waits in let u = r.buckets in
     let p = k.reads in let q = k.writes in let s = k.waits in let v = k.buckets in
@@ -185,11 +185,11 @@ apply-more : (t : ℕ) (w : World) (xs : List Effect) (e : Effect) → apply_all
 apply-more t w [] e = refl
 apply-more t w (x ∷ xs) e = apply-more t (apply t w x) xs e
 
-pub done_more : (m cur new : Engine) (t i : ℕ) (e : Effect) (es : List Effect) → i < length es → e ≡ get_or es i e → length m.store.versions < 2 ^ 58 →
-    ((w : World) → StandsFor m w → Allowed w t es) → Done m t es i cur → Applies cur new t e → KeepsRoom cur new t e → Done m t es (i + 1) new
-done_more m cur new t i e es l at small a d does keeps = record {
+pub done_more : (m cur new : Engine) (t made i : ℕ) (e : Effect) (es : List Effect) → i < length es → e ≡ get_or es i e → length m.store.versions < 2 ^ 58 →
+    ((w : World) → StandsFor m w → Allowed w t es) → Done m t made es i cur → Applies cur new t e → KeepsRoom cur new t e → Done m t made es (i + 1) new
+done_more m cur new t made i e es l at small a d does keeps = record {
   shows = λ w s. subst (Shows new) (sym (ap (apply_all t w) (take_more es i e l ∙ ap (λ x. take i es ++ x ∷ []) (sym at)) ∙ apply-more t w (take i es) e))
-      (does (apply_all t w (take i es)) (can-turn m cur t i e es w l at small s (a w s) d));
-  room = left-room cur new t e (drop (i + 1) es) keeps (subst (HasRoom cur t) (first-left es i e l at) d.room);
+      (does (apply_all t w (take i es)) (can-turn m cur t made i e es w l at small s (a w s) d));
+  room = left-room cur new t made e (drop (i + 1) es) keeps (subst (HasRoom cur t made) (first-left es i e l at) d.room);
   kept = kept-more m cur new t d.kept keeps.adding;
 }

@@ -29,7 +29,7 @@ use Rattle.hek_machine.specs.declared.walks.Aim.TheVariants as aims
 use Rattle.hek_machine.specs.Stands.{Shows, StandsFor, StandsForSome, IsRule, StillShows}
 use Rattle.hek_machine.specs.Judgements.{IsShown, IsAimed, seen_among}
 use Rattle.hek_machine.specs.Room.{Reserved, CanMake, KeepsAdding}
-use Rattle.hek_machine.specs.Walked.{ArePlaces, After, CanAdd, IsAdding, deleted_reply}
+use Rattle.hek_machine.specs.Walked.{ArePlaces, After, CanAdd, IsAdding, told, deleted_reply}
 use Rattle.hek_machine.specs.Written.{AreEnough, key_walk, after_walk, after_making, after_conflict}
 use Rattle.hek_machine.proofs.Joining.{can_make_kept}
 use Rattle.hek_machine.proofs.Reserves.{reserved-shows}
@@ -75,6 +75,17 @@ pub key_walked : (m n : Engine) (t key bucket : ℕ) (vs : List ℕ) (p : Purpos
     Came m n t p bucket vs o → IsRule (λ w. after_walk w t answer (key_walk w t p key)) m n answer
 key_walked m n t key bucket vs p answer o a b none came =
     rule_allowed m n t (λ w. after_walk w t answer (key_walk w t p key)) (λ w. key_walk w t p key) answer (λ w es s j. ap (after_walk w t answer) j) (came-on m n t key bucket vs p o None a b none came)
+
+-- one that is refused or allowed
+pub key_told : (m n : Engine) (t key bucket : ℕ) (vs : List ℕ) (p : Purpose) (answer : Reply) (o : Option Cause) → bucket ≡ key % m.store.buckets → AreEnough m t key vs →
+    Came m n t p bucket vs o → IsRule (λ w. after_walk w t answer (key_walk w t p key)) m n (told o answer)
+key_told m n t key bucket vs p answer None a b came = key_walked m n t key bucket vs p answer None a b refl came
+key_told m n t key bucket vs p answer (Some cause) a b came =
+    key_refused m n t key bucket vs p (λ w j. after_walk w t answer j) (Some cause) cause (λ w c. refl) a b refl came
+
+-- the same row by another name, and what is told
+pub told_rule : (m n : Engine) (f g : World → Outcome) (o : Option Cause) (answer r : Reply) → r ≡ told o answer → ((w : World) → StandsFor m w → f w ≡ g w) → IsRule g m n (told o answer) → IsRule f m n r
+told_rule m n f g o answer r is same rule = rule_same m n f g r same (subst (IsRule g m n) (sym is) rule)
 
 -- ---- room
 

@@ -235,8 +235,8 @@ ready_more old new t i e es l at r this before x h =
 
 -- ---- the whole
 
-pub has-room : (m n : Engine) (t : ℕ) (es : List Effect) → Reserved m n → reads_in es ≤ (read_set_of m.txns t).room → writes_in es + 1 ≤ (write_set_of m.txns t).room →
-    waits_in es + 1 ≤ (waiting_list_of m.txns t).room → buckets_in es ≤ (bucket_set_of m.txns t).room → AreReady n t es → HasRoom n t es
-has-room m n t es r reads writes waits buckets ready =
+pub has-room : (m n : Engine) (t made : ℕ) (es : List Effect) → Reserved m n → reads_in es ≤ (read_set_of m.txns t).room → writes_in es + made ≤ (write_set_of m.txns t).room →
+    waits_in es + made ≤ (waiting_list_of m.txns t).room → buckets_in es ≤ (bucket_set_of m.txns t).room → AreReady n t es → HasRoom n t made es
+has-room m n t made es r reads writes waits buckets ready =
     let a = r.more_reads t in let b = r.more_writes t in let c = r.more_waiters t in let d = r.more_buckets t in
     record { reads = omega (arith, a, reads); writes = omega (arith, b, writes); waits = omega (arith, c, waits); buckets = omega (arith, d, buckets); others = ready }

@@ -47,12 +47,12 @@ IsReady m t (MakeWait u) = Unit {0}
 IsReady m t (ReadLock v) = Unit {0}
 IsReady m t (WriteLock v) = Unit {0}
 
--- room for all these effects, and for one entry more in the write set and in the waiting list: those of a version that is
--- made after them
-pub record HasRoom (m : Engine) (t : ℕ) (effects : List Effect) : Type 0 where
+-- room for all these effects, and for so many entries more in the write set and in the waiting list: those of the versions that
+-- are made after them
+pub record HasRoom (m : Engine) (t made : ℕ) (effects : List Effect) : Type 0 where
   pub reads : reads_in effects ≤ (read_set_of m.txns t).room
-  pub writes : writes_in effects + 1 ≤ (write_set_of m.txns t).room
-  pub waits : waits_in effects + 1 ≤ (waiting_list_of m.txns t).room
+  pub writes : writes_in effects + made ≤ (write_set_of m.txns t).room
+  pub waits : waits_in effects + made ≤ (waiting_list_of m.txns t).room
   pub buckets : buckets_in effects ≤ (bucket_set_of m.txns t).room
   pub others : (e : Effect) → In e effects → IsReady m t e
 

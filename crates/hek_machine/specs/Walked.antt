@@ -24,6 +24,11 @@ After m t w (Allow effects) (Some cause) = ⊥
 After m t w (Refuse cause) None = ⊥
 After m t w (Refuse cause) (Some other) = (cause ≡ other) × Shows m (abort w t cause)
 
+-- what is answered: the cause of a refusal where there is one, and else this
+abbrev pub told : Option Cause → Reply → Reply
+told None answer = answer
+told (Some cause) answer = reply.Aborted cause
+
 -- what a delete that is done is answered with, from its target
 abbrev pub deleted_reply : Option ℕ → Reply
 deleted_reply None = reply.Absent

@@ -84,14 +84,14 @@ impl Engine {
         }
     }
 
-    /// The effects of a walk that is allowed, in their order.
-    pub(crate) fn apply_all(&mut self, t: TxnId, effects: &[Effect])
+    /// The effects of a walk that is allowed, in their order. Room for so many versions is left.
+    pub(crate) fn apply_all(&mut self, t: TxnId, effects: &[Effect], made: usize)
         requires ordered { StandsForSome self.old }
         requires allowed { (w : _) → StandsFor self.old w → Allowed w t effects.now }
-        requires room { HasRoom self.old t effects.now }
+        requires room { HasRoom self.old t made effects.now }
         requires small { length self.old.store.versions < 2 ^ 58 }
         ensures shows { (w : _) → StandsFor self.old w → Shows self.new (all_applied t w effects.now) }
-        ensures room { HasRoom self.new t [] }
+        ensures room { HasRoom self.new t made [] }
         ensures kept { KeepsAdding self.old self.new t }
     {
         for &effect in effects {

@@ -11,6 +11,7 @@ ghost use Rattle.hek_machine.specs.Walked.{deleted_reply};
 ghost use Rattle.hek_machine.specs.Written.{AreEnough, key_walk};
 
 use crate::engine::Engine;
+use crate::key_walks::told;
 use crate::scratch::Scratch;
 use crate::walks::Aim;
 use hek_rules::{Effect, NoMemory, Reply, TxnId, VersionId};
@@ -54,7 +55,8 @@ impl Engine {
         let vs = scratch.versions.as_slice();
         let seen = self.last_seen(t, vs);
         let reply = self.found(seen);
-        self.walk_key(t, &Aim::ToRead, key, vs, &mut scratch.effects, reply)
+        let refused = self.walk_key(t, &Aim::ToRead, key, vs, &mut scratch.effects)?;
+        Ok(told(refused, reply))
     }
 
     /// The delete of a key: the last version seen is write-locked.
@@ -75,7 +77,8 @@ impl Engine {
         let target = self.last_seen(t, vs);
         let reply = deleted(&target);
         let aim = Aim::ToWrite(target);
-        self.walk_key(t, &aim, key, vs, &mut scratch.effects, reply)
+        let refused = self.walk_key(t, &aim, key, vs, &mut scratch.effects)?;
+        Ok(told(refused, reply))
     }
 
     /// The update of a key: the last version seen is write-locked, and a version is made in its place.
@@ -98,8 +101,14 @@ impl Engine {
         let target = &last;
         let aim = Aim::ToWrite(*target);
         match target {
-            Some(_) => self.make(t, &aim, key, value, vs, &mut scratch.effects),
-            None => self.walk_key(t, &aim, key, vs, &mut scratch.effects, Reply::Absent),
+            Some(_) => {
+                let refused = self.make(t, &aim, key, value, vs, &mut scratch.effects)?;
+                Ok(told(refused, Reply::Done))
+            }
+            None => {
+                let refused = self.walk_key(t, &aim, key, vs, &mut scratch.effects)?;
+                Ok(told(refused, Reply::Absent))
+            }
         }
     }
 
@@ -122,7 +131,8 @@ impl Engine {
         if self.is_claimed(t, vs) {
             self.conflict(t, key, vs, effects)
         } else {
-            self.make(t, &Aim::ToRead, key, value, vs, effects)
+            let refused = self.make(t, &Aim::ToRead, key, value, vs, effects)?;
+            Ok(told(refused, Reply::Done))
         }
     }
 
@@ -143,14 +153,10 @@ impl Engine {
         self.list_versions_of(t, key, &mut scratch.versions)?;
         let vs = scratch.versions.as_slice();
         match self.last_seen(t, vs) {
-            Some(_) => self.walk_key(
-                t,
-                &Aim::ToRead,
-                key,
-                vs,
-                &mut scratch.effects,
-                Reply::Exists,
-            ),
+            Some(_) => {
+                let refused = self.walk_key(t, &Aim::ToRead, key, vs, &mut scratch.effects)?;
+                Ok(told(refused, Reply::Exists))
+            }
             None => self.insert_new(t, key, value, vs, &mut scratch.effects),
         }
     }

@@ -1,5 +1,5 @@
 //! The walk over the versions of a key or a bucket: judged, given room, carried out (section 4 of the paper: reads and updates).
-ghost use Rattle.std.specs.Prelude.{◌≡◌, ◌<◌, ◌%◌, true, None, [], length, IfOk, OnOk, OnErr};
+ghost use Rattle.std.specs.Prelude.{◌≡◌, ◌<◌, ◌≤◌, ◌%◌, true, None, [], length, IfOk, OnOk, OnErr};
 ghost use Rattle.std.specs.List.{All};
 ghost use Rattle.hek_rules.specs.World.{txn_in, bucket_of};
 ghost use Rattle.hek_rules.specs.Walk.{walk as walk_of, apply_all};
@@ -10,7 +10,7 @@ ghost use Rattle.hek_machine.specs.Judgements.{IsAimed, purpose_of};
 ghost use Rattle.hek_machine.specs.Applied.{Allowed};
 ghost use Rattle.hek_machine.specs.Room.{HasRoom, KeepsAdding};
 ghost use Rattle.hek_machine.specs.Stands.{Shows, StandsFor, StandsForSome, IsRule, StillShows};
-ghost use Rattle.hek_machine.specs.Walked.{ArePlaces, After};
+ghost use Rattle.hek_machine.specs.Walked.{ArePlaces, After, told};
 ghost use Rattle.hek_machine.specs.Written.{AreEnough, key_walk, after_walk};
 
 use crate::engine::Engine;
@@ -30,6 +30,16 @@ fn list(found: KeyVersions<'_>, versions: &mut Vec<VersionId>) -> Result<(), NoM
         versions.push(v)?;
     }
     Ok(())
+}
+
+/// What is answered: the cause of a refusal where there is one, and else this.
+pub(crate) fn told(refused: Option<Cause>, reply: Reply) -> Reply
+    ensures { result ≡ told refused reply }
+{
+    match refused {
+        None => reply,
+        Some(cause) => Reply::Aborted(cause),
+    }
 }
 
 impl Engine {
@@ -76,41 +86,44 @@ impl Engine {
         key % self.store.buckets()
     }
 
-    /// The effects of a walk that is allowed are done, if there is memory for them.
-    fn carry_out(&mut self, t: TxnId, effects: &[Effect]) -> Result<(), NoMemory>
+    /// The effects of a walk that is allowed are done, if there is memory for them and for so many versions that are made after them.
+    fn carry_out(&mut self, t: TxnId, effects: &[Effect], made: usize) -> Result<(), NoMemory>
         requires known { Declared self.old.txns t }
         requires ordered { StandsForSome self.old }
         requires allowed { (w : _) → StandsFor self.old w → Allowed w t effects.now }
+        requires few { made ≤ 1 }
         ensures done { IfOk result (λ _. (w : _) → StandsFor self.old w → Shows self.new (apply_all t w effects.now)) }
-        ensures room { IfOk result (λ _. HasRoom self.new t []) }
+        ensures room { IfOk result (λ _. HasRoom self.new t made []) }
         ensures kept { IfOk result (λ _. KeepsAdding self.old self.new t) }
         ensures still { OnErr result (StillShows self.old self.new) }
     {
         // There are too few versions for a counter of waits to overflow.
         let _ = self.store.len();
-        self.reserve(t, effects)?;
-        self.apply_all(t, effects);
+        self.reserve(t, effects, made)?;
+        self.apply_all(t, effects, made);
         Ok(())
     }
 
     /// A walk over these versions: its effects are done, or, where it is refused, the transaction aborts, and the cause
-    /// is the answer.
+    /// is the answer. Where they are done, there is room in the lists of the transaction for so many versions that it makes.
     pub(crate) fn walk_over(
         &mut self,
         t: TxnId,
         aim: &Aim,
         bucket: u64,
         vs: &[VersionId],
+        made: usize,
         effects: &mut Vec<Effect>,
     ) -> Result<Option<Cause>, NoMemory>
         requires known { Declared self.old.txns t }
         requires ordered { StandsForSome self.old }
         requires walker { is_open (txn_in self.old.txns.cores t) ≡ true }
+        requires few { made ≤ 1 }
         requires versions { All (λ v. v < length self.old.store.versions) vs.now }
         requires places { ArePlaces self.old bucket vs.now }
         requires aimed { IsAimed self.old t vs.now aim.now }
         ensures after { IfOk result (λ r. (w : _) → StandsFor self.old w → After self.new t w (walk_of w t (purpose_of aim.now) bucket vs.now) r) }
-        ensures room { IfOk result (λ r. r ≡ None → HasRoom self.new t []) }
+        ensures room { IfOk result (λ r. r ≡ None → HasRoom self.new t made []) }
         ensures kept { IfOk result (λ r. r ≡ None → KeepsAdding self.old self.new t) }
         ensures still { OnErr result (StillShows self.old self.new) }
     {
@@ -121,13 +134,13 @@ impl Engine {
                 Ok(Some(cause))
             }
             None => {
-                self.carry_out(t, effects)?;
+                self.carry_out(t, effects, made)?;
                 Ok(None)
             }
         }
     }
 
-    /// The walk over the versions of a key, and then this answer.
+    /// The walk over the versions of a key, and the cause where it is refused.
     pub(crate) fn walk_key(
         &mut self,
         t: TxnId,
@@ -135,20 +148,16 @@ impl Engine {
         key: u64,
         vs: &[VersionId],
         effects: &mut Vec<Effect>,
-        answer: Reply,
-    ) -> Result<Reply, NoMemory>
+    ) -> Result<Option<Cause>, NoMemory>
         requires known { Declared self.old.txns t }
         requires ordered { StandsForSome self.old }
         requires walker { is_open (txn_in self.old.txns.cores t) ≡ true }
         requires versions { AreEnough self.old t key vs.now }
         requires aimed { IsAimed self.old t vs.now aim.now }
-        ensures rule { IfOk result (IsRule (λ w. after_walk w t answer (key_walk w t (purpose_of aim.now) key)) self.old self.new) }
+        ensures rule { IfOk result (λ refused. (answer : Reply) → IsRule (λ w. after_walk w t answer (key_walk w t (purpose_of aim.now) key)) self.old self.new (told refused answer)) }
         ensures still { OnErr result (StillShows self.old self.new) }
     {
         let bucket = self.bucket_of(key);
-        match self.walk_over(t, aim, bucket, vs, effects)? {
-            None => Ok(answer),
-            Some(cause) => Ok(Reply::Aborted(cause)),
-        }
+        self.walk_over(t, aim, bucket, vs, 0, effects)
     }
 }

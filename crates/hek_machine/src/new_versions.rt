@@ -8,14 +8,15 @@ ghost use Rattle.hek_machine.specs.Judgements.{IsAimed, purpose_of};
 ghost use Rattle.hek_machine.specs.Room.{HasRoom, CanMake, Reserved};
 ghost use Rattle.hek_buckets.specs.LockLists.{holders_of as holders_in};
 ghost use Rattle.hek_machine.specs.Stands.{Shows, StandsForSome, IsRule, StillShows};
-ghost use Rattle.hek_machine.specs.Walked.{CanAdd, IsAdding};
+ghost use Rattle.hek_machine.specs.Walked.{CanAdd, IsAdding, told};
+ghost use Rattle.hek_rules.specs.declared.reply.Reply.TheVariants.{Done};
 ghost use Rattle.hek_machine.specs.Written.{AreEnough, key_walk, after_making};
 ghost use Rattle.hek_rules.specs.Locks.{add_version as version_added};
 
 use crate::engine::Engine;
 use crate::walks::Aim;
 use hek_buckets::wait_for_holders;
-use hek_rules::{Effect, NoMemory, Reply, TxnId, VersionId, WriteEntry};
+use hek_rules::{Cause, Effect, NoMemory, TxnId, VersionId, WriteEntry};
 use hek_store::Version;
 use hek_word::{BeginWord, EndWord};
 
@@ -33,14 +34,14 @@ impl Engine {
 
     /// The transaction makes a version, and comes to wait for those who lock its bucket.
     #[tactic(auto, using(crate::proofs::AddRules::add_named, crate::proofs::AddRules::add_room))]
-    fn add_version(&mut self, t: TxnId, key: u64, value: u64)
+    fn add_version(&mut self, t: TxnId, key: u64, value: u64, bucket: u64)
         requires able { IsAdding self.old t }
-        requires room { HasRoom self.old t [] }
+        requires room { HasRoom self.old t 1 [] }
+        requires bucket { bucket ≡ key % self.old.store.buckets }
         requires make { CanMake self.old t (key % self.old.store.buckets) }
         ensures { (w : _) → CanAdd self.old t w → Shows self.new (version_added w t key value) }
     {
         let made = WriteEntry::BeginOf(VersionId::new(self.store.len()));
-        let bucket = self.bucket_of(key);
         self.store.add_version(Version {
             key,
             value,
@@ -51,38 +52,39 @@ impl Engine {
         wait_for_holders(&self.buckets, &mut self.txns, bucket, t);
     }
 
-    /// The walk over the versions of a key, and then a version is made, for which there is room.
+    /// The walk over the versions of a key, and the cause where it is refused; or else a version is made, for which there is room.
     fn make_with_room(
         &mut self,
         t: TxnId,
         aim: &Aim,
         key: u64,
         value: u64,
+        bucket: u64,
         vs: &[VersionId],
         effects: &mut Vec<Effect>,
-    ) -> Result<Reply, NoMemory>
+    ) -> Result<Option<Cause>, NoMemory>
         requires known { Declared self.old.txns t }
         requires ordered { StandsForSome self.old }
         requires walker { is_open (txn_in self.old.txns.cores t) ≡ true }
         requires versions { AreEnough self.old t key vs.now }
         requires aimed { IsAimed self.old t vs.now aim.now }
+        requires bucket { bucket ≡ key % self.old.store.buckets }
         requires make { CanMake self.old t (key % self.old.store.buckets) }
-        ensures rule { IfOk result (IsRule (λ w. after_making w t key value (key_walk w t (purpose_of aim.now) key)) self.old self.new) }
+        ensures rule { IfOk result (λ refused. IsRule (λ w. after_making w t key value (key_walk w t (purpose_of aim.now) key)) self.old self.new (told refused Done)) }
         ensures still { OnErr result (StillShows self.old self.new) }
     {
-        let bucket = self.bucket_of(key);
         // There are too few versions for a counter of waits to overflow.
         let _ = self.store.len();
-        match self.walk_over(t, aim, bucket, vs, effects)? {
+        match self.walk_over(t, aim, bucket, vs, 1, effects)? {
             None => {
-                self.add_version(t, key, value);
-                Ok(Reply::Done)
+                self.add_version(t, key, value, bucket);
+                Ok(None)
             }
-            Some(cause) => Ok(Reply::Aborted(cause)),
+            Some(cause) => Ok(Some(cause)),
         }
     }
 
-    /// The walk over the versions of a key, and then a version is made, if there is memory for it.
+    /// The walk over the versions of a key, and the cause where it is refused; or else a version is made, if there is memory for it.
     pub(crate) fn make(
         &mut self,
         t: TxnId,
@@ -91,17 +93,17 @@ impl Engine {
         value: u64,
         vs: &[VersionId],
         effects: &mut Vec<Effect>,
-    ) -> Result<Reply, NoMemory>
+    ) -> Result<Option<Cause>, NoMemory>
         requires known { Declared self.old.txns t }
         requires ordered { StandsForSome self.old }
         requires walker { is_open (txn_in self.old.txns.cores t) ≡ true }
         requires versions { AreEnough self.old t key vs.now }
         requires aimed { IsAimed self.old t vs.now aim.now }
-        ensures rule { IfOk result (IsRule (λ w. after_making w t key value (key_walk w t (purpose_of aim.now) key)) self.old self.new) }
+        ensures rule { IfOk result (λ refused. IsRule (λ w. after_making w t key value (key_walk w t (purpose_of aim.now) key)) self.old self.new (told refused Done)) }
         ensures still { OnErr result (StillShows self.old self.new) }
     {
         let bucket = self.bucket_of(key);
         self.reserve_version(t, bucket)?;
-        self.make_with_room(t, aim, key, value, vs, effects)
+        self.make_with_room(t, aim, key, value, bucket, vs, effects)
     }
 }

@@ -62,20 +62,20 @@ fn needs_of(effects: &[Effect]) -> Needs
 }
 
 impl Engine {
-    /// Room in the lists of the transaction itself, and for one entry more in its write set and in its waiting list.
-    fn reserve_own(&mut self, t: TxnId, needs: Needs) -> Result<(), NoMemory>
+    /// Room in the lists of the transaction itself, and in its write set and its waiting list for so many entries more.
+    fn reserve_own(&mut self, t: TxnId, needs: Needs, made: usize) -> Result<(), NoMemory>
         requires known { Declared self.old.txns t }
-        requires few_writes { needs.writes + 1 < 2 ^ 64 }
-        requires few_waits { needs.waits + 1 < 2 ^ 64 }
+        requires few_writes { needs.writes + made < 2 ^ 64 }
+        requires few_waits { needs.waits + made < 2 ^ 64 }
         ensures reserved { Reserved self.old self.new }
         ensures reads { OnOk result (needs.reads ≤ (read_set_of self.new.txns t).room) }
-        ensures writes { OnOk result (needs.writes + 1 ≤ (write_set_of self.new.txns t).room) }
-        ensures waits { OnOk result (needs.waits + 1 ≤ (waiting_list_of self.new.txns t).room) }
+        ensures writes { OnOk result (needs.writes + made ≤ (write_set_of self.new.txns t).room) }
+        ensures waits { OnOk result (needs.waits + made ≤ (waiting_list_of self.new.txns t).room) }
         ensures buckets { OnOk result (needs.buckets ≤ (bucket_set_of self.new.txns t).room) }
     {
         self.txns.reserve_reads(t, needs.reads)?;
-        self.txns.reserve_writes(t, needs.writes + 1)?;
-        self.txns.reserve_waiters(t, needs.waits + 1)?;
+        self.txns.reserve_writes(t, needs.writes + made)?;
+        self.txns.reserve_waiters(t, needs.waits + made)?;
         self.txns.reserve_buckets(t, needs.buckets)
     }
 
@@ -103,14 +103,20 @@ impl Engine {
         Ok(())
     }
 
-    /// Room for these effects of the transaction.
-    pub(crate) fn reserve(&mut self, t: TxnId, effects: &[Effect]) -> Result<(), NoMemory>
+    /// Room for these effects of the transaction, and for so many versions that it makes.
+    pub(crate) fn reserve(
+        &mut self,
+        t: TxnId,
+        effects: &[Effect],
+        made: usize,
+    ) -> Result<(), NoMemory>
         requires known { Declared self.old.txns t }
         requires there { (e : _) → In e effects.now → IsThere self.old e }
+        requires few { made ≤ 1 }
         ensures reserved { Reserved self.old self.new }
-        ensures room { OnOk result (HasRoom self.new t effects.now) }
+        ensures room { OnOk result (HasRoom self.new t made effects.now) }
     {
-        self.reserve_own(t, needs_of(effects))?;
+        self.reserve_own(t, needs_of(effects), made)?;
         self.reserve_others(t, effects)
     }
 

@@ -95,7 +95,7 @@ impl Engine {
         let vs = scratch.versions.as_slice();
         self.list_seen(t, vs, &mut scratch.seen)?;
         let pairs = self.pairs_of(&scratch.seen)?;
-        match self.walk_over(t, &Aim::ToRead, bucket, vs, &mut scratch.effects)? {
+        match self.walk_over(t, &Aim::ToRead, bucket, vs, 0, &mut scratch.effects)? {
             None => Ok(Reply::Rows(pairs)),
             Some(cause) => Ok(Reply::Aborted(cause)),
         }

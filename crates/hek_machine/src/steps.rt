@@ -86,8 +86,8 @@ impl Engine {
         ensures still { OnErr result (StillShows self.old self.new) }
         ensures sure { NeedsNone self.old e.now → IsOk result }
     {
-        let reply = self.answer(e, scratch)?;
+        let answered = self.answer(e, scratch);
         self.pass_over(*e, scratch.versions.len());
-        Ok(reply)
+        answered
     }
 }
