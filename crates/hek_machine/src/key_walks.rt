@@ -43,8 +43,20 @@ pub(crate) fn told(refused: Option<Cause>, reply: Reply) -> Reply
 }
 
 impl Engine {
-    /// Lists those versions of a key, in order of creation, that are enough for the transaction, in place of what the list held:
-    /// one that looks at the clock has no use for what is over by now.
+    /// Those versions of a key, in order of creation, that are enough for the transaction: one that looks at the clock has no use for
+    /// what is over by now.
+    fn versions_for(&self, t: TxnId, key: u64) -> KeyVersions<'_>
+        requires known { Declared self.now.txns t }
+        requires ordered { StandsForSome self.now }
+        ensures { AreEnough self.now t key (key_versions_left result) }
+    {
+        match self.txns.level(t) {
+            Level::Serializable | Level::Repeatable => self.store.living_of(key, self.clock),
+            Level::Snapshot => self.store.versions_of(key),
+        }
+    }
+
+    /// Lists them, in place of what the list held.
     pub(crate) fn list_versions_of(
         &self,
         t: TxnId,
@@ -55,12 +67,7 @@ impl Engine {
         requires ordered { StandsForSome self.now }
         ensures { OnOk result (AreEnough self.now t key versions.new.items) }
     {
-        match self.txns.level(t) {
-            Level::Serializable | Level::Repeatable => {
-                list(self.store.living_of(key, self.clock), versions)
-            }
-            Level::Snapshot => list(self.store.versions_of(key), versions),
-        }
+        list(self.versions_for(t, key), versions)
     }
 
     /// Where an event met many versions of its key, those that are over by now are passed over from now on. The machine shows the
