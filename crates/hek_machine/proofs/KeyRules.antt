@@ -45,7 +45,7 @@ pub enough_as : (m : Engine) (t key : ℕ) (vs xs : List ℕ) → vs ≡ xs → 
 enough_as m t key vs xs e h = subst (AreEnough m t key) (sym e) h
 
 -- the walk over those versions, by the number of their bucket
-walk-enough : (m : Engine) (w : World) (t key bucket : ℕ) (vs : List ℕ) (p : Purpose) → StandsFor m w → bucket ≡ key % m.store.buckets → AreEnough m t key vs →
+pub walk-enough : (m : Engine) (w : World) (t key bucket : ℕ) (vs : List ℕ) (p : Purpose) → StandsFor m w → bucket ≡ key % m.store.buckets → AreEnough m t key vs →
     walk w t p bucket vs ≡ key_walk w t p key
 walk-enough m w t key bucket vs p s a e = ap (λ n. walk w t p n vs) (a ∙ ap (λ n. key % n) s.shows.store.buckets) ∙ e.walked w p s
 
@@ -195,7 +195,7 @@ key_made m n new t key value bucket vs p o order open_now small a b none came ad
 
 -- ---- what was seen
 
-seen-target : (m : Engine) (w : World) (t key : ℕ) (vs : List ℕ) (target : Option ℕ) → StandsFor m w → AreEnough m t key vs → target ≡ last (seen_among m t vs) → last (seen_of w t (walking.of_key w key)) ≡ target
+pub seen-target : (m : Engine) (w : World) (t key : ℕ) (vs : List ℕ) (target : Option ℕ) → StandsFor m w → AreEnough m t key vs → target ≡ last (seen_among m t vs) → last (seen_of w t (walking.of_key w key)) ≡ target
 seen-target m w t key vs target s b e = ap last (sym (b.seen w s) ∙ seen-same m t vs w s) ∙ sym e
 
 -- ---- the rows of each event
@@ -204,11 +204,19 @@ read-is : (w : World) (t : ℕ) (target : Option ℕ) (j : Judgement) → after_
 read-is w t target (Refuse cause) = refl
 read-is w t target (Allow es) = refl
 
-pub read_row_is : (m : Engine) (t key : ℕ) (vs : List ℕ) (target : Option ℕ) (r : Reply) → AreEnough m t key vs → target ≡ last (seen_among m t vs) → IsShown m (λ w. found w target) r →
-    (w : World) → StandsFor m w → read_rule w t key ≡ after_walk w t r (key_walk w t ToRead key)
-read_row_is m t key vs target r b e shown w s =
-    read-is w t (last (seen_of w t (walking.of_key w key))) (key_walk w t ToRead key)
-    ∙ ap (λ x. after_walk w t x (key_walk w t ToRead key)) (ap (found w) (seen-target m w t key vs target s b e) ∙ shown w s)
+-- a read is answered with what is found, or aborts
+pub read_told : (m n : Engine) (t key : ℕ) (o : Option Cause) (target : Option ℕ) (answer r : Reply) → r ≡ told o answer →
+    (o ≡ None → IsShown m (λ w. last (seen_of w t (walking.of_key w key))) target) → IsShown m (λ w. found w target) answer →
+    ((w : World) → StandsFor m w → After n t w (key_walk w t ToRead key) o) → IsRule (λ w. read_rule w t key) m n r
+read_told m n t key None target answer r is seen shown after =
+    told_rule m n (λ w. read_rule w t key) (λ w. after_walk w t answer (key_walk w t ToRead key)) None answer r is
+    (λ w s. read-is w t (last (seen_of w t (walking.of_key w key))) (key_walk w t ToRead key)
+    ∙ ap (λ x. after_walk w t x (key_walk w t ToRead key)) (ap (found w) (seen refl w s) ∙ shown w s))
+    (rule_allowed m n t (λ w. after_walk w t answer (key_walk w t ToRead key)) (λ w. key_walk w t ToRead key) answer (λ w es s j. ap (after_walk w t answer) j) after)
+read_told m n t key (Some cause) target answer r is seen shown after =
+    subst (IsRule (λ w. read_rule w t key) m n) (sym is)
+    (rule_refused m n t (λ w. read_rule w t key) (λ w. key_walk w t ToRead key) cause
+    (λ w c s j. read-is w t (last (seen_of w t (walking.of_key w key))) (key_walk w t ToRead key) ∙ ap (after_walk w t (found w (last (seen_of w t (walking.of_key w key))))) j) after)
 
 delete-is : (w : World) (t : ℕ) (target : Option ℕ) (j : Judgement) → after_delete w t target j ≡ after_walk w t (deleted_reply target) j
 delete-is w t None (Refuse cause) = refl

@@ -13,6 +13,7 @@ pub mod EffectTurns
 pub mod KeyPlaces
 pub mod RuleWalks
 pub mod Enough
+mod Along
 pub mod AddRules
 pub mod Joining
 pub mod KeyRules

@@ -263,20 +263,33 @@ none-verdict : (o : Option Cause) (es : List Effect) → is_some o ≡ false →
 none-verdict None es h = refl
 none-verdict (Some cause) es h = cc
 
+pub first_more : (m : Engine) (t v : ℕ) (aim : Aim) (all xs rest : List ℕ) (old before new : List Effect) (o : Option Cause) → xs ≡ v ∷ rest →
+    ((w : World) → StandsFor m w → behind before (each_judged w t aim xs) ≡ behind old (each_judged w t aim all)) →
+    IsShown m (λ w. behind before (version_judged w t (purpose_of aim) (target_of aim) v (sight w t (read_time w t) v))) (verdict o new) → is_some o ≡ false →
+    (w : World) → StandsFor m w → behind new (each_judged w t aim rest) ≡ behind old (each_judged w t aim all)
+first_more m t v aim all xs rest old before new o first left judged none w s =
+    sym (next_allowed m t v aim before new rest (λ x k. judged x k ∙ none-verdict o new none) w s) ∙ ap (λ ys. behind before (each_judged w t aim ys)) (sym first) ∙ left w s
+
+pub first_refused : (m : Engine) (t v : ℕ) (aim : Aim) (all xs rest : List ℕ) (old before new : List Effect) (o : Option Cause) → xs ≡ v ∷ rest →
+    ((w : World) → StandsFor m w → behind before (each_judged w t aim xs) ≡ behind old (each_judged w t aim all)) →
+    IsShown m (λ w. behind before (version_judged w t (purpose_of aim) (target_of aim) v (sight w t (read_time w t) v))) (verdict o new) → is_some o ≡ true →
+    (w : World) → StandsFor m w → behind old (each_judged w t aim all) ≡ verdict o new
+first_refused m t v aim all xs rest old before new None first left judged some w s = cc
+first_refused m t v aim all xs rest old before new (Some cause) first left judged some w s =
+    sym (left w s) ∙ ap (λ ys. behind before (each_judged w t aim ys)) first ∙ next_refused m t v aim before cause rest judged w s
+
+-- the same by the place of the version in the list
+first-at : (vs : List ℕ) (i v : ℕ) → i < length vs → v ≡ get_or vs i v → drop i vs ≡ v ∷ drop (i + 1) vs
+first-at vs i v below at = drop_more vs i v below ∙ ap (λ n. n ∷ drop (i + 1) vs) (sym at)
+
 pub one_more : (m : Engine) (t i v : ℕ) (aim : Aim) (vs : List ℕ) (old before new : List Effect) (o : Option Cause) → i < length vs → v ≡ get_or vs i v →
     ((w : World) → StandsFor m w → behind before (each_judged w t aim (drop i vs)) ≡ behind old (each_judged w t aim vs)) →
     IsShown m (λ w. behind before (version_judged w t (purpose_of aim) (target_of aim) v (sight w t (read_time w t) v))) (verdict o new) → is_some o ≡ false →
     (w : World) → StandsFor m w → behind new (each_judged w t aim (drop (i + 1) vs)) ≡ behind old (each_judged w t aim vs)
-one_more m t i v aim vs old before new o below at left judged none w s =
-    sym (next_allowed m t v aim before new (drop (i + 1) vs) (λ x k. judged x k ∙ none-verdict o new none) w s)
-    ∙ ap (λ xs. behind before (each_judged w t aim xs)) (ap (λ n. n ∷ drop (i + 1) vs) at ∙ sym (drop_more vs i v below)) ∙ left w s
+one_more m t i v aim vs old before new o below at = first_more m t v aim vs (drop i vs) (drop (i + 1) vs) old before new o (first-at vs i v below at)
 
 pub refused-verdict : (m : Engine) (t i v : ℕ) (aim : Aim) (vs : List ℕ) (old before new : List Effect) (o : Option Cause) → i < length vs → v ≡ get_or vs i v →
     ((w : World) → StandsFor m w → behind before (each_judged w t aim (drop i vs)) ≡ behind old (each_judged w t aim vs)) →
     IsShown m (λ w. behind before (version_judged w t (purpose_of aim) (target_of aim) v (sight w t (read_time w t) v))) (verdict o new) → is_some o ≡ true →
     (w : World) → StandsFor m w → behind old (each_judged w t aim vs) ≡ verdict o new
-refused-verdict m t i v aim vs old before new None below at left judged some w s = cc
-refused-verdict m t i v aim vs old before new (Some cause) below at left judged some w s =
-    sym (left w s)
-    ∙ ap (λ xs. behind before (each_judged w t aim xs)) (drop_more vs i v below ∙ ap (λ n. n ∷ drop (i + 1) vs) (sym at))
-    ∙ next_refused m t v aim before cause (drop (i + 1) vs) judged w s
+refused-verdict m t i v aim vs old before new o below at = first_refused m t v aim vs (drop i vs) (drop (i + 1) vs) old before new o (first-at vs i v below at)

@@ -1,8 +1,8 @@
-//! Reads and writes of a key: each is the walk of the key with something behind it (section 4 of the paper: reads and updates).
-ghost use Rattle.std.specs.Prelude.{◌≡◌, ◌<◌, true, None, length, IfOk, IfSome, OnErr};
+//! Writes of a key: each is the walk of the key with something behind it (section 4 of the paper: updates).
+ghost use Rattle.std.specs.Prelude.{◌≡◌, ◌<◌, true, None, length, IfOk, OnErr};
 ghost use Rattle.hek_rules.specs.World.{txn_in};
 ghost use Rattle.hek_rules.specs.Walk.{ToRead};
-ghost use Rattle.hek_rules.specs.Table.{found as found_row, read_rule, delete_rule, after_insert, insert_rule, update_rule, claims};
+ghost use Rattle.hek_rules.specs.Table.{delete_rule, after_insert, insert_rule, update_rule, claims};
 ghost use Rattle.hek_rules.specs.Checks.{is_open};
 ghost use Rattle.hek_txn.specs.TxnTable.{Declared};
 ghost use Rattle.hek_machine.specs.Judgements.{IsShown};
@@ -27,38 +27,6 @@ fn deleted(target: &Option<VersionId>) -> Reply
 }
 
 impl Engine {
-    /// The value of the version seen.
-    fn found(&self, seen: Option<VersionId>) -> Reply
-        requires { IfSome seen (λ v. v < length self.now.store.versions) }
-        ensures { IsShown self.now (λ w. found_row w seen) result }
-    {
-        match seen {
-            Some(v) => Reply::Found(self.store.value_of(v)),
-            None => Reply::Absent,
-        }
-    }
-
-    /// The read of a key.
-    pub(crate) fn read(
-        &mut self,
-        t: TxnId,
-        key: u64,
-        scratch: &mut Scratch,
-    ) -> Result<Reply, NoMemory>
-        requires known { Declared self.old.txns t }
-        requires ordered { StandsForSome self.old }
-        requires walker { is_open (txn_in self.old.txns.cores t) ≡ true }
-        ensures rule { IfOk result (IsRule (λ w. read_rule w t key) self.old self.new) }
-        ensures still { OnErr result (StillShows self.old self.new) }
-    {
-        self.list_versions_of(t, key, &mut scratch.versions)?;
-        let vs = scratch.versions.as_slice();
-        let seen = self.last_seen(t, vs);
-        let reply = self.found(seen);
-        let refused = self.walk_key(t, &Aim::ToRead, key, vs, &mut scratch.effects)?;
-        Ok(told(refused, reply))
-    }
-
     /// The delete of a key: the last version seen is write-locked.
     pub(crate) fn delete(
         &mut self,

@@ -1,12 +1,12 @@
 //! The walk over the versions of a key or a bucket: judged, given room, carried out (section 4 of the paper: reads and updates).
 ghost use Rattle.std.specs.Prelude.{◌≡◌, ◌<◌, ◌≤◌, ◌%◌, true, None, [], length, IfOk, OnOk, OnErr};
 ghost use Rattle.std.specs.List.{All};
-ghost use Rattle.hek_rules.specs.World.{txn_in, bucket_of};
-ghost use Rattle.hek_rules.specs.Walk.{walk as walk_of, apply_all};
+ghost use Rattle.hek_rules.specs.World.{World, txn_in, bucket_of};
+ghost use Rattle.hek_rules.specs.Walk.{Judgement, walk as walk_of, apply_all};
 ghost use Rattle.hek_rules.specs.Checks.{is_open};
 ghost use Rattle.hek_store.specs.Places.{key_versions_left};
 ghost use Rattle.hek_txn.specs.TxnTable.{Declared};
-ghost use Rattle.hek_machine.specs.Judgements.{IsAimed, purpose_of};
+ghost use Rattle.hek_machine.specs.Judgements.{IsShown, IsAimed, purpose_of, verdict};
 ghost use Rattle.hek_machine.specs.Applied.{Allowed};
 ghost use Rattle.hek_machine.specs.Room.{HasRoom, KeepsAdding};
 ghost use Rattle.hek_machine.specs.Stands.{Shows, StandsFor, StandsForSome, IsRule, StillShows};
@@ -14,6 +14,7 @@ ghost use Rattle.hek_machine.specs.Walked.{ArePlaces, After, told};
 ghost use Rattle.hek_machine.specs.Written.{AreEnough, key_walk, after_walk};
 
 use crate::engine::Engine;
+use crate::scratch::Scratch;
 use crate::walks::Aim;
 use hek_rules::{Cause, Effect, Event, Level, NoMemory, Reply, TxnId, VersionId};
 use hek_store::KeyVersions;
@@ -45,7 +46,7 @@ pub(crate) fn told(refused: Option<Cause>, reply: Reply) -> Reply
 impl Engine {
     /// Those versions of a key, in order of creation, that are enough for the transaction: one that looks at the clock has no use for
     /// what is over by now.
-    fn versions_for(&self, t: TxnId, key: u64) -> KeyVersions<'_>
+    pub(crate) fn versions_for(&self, t: TxnId, key: u64) -> KeyVersions<'_>
         requires known { Declared self.now.txns t }
         requires ordered { StandsForSome self.now }
         ensures { AreEnough self.now t key (key_versions_left result) }
@@ -72,18 +73,18 @@ impl Engine {
 
     /// Where an event met many versions of its key, those that are over by now are passed over from now on. The machine shows the
     /// same.
-    pub(crate) fn pass_over(&mut self, event: Event, met: usize)
+    pub(crate) fn pass_over(&mut self, event: Event, scratch: &Scratch)
         ensures { self.new ≡ self.old }
     {
-        if met < MANY {
-            return;
-        }
-        match event {
-            Event::Read(_, key)
-            | Event::Insert(_, key, _)
-            | Event::Update(_, key, _)
-            | Event::Delete(_, key) => self.store.pass_over(key, self.clock),
-            _ => {}
+        let (key, met) = match event {
+            Event::Read(_, key) => (key, scratch.met.count),
+            Event::Insert(_, key, _) | Event::Update(_, key, _) | Event::Delete(_, key) => {
+                (key, scratch.versions.len())
+            }
+            _ => return,
+        };
+        if met >= MANY {
+            self.store.pass_over(key, self.clock);
         }
     }
 
@@ -111,6 +112,37 @@ impl Engine {
         Ok(())
     }
 
+    /// A walk that has been judged: its effects are done, or, where it is refused, the transaction aborts, and the cause is the answer.
+    /// Where they are done, there is room in the lists of the transaction for so many versions that it makes.
+    pub(crate) fn settle(
+        &mut self,
+        t: TxnId,
+        refused: Option<Cause>,
+        effects: &[Effect],
+        made: usize,
+    ) -> Result<Option<Cause>, NoMemory>
+        requires known { Declared self.old.txns t }
+        requires ordered { StandsForSome self.old }
+        requires few { made ≤ 1 }
+        requires allowed { refused ≡ None → (w : _) → StandsFor self.old w → Allowed w t effects.now }
+        ensures same { IfOk result (λ r. r ≡ refused) }
+        ensures after { (judged : World → Judgement) → IsShown self.old judged (verdict refused effects.now) → IfOk result (λ r. (w : _) → StandsFor self.old w → After self.new t w (judged w) r) }
+        ensures room { IfOk result (λ r. r ≡ None → HasRoom self.new t made []) }
+        ensures kept { IfOk result (λ r. r ≡ None → KeepsAdding self.old self.new t) }
+        ensures still { OnErr result (StillShows self.old self.new) }
+    {
+        match refused {
+            Some(cause) => {
+                let _ = self.abort(t, cause);
+                Ok(Some(cause))
+            }
+            None => {
+                self.carry_out(t, effects, made)?;
+                Ok(None)
+            }
+        }
+    }
+
     /// A walk over these versions: its effects are done, or, where it is refused, the transaction aborts, and the cause
     /// is the answer. Where they are done, there is room in the lists of the transaction for so many versions that it makes.
     pub(crate) fn walk_over(
@@ -135,16 +167,7 @@ impl Engine {
         ensures still { OnErr result (StillShows self.old self.new) }
     {
         let refused = self.walk(t, aim, bucket, vs, effects)?;
-        match refused {
-            Some(cause) => {
-                let _ = self.abort(t, cause);
-                Ok(Some(cause))
-            }
-            None => {
-                self.carry_out(t, effects, made)?;
-                Ok(None)
-            }
-        }
+        self.settle(t, refused, effects, made)
     }
 
     /// The walk over the versions of a key, and the cause where it is refused.

@@ -14,6 +14,7 @@ mod new_versions;
 mod observers;
 mod pairs;
 mod phases;
+mod reads;
 mod releases;
 mod room;
 mod runs;

@@ -87,7 +87,7 @@ impl Engine {
         ensures sure { NeedsNone self.old e.now → IsOk result }
     {
         let answered = self.answer(e, scratch);
-        self.pass_over(*e, scratch.versions.len());
+        self.pass_over(*e, scratch);
         answered
     }
 }
