@@ -4,11 +4,11 @@ use Rattle.hek_machine.proofs.engine.Engine.judge_versions.Goals as goal
 
 pub loop-v-preserved : goal.loop-v-preserved
 loop-v-preserved c = record {
-  left = one_more c.args.self.now c.args.t c.loop-v.v-index c.v-item.result c.args.aim.now c.args.vs.now c.args.effects.now.items c.loop-v.effects.items c.judge_at.new.effects.items c.in_ok-refused.refused
+  left = one_more c.args.self.now c.args.t c.loop-v.v-index c.v-item.result c.args.aim.now c.args.vs.now c.args.effects.now.items c.loop-v.effects.items c.judge_sight.new.effects.items c.in_ok-refused.refused
       (search rules) (search rules) c.loop-v.invariant.left c.in_ok-refused.ensures (sym c.is_some.ensures ∙ c.if-is_some.false);
 }
 
 pub returns-then-is_some : goal.returns-then-is_some
 returns-then-is_some c =
-    refused-verdict c.args.self.now c.args.t c.loop-v.v-index c.v-item.result c.args.aim.now c.args.vs.now c.args.effects.now.items c.loop-v.effects.items c.judge_at.new.effects.items c.in_ok-refused.refused
+    refused-verdict c.args.self.now c.args.t c.loop-v.v-index c.v-item.result c.args.aim.now c.args.vs.now c.args.effects.now.items c.loop-v.effects.items c.judge_sight.new.effects.items c.in_ok-refused.refused
     (search rules) (search rules) c.loop-v.invariant.left c.in_ok-refused.ensures (sym c.is_some.ensures ∙ c.if-is_some.true)
