@@ -9,7 +9,7 @@ mod phases;
 
 use hek_stored::Fault;
 use laps::Laps;
-use phases::pass;
+use phases::{Passed, pass};
 use std::alloc::Global;
 use std::env::Env;
 use std::io::Read;
@@ -44,20 +44,20 @@ fn text_of<R: Read + Drop>(alloc: Global, is_given: bool, mut input: R) -> Resul
     Ok(text)
 }
 
-/// All phases so often, of each the best time. It answers the number of steps.
-fn best_of(rt: &HostRuntime, text: &str, times: u64) -> Result<usize, Fault> {
+/// All phases so often, of each the best time.
+fn best_of(rt: &HostRuntime, text: &str, times: u64) -> Result<Passed, Fault> {
     let mut best = Laps::new(rt.alloc());
-    let steps = pass(rt, rt.alloc(), text, &mut best)?;
+    let passed = pass(rt, rt.alloc(), text, &mut best)?;
     for _ in 1..times {
         let mut laps = Laps::new(rt.alloc());
         pass(rt, rt.alloc(), text, &mut laps)?;
         best.keep_least(&laps);
     }
-    best.report(rt, steps)?;
-    Ok(steps)
+    best.report(rt, passed.steps)?;
+    Ok(passed)
 }
 
-fn bench(rt: &HostRuntime) -> Result<usize, Fault> {
+fn bench(rt: &HostRuntime) -> Result<Passed, Fault> {
     let (is_given, times) = asked(rt)?;
     let bytes = text_of(rt.alloc(), is_given, rt.stdin())?;
     let Ok(text) = str::from_utf8(bytes.as_slice()) else {
@@ -68,8 +68,8 @@ fn bench(rt: &HostRuntime) -> Result<usize, Fault> {
 
 fn main(rt: HostRuntime) -> ExitCode {
     match bench(&rt) {
-        Ok(steps) => {
-            let _ = println!(rt; "{steps} steps");
+        Ok(Passed { steps, rows }) => {
+            let _ = println!(rt; "{steps} steps, {rows} rows at the end");
             ExitCode::SUCCESS
         }
         Err(fault) => {

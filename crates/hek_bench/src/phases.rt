@@ -15,8 +15,15 @@ use std::alloc::Global;
 use std::str;
 use std::time::Instant;
 
-/// All phases once, over a text. It answers the number of steps.
-pub fn pass(rt: &HostRuntime, alloc: Global, text: &str, laps: &mut Laps) -> Result<usize, Fault> {
+/// What a pass went through: the steps of the schedule, and the committed rows after them.
+#[derive(Clone, Copy, Debug)]
+pub struct Passed {
+    pub steps: usize,
+    pub rows: usize,
+}
+
+/// All phases once, over a text.
+pub fn pass(rt: &HostRuntime, alloc: Global, text: &str, laps: &mut Laps) -> Result<Passed, Fault> {
     let schedule = assemble(rt, alloc, text, laps)?;
     pass_schedule(rt, alloc, &schedule, laps)
 }
@@ -39,17 +46,20 @@ fn pass_schedule(
     alloc: Global,
     schedule: &Schedule,
     laps: &mut Laps,
-) -> Result<usize, Fault> {
+) -> Result<Passed, Fault> {
     write_text(rt, alloc, schedule, laps)?;
     let image = image_of(rt, alloc, schedule, laps)?;
     load(rt, alloc, image.as_slice(), laps)?;
-    let replies = replies_of(rt, alloc, schedule, laps)?;
+    let (replies, rows) = replies_of(rt, alloc, schedule, laps)?;
     let trace = trace_of(rt, alloc, schedule, replies.as_slice(), laps)?;
     let Ok(trace) = str::from_utf8(trace.as_slice()) else {
         return Err(Fault::NotText);
     };
     judge(rt, alloc, schedule, trace, laps)?;
-    Ok(schedule.steps().len())
+    Ok(Passed {
+        steps: schedule.steps().len(),
+        rows,
+    })
 }
 
 fn write_text(
@@ -93,20 +103,22 @@ fn load(rt: &HostRuntime, alloc: Global, image: &[u8], laps: &mut Laps) -> Resul
     laps.done(rt, "load image", &start)
 }
 
-/// The machine is loaded, and does all steps.
+/// The machine is loaded, and does all steps. It answers the replies, and the number of committed rows at the end.
 #[tactic(auto, using(hek_machine::proofs::PlacedSteps::steps_placed))]
 fn replies_of(
     rt: &HostRuntime,
     alloc: Global,
     schedule: &Schedule,
     laps: &mut Laps,
-) -> Result<Vec<Reply>, Fault>
-    ensures { IfOk result (λ replies. length replies.items ≡ length schedule.now.steps) }
+) -> Result<(Vec<Reply>, usize), Fault>
+    ensures { IfOk result (λ told. length told.0.items ≡ length schedule.now.steps) }
 {
     // There is a bucket.
     let _ = schedule.buckets();
     let mut machine = loaded(rt, alloc, schedule, laps)?;
-    run(rt, alloc, schedule, &mut machine, laps)
+    let replies = run(rt, alloc, schedule, &mut machine, laps)?;
+    let rows = machine.rows()?.items().len();
+    Ok((replies, rows))
 }
 
 fn loaded(
