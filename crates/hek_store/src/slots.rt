@@ -28,6 +28,20 @@ pub(crate) fn slot_of(key: u64, slots: u64) -> usize
     }
 }
 
+/// The bucket of a key. Where there are a power of two of them, no division is needed.
+#[tactic(auto, using(crate::proofs::Masks::masked))]
+pub(crate) fn bucket_in(key: u64, buckets: u64) -> u64
+    requires { 0 < buckets }
+    ensures { result ≡ key % buckets }
+{
+    let mask = buckets - 1;
+    if buckets & mask == 0 {
+        key & mask
+    } else {
+        key % buckets
+    }
+}
+
 /// The chains of these versions over about as many slots as there is room for versions, with room for as many links.
 pub(crate) fn spread_over(versions: &Vec<Version>) -> Result<Spread, NoMemory>
     ensures any { IfOk result (λ s. 0 < s.slots) }
