@@ -4,7 +4,7 @@ use Rattle.std.specs.List.{list_any}
 use Rattle.std.proofs.lemmas.Bool.{cond-true}
 use Rattle.hek_txn.specs.Entries.{Entries, joined}
 use Rattle.hek_txn.proofs.Queued.{any-drop, found_gone, found_left, joined_left}
-use Rattle.hek_txn.proofs.entries.EntryList.enter.Goals as goal
+use Rattle.hek_txn.proofs.entry_sets.EntrySet.enter.Goals as goal
 
 pub returns-in-None-clause-told : goal.returns-in-None-clause-told
 returns-in-None-clause-told g c =

@@ -1,5 +1,5 @@
 use Rattle.hek_txn.proofs.Queued.{none_any, none_first}
-use Rattle.hek_txn.proofs.entries.EntryList.take.Goals as goal
+use Rattle.hek_txn.proofs.entry_sets.EntrySet.take.Goals as goal
 
 pub returns-in-None-clause-told : goal.returns-in-None-clause-told
 returns-in-None-clause-told g c = none_any (g.T.PartialEq.eq c.args.item) c.args.self.now.items c.in-None.ensures
