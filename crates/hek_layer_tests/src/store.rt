@@ -74,8 +74,9 @@ fn loads_rows(rt: HostRuntime) {
     is(&rt, store.buckets(), 2);
     is(&rt, store.len(), 3);
     assert!(rt; !store.is_empty());
-    for (index, key, value) in [(0, 10, 100), (1, 11, 110), (2, 12, 120)] {
+    for (index, key, value, bucket) in [(0, 10, 100, 0), (1, 11, 110, 1), (2, 12, 120, 0)] {
         let v = version(&rt, &store, index);
+        is(&rt, store.bucket_of(key), bucket);
         is(&rt, store.key_of(v), key);
         is(&rt, store.value_of(v), value);
         is(&rt, store.begin_of(v).bits(), 0);

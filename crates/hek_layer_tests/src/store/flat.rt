@@ -120,6 +120,7 @@ impl Both {
         for key in 0..KEYS {
             let wanted = self.flat.places(alloc, Some(key), 0)?;
             holds(rt, self.found_of(alloc, key)? == wanted);
+            is(rt, self.store.bucket_of(key), key % BUCKETS);
         }
         for bucket in 0..BUCKETS {
             let wanted = self.flat.places(alloc, None, bucket)?;
