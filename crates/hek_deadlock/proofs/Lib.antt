@@ -10,3 +10,4 @@ pub mod Searched
 pub mod Detected
 pub mod Short
 pub mod WorldWalks
+pub mod Lone

@@ -11,10 +11,14 @@ use hek_store::Store;
 use hek_txn::Txns;
 use std::alloc::Global;
 
+/// A cycle has so many members at least, since none waits for itself.
+const SHORTEST_CYCLE: usize = 2;
+
 /// The victim among the transactions that have finished and wait, and its cycle: the greatest on any cycle, with the
 /// shortest cycle through it, from it, the least member next at each place (section 4 of the paper: deadlock detection).
-/// It looks at each transaction once. Then only those that wait count: the graph takes time linear in their read sets and
-/// waiting lists, but for a search by halves for each waiter, and the search for a cycle at most nodes times waits.
+/// It looks at each transaction once, and ends there where fewer than two wait. Then only those that wait count: the graph
+/// takes time linear in their read sets and waiting lists, but for a search by halves for each waiter, and the search for a
+/// cycle at most nodes times waits.
 pub fn detect(
     alloc: Global,
     store: &Store,
@@ -26,6 +30,9 @@ pub fn detect(
     ensures short { IfOk result (λ answer. IfSome answer (λ a. length a.1 ≤ length txns.now.cores)) }
 {
     let ids = nodes(alloc, txns)?;
+    if ids.len() < SHORTEST_CYCLE {
+        return Ok(None);
+    }
     let rows = wait_graph(alloc, store, txns, &ids)?;
     let found = find_victim(alloc, &rows)?;
     answer_at(alloc, &ids, found)

@@ -1,4 +1,4 @@
-use Rattle.std.proofs.Common.{ℕ, ◌≡◌, ◌≤◌, length, List, ap, ◌∙◌, sym, subst}
+use Rattle.std.proofs.Common.{ℕ, ◌≡◌, ◌≤◌, length, List, None, ap, ◌∙◌, sym, subst, arith}
 use Rattle.std.specs.Prelude.{IfSome}
 use Rattle.std.proofs.lemmas.Result.{IfOk-weaker}
 use Rattle.hek_deadlock.specs.Edges.{is_edge, victim_in, IsWaiting}
@@ -6,8 +6,16 @@ use Rattle.hek_deadlock.specs.Places.{ArePlaces, answer_at, by_place}
 use Rattle.hek_deadlock.specs.Victims.{IsVictimOrNone}
 use Rattle.hek_deadlock.proofs.Waiting.{victim_waits, victim_of_walks}
 use Rattle.hek_deadlock.proofs.Short.{victim_short}
+use Rattle.hek_deadlock.proofs.Lone.{no_victim}
 use Rattle.hek_deadlock.proofs.Detected.{graph_of, found_in, found_places, found_victim}
 use Rattle.hek_deadlock.proofs.detector.detect.Goals as goal
+
+pub returns-then-len-lt-SHORTEST_CYCLE-clause-victim : goal.returns-then-len-lt-SHORTEST_CYCLE-clause-victim
+returns-then-len-lt-SHORTEST_CYCLE-clause-victim c =
+    no_victim c.args.store.now c.args.txns.now c.in_ok-ids.ids.items (record { nodes = c.in_ok-ids.ensures.nodes; few = omega arith })
+
+pub returns-then-len-lt-SHORTEST_CYCLE-clause-walks : goal.returns-then-len-lt-SHORTEST_CYCLE-clause-walks
+returns-then-len-lt-SHORTEST_CYCLE-clause-walks c = victim_of_walks c.args.store.now c.args.txns.now None (returns-then-len-lt-SHORTEST_CYCLE-clause-victim c)
 
 pub answer_at-requires : goal.answer_at-requires
 answer_at-requires c =

@@ -1,4 +1,4 @@
-use Rattle.std.proofs.Common.{ℕ, suc, ◌≡◌, ◌-◌, length, Some, subst, sym, ◌∙◌, refl, arith}
+use Rattle.std.proofs.Common.{ℕ, suc, ◌≡◌, ◌-◌, length, Some, subst, refl, arith}
 use Rattle.hek_rules.specs.Victim.{between}
 use Rattle.hek_deadlock.specs.Rows.{waits, level_at}
 use Rattle.hek_deadlock.proofs.Cycle.{walk_more, walk_end, between-zero, between-at, between-some, between-none, next_on, IsOn}

@@ -1,7 +1,7 @@
 use Rattle.std.proofs.Common.{ℕ, suc, ◌≡◌, ◌<◌, ◌-◌, List, Option, Some, None, length, refl, ap, sym, ◌∙◌, arith, vec_len, eqb-true}
 use Rattle.hek_rules.specs.Victim.{victim_of}
 use Rattle.hek_deadlock.specs.Rows.{waits, level_at}
-use Rattle.hek_deadlock.proofs.Cycle.{level_read, same_answer, pair_of, answer_with, no_answer, victim_below-zero, fewest-unwaited, unwaited}
+use Rattle.hek_deadlock.proofs.Cycle.{level_read, same_answer, answer_with, no_answer, victim_below-zero, fewest-unwaited, unwaited}
 use Rattle.hek_deadlock.proofs.search.find_victim.Goals as goal
 
 pub loop-candidate-init : goal.loop-candidate-init
