@@ -91,7 +91,7 @@ impl Engine {
     pub(crate) fn bucket_of(&self, key: u64) -> u64
         ensures { result ≡ key % self.now.store.buckets }
     {
-        key % self.store.buckets()
+        self.store.bucket_of(key)
     }
 
     /// The effects of a walk that is allowed are done, if there is memory for them and for so many versions that are made after them.

@@ -91,8 +91,7 @@ impl Engine {
         ensures seen { IfOk result (λ r. r ≡ None → IsShown self.now (λ w. last (seen_of w t (of_key w key))) met.new.seen) }
         ensures below { IfOk result (λ _. IfSome met.new.seen (λ v. v < length self.now.store.versions)) }
     {
-        let bucket = self.bucket_of(key);
-        self.list_first(t, bucket, effects)?;
+        self.list_first_of(t, key, effects)?;
         self.judge_along(t, self.versions_for(t, key), effects, met)
     }
 
