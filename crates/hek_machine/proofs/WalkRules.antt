@@ -237,6 +237,11 @@ read-free w t a b (v ∷ vs) =
 pub nothing_more : (es : List Effect) → behind es (Allow []) ≡ Allow es
 nothing_more es = ap Allow (append-nil es)
 
+-- a hidden version brings nothing
+pub by_hidden : (m : Engine) (t v : ℕ) (aim : Aim) (effects : List Effect) → version_seen m.store m.txns t (looks m t) v ≡ Hidden →
+    IsShown m (λ w. behind effects (version_judged w t (purpose_of aim) (target_of aim) v (sight w t (read_time w t) v))) (verdict None effects)
+by_hidden m t v aim effects seen = by_sight m t v aim Hidden (Allow []) effects None effects seen (λ w s. refl) (nothing_more effects)
+
 pub seen-same : (m : Engine) (t : ℕ) (vs : List ℕ) → IsShown m (λ w. seen_of w t vs) (seen_among m t vs)
 seen-same m t vs w s = sym (λ i. filter (λ (v : ℕ). is_seen (same v i)) vs)
   where

@@ -17,7 +17,7 @@ ghost use Rattle.hek_machine.specs.Written.{key_walk};
 use crate::engine::Engine;
 use crate::key_walks::told;
 use crate::scratch::{Met, Scratch};
-use crate::walks::{Aim, is_seen};
+use crate::walks::{Aim, is_hidden, is_seen};
 use hek_rules::{Cause, Effect, NoMemory, Reply, Sight, TxnId, VersionId};
 use hek_store::KeyVersions;
 
@@ -63,6 +63,9 @@ impl Engine {
         for v in versions {
             count = count.wrapping_add(1);
             let sight = self.sight_at(t, read_time, v);
+            if is_hidden(&sight) {
+                continue;
+            }
             seen = latest(seen, &sight, v);
             let refused = self.judge_sight(t, sight, aim, v, effects)?;
             if refused.is_some() {

@@ -1,5 +1,5 @@
-use Rattle.std.proofs.Common.{sym, ◌∙◌, refl, None}
-use Rattle.hek_machine.proofs.WalkRules.{maker_known, by_sight, by_promise, if_ok, nothing_more}
+use Rattle.std.proofs.Common.{sym, ◌∙◌}
+use Rattle.hek_machine.proofs.WalkRules.{maker_known, by_sight, by_promise, by_hidden, if_ok}
 use Rattle.hek_machine.proofs.engine.Engine.judge_sight.Goals as goal
 
 pub judge_wait-requires-clause-maker : goal.judge_wait-requires-clause-maker
@@ -17,8 +17,7 @@ returns-in_ok-push-in-SeenIf c =
 
 pub returns-in-Hidden : goal.returns-in-Hidden
 returns-in-Hidden c =
-    by_sight c.args.self.now c.args.t c.args.v c.args.aim.now _ _ c.args.effects.now.items None c.args.effects.now.items
-    (sym c.requires.sight ∙ c.in-Hidden.is) (λ w s. refl) (nothing_more c.args.effects.now.items)
+    by_hidden c.args.self.now c.args.t c.args.v c.args.aim.now c.args.effects.now.items (sym c.requires.sight ∙ c.in-Hidden.is)
 
 pub returns-in-HiddenActive : goal.returns-in-HiddenActive
 returns-in-HiddenActive c =
