@@ -1,5 +1,7 @@
--- The last of those that pass a test, kept while one goes along.
-use Rattle.std.proofs.Common.{◌≡◌, ℕ, ◌<◌, Bool, true, false, List, [], ◌∷◌, refl, ◌∙◌, ap, sym, subst, Option, Some, None}
+-- Those that pass a test, kept while one goes along: the last of them, or all.
+use Rattle.std.proofs.Common.{◌≡◌, ℕ, ◌<◌, Bool, true, false, List, [], ◌∷◌, ◌++◌, append_assoc, refl, ◌∙◌, ap, sym, subst, Option, Some, None}
+use Rattle.std.proofs.lemmas.List.Elements.{All-append, All-cons, All-nil}
+use Rattle.std.specs.List.{All}
 use Rattle.std.specs.Prelude.{filter, if◌then◌else◌, IfSome}
 use Rattle.hek_rules.specs.Walk.{last}
 
@@ -30,3 +32,21 @@ below_more n v b before after l h is = subst (λ o. IfSome o (λ x. x < n)) (sym
     by : (c : Bool) → IfSome (if c then Some v else before) (λ x. x < n)
     by true = l
     by false = h
+
+-- all of them, behind those before
+pub listed_more : (f : ℕ → Bool) (v : ℕ) (rest before after : List ℕ) → after ≡ before ++ (if f v then v ∷ [] else []) →
+    after ++ filter f rest ≡ before ++ filter f (v ∷ rest)
+listed_more f v rest before after is =
+    ap (λ xs. xs ++ filter f rest) is ∙ append_assoc before (if f v then v ∷ [] else []) (filter f rest) ∙ ap (λ xs. before ++ xs) (by (f v) (filter f rest))
+  where
+    by : (b : Bool) (xs : List ℕ) → (if b then v ∷ [] else []) ++ xs ≡ (if b then v ∷ xs else xs)
+    by true xs = refl
+    by false xs = refl
+
+pub all_below_more : (n v : ℕ) (b : Bool) (before after : List ℕ) → v < n → All (λ x. x < n) before → after ≡ before ++ (if b then v ∷ [] else []) → All (λ x. x < n) after
+all_below_more n v b before after l h is =
+    subst (All (λ x. x < n)) (sym is) (All-append (λ x. x < n) before (if b then v ∷ [] else []) h (by b))
+  where
+    by : (c : Bool) → All (λ x. x < n) (if c then v ∷ [] else [])
+    by true = All-cons (λ x. x < n) v [] l (All-nil (λ x. x < n))
+    by false = All-nil (λ x. x < n)

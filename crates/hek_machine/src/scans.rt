@@ -1,20 +1,26 @@
 //! What is found of many keys at once: the scan of a bucket, and the committed rows (section 4 of the paper: reads).
-ghost use Rattle.std.specs.Prelude.{◌≡◌, ◌<◌, ◌&&◌, true, [], length, IfOk, OnOk, OnErr};
+ghost use Rattle.std.specs.Prelude.{◌≡◌, ◌<◌, ◌++◌, ◌∷◌, ◌&&◌, true, None, [], length, if◌then◌else◌, IfOk, OnOk, OnErr};
 ghost use Rattle.std.specs.List.{All};
+ghost use Rattle.hek_rules.specs.declared.event.State.TheVariants.{Active};
+ghost use Rattle.hek_rules.specs.Visibility.{is_seen as sees};
+ghost use Rattle.hek_rules.specs.Walk.{ToRead, walk as walk_of, behind, of_bucket, seen_of, versions_judged};
 ghost use Rattle.hek_rules.specs.Shown.{was_made as made, lasts as is_last, committed_rows};
 ghost use Rattle.hek_rules.specs.World.{txn_in, version_in, places, is_committed as committed};
 ghost use Rattle.hek_rules.specs.Table.{pairs_of as pairs_in, scan_rule};
 ghost use Rattle.hek_rules.specs.Checks.{is_open};
-ghost use Rattle.hek_store.specs.Stored.{of_bucket};
+ghost use Rattle.hek_store.specs.Places.{versions_left};
 ghost use Rattle.hek_txn.specs.TxnTable.{Declared};
-ghost use Rattle.hek_machine.specs.Judgements.{IsShown};
-ghost use Rattle.hek_machine.specs.Stands.{StandsForSome, IsRule, StillShows};
+ghost use Rattle.hek_machine.specs.Applied.{Allowed};
+ghost use Rattle.hek_machine.specs.Judgements.{IsShown, seen_among, verdict};
+ghost use Rattle.hek_machine.specs.Stands.{StandsFor, StandsForSome, IsRule, StillShows};
 
 use crate::engine::Engine;
+use crate::key_walks::told;
 use crate::pairs::put;
 use crate::scratch::Scratch;
-use crate::walks::Aim;
-use hek_rules::{NoMemory, Pairs, Reply, State, TxnId, VersionId};
+use crate::walks::{Aim, is_hidden, is_seen};
+use hek_rules::{Cause, Effect, NoMemory, Pairs, Reply, Sight, State, TxnId, VersionId};
+use hek_store::Versions;
 use hek_word::{BeginWord, EndWord};
 use std::collections::BTreeMap;
 
@@ -27,18 +33,17 @@ fn is_committed(state: State) -> bool
     matches!(state, State::Committed)
 }
 
-impl Engine {
-    /// Lists the versions of a bucket, in order of creation, in place of what the list held.
-    fn list_versions_in(&self, bucket: u64, versions: &mut Vec<VersionId>) -> Result<(), NoMemory>
-        ensures { OnOk result (versions.new.items ≡ of_bucket self.now.store.buckets self.now.store.versions bucket) }
-    {
-        versions.clear();
-        for v in self.store.versions_in(bucket) {
-            versions.push(v)?;
-        }
-        Ok(())
+/// A version that is seen is listed too.
+fn note(sight: &Sight, v: VersionId, seen: &mut Vec<VersionId>) -> Result<(), NoMemory>
+    ensures { OnOk result (seen.new.items ≡ seen.old.items ++ (if sees sight.now then v ∷ [] else [])) }
+{
+    if is_seen(*sight) {
+        seen.push(v)?;
     }
+    Ok(())
+}
 
+impl Engine {
     /// The pairs of a few versions by key, the later ones over the earlier. At worst it takes time in the
     /// square of their number.
     fn few_pairs(&self, vs: &[VersionId]) -> Result<Vec<(u64, u64)>, NoMemory>
@@ -77,6 +82,62 @@ impl Engine {
         Ok(Pairs::new(pairs))
     }
 
+    /// The versions are judged for a read, in order of creation, up to the first refusal, and those seen are listed, in place of what
+    /// the list held.
+    fn judge_bucket(
+        &self,
+        t: TxnId,
+        versions: Versions<'_>,
+        effects: &mut Vec<Effect>,
+        seen: &mut Vec<VersionId>,
+    ) -> Result<Option<Cause>, NoMemory>
+        requires versions { All (λ v. v < length self.now.store.versions) (versions_left versions) }
+        requires known { Declared self.now.txns t }
+        requires active { (txn_in self.now.txns.cores t).state ≡ Active }
+        requires ordered { StandsForSome self.now }
+        ensures judged { IfOk result (λ r. IsShown self.now (λ w. behind effects.old.items (versions_judged w t ToRead None (versions_left versions.entry))) (verdict r effects.new.items)) }
+        ensures seen { IfOk result (λ r. r ≡ None → seen.new.items ≡ seen_among self.now t (versions_left versions.entry)) }
+        ensures below { IfOk result (λ _. All (λ v. v < length self.now.store.versions) seen.new.items) }
+    {
+        seen.clear();
+        let read_time = self.read_time(t);
+        let aim = &Aim::ToRead;
+        for v in versions {
+            let sight = self.sight_at(t, read_time, v);
+            if is_hidden(&sight) {
+                continue;
+            }
+            note(&sight, v, seen)?;
+            let refused = self.judge_sight(t, sight, aim, v, effects)?;
+            if refused.is_some() {
+                return Ok(refused);
+            }
+        }
+        Ok(None)
+    }
+
+    /// The walk of a scan along the versions of a bucket: the cause of its refusal, or else its effects are listed in their order, and
+    /// the versions seen, in place of what the lists held.
+    fn walk_bucket(
+        &self,
+        t: TxnId,
+        bucket: u64,
+        effects: &mut Vec<Effect>,
+        seen: &mut Vec<VersionId>,
+    ) -> Result<Option<Cause>, NoMemory>
+        requires known { Declared self.now.txns t }
+        requires ordered { StandsForSome self.now }
+        requires walker { is_open (txn_in self.now.txns.cores t) ≡ true }
+        requires bucket { bucket < self.now.store.buckets }
+        ensures judged { IfOk result (λ r. IsShown self.now (λ w. walk_of w t ToRead bucket (of_bucket w bucket)) (verdict r effects.new.items)) }
+        ensures allowed { IfOk result (λ r. r ≡ None → (w : _) → StandsFor self.now w → Allowed w t effects.new.items) }
+        ensures seen { IfOk result (λ r. r ≡ None → IsShown self.now (λ w. seen_of w t (of_bucket w bucket)) seen.new.items) }
+        ensures below { IfOk result (λ _. All (λ v. v < length self.now.store.versions) seen.new.items) }
+    {
+        self.list_first(t, bucket, effects)?;
+        self.judge_bucket(t, self.store.versions_in(bucket), effects, seen)
+    }
+
     /// The scan of a bucket.
     pub(crate) fn scan(
         &mut self,
@@ -91,14 +152,10 @@ impl Engine {
         ensures rule { IfOk result (IsRule (λ w. scan_rule w t bucket) self.old self.new) }
         ensures still { OnErr result (StillShows self.old self.new) }
     {
-        self.list_versions_in(bucket, &mut scratch.versions)?;
-        let vs = scratch.versions.as_slice();
-        self.list_seen(t, vs, &mut scratch.seen)?;
+        let refused = self.walk_bucket(t, bucket, &mut scratch.effects, &mut scratch.seen)?;
         let pairs = self.pairs_of(&scratch.seen)?;
-        match self.walk_over(t, &Aim::ToRead, bucket, vs, 0, &mut scratch.effects)? {
-            None => Ok(Reply::Rows(pairs)),
-            Some(cause) => Ok(Reply::Aborted(cause)),
-        }
+        let refused = self.settle(t, refused, scratch.effects.as_slice(), 0)?;
+        Ok(told(refused, Reply::Rows(pairs)))
     }
 
     /// Whether the version was loaded, or made by a transaction that has committed.
