@@ -1,27 +1,33 @@
-//! The time of each phase.
+//! The least time of each phase.
 use hek_stored::Fault;
 use std::alloc::Global;
 use std::io;
 use std::time::Instant;
 
-/// A phase, and the nanoseconds that it took.
+/// A phase, and the nanoseconds that it took at best.
 #[derive(Clone, Copy)]
 pub struct Lap {
     phase: &'static str,
     nanoseconds: u64,
 }
 
-/// The phases in their order.
+/// How often each phase is done in a row, and the least time of each so far, in the order in which they were done first.
 #[derive(Drop)]
 pub struct Laps {
+    times: u64,
     laps: Vec<Lap>,
 }
 
 impl Laps {
-    pub fn new(alloc: Global) -> Laps {
+    pub fn new(alloc: Global, times: u64) -> Laps {
         Laps {
+            times,
             laps: Vec::new(alloc),
         }
+    }
+
+    pub fn times(&self) -> u64 {
+        self.times
     }
 
     /// The phase that began then is done.
@@ -32,17 +38,14 @@ impl Laps {
         start: &Instant,
     ) -> Result<(), Fault> {
         let nanoseconds = u64::try_from(start.elapsed(rt)?.as_nanos()).unwrap_or(u64::MAX);
+        if let Some(lap) = self.laps.iter_mut().find(|lap| lap.phase == phase) {
+            lap.nanoseconds = lap.nanoseconds.min(nanoseconds);
+            return Ok(());
+        }
         if self.laps.push(Lap { phase, nanoseconds }).is_err() {
             return Err(Fault::NoMemory);
         }
         Ok(())
-    }
-
-    /// Keeps the lesser time of each phase.
-    pub fn keep_least(&mut self, other: &Laps) {
-        for (lap, rival) in self.laps.iter_mut().zip(other.laps.iter()) {
-            lap.nanoseconds = lap.nanoseconds.min(rival.nanoseconds);
-        }
     }
 
     /// Prints to standard error how long each phase took, and how many million steps a second that is.

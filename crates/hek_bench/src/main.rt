@@ -1,7 +1,7 @@
 //! Times each phase of a schedule's way: from its text to an image and back, to a trace, and from the trace to a verdict. The
 //! schedule is a small one of its own, or the text on standard input where the argument is `-`; a second argument says how
-//! often all is done, and the best time counts. Times go to standard error, so that standard output says the same at any
-//! speed.
+//! often each phase is done in a row, so that it finds its memory warm, and the best time counts. Times go to standard error,
+//! so that standard output says the same at any speed.
 #![tactic(auto)]
 
 mod laps;
@@ -20,10 +20,10 @@ use std::{env, str};
 const SMALL: &str =
     "buckets 2\nrow 10 100\nrow 11 110\ntxn a serializable\ntxn b repeatable\na begin\nb begin\na read 10\nb read 11\na update 10 101\nb scan 1\na finish\nb finish\na precommit\nb precommit\na release\nb release\na commit\nb commit\n";
 
-/// The most passes.
+/// The most turns of a phase.
 const MOST: u64 = 1_000;
 
-/// How often all is done, and whether the text comes from standard input.
+/// How often each phase is done, and whether the text comes from standard input.
 fn asked<R: Env + Alloc<A = Global>>(rt: &R) -> Result<(bool, u64), Fault> {
     let mut words = env::args(rt)?.skip(1);
     let is_given = words.next().is_some_and(|word| word.as_str() == "-");
@@ -44,16 +44,11 @@ fn text_of<R: Read + Drop>(alloc: Global, is_given: bool, mut input: R) -> Resul
     Ok(text)
 }
 
-/// All phases so often, of each the best time.
+/// All phases, each so often, and of each the best time.
 fn best_of(rt: &HostRuntime, text: &str, times: u64) -> Result<Passed, Fault> {
-    let mut best = Laps::new(rt.alloc());
-    let passed = pass(rt, rt.alloc(), text, &mut best)?;
-    for _ in 1..times {
-        let mut laps = Laps::new(rt.alloc());
-        pass(rt, rt.alloc(), text, &mut laps)?;
-        best.keep_least(&laps);
-    }
-    best.report(rt, passed.steps)?;
+    let mut laps = Laps::new(rt.alloc(), times);
+    let passed = pass(rt, rt.alloc(), text, &mut laps)?;
+    laps.report(rt, passed.steps)?;
     Ok(passed)
 }
 

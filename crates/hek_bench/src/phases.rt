@@ -1,4 +1,4 @@
-//! The phases, one after another, each in a function of its own.
+//! The phases, one after another, each done so many times in a row, in a function of its own.
 ghost use Rattle.std.specs.Prelude.{◌≡◌, length, IfOk};
 ghost use Rattle.std.specs.List.{All, AllByRecursion};
 ghost use Rattle.hek_laws.specs.Runs.{IsPlaced};
@@ -22,13 +22,25 @@ pub struct Passed {
     pub rows: usize,
 }
 
-/// All phases once, over a text.
+/// All phases, over a text.
 pub fn pass(rt: &HostRuntime, alloc: Global, text: &str, laps: &mut Laps) -> Result<Passed, Fault> {
     let schedule = assemble(rt, alloc, text, laps)?;
     pass_schedule(rt, alloc, &schedule, laps)
 }
 
 fn assemble(
+    rt: &HostRuntime,
+    alloc: Global,
+    text: &str,
+    laps: &mut Laps,
+) -> Result<Schedule, Fault> {
+    for _ in 1..laps.times() {
+        assemble_once(rt, alloc, text, laps)?;
+    }
+    assemble_once(rt, alloc, text, laps)
+}
+
+fn assemble_once(
     rt: &HostRuntime,
     alloc: Global,
     text: &str,
@@ -68,9 +80,12 @@ fn write_text(
     schedule: &Schedule,
     laps: &mut Laps,
 ) -> Result<(), Fault> {
-    let start = Instant::now(rt)?;
-    let _text = canonical(alloc, schedule)?;
-    laps.done(rt, "canonical", &start)
+    for _ in 0..laps.times() {
+        let start = Instant::now(rt)?;
+        let _text = canonical(alloc, schedule)?;
+        laps.done(rt, "canonical", &start)?;
+    }
+    Ok(())
 }
 
 /// Bytes for the longest image of so many rows, transactions and steps: docs/FORMATS.md has the sizes.
@@ -89,6 +104,18 @@ fn image_of(
     schedule: &Schedule,
     laps: &mut Laps,
 ) -> Result<Vec<u8>, Fault> {
+    for _ in 1..laps.times() {
+        image_once(rt, alloc, schedule, laps)?;
+    }
+    image_once(rt, alloc, schedule, laps)
+}
+
+fn image_once(
+    rt: &HostRuntime,
+    alloc: Global,
+    schedule: &Schedule,
+    laps: &mut Laps,
+) -> Result<Vec<u8>, Fault> {
     let start = Instant::now(rt)?;
     let mut sink = FromWrite::new(Vec::with_capacity(alloc, image_room(schedule))?);
     write_image(schedule, &mut sink)?;
@@ -97,15 +124,33 @@ fn image_of(
 }
 
 fn load(rt: &HostRuntime, alloc: Global, image: &[u8], laps: &mut Laps) -> Result<(), Fault> {
-    let mut source = MemorySource::new(image, 65_536, Ending::Ends);
-    let start = Instant::now(rt)?;
-    let _schedule = load_image(alloc, &mut source)?;
-    laps.done(rt, "load image", &start)
+    for _ in 0..laps.times() {
+        let mut source = MemorySource::new(image, 65_536, Ending::Ends);
+        let start = Instant::now(rt)?;
+        let _schedule = load_image(alloc, &mut source)?;
+        laps.done(rt, "load image", &start)?;
+    }
+    Ok(())
 }
 
-/// The machine is loaded, and does all steps. It answers the replies, and the number of committed rows at the end.
-#[tactic(auto, using(hek_machine::proofs::PlacedSteps::steps_placed))]
+/// The replies to all steps, and the number of committed rows at the end.
 fn replies_of(
+    rt: &HostRuntime,
+    alloc: Global,
+    schedule: &Schedule,
+    laps: &mut Laps,
+) -> Result<(Vec<Reply>, usize), Fault>
+    ensures { IfOk result (λ told. length told.0.items ≡ length schedule.now.steps) }
+{
+    for _ in 1..laps.times() {
+        replies_once(rt, alloc, schedule, laps)?;
+    }
+    replies_once(rt, alloc, schedule, laps)
+}
+
+/// The machine is loaded, and does all steps.
+#[tactic(auto, using(hek_machine::proofs::PlacedSteps::steps_placed))]
+fn replies_once(
     rt: &HostRuntime,
     alloc: Global,
     schedule: &Schedule,
@@ -171,8 +216,23 @@ fn replies(
     Ok(replies)
 }
 
-#[tactic(auto, using(hek_asm::proofs::RowLemmas::steps_declared))]
 fn trace_of(
+    rt: &HostRuntime,
+    alloc: Global,
+    schedule: &Schedule,
+    replies: &[Reply],
+    laps: &mut Laps,
+) -> Result<Vec<u8>, Fault>
+    requires { length replies.now ≡ length schedule.now.steps }
+{
+    for _ in 1..laps.times() {
+        trace_once(rt, alloc, schedule, replies, laps)?;
+    }
+    trace_once(rt, alloc, schedule, replies, laps)
+}
+
+#[tactic(auto, using(hek_asm::proofs::RowLemmas::steps_declared))]
+fn trace_once(
     rt: &HostRuntime,
     alloc: Global,
     schedule: &Schedule,
@@ -198,10 +258,24 @@ fn judge(
     trace: &str,
     laps: &mut Laps,
 ) -> Result<(), Fault> {
+    for _ in 1..laps.times() {
+        transcript_of(rt, alloc, schedule, trace, laps)?;
+    }
+    let told = transcript_of(rt, alloc, schedule, trace, laps)?;
+    check_told(rt, alloc, &told, laps)
+}
+
+fn transcript_of(
+    rt: &HostRuntime,
+    alloc: Global,
+    schedule: &Schedule,
+    trace: &str,
+    laps: &mut Laps,
+) -> Result<Transcript, Fault> {
     let start = Instant::now(rt)?;
     let told = read_trace(alloc, schedule, trace)?;
     laps.done(rt, "read trace", &start)?;
-    check_told(rt, alloc, &told, laps)
+    Ok(told)
 }
 
 fn check_told(
@@ -210,7 +284,10 @@ fn check_told(
     told: &Transcript,
     laps: &mut Laps,
 ) -> Result<(), Fault> {
-    let start = Instant::now(rt)?;
-    let _verdict = check(alloc, told)?;
-    laps.done(rt, "check", &start)
+    for _ in 0..laps.times() {
+        let start = Instant::now(rt)?;
+        let _verdict = check(alloc, told)?;
+        laps.done(rt, "check", &start)?;
+    }
+    Ok(())
 }
