@@ -20,15 +20,15 @@ fn refusal_text(refusal: Refusal) -> &'static str
     }
 }
 
-// Words and a number behind them.
+// Words, the last of which has its space behind it, and a number.
 fn put_counted<S: Sink>(words: &str, number: u64, sink: &mut S) -> Result<(), WriteFault>
     requires { S.failed sink.old ≡ false }
-    ensures ok { OnOk result (IsTrue (S.tells sink.old) → S.holds sink.new ≡ S.holds sink.old ++ (words.now ++ spaced (decimal number ∷ []))) }
+    ensures ok { OnOk result (IsTrue (S.tells sink.old) → S.holds sink.new ≡ S.holds sink.old ++ (words.now ++ joined (decimal number ∷ []))) }
     ensures tells { IsTrue (S.tells sink.old) → IsTrue (S.tells sink.new) }
     ensures fails { S.failed sink.new ≡ is_err result }
 {
     put_text(words, sink)?;
-    put_item(number, sink)
+    put_number(number, sink)
 }
 
 // A word that words stand before.
@@ -85,7 +85,7 @@ fn put_writer<S: Sink>(writer: Option<TxnId>, sink: &mut S) -> Result<(), WriteF
 {
     match writer {
         None => Ok(()),
-        Some(txn) => put_counted(" writer", txn.number(), sink),
+        Some(txn) => put_counted(" writer ", txn.number(), sink),
     }
 }
 
@@ -97,8 +97,8 @@ pub fn write_reply<S: Sink>(reply: &Reply, sink: &mut S) -> Result<(), WriteFaul
     ensures fails { S.failed sink.new ≡ is_err result }
 {
     match reply {
-        Reply::Began(time) => put_counted("began", time.number(), sink),
-        Reply::Found(value) => put_counted("found", *value, sink),
+        Reply::Began(time) => put_counted("began ", time.number(), sink),
+        Reply::Found(value) => put_counted("found ", *value, sink),
         Reply::Absent => put_text("absent", sink),
         Reply::Rows(pairs) => {
             put_text("rows", sink)?;
@@ -107,25 +107,25 @@ pub fn write_reply<S: Sink>(reply: &Reply, sink: &mut S) -> Result<(), WriteFaul
         Reply::Done => put_text("done", sink),
         Reply::Exists => put_text("exists", sink),
         Reply::Ready => put_text("ready", sink),
-        Reply::Waiting(count) => put_counted("waiting", *count, sink),
-        Reply::Precommitted(time) => put_counted("precommitted", time.number(), sink),
+        Reply::Waiting(count) => put_counted("waiting ", *count, sink),
+        Reply::Precommitted(time) => put_counted("precommitted ", time.number(), sink),
         Reply::ReleasedRead(version, writer) => {
-            put_counted("released read", version.index(), sink)?;
+            put_counted("released read ", version.index(), sink)?;
             put_writer(*writer, sink)
         }
-        Reply::ReleasedBucket(bucket) => put_counted("released bucket", *bucket, sink),
-        Reply::ReleasedWaiter(txn) => put_counted("released waiter", txn.number(), sink),
+        Reply::ReleasedBucket(bucket) => put_counted("released bucket ", *bucket, sink),
+        Reply::ReleasedWaiter(txn) => put_counted("released waiter ", txn.number(), sink),
         Reply::Nothing => put_text("nothing", sink),
         Reply::Committed => put_text("committed", sink),
-        Reply::WaitingCommits(count) => put_counted("waiting commits", *count, sink),
+        Reply::WaitingCommits(count) => put_counted("waiting commits ", *count, sink),
         Reply::Failed => put_text("failed", sink),
-        Reply::StampedBegin(version) => put_counted("stamped begin", version.index(), sink),
-        Reply::StampedEnd(version) => put_counted("stamped end", version.index(), sink),
-        Reply::Left(version) => put_counted("left", version.index(), sink),
+        Reply::StampedBegin(version) => put_counted("stamped begin ", version.index(), sink),
+        Reply::StampedEnd(version) => put_counted("stamped end ", version.index(), sink),
+        Reply::Left(version) => put_counted("left ", version.index(), sink),
         Reply::Over => put_text("over", sink),
         Reply::NoCycle => put_text("no cycle", sink),
         Reply::Victim(txn, members) => {
-            put_counted("victim", txn.number(), sink)?;
+            put_counted("victim ", txn.number(), sink)?;
             put_text(" cycle", sink)?;
             put_members(members.items(), sink)
         }

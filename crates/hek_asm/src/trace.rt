@@ -2,13 +2,14 @@
 ghost use Rattle.std.specs.Prelude.{◌≡◌, ◌++◌, ◌∷◌, [], ◌<◌, ◌^◌, false, length, map, IsTrue, OnOk, IfSome, is_err};
 ghost use Rattle.std.specs.List.{AllByRecursion};
 ghost use Rattle.hek_rules.specs.Plan.{IsDeclared};
+ghost use Rattle.hek_rules.specs.Events.{word_of};
 ghost use Rattle.hek_asm.specs.Lines.{spaced};
 ghost use Rattle.hek_asm.specs.Canonical.{name_words, operand_words, step_words};
 ghost use Rattle.hek_asm.specs.Trace.{NamesDeclared, line_front, line_rest, trace_line, trace};
 
 use crate::putting::{put_item, put_number, put_text, put_word};
 use crate::reply::write_reply;
-use hek_rules::{Event, Reply, Schedule, Sink, TxnId, WriteFault};
+use hek_rules::{Event, EventKind, Reply, Schedule, Sink, TxnId, WriteFault};
 
 fn put_name<S: Sink>(
     schedule: &Schedule,
@@ -24,6 +25,31 @@ fn put_name<S: Sink>(
     match txn {
         None => Ok(()),
         Some(txn) => put_word(schedule.name_of(txn), sink),
+    }
+}
+
+// A space and the word of a kind, in one text.
+fn put_kind<S: Sink>(kind: EventKind, sink: &mut S) -> Result<(), WriteFault>
+    requires { S.failed sink.old ≡ false }
+    ensures ok { OnOk result (IsTrue (S.tells sink.old) → S.holds sink.new ≡ S.holds sink.old ++ spaced (word_of kind ∷ [])) }
+    ensures tells { IsTrue (S.tells sink.old) → IsTrue (S.tells sink.new) }
+    ensures fails { S.failed sink.new ≡ is_err result }
+{
+    match kind {
+        EventKind::Begin => put_text(" begin", sink),
+        EventKind::Read => put_text(" read", sink),
+        EventKind::Scan => put_text(" scan", sink),
+        EventKind::Insert => put_text(" insert", sink),
+        EventKind::Update => put_text(" update", sink),
+        EventKind::Delete => put_text(" delete", sink),
+        EventKind::Finish => put_text(" finish", sink),
+        EventKind::Precommit => put_text(" precommit", sink),
+        EventKind::Release => put_text(" release", sink),
+        EventKind::Commit => put_text(" commit", sink),
+        EventKind::Fail => put_text(" fail", sink),
+        EventKind::Stamp => put_text(" stamp", sink),
+        EventKind::End => put_text(" end", sink),
+        EventKind::Detect => put_text(" detect", sink),
     }
 }
 
@@ -62,7 +88,7 @@ pub fn write_step<S: Sink>(
 {
     let kind = event.kind();
     put_name(schedule, event.txn(), sink)?;
-    put_word(kind.word(), sink)?;
+    put_kind(kind, sink)?;
     put_operands(kind.operand_count(), event.first(), event.second(), sink)
 }
 
