@@ -1,4 +1,5 @@
-//! The phases, one after another, each done so many times in a row, in a function of its own.
+//! The phases, one after another, each done so many times in a row, in a function of its own. What a phase makes is kept until it has been
+//! made anew.
 ghost use Rattle.std.specs.Prelude.{◌≡◌, length, IfOk};
 ghost use Rattle.std.specs.List.{All, AllByRecursion};
 ghost use Rattle.hek_laws.specs.Runs.{IsPlaced};
@@ -34,10 +35,11 @@ fn assemble(
     text: &str,
     laps: &mut Laps,
 ) -> Result<Schedule, Fault> {
+    let mut schedule = assemble_once(rt, alloc, text, laps)?;
     for _ in 1..laps.times() {
-        assemble_once(rt, alloc, text, laps)?;
+        schedule = assemble_once(rt, alloc, text, laps)?;
     }
-    assemble_once(rt, alloc, text, laps)
+    Ok(schedule)
 }
 
 fn assemble_once(
@@ -80,12 +82,23 @@ fn write_text(
     schedule: &Schedule,
     laps: &mut Laps,
 ) -> Result<(), Fault> {
-    for _ in 0..laps.times() {
-        let start = Instant::now(rt)?;
-        let _text = canonical(alloc, schedule)?;
-        laps.done(rt, "canonical", &start)?;
+    let mut _text = write_text_once(rt, alloc, schedule, laps)?;
+    for _ in 1..laps.times() {
+        _text = write_text_once(rt, alloc, schedule, laps)?;
     }
     Ok(())
+}
+
+fn write_text_once(
+    rt: &HostRuntime,
+    alloc: Global,
+    schedule: &Schedule,
+    laps: &mut Laps,
+) -> Result<String, Fault> {
+    let start = Instant::now(rt)?;
+    let text = canonical(alloc, schedule)?;
+    laps.done(rt, "canonical", &start)?;
+    Ok(text)
 }
 
 /// Bytes for the longest image of so many rows, transactions and steps: docs/FORMATS.md has the sizes.
@@ -104,10 +117,11 @@ fn image_of(
     schedule: &Schedule,
     laps: &mut Laps,
 ) -> Result<Vec<u8>, Fault> {
+    let mut image = image_once(rt, alloc, schedule, laps)?;
     for _ in 1..laps.times() {
-        image_once(rt, alloc, schedule, laps)?;
+        image = image_once(rt, alloc, schedule, laps)?;
     }
-    image_once(rt, alloc, schedule, laps)
+    Ok(image)
 }
 
 fn image_once(
@@ -124,13 +138,24 @@ fn image_once(
 }
 
 fn load(rt: &HostRuntime, alloc: Global, image: &[u8], laps: &mut Laps) -> Result<(), Fault> {
-    for _ in 0..laps.times() {
-        let mut source = MemorySource::new(image, 65_536, Ending::Ends);
-        let start = Instant::now(rt)?;
-        let _schedule = load_image(alloc, &mut source)?;
-        laps.done(rt, "load image", &start)?;
+    let mut _schedule = load_once(rt, alloc, image, laps)?;
+    for _ in 1..laps.times() {
+        _schedule = load_once(rt, alloc, image, laps)?;
     }
     Ok(())
+}
+
+fn load_once(
+    rt: &HostRuntime,
+    alloc: Global,
+    image: &[u8],
+    laps: &mut Laps,
+) -> Result<Schedule, Fault> {
+    let mut source = MemorySource::new(image, 65_536, Ending::Ends);
+    let start = Instant::now(rt)?;
+    let schedule = load_image(alloc, &mut source)?;
+    laps.done(rt, "load image", &start)?;
+    Ok(schedule)
 }
 
 /// The replies to all steps, and the number of committed rows at the end.
@@ -142,10 +167,22 @@ fn replies_of(
 ) -> Result<(Vec<Reply>, usize), Fault>
     ensures { IfOk result (λ told. length told.0.items ≡ length schedule.now.steps) }
 {
-    for _ in 1..laps.times() {
-        replies_once(rt, alloc, schedule, laps)?;
-    }
+    let _kept = replies_before(rt, alloc, schedule, laps)?;
     replies_once(rt, alloc, schedule, laps)
+}
+
+/// All turns but the last one, and what the last of them made.
+fn replies_before(
+    rt: &HostRuntime,
+    alloc: Global,
+    schedule: &Schedule,
+    laps: &mut Laps,
+) -> Result<Option<(Vec<Reply>, usize)>, Fault> {
+    let mut kept = None;
+    for _ in 1..laps.times() {
+        kept = Some(replies_once(rt, alloc, schedule, laps)?);
+    }
+    Ok(kept)
 }
 
 /// The machine is loaded, and does all steps.
@@ -225,10 +262,11 @@ fn trace_of(
 ) -> Result<Vec<u8>, Fault>
     requires { length replies.now ≡ length schedule.now.steps }
 {
+    let mut trace = trace_once(rt, alloc, schedule, replies, laps)?;
     for _ in 1..laps.times() {
-        trace_once(rt, alloc, schedule, replies, laps)?;
+        trace = trace_once(rt, alloc, schedule, replies, laps)?;
     }
-    trace_once(rt, alloc, schedule, replies, laps)
+    Ok(trace)
 }
 
 #[tactic(auto, using(hek_asm::proofs::RowLemmas::steps_declared))]
@@ -258,10 +296,10 @@ fn judge(
     trace: &str,
     laps: &mut Laps,
 ) -> Result<(), Fault> {
+    let mut told = transcript_of(rt, alloc, schedule, trace, laps)?;
     for _ in 1..laps.times() {
-        transcript_of(rt, alloc, schedule, trace, laps)?;
+        told = transcript_of(rt, alloc, schedule, trace, laps)?;
     }
-    let told = transcript_of(rt, alloc, schedule, trace, laps)?;
     check_told(rt, alloc, &told, laps)
 }
 
