@@ -15,3 +15,4 @@ mod OwnSteps
 mod TraceSteps
 mod TraceLaws
 mod Compares
+mod WordPass

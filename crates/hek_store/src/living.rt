@@ -37,7 +37,7 @@ fn is_over(version: &Version, time: Time) -> bool
 }
 
 /// The link to the first version of a slot's chain, from a link on, that isn't over.
-fn next_left(links: &[usize], versions: &[Version], start: usize, time: Time) -> usize
+fn next_left(links: &[u32], versions: &[Version], start: u32, time: Time) -> u32
     requires rising { AreLinks links.now }
     requires within { start ≤ length links.now }
     requires paired { length versions.now ≡ length links.now }
@@ -47,14 +47,14 @@ fn next_left(links: &[usize], versions: &[Version], start: usize, time: Time) ->
         → IsStart slots slot time versions.now result }
 {
     let mut link = start;
-    while link != 0 && is_over(&versions[link - 1], time) {
-        link = links[link - 1];
+    while link != 0 && is_over(&versions[link as usize - 1], time) {
+        link = links[link as usize - 1];
     }
     link
 }
 
 /// A version of this key that was passed over may be seen again: those of its slot are looked at anew.
-pub(crate) fn look_again(starts: &mut Vec<usize>, ends: &Vec<Ends>, slots: u64, key: u64)
+pub(crate) fn look_again(starts: &mut Vec<u32>, ends: &Vec<Ends>, slots: u64, key: u64)
     requires any { 0 < slots }
     requires begun { length starts.old.items ≡ slots }
     requires count { length ends.now.items ≡ slots }

@@ -1,5 +1,5 @@
 //! Slots: the keys of versions are spread over them, and each slot has a chain.
-ghost use Rattle.std.specs.Prelude.{◌≡◌, ◌%◌, ◌<◌, ◌≤◌, vec_len, vec_capacity, map, IfOk};
+ghost use Rattle.std.specs.Prelude.{◌≡◌, ◌%◌, ◌<◌, ◌≤◌, ◌^◌, vec_len, vec_capacity, length, map, IfOk};
 ghost use Rattle.hek_store.specs.Chained.{keys_of};
 ghost use Rattle.hek_store.specs.Indexed.{AreBuckets};
 
@@ -11,9 +11,9 @@ use hek_rules::NoMemory;
 #[derive(Drop)]
 pub(crate) struct Spread {
     pub(crate) slots: u64,
-    pub(crate) links: Vec<usize>,
+    pub(crate) links: Vec<u32>,
     pub(crate) ends: Vec<Ends>,
-    pub(crate) starts: Vec<usize>,
+    pub(crate) starts: Vec<u32>,
 }
 
 /// The slot of a key. A key below the number of slots spares the division.
@@ -44,6 +44,7 @@ pub(crate) fn bucket_in(key: u64, buckets: u64) -> u64
 
 /// The chains of these versions over about as many slots as there is room for versions, with room for as many links.
 pub(crate) fn spread_over(versions: &Vec<Version>) -> Result<Spread, NoMemory>
+    requires few { length versions.now.items < 2 ^ 32 }
     ensures any { IfOk result (λ s. 0 < s.slots) }
     ensures chained { IfOk result (λ s. AreBuckets s.slots (keys_of versions.now.items) s.links.items s.ends.items) }
     ensures len { IfOk result (λ s. vec_len s.links ≡ vec_len versions.now) }

@@ -43,6 +43,7 @@ invariant_of-self c =
       roomy = c.self.invariant.roomy;
       roomy_in = c.self.invariant.roomy_in;
       roomy_of = c.self.invariant.roomy_of;
+      few = c.self.invariant.few;
       begun = length-set s.starts.items slot c.next_left-next.result ∙ c.self.invariant.begun;
       starts = starts_passed s.slots slot s.passed c.args.time s.versions.items s.starts.items c.next_left-next.result c.self.invariant.begun below later c.self.invariant.starts next;
     }

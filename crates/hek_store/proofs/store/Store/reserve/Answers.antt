@@ -14,6 +14,7 @@ invariant_of-self-2 c =
       roomy = search rules;
       roomy_in = search rules;
       roomy_of = search rules;
+      few = search rules;
       begun = ap length c.in_ok-spread.ensures.starts ∙ length-map spread.ends.items (λ e. e.first) ∙ c.in_ok-spread.ensures.chained.count;
       starts = starts_fresh spread.slots c.self.inside.passed c.reserve.new.self.items spread.links.items spread.starts.items spread.ends.items c.in_ok-spread.ensures.chained c.in_ok-spread.ensures.starts;
     }
