@@ -228,7 +228,7 @@ pub(crate) fn likely_reply(alloc: Global, words: &[&[u8]]) -> Result<Reply, NoMe
     if same_bytes(word, b"victim") {
         let txn = TxnId::new(first_value(rest));
         let members = members(alloc, behind(rest, 2))?;
-        return Ok(Reply::Victim(txn, Members::new(members)));
+        return Ok(Reply::Victim(txn, Members::new(Box::new(alloc, members)?)));
     }
     Ok(of_few_words(words))
 }

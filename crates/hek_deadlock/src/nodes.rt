@@ -53,7 +53,7 @@ fn members_at(alloc: Global, ids: &[TxnId], places: &[usize]) -> Result<Members,
     for place in places {
         members.push(ids[*place])?;
     }
-    Ok(Members::new(members))
+    Ok(Members::new(Box::new(alloc, members)?))
 }
 
 /// The victim and its cycle by number, where they are given by place.

@@ -92,7 +92,7 @@ fn replies(alloc: Global) -> Result<Vec<Reply>, AllocError> {
         Reply::Rows(Pairs::new(Vec::new(alloc))),
         Reply::ReleasedRead(version, None),
         Reply::ReleasedRead(version, Some(TxnId::new(2))),
-        Reply::Victim(TxnId::new(2), Members::new(members)),
+        Reply::Victim(TxnId::new(2), Members::new(Box::new(alloc, members)?)),
         Reply::Aborted(Cause::Asked),
         Reply::Aborted(Cause::Deadlock),
         Reply::Refused(Refusal::NotBegun),
@@ -116,7 +116,8 @@ fn replies_are_copied_and_compared(rt: HostRuntime) -> Result<(), Fail> {
 fn lists_give_their_items(rt: HostRuntime) -> Result<(), Fail> {
     let pairs = Pairs::new(vec![in rt.alloc(); (10, 100)]?);
     is(&rt, pairs.items(), [(10, 100)].as_slice());
-    let members = Members::new(vec![in rt.alloc(); TxnId::new(2)]?);
+    let victim = vec![in rt.alloc(); TxnId::new(2)]?;
+    let members = Members::new(Box::new(rt.alloc(), victim)?);
     is(&rt, members.items(), [TxnId::new(2)].as_slice());
     assert_ne!(rt; Level::Serializable, Level::Repeatable);
     Ok(())

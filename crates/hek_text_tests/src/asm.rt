@@ -254,6 +254,7 @@ fn writes_the_lists_of_replies(rt: HostRuntime) {
         "rows 10=100 12=120",
     );
     let cycle = vec![in rt.alloc(); TxnId::new(2), TxnId::new(1)].expect(&rt, "memory");
+    let cycle = Box::new(rt.alloc(), cycle).expect(&rt, "memory");
     let victim = Reply::Victim(TxnId::new(2), Members::new(cycle));
     assert_reply(&rt, rt.alloc(), victim, "victim 2 cycle 2 1");
 }

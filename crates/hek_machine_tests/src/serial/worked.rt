@@ -93,7 +93,10 @@ fn deadlock(alloc: Global) -> Result<Vec<(Event, Reply)>, NoMemory> {
         finished(b()),
         (Event::Precommit(a()), Reply::Waiting(1)),
         (Event::Precommit(b()), Reply::Waiting(1)),
-        (Event::Detect, Reply::Victim(b(), Members::new(members))),
+        (
+            Event::Detect,
+            Reply::Victim(b(), Members::new(Box::new(alloc, members)?))
+        ),
         (Event::Detect, Reply::NoCycle),
         aborted(Event::Precommit(b()), Cause::Deadlock),
         (

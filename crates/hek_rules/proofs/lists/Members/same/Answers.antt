@@ -6,5 +6,5 @@ use Rattle.hek_rules.proofs.lists.Members.same.Goals as goal
 
 pub returns : goal.returns
 returns c =
-    let h : Decides c.eq.result (c.self.inside.members.items ≡ c.other.inside.members.items) = slice_eq-Decides Decides-eqb _ _ _ c.eq.ensures in
+    let h : Decides c.eq.result (c.self.inside.members.value.items ≡ c.other.inside.members.value.items) = slice_eq-Decides Decides-eqb _ _ _ c.eq.ensures in
     search rules
