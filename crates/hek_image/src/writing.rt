@@ -6,6 +6,7 @@ ghost use Rattle.hek_rules.specs.Plan.{IsPlan, names_of};
 ghost use Rattle.hek_rules.specs.Events.{txn_of};
 ghost use Rattle.hek_image.specs.Schedules.{magic, front_bytes, count_bytes, row_bytes, level_byte, txn_bytes, step_bytes, image};
 
+use arrayvec::ArrayVec;
 use hek_rules::{Event, Level, Schedule, Sink, TxnId, WriteFault, put_all};
 
 fn put_u8<S: Sink>(number: u8, sink: &mut S) -> Result<(), WriteFault>
@@ -122,14 +123,27 @@ fn step_bytes(event: &Event) -> [u8; 21]
     ]
 }
 
-fn put_step<S: Sink>(event: &Event, sink: &mut S) -> Result<(), WriteFault>
+/// Bytes of steps that go out at once: 48 steps of 21 bytes. A put of each costs more than its bytes.
+const BLOCK: usize = 1008;
+
+// Adds a step to the block, which goes out first if it has no room.
+fn gather_step<S: Sink>(
+    event: &Event,
+    block: &mut ArrayVec<u8, BLOCK>,
+    sink: &mut S,
+) -> Result<(), WriteFault>
     requires works { S.failed sink.old ≡ false }
     requires short { IfSome (txn_of event.now) (λ t. t < 2 ^ 32) }
-    ensures ok { OnOk result (IsTrue (S.tells sink.old) → S.holds sink.new ≡ S.holds sink.old ++ step_bytes event.now) }
+    ensures ok { OnOk result (IsTrue (S.tells sink.old) → S.holds sink.new ++ block.new.items ≡ (S.holds sink.old ++ block.old.items) ++ step_bytes event.now) }
     ensures tells { IsTrue (S.tells sink.old) → IsTrue (S.tells sink.new) }
     ensures fails { S.failed sink.new ≡ is_err result }
 {
-    put_all(sink, step_bytes(event).as_slice())
+    if block.remaining_capacity() < 21 {
+        put_all(sink, block.as_slice())?;
+        block.clear();
+    }
+    let _ = block.try_extend_from_slice(step_bytes(event).as_slice());
+    Ok(())
 }
 
 fn put_rows<S: Sink>(schedule: &Schedule, sink: &mut S) -> Result<(), WriteFault>
@@ -165,10 +179,11 @@ fn put_steps<S: Sink>(schedule: &Schedule, sink: &mut S) -> Result<(), WriteFaul
     ensures tells { IsTrue (S.tells sink.old) → IsTrue (S.tells sink.new) }
     ensures fails { S.failed sink.new ≡ is_err result }
 {
+    let mut block: ArrayVec<u8, BLOCK> = ArrayVec::new();
     for event in schedule.steps() {
-        put_step(event, sink)?;
+        gather_step(event, &mut block, sink)?;
     }
-    Ok(())
+    put_all(sink, block.as_slice())
 }
 
 /// Writes the version 2 image of a schedule. After a fault nothing is known of how much went out.

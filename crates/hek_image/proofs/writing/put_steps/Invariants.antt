@@ -8,5 +8,5 @@ abbrev pub invariant-loop-event : goal.invariant-loop-event
 invariant-loop-event g l = record {
   works : g.S.Sink.failed l.sink ≡ false;
   tells : IsTrue (g.S.Sink.tells l.fn.sink) → IsTrue (g.S.Sink.tells l.sink);
-  bytes : IsTrue (g.S.Sink.tells l.fn.sink) → g.S.Sink.holds l.sink ++ flat_map step_bytes (drop l.event-index l.schedule.steps) ≡ g.S.Sink.holds l.fn.sink ++ flat_map step_bytes l.schedule.steps;
+  bytes : IsTrue (g.S.Sink.tells l.fn.sink) → (g.S.Sink.holds l.sink ++ l.block.items) ++ flat_map step_bytes (drop l.event-index l.schedule.steps) ≡ g.S.Sink.holds l.fn.sink ++ flat_map step_bytes l.schedule.steps;
 }
