@@ -269,6 +269,11 @@ fn trace_of(
     Ok(trace)
 }
 
+/// Bytes for a trace whose lines have 64 of them, as the plain machine asks for. A longer one grows.
+fn trace_room(schedule: &Schedule) -> usize {
+    schedule.steps().len().saturating_mul(64)
+}
+
 #[tactic(auto, using(hek_asm::proofs::RowLemmas::steps_declared))]
 fn trace_once(
     rt: &HostRuntime,
@@ -282,7 +287,7 @@ fn trace_once(
     // Each step is one of this schedule.
     let _ = schedule.buckets();
     let start = Instant::now(rt)?;
-    let mut sink = FromWrite::new(Vec::new(alloc));
+    let mut sink = FromWrite::new(Vec::with_capacity(alloc, trace_room(schedule))?);
     write_trace(schedule, schedule.steps(), replies, &mut sink)?;
     laps.done(rt, "write trace", &start)?;
     Ok(sink.into_inner())
