@@ -142,6 +142,7 @@ fn gather_step<S: Sink>(
         put_all(sink, block.as_slice())?;
         block.clear();
     }
+    // There is room now.
     let _ = block.try_extend_from_slice(step_bytes(event).as_slice());
     Ok(())
 }
