@@ -1,5 +1,5 @@
 //! The least time of each phase.
-use hek_stored::Fault;
+use hek_compare::Fault;
 use std::alloc::Global;
 use std::io;
 use std::time::Instant;

@@ -7,7 +7,7 @@
 mod laps;
 mod phases;
 
-use hek_stored::Fault;
+use hek_compare::Fault;
 use laps::Laps;
 use phases::{Passed, pass};
 use std::alloc::Global;

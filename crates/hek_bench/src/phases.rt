@@ -11,7 +11,7 @@ use hek_image::{load_image, write_image};
 use hek_machine::Machine;
 use hek_rules::{Ending, FromWrite, MemorySource, NoMemory, Reply, Schedule, Transcript};
 use hek_serial::check;
-use hek_stored::Fault;
+use hek_compare::Fault;
 use std::alloc::Global;
 use std::str;
 use std::time::Instant;

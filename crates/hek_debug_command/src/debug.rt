@@ -1,0 +1,107 @@
+//! The command `debug`.
+ghost use Rattle.std.specs.Prelude.{◌≡◌, ◌++◌, Ok, OnOk, IfErr, MatchResult};
+ghost use Rattle.std.specs.Io.KnownBytes.{Appends};
+ghost use Rattle.hek_debug.specs.Lines.{commands_of};
+ghost use Rattle.hek_debug.specs.Sessions.{opened, after, stop_of};
+ghost use Rattle.hek_commands.specs.Commands.{IsStop};
+ghost use Rattle.hek_debug_command.specs.Debugged.{told_text, session_text, command_fault, CommandTextFails, Debugs, DebugFails};
+
+use crate::stop_text::put_told;
+use hek_commands::{HekFault, ScheduleFile, schedule_in, send};
+use hek_debug::{Command, CommandFault, Debugger, read_commands};
+use hek_rules::Schedule;
+use std::alloc::Global;
+use std::io::{Read, Write};
+use std::str;
+
+/// Does the commands that a text says with the steps of the schedule that a file says, and writes after each of them where
+/// the debugger stands, why, and what each watch looks at. The answer is the exit status. No command is done before all are
+/// known to be some; after a fault the lines of the commands before it may have been written.
+pub fn debug_command<'a, R: Read + Drop, W: Write>(
+    alloc: Global,
+    file: ScheduleFile<R>,
+    commands: &[u8],
+    out: &mut W,
+) -> Result<u8, HekFault<'a>>
+    ensures { MatchResult result (λ status. (status ≡ 0) × Debugs R.remaining file commands.now (W.contents out.old) (W.contents out.new)) (DebugFails R.remaining file commands.now) }
+{
+    let schedule = schedule_in(alloc, file)?;
+    let commands = commands_of_text(alloc, &schedule, commands)?;
+    debug(alloc, schedule, commands.as_slice(), out)?;
+    Ok(0)
+}
+
+/// Does commands from the start of a schedule on.
+fn debug<'a, W: Write>(
+    alloc: Global,
+    schedule: Schedule,
+    commands: &[Command],
+    out: &mut W,
+) -> Result<(), HekFault<'a>>
+    ensures written { OnOk result (Appends (W.contents out.old) (W.contents out.new) (session_text (opened schedule) commands.now)) }
+    ensures stops { IfErr result IsStop }
+{
+    let mut debugger = Debugger::open(alloc, schedule)?;
+    do_all(alloc, &mut debugger, commands, out)
+}
+
+/// The commands that a text says, over the names of a schedule.
+fn commands_of_text<'a>(
+    alloc: Global,
+    schedule: &Schedule,
+    text: &[u8],
+) -> Result<Vec<Command>, HekFault<'a>>
+    ensures { MatchResult result (λ commands. commands_of schedule.now text.now ≡ Ok commands.items) (CommandTextFails schedule.now text.now) }
+{
+    let Ok(text) = str::from_utf8(text) else {
+        return Err(HekFault::NotText);
+    };
+    match read_commands(alloc, schedule, text) {
+        Ok(commands) => Ok(commands),
+        Err(fault) => Err(fault_of(fault)),
+    }
+}
+
+/// The fault of a command text as that of the command.
+fn fault_of<'a>(fault: CommandFault) -> HekFault<'a>
+    ensures { result ≡ command_fault fault }
+{
+    match fault {
+        CommandFault::Line(line) => HekFault::CommandLine(line),
+        CommandFault::NoMemory => HekFault::NoMemory,
+    }
+}
+
+fn do_all<'a, W: Write>(
+    alloc: Global,
+    debugger: &mut Debugger,
+    commands: &[Command],
+    out: &mut W,
+) -> Result<(), HekFault<'a>>
+    ensures written { OnOk result (Appends (W.contents out.old) (W.contents out.new) (session_text debugger.old commands.now)) }
+    ensures stops { IfErr result IsStop }
+{
+    for command in commands {
+        do_one(alloc, debugger, *command, out)?;
+    }
+    Ok(())
+}
+
+/// Does a command, and writes where the debugger stands then.
+pub(crate) fn do_one<'a, W: Write>(
+    alloc: Global,
+    debugger: &mut Debugger,
+    command: Command,
+    out: &mut W,
+) -> Result<(), HekFault<'a>>
+    ensures stands { OnOk result (debugger.new ≡ after debugger.old command) }
+    ensures written { OnOk result (Appends (W.contents out.old) (W.contents out.new) (told_text (after debugger.old command) (stop_of debugger.old command))) }
+    ensures stops { IfErr result IsStop }
+{
+    let Ok(stop) = debugger.command(command) else {
+        return Err(HekFault::NoMemory);
+    };
+    let mut lines = Vec::new(alloc);
+    put_told(alloc, debugger, &stop, &mut lines)?;
+    send(&mut lines, out)
+}

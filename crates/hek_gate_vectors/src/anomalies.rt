@@ -1,0 +1,53 @@
+//! A folder of schedules whose orders are played: NAME.hek, and NAME.levels with their outcomes by level, for each line of its
+//! SUMMARY.
+use crate::folder::Count;
+use crate::sessions::read;
+use hek_commands::{ScheduleFile, report};
+use hek_permute::Form;
+use hek_permute_command::{Choice, permute_command};
+use hek_compare::Fault;
+use std::alloc::Global;
+use std::{fs, io};
+
+/// What `hek permute --levels` asks for.
+const LEVELS: Choice<'static> = Choice {
+    level: None,
+    form: Form::Whole,
+    limit: 1_000,
+    part: (1, 1),
+    each: false,
+    order: None,
+    levels: true,
+};
+
+/// Plays all orders of each schedule of a folder, in the order of SUMMARY, compares their outcomes by level with what is stored,
+/// and prints a line for each.
+pub fn compare_anomalies(rt: &HostRuntime, folder: &str, count: &mut Count) -> Result<(), Fault> {
+    let path = format!(in rt.alloc(); "{folder}/SUMMARY")?;
+    let names = fs::read_to_string(rt, path.as_str())?;
+    for name in names.as_str().lines() {
+        let agrees = agrees(rt, folder, name)?;
+        count.add(!agrees);
+        let verdict = if agrees { "agrees" } else { "differs" };
+        println!(rt; "{folder}/{name}: {verdict}")?;
+    }
+    Ok(())
+}
+
+fn agrees(rt: &HostRuntime, folder: &str, name: &str) -> io::Result<bool> {
+    let schedule = read(rt, folder, name, "hek")?;
+    let stored = read(rt, folder, name, "levels")?;
+    let printed = printed(rt.alloc(), schedule);
+    Ok(printed.as_slice() == stored.as_slice())
+}
+
+/// What `hek permute --levels` prints, and its fault behind it.
+fn printed(alloc: Global, schedule: Vec<u8>) -> Vec<u8> {
+    let mut out = Vec::new(alloc);
+    let mut faults = Vec::new(alloc);
+    let file = ScheduleFile::<&[u8]>::Text(schedule);
+    if let Err(fault) = permute_command(alloc, file, LEVELS, &mut out, &mut faults) {
+        let _ = report(fault, &mut out);
+    }
+    out
+}

@@ -1,9 +1,0 @@
-use Rattle.std.proofs.Common.{length, ◌≡◌}
-use Rattle.hek_orders.specs.Moves.{fails}
-use Rattle.hek_orders.proofs.moves.has_fail.Given as goal
-
-abbrev pub invariant-loop-step : goal.invariant-loop-step
-invariant-loop-step l = fails l.txn l.steps ≡ fails l.txn l.rest
-
-abbrev pub decreases-loop-step : goal.decreases-loop-step
-decreases-loop-step l = length l.rest

@@ -1,5 +1,0 @@
-use Rattle.std.proofs.Common.{◌≡◌, ◌++◌, replicate}
-use Rattle.hek_orders.proofs.moves.push_times.Given as goal
-
-abbrev pub invariant-loop : goal.invariant-loop
-invariant-loop l = l.order.items ≡ l.fn.order.items ++ replicate l.counter l.txn

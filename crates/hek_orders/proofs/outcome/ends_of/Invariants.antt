@@ -1,6 +1,0 @@
-use Rattle.std.proofs.Common.{◌≡◌}
-use Rattle.hek_orders.specs.Outcomes.{ends_upto}
-use Rattle.hek_orders.proofs.outcome.ends_of.Given as goal
-
-abbrev pub invariant-loop-place : goal.invariant-loop-place
-invariant-loop-place l = l.ends.items ≡ ends_upto l.place l.history

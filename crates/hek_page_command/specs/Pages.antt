@@ -1,0 +1,35 @@
+-- Which steps a page has, and when there is none.
+use Rattle.std.specs.Prelude.{◌≡◌, ◌≤◌, ◌<◌, ◌⊎◌, ℕ, ◌-◌, min, List, length, Option, unwrap_or}
+use Rattle.std.specs.Io.KnownBytes.{Appends}
+use Rattle.hek_rules.specs.Plan.{Plan}
+use Rattle.hek_commands.specs.declared.schedule_file.ScheduleFile.{ScheduleFile}
+use Rattle.hek_commands.specs.Commands.{FileGives}
+use Rattle.hek_page_command.specs.declared.page.Part.{Part}
+
+-- of so many steps the number of the last that is asked for
+abbrev pub last_of : Part → ℕ → ℕ
+last_of part steps = min (unwrap_or part.to steps) steps
+
+-- how many are done before the page: those before the first that is asked for
+abbrev pub done_of : Part → ℕ → ℕ
+done_of part steps = min (unwrap_or part.from 1 - 1) (last_of part steps)
+
+-- how many the page has
+abbrev pub count_of : Part → ℕ → ℕ
+count_of part steps = last_of part steps - done_of part steps
+
+-- some bytes, of which nothing is said, were written behind those that a writer held, where they are known
+pub record WritesPage (before after : Option (List ℕ)) : Type 0 where
+  pub page : List ℕ
+  pub written : Appends before after page
+
+-- of so many steps: one for 2,000 at most, else status 1 and nothing
+abbrev pub IsAnswer : ℕ → ℕ → Option (List ℕ) → Option (List ℕ) → Type 0
+IsAnswer steps status before after =
+    ((steps ≤ 2000) × (status ≡ 0) × WritesPage before after) ⊎ ((2000 < steps) × (status ≡ 1) × (after ≡ before))
+
+-- so it was for the schedule that a file says
+pub record Pages {R : Type 0} (left : R → Option (List ℕ)) (said : ScheduleFile R) (part : Part) (status : ℕ) (before after : Option (List ℕ)) : Type 0 where
+  pub plan : Plan
+  pub is : FileGives left said plan
+  pub answer : IsAnswer (count_of part (length plan.steps)) status before after

@@ -1,0 +1,92 @@
+//! The command itself.
+ghost use Rattle.std.specs.Prelude.{◌≡◌, length, IfOk, IfErr, OnOk, MatchResult};
+ghost use Rattle.hek_commands.specs.Commands.{PrintFails, IsStop};
+ghost use Rattle.hek_page_command.specs.Pages.{Pages, IsAnswer, WritesPage, count_of, done_of, last_of};
+
+use crate::data::{Shown, data_of};
+use crate::frame::{BACK, FRONT, MIDDLE};
+use crate::script::SCRIPT;
+use crate::style::STYLE;
+use hek_commands::{HekFault, ScheduleFile, schedule_in, send};
+use hek_rules::{NoMemory, Schedule};
+use std::alloc::Global;
+use std::io::{Read, Write};
+
+/// The most steps of a page.
+pub const MOST_STEPS: u64 = 2_000;
+
+/// The steps that are asked for, by their numbers from 1: from the first of these or from the first of all, to the last of
+/// these or to the last of all.
+#[derive(Clone, Copy)]
+pub struct Part {
+    pub from: Option<u64>,
+    pub to: Option<u64>,
+}
+
+/// Writes the page of the run of the schedule that a file says, or of a part of it. The answer is the exit status. Where the
+/// part has more steps than a page, that is told to `faults`, nothing is written, and the status is 1.
+pub fn page_command<'a, R: Read + Drop, W: Write, E: Write>(
+    alloc: Global,
+    file: ScheduleFile<R>,
+    part: Part,
+    out: &mut W,
+    faults: &mut E,
+) -> Result<u8, HekFault<'a>>
+    ensures { MatchResult result (λ status. Pages R.remaining file part status (W.contents out.old) (W.contents out.new)) (PrintFails R.remaining file) }
+{
+    let schedule = schedule_in(alloc, file)?;
+    write_page(alloc, &schedule, part, out, faults)
+}
+
+fn write_page<'a, W: Write, E: Write>(
+    alloc: Global,
+    schedule: &Schedule,
+    part: Part,
+    out: &mut W,
+    faults: &mut E,
+) -> Result<u8, HekFault<'a>>
+    ensures answer { IfOk result (λ status. IsAnswer (count_of part (length schedule.now.steps)) status (W.contents out.old) (W.contents out.new)) }
+    ensures stops { IfErr result IsStop }
+{
+    let shown = shown_of(part, schedule.steps().len() as u64);
+    if (shown.last as u64).saturating_sub(shown.done as u64) > MOST_STEPS {
+        let _ = writeln!(faults, "hek: page: more than {MOST_STEPS} steps");
+        return Ok(1);
+    }
+    let data = text_of(alloc, schedule, shown)?;
+    let mut page = page_of(alloc, data.as_str())?;
+    send(&mut page, out)?;
+    Ok(0)
+}
+
+/// Of so many steps those of a part.
+fn shown_of(part: Part, steps: u64) -> Shown
+    ensures { (result.done ≡ done_of part steps) × (result.last ≡ last_of part steps) }
+{
+    let last = part.to.unwrap_or(steps).min(steps);
+    let done = part.from.unwrap_or(1).saturating_sub(1).min(last);
+    Shown {
+        done: done as usize,
+        last: last as usize,
+    }
+}
+
+/// The data of the page as text.
+fn text_of<'a>(alloc: Global, schedule: &Schedule, shown: Shown) -> Result<String, HekFault<'a>>
+    ensures stops { IfErr result IsStop }
+{
+    let data = data_of(alloc, schedule, shown)?;
+    data.to_string(alloc).map_err(|_| HekFault::NoMemory)
+}
+
+/// The page of these data. They have names of small letters, digits and underscores, and words and numbers of ours: no part of
+/// them ends the element that it stands in, and the script sets it as text.
+fn page_of(alloc: Global, data: &str) -> Result<Vec<u8>, NoMemory> {
+    let mut page = Vec::new(alloc);
+    for part in [FRONT, STYLE, MIDDLE, data, BACK, SCRIPT, END] {
+        page.extend_from_slice(part.as_bytes())?;
+    }
+    Ok(page)
+}
+
+const END: &str = "</script>\n</body>\n</html>\n";

@@ -1,0 +1,23 @@
+-- What an order comes to.
+use Rattle.std.specs.Prelude.{ℕ, ◌≡◌, Bool, List}
+use Rattle.hek_permute.specs.declared.outcome.Ending.{Ending}
+
+-- how each transaction ended, the committed rows, whether it is serial, and whether one waited
+pub record Found : Type 0 where
+  pub ends : List Ending
+  pub rows : List (ℕ × ℕ)
+  pub serial : Bool
+  pub waited : Bool
+
+-- the same outcome, whoever waited
+pub record IsSame (x y : Found) : Type 0 where
+  pub ends : x.ends ≡ y.ends
+  pub rows : x.rows ≡ y.rows
+  pub serial : x.serial ≡ y.serial
+
+-- an outcome, how many orders have it, in how many of them one waited, and the first
+pub record Line : Type 0 where
+  pub outcome : Found
+  pub orders : ℕ
+  pub waited : ℕ
+  pub first : List ℕ

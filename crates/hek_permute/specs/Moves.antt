@@ -1,0 +1,45 @@
+-- The moves of transactions, and the orders that they can come in.
+use Rattle.std.specs.Prelude.{ℕ, ◌≡◌, ◌+◌, Bool, false, ◌==◌, ◌||◌, List, [], ◌∷◌, ◌++◌, map, length, replicate, slice_get, Some}
+use Rattle.hek_rules.specs.declared.event.Event.{Event}
+use Rattle.hek_rules.specs.declared.event.Event.TheVariants as event
+use Rattle.hek_rules.specs.Plan.{Plan}
+use Rattle.hek_threads.specs.Grammar.{work_of}
+use Rattle.hek_permute.specs.declared.moves.Form.{Form}
+use Rattle.hek_permute.specs.declared.moves.Form.TheVariants.{Whole, Split}
+
+-- what a transaction does: its reads and writes in order, and whether it fails in the end
+pub record Work : Type 0 where
+  pub events : List Event
+  pub fails : Bool
+
+abbrev pub is_fail : ℕ → Event → Bool
+is_fail t (event.Fail u) = u == t
+is_fail t e = false
+
+-- the transaction has a step fail
+abbrev pub fails : ℕ → List Event → Bool
+fails t [] = false
+fails t (e ∷ es) = is_fail t e || fails t es
+
+-- what a declared transaction does
+abbrev pub work_in : Plan → ℕ → Work
+work_in p t = record { events = work_of t p.steps; fails = fails t p.steps }
+
+-- the moves of all, that of ID 1 first
+pub record AreMoves (p : Plan) (all : List Work) : Type 0 where
+  pub count : length all ≡ length p.txns
+  pub each : (i : ℕ) (w : Work) → slice_get all i ≡ Some w → w ≡ work_in p (i + 1)
+
+-- how many moves end a transaction
+abbrev pub last_moves : Form → ℕ
+last_moves Whole = 1
+last_moves Split = 2
+
+-- how many moves each has
+abbrev pub counts_of : Form → List Work → List ℕ
+counts_of form all = map (λ w. length w.events + last_moves form) all
+
+-- all moves of t, then those of the next, and so on
+abbrev pub first_of : ℕ → List ℕ → List ℕ
+first_of t [] = []
+first_of t (n ∷ ns) = replicate n t ++ first_of (t + 1) ns

@@ -1,0 +1,160 @@
+//! The moves of transactions, and the orders that they can come in.
+ghost use Rattle.std.specs.Prelude.{◌≡◌, ◌+◌, ◌++◌, IfOk, OnOk, length, replicate};
+ghost use Rattle.hek_permute.specs.Moves.{AreMoves, counts_of, last_moves, fails, first_of};
+ghost use Rattle.hek_threads.specs.Grammar.{work_of};
+
+use hek_rules::{Event, NoMemory, Schedule, TxnId};
+use hek_threads::is_work;
+use std::alloc::Global;
+use std::marker::Model;
+
+/// How the end of a transaction is cut into moves.
+#[derive(Clone, Copy, Debug, PartialEq, Eq)]
+pub enum Form {
+    /// One move, from `finish` to `end`.
+    Whole,
+    /// Two: `finish` and `precommit`, and then what is left.
+    Split,
+}
+
+impl Form {
+    /// How many moves end a transaction.
+    pub fn last_moves(self) -> usize
+        ensures { result ≡ last_moves self }
+    {
+        match self {
+            Form::Whole => 1,
+            Form::Split => 2,
+        }
+    }
+}
+
+/// What a transaction does: its reads and writes in order, and whether it fails in the end.
+#[derive(Drop, Debug)]
+pub struct Moves {
+    work: Vec<Event>,
+    fails: bool,
+}
+
+impl Model for Moves {
+    ghost use Rattle.hek_permute.specs.Moves.{Work};
+
+    ghost Value = { Work };
+
+    ghost view = { λ m. record { events = m.work.items; fails = m.fails } };
+}
+
+impl Moves {
+    /// The reads and writes, in order.
+    pub fn work(&self) -> &[Event]
+        ensures { result.now ≡ self.now.events }
+    {
+        self.work.as_slice()
+    }
+
+    /// Whether the transaction ends in `fail`.
+    pub fn fails(&self) -> bool
+        ensures { result ≡ self.now.fails }
+    {
+        self.fails
+    }
+}
+
+/// The moves of each declared transaction of a schedule, in order of their IDs.
+pub fn moves_of(alloc: Global, schedule: &Schedule) -> Result<Vec<Moves>, NoMemory>
+    ensures { IfOk result (λ moves. AreMoves schedule.now moves.items) }
+{
+    let mut moves = Vec::with_capacity(alloc, schedule.txn_count())?;
+    for place in 0..schedule.txn_count() {
+        let txn = TxnId::new(place as u64 + 1);
+        moves.push(Moves {
+            work: own_work(alloc, txn, schedule.steps())?,
+            fails: has_fail(txn, schedule.steps()),
+        })?;
+    }
+    Ok(moves)
+}
+
+// The reads and writes of one transaction.
+fn own_work(alloc: Global, txn: TxnId, steps: &[Event]) -> Result<Vec<Event>, NoMemory>
+    ensures { IfOk result (λ v. v.items ≡ work_of txn steps.now) }
+{
+    Ok(
+        steps
+            .iter()
+            .copied()
+            .filter(|step| is_work(txn, *step))
+            .collect(alloc)?,
+    )
+}
+
+// Whether a transaction has a step `fail`.
+fn has_fail(txn: TxnId, steps: &[Event]) -> bool
+    ensures { result ≡ fails txn steps.now }
+{
+    let mut rest = steps;
+    while let Some((step, later)) = rest.split_first() {
+        if is_fail(txn, *step) {
+            return true;
+        }
+        rest = later;
+    }
+    false
+}
+
+ghost use Rattle.hek_permute.specs.Moves.{is_fail};
+
+fn is_fail(txn: TxnId, event: Event) -> bool
+    ensures { result ≡ is_fail txn event }
+{
+    match event {
+        Event::Fail(t) => t == txn,
+        _ => false,
+    }
+}
+
+/// The first order: all moves of the first transaction, then those of the second, and so on.
+pub fn first_order(alloc: Global, moves: &[Moves], form: Form) -> Result<Vec<TxnId>, NoMemory>
+    ensures { IfOk result (λ order. order.items ≡ first_of 1 (counts_of form moves.now)) }
+{
+    let mut order = Vec::new(alloc);
+    let mut rest = moves;
+    let mut number = 1;
+    while let Some((first, later)) = rest.split_first() {
+        let count = move_count(first, form);
+        push_times(&mut order, TxnId::new(number), count)?;
+        rest = later;
+        number += 1;
+    }
+    Ok(order)
+}
+
+fn push_times(order: &mut Vec<TxnId>, txn: TxnId, count: usize) -> Result<(), NoMemory>
+    ensures { OnOk result (order.new.items ≡ order.old.items ++ replicate count txn) }
+{
+    for _ in 0..count {
+        order.push(txn)?;
+    }
+    Ok(())
+}
+
+/// How many moves a transaction has.
+pub(crate) fn move_count(of_one: &Moves, form: Form) -> usize
+    ensures { result ≡ length of_one.now.events + last_moves form }
+{
+    of_one.work().len() + form.last_moves()
+}
+
+/// How many orders there are; None where the number is 2^64 or more, or passes it on the way.
+pub fn order_count(moves: &[Moves], form: Form) -> Option<u64> {
+    let mut count = 1u64;
+    let mut length = 0u64;
+    for of_one in moves {
+        let many = move_count(of_one, form) as u64;
+        for place in 1..=many {
+            length = length.checked_add(1)?;
+            count = count.checked_mul(length)? / place;
+        }
+    }
+    Some(count)
+}

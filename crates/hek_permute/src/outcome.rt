@@ -1,0 +1,181 @@
+//! What an order comes to: how each transaction ended, the rows at the end, and the checker's verdict.
+ghost use Rattle.std.specs.Prelude.{◌≡◌, ◌↔◌, IfOk, IsTrue, length};
+ghost use Rattle.hek_threads.specs.History.{Replays};
+ghost use Rattle.hek_permute.specs.Outcomes.{IsOutcomeOf, end_in, ends_upto, told_as_serializable, waits_in};
+ghost use Rattle.hek_rules.specs.Faults.{IsVerdict};
+ghost use Rattle.hek_rules.specs.declared.serial.Verdict.TheVariants as verdict;
+
+use crate::play::Play;
+use hek_rules::{Cause, Level, NoMemory, Pairs, Reply, Schedule, TxnId, Verdict};
+use hek_serial::check_at;
+use hek_threads::{Entry, transcript_of};
+use std::alloc::Global;
+use std::marker::Model;
+
+/// How a transaction ended.
+#[derive(Clone, Copy, Debug, PartialEq, Eq)]
+pub enum Ending {
+    Committed,
+    Aborted(Cause),
+    /// It did neither.
+    Unended,
+}
+
+/// How each transaction ended, that of ID 1 first; the committed rows at the end, by key; whether the checker finds the history
+/// serial with all taken as serializable; and whether a transaction was told to wait.
+#[derive(Drop, Debug)]
+pub struct Outcome {
+    ends: Vec<Ending>,
+    rows: Pairs,
+    serial: bool,
+    waited: bool,
+}
+
+impl Model for Outcome {
+    ghost use Rattle.hek_permute.specs.Found.{Found};
+
+    ghost Value = { Found };
+
+    ghost view = { λ o. record { ends = o.ends.items; rows = o.rows; serial = o.serial; waited = o.waited } };
+}
+
+impl Outcome {
+    /// How each transaction ended, by ID.
+    pub fn ends(&self) -> &[Ending]
+        ensures { result.now ≡ self.now.ends }
+    {
+        self.ends.as_slice()
+    }
+
+    /// The committed rows at the end, by key.
+    pub fn rows(&self) -> &Pairs
+        ensures { result.now ≡ self.now.rows }
+    {
+        &self.rows
+    }
+
+    /// Whether the checker calls the history serial, with all transactions taken as serializable.
+    pub fn serial(&self) -> bool
+        ensures { result ≡ self.now.serial }
+    {
+        self.serial
+    }
+
+    /// Whether somebody was told to wait.
+    pub fn waited(&self) -> bool
+        ensures { result ≡ self.now.waited }
+    {
+        self.waited
+    }
+
+    /// Whether the endings, the rows and the verdict are equal. Whether somebody waited is not looked at.
+    pub fn same(&self, other: &Outcome) -> bool
+        ensures { IsTrue result ↔ IsSame self.now other.now }
+    {
+        let serial = self.serial == other.serial;
+        let ends = same_ends(self.ends.as_slice(), other.ends.as_slice());
+        let rows = self.rows.same(&other.rows);
+        serial && ends && rows
+    }
+}
+
+ghost use Rattle.hek_permute.specs.Found.{IsSame};
+
+fn same_ends(ends: &[Ending], others: &[Ending]) -> bool
+    ensures { IsTrue result ↔ (ends.now ≡ others.now) }
+{
+    let mut rest = ends;
+    let mut others_rest = others;
+    while let Some((end, later)) = rest.split_first() {
+        let Some((other, others_later)) = others_rest.split_first() else {
+            return false;
+        };
+        if *end != *other {
+            return false;
+        }
+        rest = later;
+        others_rest = others_later;
+    }
+    others_rest.is_empty()
+}
+
+/// What a play came to.
+pub fn outcome_of(alloc: Global, schedule: &Schedule, play: Play) -> Result<Outcome, NoMemory>
+    requires { Replays schedule.now play.machine play.history.items }
+    ensures { IfOk result (IsOutcomeOf schedule.now play.history.items) }
+{
+    let Play { machine, history } = play;
+    let ends = ends_of(alloc, schedule.txn_count(), history.as_slice())?;
+    let waited = some_waited(history.as_slice());
+    let rows = machine.rows()?;
+    let serial = is_serial(alloc, schedule, history)?;
+    Ok(Outcome {
+        ends,
+        rows,
+        serial,
+        waited,
+    })
+}
+
+fn ends_of(alloc: Global, count: usize, history: &[Entry]) -> Result<Vec<Ending>, NoMemory>
+    ensures { IfOk result (λ ends. ends.items ≡ ends_upto count history.now) }
+{
+    let mut ends = Vec::with_capacity(alloc, count)?;
+    for place in 0..count {
+        ends.push(end_of(TxnId::new(place as u64 + 1), history))?;
+    }
+    Ok(ends)
+}
+
+/// How a transaction ended.
+fn end_of(txn: TxnId, history: &[Entry]) -> Ending
+    ensures { result ≡ end_in txn history.now }
+{
+    let mut rest = history;
+    while let Some((entry, later)) = rest.split_first() {
+        if entry.worker == txn {
+            match &entry.reply {
+                Reply::Committed => return Ending::Committed,
+                Reply::Aborted(cause) => return Ending::Aborted(*cause),
+                Reply::Failed => return Ending::Aborted(Cause::Asked),
+                _ => {}
+            }
+        }
+        rest = later;
+    }
+    Ending::Unended
+}
+
+/// Whether a transaction was told to wait.
+fn some_waited(history: &[Entry]) -> bool
+    ensures { result ≡ waits_in history.now }
+{
+    let mut rest = history;
+    while let Some((entry, later)) = rest.split_first() {
+        if is_wait(&entry.reply) {
+            return true;
+        }
+        rest = later;
+    }
+    false
+}
+
+ghost use Rattle.hek_permute.specs.Outcomes.{is_wait};
+
+/// Whether a transaction is told to wait.
+pub(crate) fn is_wait(reply: &Reply) -> bool
+    ensures { result ≡ is_wait reply.now }
+{
+    matches!(reply, Reply::Waiting(_) | Reply::WaitingCommits(_))
+}
+
+/// Whether the checker finds no fault with the history, where all transactions are taken as serializable.
+fn is_serial(alloc: Global, schedule: &Schedule, history: Vec<Entry>) -> Result<bool, NoMemory>
+    ensures { IfOk result (λ b. IsTrue b ↔ IsVerdict (told_as_serializable schedule.now history.items) verdict.Serial) }
+{
+    let told = transcript_of(alloc, schedule, history)?;
+    match check_at(alloc, &told, Level::Serializable)? {
+        Verdict::Serial => Ok(true),
+        Verdict::NotSerial(_) => Ok(false),
+    }
+}

@@ -1,0 +1,376 @@
+//! One order of moves, played on a machine of its own.
+ghost use Rattle.std.specs.Prelude.{◌≡◌, ◌+◌, ◌<◌, ◌⊎◌, IfOk, IfSome, OnOk, false, length, reverse, slice_get};
+ghost use Rattle.hek_threads.specs.History.{Replays};
+ghost use Rattle.hek_permute.specs.Plays.{IsPlay, may_go, turned};
+ghost use Rattle.hek_permute.specs.Places.{AllRest, HasCome, IsCounted, IsLater, IsMade, RestBut};
+
+use crate::fault::OrderFault;
+use crate::moves::{Form, Moves, move_count};
+use crate::outcome::is_wait;
+use hek_machine::Machine;
+use hek_rules::{Event, NoMemory, Reply, Schedule, TxnId};
+use hek_threads::{Book, Entry, Position, Stage};
+use std::alloc::Global;
+
+/// What an order comes to: the machine after it, and all events in the order in which they were made.
+#[derive(Drop)]
+pub struct Play {
+    pub machine: Machine,
+    pub history: Vec<Entry>,
+}
+
+/// Where a transaction stands: what it does next, how many of its moves have come, and whether it was told to wait.
+#[derive(Clone, Copy)]
+struct Place {
+    stage: Stage,
+    moves: usize,
+    waits: bool,
+}
+
+impl Place {
+    /// Whether it has begun and not ended.
+    fn is_running(&self) -> bool {
+        self.stage != Stage::Start && self.stage != Stage::Ended
+    }
+
+    /// Whether its next event belongs to a move that has come. What an aborted transaction gives back belongs to any.
+    fn may_go(&self, of_one: &Moves, form: Form) -> bool
+        ensures { result ≡ may_go form of_one.now self.now.moves self.now.stage }
+    {
+        match self.stage {
+            Stage::Start => self.moves > 0,
+            Stage::Working(place) => self.moves > place,
+            Stage::Preparing => self.moves > of_one.work().len(),
+            Stage::Releasing(false) => self.moves >= move_count(of_one, form),
+            Stage::Ended => false,
+            _ => true,
+        }
+    }
+
+    /// What it does next: where its last move is due, a transaction that fails turns to `fail`.
+    fn next_stage(&self, of_one: &Moves, form: Form) -> Stage
+        ensures { result ≡ turned form of_one.now self.now.stage }
+    {
+        let fails = of_one.fails();
+        let stage = self.stage;
+        match (form, stage) {
+            (Form::Whole, Stage::Working(place)) => {
+                if fails && place >= of_one.work().len() {
+                    Stage::GivingUp
+                } else {
+                    stage
+                }
+            }
+            (Form::Split, Stage::Releasing(false)) => {
+                if fails { Stage::GivingUp } else { stage }
+            }
+            _ => stage,
+        }
+    }
+}
+
+/// Plays an order of moves on a machine that is loaded with the schedule's rows and transactions. `begin` belongs to the
+/// first move of a transaction. A last move that waits is asked again after each move of another, in the order of the
+/// declarations, as long as one of them gets on; where all that have begun and not ended wait, there is a `detect`. Who is
+/// aborted gives everything back at once, and its remaining moves do nothing.
+pub fn play_order(
+    alloc: Global,
+    schedule: &Schedule,
+    moves: &[Moves],
+    form: Form,
+    order: &[TxnId],
+) -> Result<Play, OrderFault>
+    ensures replays { IfOk result (λ p. Replays schedule.now p.machine p.history.items) }
+    ensures play { IfOk result (λ p. IsPlay form moves.now (reverse order.now) p.history.items) }
+{
+    let mut book = Book::load(alloc, schedule)?;
+    play_in(alloc, &mut book, moves, form, order)?;
+    let (machine, history) = book.into_parts();
+    Ok(Play { machine, history })
+}
+
+fn play_in(
+    alloc: Global,
+    book: &mut Book<'_>,
+    moves: &[Moves],
+    form: Form,
+    order: &[TxnId],
+) -> Result<(), OrderFault>
+    requires { book.old.history ≡ [] }
+    ensures plan { book.new.plan ≡ book.old.plan }
+    ensures play { OnOk result (IsPlay form moves.now (reverse order.now) book.new.history) }
+{
+    let mut places = at_start(alloc, moves)?;
+    for &mover in order {
+        move_in(book, moves, form, &mut places, mover)?;
+    }
+    Ok(())
+}
+
+/// `one_move` with the places in a vector.
+fn move_in(
+    book: &mut Book<'_>,
+    moves: &[Moves],
+    form: Form,
+    places: &mut Vec<Place>,
+    mover: TxnId,
+) -> Result<(), OrderFault>
+    requires { AllRest form moves.now places.old.items book.old.history }
+    ensures plan { book.new.plan ≡ book.old.plan }
+    ensures rest { OnOk result (AllRest form moves.now places.new.items book.new.history) }
+    ensures moved { OnOk result (HasMoved mover places.old.items book.old.history places.new.items book.new.history) }
+{
+    one_move(book, moves, form, places.as_mut_slice(), mover)
+}
+
+/// All before their first event.
+fn at_start(alloc: Global, moves: &[Moves]) -> Result<Vec<Place>, NoMemory>
+    ensures { IfOk result (λ places. places.items ≡ replicate (length moves.now) first_place) }
+{
+    let mut places = Vec::with_capacity(alloc, moves.len())?;
+    for _ in 0..moves.len() {
+        places.push(Place {
+            stage: Stage::Start,
+            moves: 0,
+            waits: false,
+        })?;
+    }
+    Ok(places)
+}
+
+ghost use Rattle.std.specs.Prelude.{[], replicate};
+ghost use Rattle.hek_permute.specs.Places.{first_place};
+
+/// The place of a transaction in lists of all.
+fn place_of(txn: TxnId) -> Result<usize, OrderFault>
+    ensures { IfOk result (λ place. txn ≡ place + 1) }
+{
+    match txn.number().checked_sub(1) {
+        Some(place) => Ok(place as usize),
+        None => Err(OrderFault::Mismatch),
+    }
+}
+
+/// A move of a transaction comes, and what it sets off.
+fn one_move(
+    book: &mut Book<'_>,
+    moves: &[Moves],
+    form: Form,
+    places: &mut [Place],
+    mover: TxnId,
+) -> Result<(), OrderFault>
+    requires { AllRest form moves.now places.old book.old.history }
+    ensures plan { book.new.plan ≡ book.old.plan }
+    ensures rest { OnOk result (AllRest form moves.now places.new book.new.history) }
+    ensures moved { OnOk result (HasMoved mover places.old book.old.history places.new book.new.history) }
+{
+    let runs = count_move(places, mover)?;
+    let _got_on = go_on(book, moves, form, places, mover)?;
+    if runs {
+        settle(book, moves, form, places, mover)
+    } else {
+        Ok(())
+    }
+}
+
+ghost use Rattle.hek_permute.specs.Places.{HasMoved};
+
+/// One more move of a transaction has come. The answer is whether the transaction isn't over.
+fn count_move(places: &mut [Place], mover: TxnId) -> Result<bool, OrderFault>
+    ensures { OnOk result (IsCounted mover places.old places.new) }
+{
+    let at = place_of(mover)?;
+    let Some(place) = places.get(at) else {
+        return Err(OrderFault::Mismatch);
+    };
+    let Some(moves) = place.moves.checked_add(1) else {
+        return Err(OrderFault::TooMany);
+    };
+    let runs = place.stage != Stage::Ended;
+    let counted = Place {
+        stage: place.stage,
+        moves,
+        waits: place.waits,
+    };
+    places[at] = counted;
+    Ok(runs)
+}
+
+/// Makes the events of a transaction as far as its moves have come, or until it is told to wait. The answer is whether one of
+/// them was made.
+fn go_on(
+    book: &mut Book<'_>,
+    moves: &[Moves],
+    form: Form,
+    places: &mut [Place],
+    txn: TxnId,
+) -> Result<bool, OrderFault>
+    requires { RestBut form moves.now txn places.old book.old.history }
+    ensures plan { book.new.plan ≡ book.old.plan }
+    ensures rest { OnOk result (AllRest form moves.now places.new book.new.history) }
+    ensures later { OnOk result (IsLater places.old book.old.history places.new book.new.history) }
+{
+    let at = place_of(txn)?;
+    let (Some(of_one), Some(place)) = (moves.get(at), places.get(at)) else {
+        return Err(OrderFault::Mismatch);
+    };
+    let (place, got_on) = go_from(book, of_one, form, txn, *place)?;
+    places[at] = place;
+    Ok(got_on)
+}
+
+/// The place that a transaction comes to from this one, and whether an event was made on the way that it need not wait for.
+fn go_from(
+    book: &mut Book<'_>,
+    of_one: &Moves,
+    form: Form,
+    txn: TxnId,
+    from: Place,
+) -> Result<(Place, bool), OrderFault>
+    ensures plan { book.new.plan ≡ book.old.plan }
+    ensures come { IfOk result (λ r. HasCome form txn of_one.now from r.0 book.old.history book.new.history) }
+{
+    let mut place = from;
+    let mut got_on = false;
+    for _ in 0..u64::MAX {
+        if !place.may_go(of_one, form) {
+            return Ok((place, got_on));
+        }
+        place = one_event(book, of_one, form, txn, &place)?;
+        if place.waits {
+            return Ok((place, got_on));
+        }
+        got_on = true;
+    }
+    Err(OrderFault::Mismatch)
+}
+
+/// Makes the next event of a transaction. The answer is its place then.
+fn one_event(
+    book: &mut Book<'_>,
+    of_one: &Moves,
+    form: Form,
+    txn: TxnId,
+    place: &Place,
+) -> Result<Place, OrderFault>
+    ensures plan { book.new.plan ≡ book.old.plan }
+    ensures made { IfOk result (λ q. IsMade form txn of_one.now place.now q book.old.history book.new.history) }
+{
+    let at = Position {
+        stage: place.next_stage(of_one, form),
+        turns: 0,
+    };
+    let (_, reply) = book.attempt(txn, at.event(txn, of_one.work()))?;
+    let waits = is_wait(&reply);
+    if waits {
+        return Ok(Place {
+            stage: place.stage,
+            moves: place.moves,
+            waits,
+        });
+    }
+    match at.after(txn, of_one.work(), &reply) {
+        Some(next) => Ok(Place {
+            stage: next.stage,
+            moves: place.moves,
+            waits,
+        }),
+        None => Err(OrderFault::Mismatch),
+    }
+}
+
+/// After a move: who waits is asked again, and where all wait a deadlock is looked for, until nobody gets on.
+fn settle(
+    book: &mut Book<'_>,
+    moves: &[Moves],
+    form: Form,
+    places: &mut [Place],
+    mover: TxnId,
+) -> Result<(), OrderFault>
+    requires { AllRest form moves.now places.old book.old.history }
+    ensures plan { book.new.plan ≡ book.old.plan }
+    ensures rest { OnOk result (AllRest form moves.now places.new book.new.history) }
+    ensures later { OnOk result (IsLater places.old book.old.history places.new book.new.history) }
+{
+    let mut asked = Some(mover);
+    for _ in 0..u64::MAX {
+        let got_on = ask_again(book, moves, form, places, asked)?;
+        asked = None;
+        if !got_on && !break_deadlock(book, moves, form, places, mover)? {
+            return Ok(());
+        }
+    }
+    Err(OrderFault::Mismatch)
+}
+
+/// Asks each that waits again, but for the one that was just asked. The answer is whether one of them got on.
+fn ask_again(
+    book: &mut Book<'_>,
+    moves: &[Moves],
+    form: Form,
+    places: &mut [Place],
+    asked: Option<TxnId>,
+) -> Result<bool, OrderFault>
+    requires { AllRest form moves.now places.old book.old.history }
+    ensures plan { book.new.plan ≡ book.old.plan }
+    ensures rest { OnOk result (AllRest form moves.now places.new book.new.history) }
+    ensures later { OnOk result (IsLater places.old book.old.history places.new book.new.history) }
+{
+    let mut got_on = false;
+    for place in 0..places.len() {
+        let txn = TxnId::new(place as u64 + 1);
+        if waits_at(places, place) && asked != Some(txn) {
+            let moved = go_on(book, moves, form, places, txn)?;
+            got_on = got_on || moved;
+        }
+    }
+    Ok(got_on)
+}
+
+fn waits_at(places: &[Place], place: usize) -> bool {
+    match places.get(place) {
+        Some(place) => place.is_running() && place.waits,
+        None => false,
+    }
+}
+
+/// Looks for a deadlock where all that have begun and not ended wait. The answer is whether there was a victim, which has
+/// given everything back.
+fn break_deadlock(
+    book: &mut Book<'_>,
+    moves: &[Moves],
+    form: Form,
+    places: &mut [Place],
+    mover: TxnId,
+) -> Result<bool, OrderFault>
+    requires { AllRest form moves.now places.old book.old.history }
+    ensures plan { book.new.plan ≡ book.old.plan }
+    ensures rest { OnOk result (AllRest form moves.now places.new book.new.history) }
+    ensures later { OnOk result (IsLater places.old book.old.history places.new book.new.history) }
+{
+    if !all_wait(places) {
+        return Ok(false);
+    }
+    let (_, reply) = book.attempt(mover, Event::Detect)?;
+    match reply {
+        Reply::Victim(victim, _) => {
+            let _got_on = go_on(book, moves, form, places, victim)?;
+            Ok(true)
+        }
+        _ => Ok(false),
+    }
+}
+
+/// Whether some have begun and not ended, and all of these wait.
+fn all_wait(places: &[Place]) -> bool {
+    let mut some = false;
+    for place in places {
+        if place.is_running() {
+            if !place.waits {
+                return false;
+            }
+            some = true;
+        }
+    }
+    some
+}

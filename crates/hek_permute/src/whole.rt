@@ -1,0 +1,109 @@
+//! All orders, one after another.
+ghost use Rattle.std.specs.Prelude.{◌≡◌, IfOk, MatchBool, OnOk};
+ghost use Rattle.hek_permute.specs.Found.{Found};
+ghost use Rattle.hek_permute.specs.Tallies.{Goes, IsNoted, IsPlayed, is_between};
+ghost use Rattle.hek_permute.specs.Orders.{IsLast, IsNext};
+ghost use Rattle.hek_permute.specs.Wholes.{IsWhole};
+
+use crate::fault::OrderFault;
+use crate::moves::{Form, Moves, first_order, moves_of};
+use crate::order::next_order;
+use crate::outcome::{Outcome, outcome_of};
+use crate::play::play_order;
+use crate::tally::Tally;
+use hek_rules::{Schedule, TxnId};
+use std::alloc::Global;
+
+/// Who is shown each order with its outcome.
+pub trait Watch {
+    /// Is called for each order that is played, in their order. Where it answers false no more are played.
+    fn see(&mut self, order: &[TxnId], outcome: &Outcome) -> bool;
+}
+
+/// Plays all orders of a schedule's moves that have a number from `from` on and below `to`, where the first in the order of a
+/// dictionary has the number 0. Each is played on a machine of its own.
+pub fn play_all<W: Watch>(
+    alloc: Global,
+    schedule: &Schedule,
+    form: Form,
+    from: u64,
+    to: u64,
+    watch: &mut W,
+) -> Result<Tally, OrderFault>
+    ensures { IfOk result (IsWhole schedule.now form from to) }
+{
+    let moves = moves_of(alloc, schedule)?;
+    let mut order = first_order(alloc, moves.as_slice(), form)?;
+    let mut tally = Tally::new(alloc);
+    for number in 0..u64::MAX {
+        let part = is_between(from, to, number);
+        play_if(
+            alloc,
+            schedule,
+            moves.as_slice(),
+            form,
+            part,
+            order.as_slice(),
+            &mut tally,
+            watch,
+        )?;
+        if !advance(&mut order) {
+            return Ok(tally);
+        }
+    }
+    Err(OrderFault::TooMany)
+}
+
+/// Whether a number is in a range.
+fn is_between(from: u64, to: u64, number: u64) -> bool
+    ensures { result ≡ is_between from to number }
+{
+    from <= number && number < to
+}
+
+/// The next order, if there is one.
+fn advance(order: &mut Vec<TxnId>) -> bool
+    ensures { MatchBool result (IsNext order.old.items order.new.items) (IsLast order.old.items) }
+{
+    next_order(order.as_mut_slice())
+}
+
+/// Plays one order, and notes its outcome, where it is in the part.
+fn play_if<W: Watch>(
+    alloc: Global,
+    schedule: &Schedule,
+    moves: &[Moves],
+    form: Form,
+    part: bool,
+    order: &[TxnId],
+    tally: &mut Tally,
+    watch: &mut W,
+) -> Result<(), OrderFault>
+    ensures { OnOk result (Goes schedule.now form moves.now part order.now tally.old tally.new) }
+{
+    if part {
+        play_one(alloc, schedule, moves, form, order, tally, watch)
+    } else {
+        Ok(())
+    }
+}
+
+/// Plays one order, and notes its outcome.
+fn play_one<W: Watch>(
+    alloc: Global,
+    schedule: &Schedule,
+    moves: &[Moves],
+    form: Form,
+    order: &[TxnId],
+    tally: &mut Tally,
+    watch: &mut W,
+) -> Result<(), OrderFault>
+    ensures { OnOk result ((o : Found) × IsPlayed schedule.now form moves.now order.now o × IsNoted tally.old tally.new o order.now) }
+{
+    let played = play_order(alloc, schedule, moves, form, order)?;
+    let outcome = outcome_of(alloc, schedule, played)?;
+    if !watch.see(order, &outcome) {
+        return Err(OrderFault::Stopped);
+    }
+    tally.note(outcome, order)
+}

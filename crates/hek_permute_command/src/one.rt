@@ -1,0 +1,99 @@
+//! One order, as the schedule of its events.
+use crate::leveled::schedule_with;
+use hek_asm::canonical;
+use hek_commands::HekFault;
+use hek_permute::{Form, Moves, OrderFault, first_order, moves_of, play_order};
+use hek_rules::{Event, NoMemory, Schedule, TxnId};
+use std::alloc::Global;
+use std::io::Write;
+
+/// Writes the schedule whose steps are the events of an order.
+pub(crate) fn write_one<'a, W: Write>(
+    alloc: Global,
+    schedule: &Schedule,
+    form: Form,
+    names: &str,
+    out: &mut W,
+) -> Result<u8, HekFault<'a>> {
+    let moves = moves_of(alloc, schedule)?;
+    let order = order_named(alloc, schedule, moves.as_slice(), form, names)?;
+    let events = events_of(alloc, schedule, moves.as_slice(), form, order.as_slice())?;
+    let played = schedule_with(alloc, schedule, None, events.as_slice())?;
+    let text = canonical(alloc, &played)?;
+    match out.write_all(text.as_bytes()) {
+        Ok(()) => Ok(0),
+        Err(_) => Err(HekFault::CannotWrite),
+    }
+}
+
+/// The events of the play of an order.
+fn events_of<'a>(
+    alloc: Global,
+    schedule: &Schedule,
+    moves: &[Moves],
+    form: Form,
+    order: &[TxnId],
+) -> Result<Vec<Event>, HekFault<'a>> {
+    match play_order(alloc, schedule, moves, form, order) {
+        Ok(played) => {
+            let mut events = Vec::new(alloc);
+            for entry in played.history.as_slice() {
+                if events.push(entry.event).is_err() {
+                    return Err(HekFault::NoMemory);
+                }
+            }
+            Ok(events)
+        }
+        Err(fault) => Err(fault_of(fault)),
+    }
+}
+
+/// The fault of an order as that of a command.
+pub(crate) fn fault_of<'a>(fault: OrderFault) -> HekFault<'a> {
+    match fault {
+        OrderFault::NoMemory => HekFault::NoMemory,
+        OrderFault::Mismatch | OrderFault::TooMany => HekFault::Mismatch(0),
+        OrderFault::Stopped => HekFault::NoMemory,
+    }
+}
+
+/// The order that names say. It has each transaction as often as it has moves.
+fn order_named<'a>(
+    alloc: Global,
+    schedule: &Schedule,
+    moves: &[Moves],
+    form: Form,
+    names: &str,
+) -> Result<Vec<TxnId>, HekFault<'a>> {
+    let order = ids_named(alloc, schedule, names)?;
+    let mut sorted = copy_of(alloc, order.as_slice())?;
+    let first = first_order(alloc, moves, form)?;
+    if sorted.sort().is_err() {
+        return Err(HekFault::NoMemory);
+    }
+    if sorted.as_slice() != first.as_slice() {
+        return Err(HekFault::BadArgument);
+    }
+    Ok(order)
+}
+
+fn copy_of(alloc: Global, order: &[TxnId]) -> Result<Vec<TxnId>, NoMemory> {
+    Ok(Vec::from_slice(alloc, order)?)
+}
+
+fn ids_named<'a>(
+    alloc: Global,
+    schedule: &Schedule,
+    names: &str,
+) -> Result<Vec<TxnId>, HekFault<'a>> {
+    let mut order = Vec::new(alloc);
+    for name in names.split_whitespace() {
+        let Some(txn) = schedule.id_of(name.as_bytes()) else {
+            return Err(HekFault::BadArgument);
+        };
+        if order.push(txn).is_err() {
+            return Err(HekFault::NoMemory);
+        }
+    }
+    Ok(order)
+}

@@ -1,0 +1,237 @@
+//! The command itself.
+use crate::choice::{Choice, range_of};
+use crate::leveled::schedule_with;
+use crate::lines::{put_order, put_outcome, put_row, put_written};
+use crate::one::{fault_of, write_one};
+use crate::table::{LEVELS, put_table};
+use hek_commands::{HekFault, ScheduleFile, schedule_in, send};
+use hek_permute::{Form, Outcome, Tally, Watch, moves_of, order_count, play_all};
+use hek_rules::{Level, NoMemory, Schedule, TxnId};
+use std::alloc::Global;
+use std::io::{Read, Write};
+
+/// Plays all orders of the moves of the schedule that a file says, or what else the choice asks for, and writes what they come
+/// to. The answer is the exit status. Nothing is written before the last order is over. Where there are more orders than the
+/// limit, that is told to `faults`, and the status is 1.
+pub fn permute_command<'a, R: Read + Drop, W: Write, E: Write>(
+    alloc: Global,
+    file: ScheduleFile<R>,
+    choice: Choice<'_>,
+    out: &mut W,
+    faults: &mut E,
+) -> Result<u8, HekFault<'a>> {
+    let schedule = schedule_in(alloc, file)?;
+    permute(alloc, &schedule, choice, out, faults)
+}
+
+fn permute<'a, W: Write, E: Write>(
+    alloc: Global,
+    schedule: &Schedule,
+    choice: Choice<'_>,
+    out: &mut W,
+    faults: &mut E,
+) -> Result<u8, HekFault<'a>> {
+    if let Some(names) = choice.order {
+        return at_order(alloc, schedule, choice, names, out);
+    }
+    let Some((from, to)) = range(alloc, schedule, choice, faults)? else {
+        return Ok(1);
+    };
+    let mut text = Vec::new(alloc);
+    if choice.levels {
+        put_levels(alloc, schedule, choice.form, from, to, &mut text)?;
+    } else {
+        put_orders(alloc, schedule, choice, from, to, &mut text)?;
+    }
+    send(&mut text, out)?;
+    Ok(0)
+}
+
+/// The events of one order.
+fn at_order<'a, W: Write>(
+    alloc: Global,
+    schedule: &Schedule,
+    choice: Choice<'_>,
+    names: &str,
+    out: &mut W,
+) -> Result<u8, HekFault<'a>> {
+    let leveled = schedule_with(alloc, schedule, choice.level, schedule.steps())?;
+    write_one(alloc, &leveled, choice.form, names, out)
+}
+
+/// The orders of the part, from the number of the first to that behind the last; None where they are too many.
+fn range<'a, E: Write>(
+    alloc: Global,
+    schedule: &Schedule,
+    choice: Choice<'_>,
+    faults: &mut E,
+) -> Result<Option<(u64, u64)>, HekFault<'a>> {
+    let moves = moves_of(alloc, schedule)?;
+    let limit = choice.limit;
+    let Some(count) = order_count(moves.as_slice(), choice.form) else {
+        let _ = writeln!(
+            faults,
+            "hek: permute: too many orders to count, more than {limit}"
+        );
+        return Ok(None);
+    };
+    let (from, to) = range_of(count, choice.part);
+    let many = to.saturating_sub(from);
+    if many > limit {
+        let _ = writeln!(faults, "hek: permute: {many} orders, more than {limit}");
+        return Ok(None);
+    }
+    Ok(Some((from, to)))
+}
+
+/// The lines of the orders at the level that is asked for.
+fn put_orders<'a>(
+    alloc: Global,
+    schedule: &Schedule,
+    choice: Choice<'_>,
+    from: u64,
+    to: u64,
+    text: &mut Vec<u8>,
+) -> Result<(), HekFault<'a>> {
+    let leveled = schedule_with(alloc, schedule, choice.level, schedule.steps())?;
+    if choice.each {
+        put_each(alloc, &leveled, choice.form, from, to, text)
+    } else {
+        let tally = tally_of(alloc, &leveled, choice.form, from, to)?;
+        put_tally(alloc, &leveled, &tally, text)?;
+        Ok(())
+    }
+}
+
+/// Who watches nothing.
+#[derive(Drop)]
+struct Blind;
+
+impl Watch for Blind {
+    fn see(&mut self, _order: &[TxnId], _outcome: &Outcome) -> bool {
+        true
+    }
+}
+
+/// The tally of the orders, those that are met most first.
+fn tally_of<'a>(
+    alloc: Global,
+    schedule: &Schedule,
+    form: Form,
+    from: u64,
+    to: u64,
+) -> Result<Tally, HekFault<'a>> {
+    match play_all(alloc, schedule, form, from, to, &mut Blind) {
+        Ok(mut tally) => match tally.sort() {
+            Ok(()) => Ok(tally),
+            Err(fault) => Err(fault_of(fault)),
+        },
+        Err(fault) => Err(fault_of(fault)),
+    }
+}
+
+fn put_tally(
+    alloc: Global,
+    schedule: &Schedule,
+    tally: &Tally,
+    text: &mut Vec<u8>,
+) -> Result<(), NoMemory> {
+    let mut orders = 0u64;
+    for row in tally.rows() {
+        orders = orders.saturating_add(row.orders());
+    }
+    put_heading(orders, tally.rows().len(), text)?;
+    for row in tally.rows() {
+        put_row(alloc, schedule, row, text)?;
+    }
+    Ok(())
+}
+
+fn put_heading(orders: u64, outcomes: usize, text: &mut Vec<u8>) -> Result<(), NoMemory> {
+    put_written(writeln!(text, "orders {orders} outcomes {outcomes}").is_ok())
+}
+
+/// Who gathers a line for each order.
+#[derive(Drop)]
+struct Lines<'s> {
+    alloc: Global,
+    schedule: &'s Schedule,
+    text: Vec<u8>,
+}
+
+impl Watch for Lines<'_> {
+    fn see(&mut self, order: &[TxnId], outcome: &Outcome) -> bool {
+        put_line(self.alloc, self.schedule, order, outcome, &mut self.text).is_ok()
+    }
+}
+
+fn put_line(
+    alloc: Global,
+    schedule: &Schedule,
+    order: &[TxnId],
+    outcome: &Outcome,
+    text: &mut Vec<u8>,
+) -> Result<(), NoMemory> {
+    put_order(schedule, order, text)?;
+    text.extend_from_slice(b" -> ")?;
+    put_outcome(alloc, schedule, outcome, text)?;
+    if outcome.waited() {
+        text.extend_from_slice(b"; waited")?;
+    }
+    text.push(b'\n')?;
+    Ok(())
+}
+
+fn put_each<'a>(
+    alloc: Global,
+    schedule: &Schedule,
+    form: Form,
+    from: u64,
+    to: u64,
+    text: &mut Vec<u8>,
+) -> Result<(), HekFault<'a>> {
+    let mut lines = Lines {
+        alloc,
+        schedule,
+        text: Vec::new(alloc),
+    };
+    if let Err(fault) = play_all(alloc, schedule, form, from, to, &mut lines) {
+        return Err(fault_of(fault));
+    }
+    if text.extend_from_slice(lines.text.as_slice()).is_err() {
+        return Err(HekFault::NoMemory);
+    }
+    Ok(())
+}
+
+/// The table of outcomes by level.
+fn put_levels<'a>(
+    alloc: Global,
+    schedule: &Schedule,
+    form: Form,
+    from: u64,
+    to: u64,
+    text: &mut Vec<u8>,
+) -> Result<(), HekFault<'a>> {
+    let mut tallies = Vec::new(alloc);
+    for level in LEVELS {
+        let tally = tally_at(alloc, schedule, level, form, from, to)?;
+        if tallies.push(tally).is_err() {
+            return Err(HekFault::NoMemory);
+        }
+    }
+    put_table(alloc, schedule, tallies.as_slice(), text)?;
+    Ok(())
+}
+
+fn tally_at<'a>(
+    alloc: Global,
+    schedule: &Schedule,
+    level: Level,
+    form: Form,
+    from: u64,
+    to: u64,
+) -> Result<Tally, HekFault<'a>> {
+    let leveled = schedule_with(alloc, schedule, Some(level), schedule.steps())?;
+    tally_of(alloc, &leveled, form, from, to)
+}

@@ -1,0 +1,69 @@
+//! Outcomes by level: how many orders have each.
+use crate::lines::{put_outcome, put_written};
+use hek_permute::{Outcome, Tally};
+use hek_rules::{Level, NoMemory, Schedule};
+use std::alloc::Global;
+use std::io::Write;
+
+/// The levels of the table, in the order of its columns.
+pub(crate) const LEVELS: [Level; 3] = [Level::Serializable, Level::Repeatable, Level::Snapshot];
+
+/// The levels in a line, and a line for each outcome: how many orders have it at each level, and the outcome. The tallies are
+/// those of the levels, in order.
+pub(crate) fn put_table(
+    alloc: Global,
+    schedule: &Schedule,
+    tallies: &[Tally],
+    text: &mut Vec<u8>,
+) -> Result<(), NoMemory> {
+    put_levels(text)?;
+    for (column, tally) in tallies.iter().enumerate() {
+        for row in tally.rows() {
+            if is_first(tallies, column, row.outcome()) {
+                put_counts(tallies, row.outcome(), text)?;
+                put_outcome(alloc, schedule, row.outcome(), text)?;
+                text.push(b'\n')?;
+            }
+        }
+    }
+    Ok(())
+}
+
+fn put_levels(text: &mut Vec<u8>) -> Result<(), NoMemory> {
+    for (place, level) in LEVELS.iter().enumerate() {
+        if place > 0 {
+            text.push(b' ')?;
+        }
+        text.extend_from_slice(level.word().as_bytes())?;
+    }
+    text.push(b'\n')?;
+    Ok(())
+}
+
+/// Whether no tally before this one has the outcome.
+fn is_first(tallies: &[Tally], column: usize, outcome: &Outcome) -> bool {
+    for (place, tally) in tallies.iter().enumerate() {
+        if place < column && count_of(tally, outcome) > 0 {
+            return false;
+        }
+    }
+    true
+}
+
+/// How many orders have the outcome.
+fn count_of(tally: &Tally, outcome: &Outcome) -> u64 {
+    for row in tally.rows() {
+        if row.outcome().same(outcome) {
+            return row.orders();
+        }
+    }
+    0
+}
+
+fn put_counts(tallies: &[Tally], outcome: &Outcome, text: &mut Vec<u8>) -> Result<(), NoMemory> {
+    for tally in tallies {
+        let count = count_of(tally, outcome);
+        put_written(write!(text, "{count} ").is_ok())?;
+    }
+    Ok(())
+}

@@ -1,0 +1,4 @@
+//! Orders, and what `hek permute` prints of them.
+mod commands;
+mod orders;
+mod speed;
