@@ -49,7 +49,7 @@ fn write_run<'a, W: Write>(
     ensures stops { IfErr result IsStop }
 {
     // There is a bucket, and each step is one of this schedule.
-    let _ = schedule.buckets();
+    schedule.known();
     let mut machine = Machine::load(alloc, schedule)?;
     write_steps(alloc, schedule, &mut machine, schedule.steps(), out)
 }
@@ -80,7 +80,7 @@ fn write_state<'a, W: Write>(
     ensures stops { IfErr result IsStop }
 {
     // There is a bucket, and each step is one of this schedule.
-    let _ = schedule.buckets();
+    schedule.known();
     let steps = first_steps(schedule.steps(), limit);
     let mut machine = Machine::load(alloc, schedule)?;
     write_steps(alloc, schedule, &mut machine, steps, out)?;

@@ -109,12 +109,13 @@ command_fault read.NoMemory = NoMemory
 
 -- why a text isn't one of commands: a line only where it is the first at fault
 abbrev pub CommandTextFails : Plan → List ℕ → HekFault → Type 0
-CommandTextFails plan text NotText = ¬ (IsUtf8 text)
 CommandTextFails plan text (CommandLine number) = commands_of plan text ≡ Err number
 CommandTextFails plan text NoMemory = Unit {0}
 CommandTextFails plan text other = ⊥
 
+-- why `hek debug` fails: bytes that aren't a text come before a fault of the file, and that before a fault of the commands
 abbrev pub DebugFails : {R : Type 0} → (R → Option (List ℕ)) → ScheduleFile R → List ℕ → HekFault → Type 0
 DebugFails left said text CannotWrite = Unit {0}
 DebugFails left said text NoMemory = Unit {0}
-DebugFails left said text fault = FileFails left said fault ⊎ ((plan : Plan) × FileGives left said plan × CommandTextFails plan text fault)
+DebugFails left said text fault =
+    (¬ (IsUtf8 text) × (fault ≡ NotText)) ⊎ (IsUtf8 text × (FileFails left said fault ⊎ ((plan : Plan) × FileGives left said plan × CommandTextFails plan text fault)))

@@ -8,7 +8,7 @@ use Rattle.hek_rules.specs.declared.kind.EventKind.{EventKind}
 use Rattle.hek_rules.specs.declared.kind.EventKind.TheVariants as kind
 use Rattle.hek_rules.specs.Name.{is_name}
 use Rattle.hek_rules.specs.Events.{kind_coded, operand_count, event_of, is_detect, is_scan}
-use Rattle.hek_rules.specs.Plan.{Plan, has_key, has_name}
+use Rattle.hek_rules.specs.Plan.{Plan, has_key, has_name, max_buckets, max_rows, max_steps, max_txns}
 use Rattle.hek_image.specs.declared.fault.LoadFault.{LoadFault}
 use Rattle.hek_image.specs.declared.fault.LoadFault.TheVariants.{BadMagic, BadVersion, Short, BadField, Trailing}
 use Rattle.hek_image.specs.Schedules.{magic}
@@ -130,10 +130,10 @@ version_at = required (number_at w16) is_version BadVersion
 unfoldable pub header_at : Reader (Plan × Header)
 header_at = both magic_at (λ m.
     both version_at (λ version.
-    both (number_within 1 1024 w32) (λ buckets.
-    both (number_within 0 65536 w32) (λ rows.
-    both (number_within 0 1024 w32) (λ txns.
-    both (number_within 0 1000000 w32) (λ steps.
+    both (number_within 1 max_buckets w32) (λ buckets.
+    both (number_within 0 max_rows w32) (λ rows.
+    both (number_within 0 max_txns w32) (λ txns.
+    both (number_within 0 max_steps w32) (λ steps.
     value (record { buckets = buckets; rows = []; txns = []; steps = [] }, record { version = version; rows = rows; txns = txns; steps = steps })))))))
 
 -- all but the end

@@ -1,7 +1,7 @@
 -- What a source gave while fields were read from it, and what is known of them whatever follows.
 use Rattle.std.specs.Prelude.{◌≡◌, ℕ, ◌+◌, ◌≤◌, List, [], ◌∷◌, ◌++◌, length, Result, Ok, Err}
 use Rattle.hek_rules.specs.declared.event.Level.{Level}
-use Rattle.hek_rules.specs.Plan.{Plan}
+use Rattle.hek_rules.specs.Plan.{Plan, max_rows, max_steps, max_txns}
 use Rattle.hek_image.specs.declared.fault.LoadFault.{LoadFault}
 use Rattle.hek_image.specs.declared.fault.LoadFault.TheVariants as load
 use Rattle.hek_image.specs.declared.item.Item.{Item}
@@ -49,9 +49,9 @@ item_size item.Step = 21
 
 -- there is room for n of them
 abbrev pub ItemsFit : Item → ℕ → Plan → Type 0
-ItemsFit item.Row n plan = length plan.rows + n ≤ 65536
-ItemsFit (item.Name level len) n plan = length plan.txns + n ≤ 1024
-ItemsFit item.Step n plan = length plan.steps + n ≤ 1000000
+ItemsFit item.Row n plan = length plan.rows + n ≤ max_rows
+ItemsFit (item.Name level len) n plan = length plan.txns + n ≤ max_txns
+ItemsFit item.Step n plan = length plan.steps + n ≤ max_steps
 
 abbrev pub HasMore : ℕ → ℕ → ℕ → Plan → Plan → Type 0
 HasMore rows txns steps old new = (length new.rows ≡ length old.rows + rows) × (length new.txns ≡ length old.txns + txns) × (length new.steps ≡ length old.steps + steps)

@@ -1,5 +1,6 @@
 //! Rows, names and steps of an image, each added to a schedule.
 ghost use Rattle.std.specs.Prelude.{◌≡◌, ◌+◌, ◌<◌, ◌≤◌, length, OnOk, OnErr, IfOk, IsTrue};
+ghost use Rattle.hek_rules.specs.Plan.{max_rows, max_steps, max_txns};
 ghost use Rattle.hek_image.specs.Loading.{row_at, step_at, kind_at, level_coded, txn_fits, first_fits, second_fits, checked, number_at};
 ghost use Rattle.std.specs.Int.{w32, w64};
 ghost use Rattle.hek_image.specs.Gives.{FieldFails, FieldGives};
@@ -15,7 +16,7 @@ use hek_rules::{EventKind, Level, Schedule, TxnId, name_text};
 // A row, which is added.
 #[tactic(auto, unfolding(crate::specs::Loading::row_at, crate::specs::Loading::checked, crate::specs::Loading::both))]
 fn row_at<'a>(schedule: &mut Schedule, place: Place<'a>) -> Result<Place<'a>, LoadFault>
-    requires { length schedule.old.rows < 65536 }
+    requires { length schedule.old.rows < max_rows }
     ensures gives { FieldGives (λ p. (schedule.new, place_of p)) result (row_at schedule.old (place_of place.entry)) }
     ensures len { OnOk result (length schedule.new.rows ≡ length schedule.old.rows + 1) }
     ensures txns { OnOk result (schedule.new.txns ≡ schedule.old.txns) }
@@ -49,7 +50,7 @@ fn name_at<'a>(
     schedule: &mut Schedule,
     place: Place<'a>,
 ) -> Result<Place<'a>, LoadFault>
-    requires { length schedule.old.txns < 1024 }
+    requires { length schedule.old.txns < max_txns }
     ensures gives { FieldGives (λ p. (schedule.new, place_of p)) result (name_at level len schedule.old (place_of place.entry)) }
     ensures len { OnOk result (length schedule.new.txns ≡ length schedule.old.txns + 1) }
     ensures rows { OnOk result (schedule.new.rows ≡ schedule.old.rows) }
@@ -148,7 +149,7 @@ fn second_at(kind: EventKind, place: Place<'_>) -> Result<(u64, Place<'_>), Load
 // A step, which is added.
 #[tactic(auto, unfolding(crate::specs::Loading::step_at, crate::specs::Loading::both), using(crate::proofs::StepLemmas::coded_step))]
 fn step_at<'a>(schedule: &mut Schedule, place: Place<'a>) -> Result<Place<'a>, LoadFault>
-    requires { length schedule.old.steps < 1000000 }
+    requires { length schedule.old.steps < max_steps }
     ensures gives { FieldGives (λ p. (schedule.new, place_of p)) result (step_at schedule.old (place_of place.entry)) }
     ensures len { OnOk result (length schedule.new.steps ≡ length schedule.old.steps + 1) }
     ensures rows { OnOk result (schedule.new.rows ≡ schedule.old.rows) }

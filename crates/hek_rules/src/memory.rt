@@ -1,8 +1,10 @@
-//! Want of memory.
+//! Out of memory.
 use std::alloc::{AllocError, AllocFailed};
+use thiserror::Error;
 
 /// A growth was refused. What was to grow is unchanged.
-#[derive(Clone, Copy, Debug, PartialEq, Eq)]
+#[derive(Clone, Copy, Debug, PartialEq, Eq, Error)]
+#[error("no memory")]
 pub struct NoMemory;
 
 impl From<AllocError> for NoMemory {
