@@ -12,8 +12,8 @@ use Rattle.hek_rules.specs.Shown.{committed_rows}
 use Rattle.hek_rules.specs.Run.{run}
 use Rattle.hek_machine.specs.Observed.{opening_of}
 use Rattle.hek_serial.specs.Leveled.{at_level}
-use Rattle.hek_threads.specs.declared.entry.Entry.{Entry}
-use Rattle.hek_threads.specs.History.{events_of, recorded_by}
+use Rattle.hek_worker.specs.declared.entry.Entry.{Entry}
+use Rattle.hek_worker.specs.History.{events_of, recorded_by}
 use Rattle.hek_permute.specs.declared.outcome.Ending.{Ending}
 use Rattle.hek_permute.specs.declared.outcome.Ending.TheVariants as ending
 use Rattle.hek_permute.specs.Found.{Found}

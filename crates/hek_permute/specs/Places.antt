@@ -2,10 +2,10 @@
 use Rattle.std.specs.Prelude.{ℕ, ◌≡◌, ◌+◌, ◌⊎◌, ◌==◌, false, IsTrue, Some, List, [], ◌∷◌, ◌++◌, length, map, slice_get, slice_set}
 use Rattle.hek_rules.specs.declared.event.Event.{Event}
 use Rattle.hek_rules.specs.declared.reply.Reply.{Reply}
-use Rattle.hek_threads.specs.declared.entry.Entry.{Entry}
-use Rattle.hek_threads.specs.declared.stage.Stage.TheVariants.{Start}
-use Rattle.hek_threads.specs.Grammar.{event_at}
-use Rattle.hek_threads.specs.History.{part_of}
+use Rattle.hek_worker.specs.declared.entry.Entry.{Entry}
+use Rattle.hek_worker.specs.declared.stage.Stage.TheVariants.{Start}
+use Rattle.hek_worker.specs.Grammar.{event_at}
+use Rattle.hek_worker.specs.History.{part_of}
 use Rattle.hek_permute.specs.declared.moves.Form.{Form}
 use Rattle.hek_permute.specs.declared.play.Place.{Place}
 use Rattle.hek_permute.specs.Moves.{Work}

@@ -3,12 +3,12 @@ use Rattle.std.specs.Prelude.{ℕ, ◌≡◌, ◌+◌, ◌⊎◌, Bool, true, fa
 use Rattle.hek_rules.specs.declared.event.Event.{Event}
 use Rattle.hek_rules.specs.declared.event.Event.TheVariants.{Detect}
 use Rattle.hek_rules.specs.declared.reply.Reply.{Reply}
-use Rattle.hek_threads.specs.declared.entry.Entry.{Entry}
-use Rattle.hek_threads.specs.declared.stage.Stage.{Stage}
-use Rattle.hek_threads.specs.declared.stage.Stage.TheVariants.{Start, Working, Preparing, GivingUp, Releasing, Ended}
-use Rattle.hek_threads.specs.declared.stage.Position.{Position}
-use Rattle.hek_threads.specs.Grammar.{event_at, after}
-use Rattle.hek_threads.specs.History.{part_of}
+use Rattle.hek_worker.specs.declared.entry.Entry.{Entry}
+use Rattle.hek_worker.specs.declared.stage.Stage.{Stage}
+use Rattle.hek_worker.specs.declared.stage.Stage.TheVariants.{Start, Working, Preparing, GivingUp, Releasing, Ended}
+use Rattle.hek_worker.specs.declared.stage.Position.{Position}
+use Rattle.hek_worker.specs.Grammar.{event_at, after}
+use Rattle.hek_worker.specs.History.{part_of}
 use Rattle.hek_permute.specs.declared.moves.Form.{Form}
 use Rattle.hek_permute.specs.declared.moves.Form.TheVariants.{Whole, Split}
 use Rattle.hek_permute.specs.Moves.{Work, last_moves}

@@ -1,8 +1,8 @@
 -- How often each outcome was met.
 use Rattle.std.specs.Prelude.{ℕ, ◌≡◌, ◌+◌, ◌<◌, ◌⊎◌, Bool, true, false, ◌&&◌, cond, nat_le, nat_lt, List, [], ◌∷◌, ◌++◌, length, reverse, slice_get, slice_set, Some, sum_by}
 use Rattle.hek_rules.specs.Plan.{Plan}
-use Rattle.hek_threads.specs.declared.entry.Entry.{Entry}
-use Rattle.hek_threads.specs.History.{IsHistory, events_of, replies_in}
+use Rattle.hek_worker.specs.declared.entry.Entry.{Entry}
+use Rattle.hek_worker.specs.History.{IsHistory, events_of, replies_in}
 use Rattle.hek_rules.specs.declared.event.Event.{Event}
 use Rattle.hek_rules.specs.declared.reply.Reply.{Reply}
 use Rattle.hek_rules.specs.Run.{transcript}

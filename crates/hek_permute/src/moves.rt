@@ -1,10 +1,10 @@
 //! The moves of transactions, and the orders that they can come in.
 ghost use Rattle.std.specs.Prelude.{◌≡◌, ◌+◌, ◌++◌, IfOk, OnOk, length, replicate};
 ghost use Rattle.hek_permute.specs.Moves.{AreMoves, counts_of, last_moves, fails, first_of};
-ghost use Rattle.hek_threads.specs.Grammar.{work_of};
+ghost use Rattle.hek_worker.specs.Grammar.{work_of};
 
 use hek_rules::{Event, NoMemory, Schedule, TxnId};
-use hek_threads::is_work;
+use hek_worker::is_work;
 use std::alloc::Global;
 use std::marker::Model;
 

@@ -1,15 +1,14 @@
 ghost use Rattle.std.specs.Prelude.{◌≡◌, ◌≢◌, ◌⊎◌, ◌<◌, ◌≤◌, ◌+◌, ℕ, Err, Ok, IsTrue, IfOk, IfSome, IfNone, vec_len, vec_capacity, slice_get, slice_index_or, Some, length};
 ghost use Rattle.hek_machine.specs.Steps.{IsRun, RowsAreSerial};
-ghost use Rattle.hek_threads.specs.History.{IsHistory, IsSerial, events_of, part_of, replies_in};
-ghost use Rattle.hek_threads.specs.Grammar.{AreTranscripts, IsTranscript, work_of, id_at};
+ghost use Rattle.hek_worker.specs.History.{IsHistory, IsSerial, events_of, part_of, replies_in};
+ghost use Rattle.hek_worker.specs.Grammar.{AreTranscripts, IsTranscript, work_of, id_at};
 
-use crate::book::Book;
-use crate::entry::{Entry, Part, ThreadFault};
 use crate::parts::compare;
 use crate::shared::{Shared, Steps};
 use crate::worker::{Gate, work};
 use hek_machine::Machine;
 use hek_rules::{Event, Schedule, TxnId};
+use hek_worker::{Book, Entry, Part, ThreadFault};
 use std::alloc::Global;
 use std::sync::Wait;
 use std::thread;

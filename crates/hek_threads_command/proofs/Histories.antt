@@ -18,8 +18,8 @@ use Rattle.hek_commands.specs.declared.fault.HekFault.TheVariants as hek
 use Rattle.hek_commands.specs.declared.schedule_file.ScheduleFile.{ScheduleFile}
 use Rattle.hek_commands.specs.declared.schedule_file.ScheduleFile.TheVariants as file
 use Rattle.hek_threads_command.specs.Threaded.{IsStop, ThreadsFail}
-use Rattle.hek_threads.specs.declared.entry.Entry.{Entry}
-use Rattle.hek_threads.specs.History.{IsEntry, IsHistory, IsSerial, events_of, replies_in, recorded_by, is_that}
+use Rattle.hek_worker.specs.declared.entry.Entry.{Entry}
+use Rattle.hek_worker.specs.History.{IsEntry, IsHistory, IsSerial, events_of, replies_in, recorded_by, is_that}
 
 same_number : (u t : ℕ) → IsTrue (u == t) → t ≡ u
 same_number u t h = grind (arith, nat_tests)

@@ -11,10 +11,10 @@ use Rattle.hek_commands.specs.declared.fault.HekFault.{HekFault}
 use Rattle.hek_commands.specs.declared.fault.HekFault.TheVariants as hek
 use Rattle.hek_commands.specs.declared.schedule_file.ScheduleFile.{ScheduleFile}
 use Rattle.hek_commands.specs.Commands.{FileGives, PrintFails}
-use Rattle.hek_threads.specs.declared.entry.Entry.{Entry}
-use Rattle.hek_threads.specs.declared.entry.ThreadFault.{ThreadFault}
-use Rattle.hek_threads.specs.declared.entry.ThreadFault.TheVariants as threads
-use Rattle.hek_threads.specs.History.{IsHistory, IsSerial, events_of, replies_in}
+use Rattle.hek_worker.specs.declared.entry.Entry.{Entry}
+use Rattle.hek_worker.specs.declared.entry.ThreadFault.{ThreadFault}
+use Rattle.hek_worker.specs.declared.entry.ThreadFault.TheVariants as threads
+use Rattle.hek_worker.specs.History.{IsHistory, IsSerial, events_of, replies_in}
 
 -- the replies of a history are those of the rule table
 abbrev pub AreRight : Plan → List Entry → Type 0

@@ -1,7 +1,7 @@
 //! What a run came to: who committed, who aborted and why, the rows at the end, and the checker's verdict.
 ghost use Rattle.std.specs.Prelude.{◌≡◌, ◌++◌, ℕ, List, IfOk};
 ghost use Rattle.hek_rules.specs.declared.serial.Verdict.TheVariants as verdict;
-ghost use Rattle.hek_threads.specs.History.{IsSerial};
+ghost use Rattle.hek_worker.specs.History.{IsSerial};
 ghost use Rattle.hek_threads_command.specs.Threaded.{HasRun};
 ghost use Rattle.hek_threads_command.specs.Outcomes.{end_of, verdict_text};
 

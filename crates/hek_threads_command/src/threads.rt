@@ -2,7 +2,7 @@
 ghost use Rattle.std.specs.Prelude.{◌≡◌, MatchResult, OnOk, IfOk, IfErr, length};
 ghost use Rattle.std.specs.List.{AllByRecursion};
 ghost use Rattle.hek_asm.specs.Trace.{NamesDeclared, trace};
-ghost use Rattle.hek_threads.specs.History.{IsHistory, events_of, replies_in};
+ghost use Rattle.hek_worker.specs.History.{IsHistory, events_of, replies_in};
 ghost use Rattle.hek_threads_command.specs.Threaded.{HasRun, IsRunFault, IsStop, RunsInThreads, ShowsHistory, ThreadsFail, thread_fault};
 
 use hek_asm::write_trace;

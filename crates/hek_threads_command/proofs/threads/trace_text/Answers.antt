@@ -1,7 +1,7 @@
 use Rattle.std.proofs.Common.{rules, ◌≡◌, length, sym, subst}
 use Rattle.std.specs.List.{AllByRecursion}
 use Rattle.hek_asm.specs.Trace.{NamesDeclared}
-use Rattle.hek_threads.specs.History.{events_of}
+use Rattle.hek_worker.specs.History.{events_of}
 use Rattle.hek_threads_command.proofs.Histories.{all_named}
 use Rattle.hek_threads_command.proofs.threads.trace_text.Goals as goal
 
