@@ -14,7 +14,7 @@ ghost use Rattle.hek_machine.specs.Written.{AreEnough, key_walk, after_making};
 ghost use Rattle.hek_rules.specs.Locks.{add_version as version_added};
 
 use crate::engine::Engine;
-use crate::walks::Aim;
+use crate::judging::Aim;
 use hek_buckets::wait_for_holders;
 use hek_rules::{Cause, Effect, NoMemory, TxnId, VersionId, WriteEntry};
 use hek_store::Version;

@@ -1,6 +1,6 @@
 use Rattle.std.proofs.Common.{◌≡◌, ◌++◌}
 use Rattle.hek_store.specs.Places.{key_versions_left}
-use Rattle.hek_machine.proofs.key_walks.list.Given as goal
+use Rattle.hek_machine.proofs.walks.list.Given as goal
 
 -- what is listed, and what is left
 abbrev pub invariant-loop-v : goal.invariant-loop-v
