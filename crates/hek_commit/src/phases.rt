@@ -4,7 +4,7 @@ ghost use Rattle.std.specs.List.{All};
 ghost use Rattle.hek_rules.specs.World.{txn_in, set_txn};
 ghost use Rattle.hek_rules.specs.declared.event.State.TheVariants.{Preparing, Terminated};
 ghost use Rattle.hek_txn.specs.TxnTable.{Declared, waits_of, commit_deps_of, dependents_of, with_dependents};
-ghost use Rattle.hek_commit.specs.Committed.{AreCounted, in_state, committed, aborted};
+ghost use Rattle.hek_commit.specs.Committed.{AreCounted, in_state, table_after_commit, table_after_abort};
 
 use crate::dependents::{doom_dependents, lower_dependents};
 use hek_rules::{Cause, State, Time, TxnId};
@@ -32,7 +32,7 @@ pub fn commit(txns: &mut Txns, t: TxnId) -> Result<(), u64>
     requires dependents { All (λ x. Declared txns.old x) (dependents_of txns.old t).items }
     requires counted { AreCounted txns.old.commit_deps (dependents_of txns.old t).items }
     ensures ready { IsOk result ↔ (commit_deps_of txns.old t ≡ 0) }
-    ensures committed { OnOk result (txns.new ≡ with_dependents (committed txns.old t) t (dependents_of txns.new t)) }
+    ensures committed { OnOk result (txns.new ≡ with_dependents (table_after_commit txns.old t) t (dependents_of txns.new t)) }
     ensures emptied { OnOk result ((dependents_of txns.new t).items ≡ []) }
     ensures commit_deps { IfErr result (λ commit_deps. commit_deps ≡ commit_deps_of txns.old t) }
     ensures unchanged { OnErr result (txns.new ≡ txns.old) }
@@ -52,7 +52,7 @@ pub fn abort(txns: &mut Txns, t: TxnId, cause: Cause)
     requires txn { Declared txns.old t }
     requires dependents { All (λ x. Declared txns.old x) (dependents_of txns.old t).items }
     requires counted { AreCounted txns.old.commit_deps (dependents_of txns.old t).items }
-    ensures txns { txns.new ≡ with_dependents (aborted txns.old t cause) t (dependents_of txns.new t) }
+    ensures txns { txns.new ≡ with_dependents (table_after_abort txns.old t cause) t (dependents_of txns.new t) }
     ensures emptied { (dependents_of txns.new t).items ≡ [] }
 {
     txns.set_state(t, State::Aborted(cause));

@@ -2,7 +2,7 @@
 ghost use Rattle.std.specs.Prelude.{◌≡◌, ◌<◌, ◌≤◌, nat_eq, length};
 ghost use Rattle.std.specs.Set.{remove_key};
 ghost use Rattle.hek_rules.specs.Words.{readers_of, without_reader, dropped_of};
-ghost use Rattle.hek_store.specs.Stored.{version_at, with_end};
+ghost use Rattle.hek_store.specs.Stored.{version_at, with_end_word};
 ghost use Rattle.hek_txn.specs.TxnTable.{Declared, read_set_of, with_read_set};
 ghost use Rattle.hek_locks.specs.Locked.{CanTell, after_drop, left_writer};
 
@@ -17,7 +17,7 @@ pub fn release_read(store: &mut Store, txns: &mut Txns, t: TxnId, v: VersionId) 
     requires txn { Declared txns.old t }
     requires reader { 0 < readers_of (version_at store.old v).end }
     requires writer { CanTell txns.old (dropped_of (version_at store.old v).end) }
-    ensures store { store.new ≡ with_end store.old v (without_reader (version_at store.old v).end) }
+    ensures store { store.new ≡ with_end_word store.old v (without_reader (version_at store.old v).end) }
     ensures txns { txns.new ≡ with_read_set (after_drop (dropped_of (version_at store.old v).end) txns.old) t (read_set_of txns.new t) }
     ensures reads { (read_set_of txns.new t).items ≡ remove_key (nat_eq v) (read_set_of txns.old t).items }
     ensures room { (read_set_of txns.old t).room ≤ (read_set_of txns.new t).room }

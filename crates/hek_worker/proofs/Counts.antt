@@ -12,8 +12,8 @@ use Rattle.hek_rules.specs.declared.reply.Reply.TheVariants.{Began, Waiting, Pre
 use Rattle.hek_worker.specs.declared.stage.Stage.{Stage}
 use Rattle.hek_worker.specs.declared.stage.Stage.TheVariants.{Start, Working, Preparing, Looking, GivingUp, Releasing, Committing, Stamping, Ending, Ended}
 use Rattle.hek_worker.specs.declared.stage.Position.{Position}
-use Rattle.hek_worker.specs.Grammar.{event_at, after, after_start, after_work, after_precommit, after_look, after_release, after_commit, after_stamp, after_end, answers, or_finish, is_work, work_of}
-use Rattle.hek_worker.specs.Forms.{waits_at, waits, is_fail, fails, is_committed, committed, events_in}
+use Rattle.hek_worker.specs.Grammar.{event_at, position_after, after_start, after_work, after_precommit, after_look, after_release, after_commit, after_stamp, after_end, answers, or_finish, is_work, work_of}
+use Rattle.hek_worker.specs.Forms.{waits_at, wait_count, is_fail, fails, is_commit_reply, has_commit, events_in}
 use Rattle.hek_worker.proofs.Wholes.{good, spot, Whole, lands, moved}
 use Rattle.hek_worker.proofs.Pieces.{went_on}
 use Rattle.hek_worker.proofs.Works.{went_work, next_work, no_work, worked_more, worked_all}
@@ -42,8 +42,8 @@ one_if b = cond b 1 0
 pub record Step (t : ℕ) (work : List Event) (s : Stage) (n : ℕ) (e : Event) (r : Reply) (m : Position) : Type 0 where
   pub turns : one_if (waits_at e r) + m.turns ≡ n
   pub stays : is_fail e ≡ false
-  pub before : IsTrue (open_at m.stage) → IsTrue (open_at s) × (is_committed r ≡ false)
-  pub behind : IsTrue (open_at s) → IsTrue (is_committed r) ⊎ IsTrue (open_at m.stage)
+  pub before : IsTrue (open_at m.stage) → IsTrue (open_at s) × (is_commit_reply r ≡ false)
+  pub behind : IsTrue (open_at s) → IsTrue (is_commit_reply r) ⊎ IsTrue (open_at m.stage)
   pub made : cond (is_work t e) (e ∷ todo work m.stage) (todo work m.stage) ≡ todo work s
 
 to_spot : (t : ℕ) (work : List Event) (s : Stage) (n : ℕ) (e : Event) (r : Reply) (m : Position) (s' : Stage) (k : ℕ) → m ≡ spot s' k → Step t work s n e r (spot s' k) → Step t work s n e r m
@@ -89,7 +89,7 @@ not_committed (Stamp t) = refl
 not_committed (End t) = refl
 not_committed Detect = refl
 
-no_commit : (e : Event) (r : Reply) → answers e r ≡ true → is_committed r ≡ false
+no_commit : (e : Event) (r : Reply) → answers e r ≡ true → is_commit_reply r ≡ false
 no_commit e Committed h = let bad = not_committed e in absurd (cc)
 no_commit e r h = refl
 
@@ -138,7 +138,7 @@ look_step t work n (Victim u cycle) m h =
     (record { turns = zero_more n; stays = refl; before = λ o. (refl, refl); behind = λ o. inr refl; made = refl })
 look_step t work n r m h = absurd (cc)
 
-freed_step : (t : ℕ) (work : List Event) (n : ℕ) (r : Reply) → is_committed r ≡ false → Step t work (Releasing false) n (Release t) r (spot (Releasing false) n)
+freed_step : (t : ℕ) (work : List Event) (n : ℕ) (r : Reply) → is_commit_reply r ≡ false → Step t work (Releasing false) n (Release t) r (spot (Releasing false) n)
 freed_step t work n r is = record { turns = zero_more n; stays = refl; before = λ o. (refl, is); behind = λ o. inr refl; made = refl }
 
 release_step : (t : ℕ) (work : List Event) (n : ℕ) (r : Reply) (m : Position) → after_release false n r ≡ Some m → IsTrue (good m.stage) → Step t work (Releasing false) n (Release t) r m
@@ -180,7 +180,7 @@ end_step t work n Over m h =
     (record { turns = zero_more n; stays = refl; before = λ o. absurd (cc); behind = λ o. absurd (cc); made = refl })
 end_step t work n r m h = absurd (cc)
 
-step_at : (t : ℕ) (work : List Event) (s : Stage) (n : ℕ) (r : Reply) (m : Position) → AreWork t work → IsTrue (good s) → after t work s n r ≡ Some m → IsTrue (good m.stage) → Step t work s n (event_at t work s) r m
+step_at : (t : ℕ) (work : List Event) (s : Stage) (n : ℕ) (r : Reply) (m : Position) → AreWork t work → IsTrue (good s) → position_after t work s n r ≡ Some m → IsTrue (good m.stage) → Step t work s n (event_at t work s) r m
 step_at t work Start n r m all f h g = start_step t work n r m h g
 step_at t work (Working i) n r m all f h g = work_step t work i n r m (drop i work) refl (drop_work t work i all) h g
 step_at t work Preparing n r m all f h g = precommit_step t work n r m h g
@@ -196,13 +196,13 @@ step_at t work Ended n r m all f h g = absurd (cc)
 
 -- what a whole piece of a transcript counts
 pub record Recorded (t : ℕ) (work : List Event) (p : Position) (xs : List (Event × Reply)) (q : Position) : Type 0 where
-  pub turns : waits xs + q.turns ≡ p.turns
+  pub turns : wait_count xs + q.turns ≡ p.turns
   pub stays : fails xs ≡ false
-  pub before : IsTrue (open_at q.stage) → IsTrue (open_at p.stage) × (committed xs ≡ false)
-  pub behind : IsTrue (open_at p.stage) → IsTrue (committed xs) ⊎ IsTrue (open_at q.stage)
+  pub before : IsTrue (open_at q.stage) → IsTrue (open_at p.stage) × (has_commit xs ≡ false)
+  pub behind : IsTrue (open_at p.stage) → IsTrue (has_commit xs) ⊎ IsTrue (open_at q.stage)
   pub made : work_of t (events_in xs) ++ todo work q.stage ≡ todo work p.stage
 
-waits_more : (x : Event × Reply) (xs : List (Event × Reply)) → waits (x ∷ xs) ≡ one_if (waits_at x.0 x.1) + waits xs
+waits_more : (x : Event × Reply) (xs : List (Event × Reply)) → wait_count (x ∷ xs) ≡ one_if (waits_at x.0 x.1) + wait_count xs
 waits_more x xs = sum_by-cons (λ (y : Event × Reply). one_if (waits_at y.0 y.1)) x xs
 
 adds : (a b c q m p : ℕ) → c ≡ a + b → a + m ≡ p → b + q ≡ m → c + q ≡ p
@@ -234,10 +234,10 @@ some_true a b P Q R f g p =
 
 told_more : (t : ℕ) (work : List Event) (p : Position) (x : Event × Reply) (xs : List (Event × Reply)) (m q : Position) → Step t work p.stage p.turns x.0 x.1 m → Recorded t work m xs q → Recorded t work p (x ∷ xs) q
 told_more t work p x xs m q one k = record {
-  turns = adds (one_if (waits_at x.0 x.1)) (waits xs) (waits (x ∷ xs)) q.turns m.turns p.turns (waits_more x xs) one.turns k.turns;
+  turns = adds (one_if (waits_at x.0 x.1)) (wait_count xs) (wait_count (x ∷ xs)) q.turns m.turns p.turns (waits_more x xs) one.turns k.turns;
   stays = or_none (is_fail x.0) (fails xs) one.stays k.stays;
-  before = both_false (is_committed x.1) (committed xs) (IsTrue (open_at q.stage)) (IsTrue (open_at m.stage)) (IsTrue (open_at p.stage)) k.before one.before;
-  behind = some_true (is_committed x.1) (committed xs) (IsTrue (open_at p.stage)) (IsTrue (open_at m.stage)) (IsTrue (open_at q.stage)) one.behind k.behind;
+  before = both_false (is_commit_reply x.1) (has_commit xs) (IsTrue (open_at q.stage)) (IsTrue (open_at m.stage)) (IsTrue (open_at p.stage)) k.before one.before;
+  behind = some_true (is_commit_reply x.1) (has_commit xs) (IsTrue (open_at p.stage)) (IsTrue (open_at m.stage)) (IsTrue (open_at q.stage)) one.behind k.behind;
   made = made_more (is_work t x.0) x.0 (work_of t (events_in xs)) (todo work q.stage) (todo work m.stage) (todo work p.stage) k.made one.made;
 }
 
@@ -252,9 +252,9 @@ told t work p (x ∷ xs) q all g h =
 
 -- what any piece counts, and two pieces together
 pub record Sums (t : ℕ) (xs : List (Event × Reply)) (n : ℕ) (f c : Bool) (made : List Event) : Type 0 where
-  pub turns : waits xs ≡ n
+  pub turns : wait_count xs ≡ n
   pub stays : fails xs ≡ f
-  pub ends : committed xs ≡ c
+  pub ends : has_commit xs ≡ c
   pub work : work_of t (events_in xs) ≡ made
 
 or_assoc : (a b c : Bool) → (a || (b || c)) ≡ ((a || b) || c)
@@ -269,7 +269,7 @@ pub sums_append : (t : ℕ) (xs ys : List (Event × Reply)) (n k : ℕ) (f g c d
 sums_append t xs ys n k f g c d made more h i =
     let one = sum_by-append (λ (x : Event × Reply). one_if (waits_at x.0 x.1)) xs ys in
     let two = any_append (λ (x : Event × Reply). is_fail x.0) xs ys in
-    let three = any_append (λ (x : Event × Reply). is_committed x.1) xs ys in
+    let three = any_append (λ (x : Event × Reply). is_commit_reply x.1) xs ys in
     let four : work_of t (events_in (xs ++ ys)) ≡ work_of t (events_in xs) ++ work_of t (events_in ys) =
     ap (work_of t) (map-append (λ (x : Event × Reply). x.0) xs ys) ∙ filter-append (is_work t) (events_in xs) (events_in ys) in
     record {
@@ -283,10 +283,10 @@ or_nothing : (a b : Bool) → a ≡ b → (a || false) ≡ b
 or_nothing true b h = h
 or_nothing false b h = h
 
-pub sums_one : (t : ℕ) (x : Event × Reply) (n : ℕ) (f c : Bool) (made : List Event) → one_if (waits_at x.0 x.1) ≡ n → is_fail x.0 ≡ f → is_committed x.1 ≡ c → cond (is_work t x.0) (x.0 ∷ []) [] ≡ made → Sums t (x ∷ []) n f c made
+pub sums_one : (t : ℕ) (x : Event × Reply) (n : ℕ) (f c : Bool) (made : List Event) → one_if (waits_at x.0 x.1) ≡ n → is_fail x.0 ≡ f → is_commit_reply x.1 ≡ c → cond (is_work t x.0) (x.0 ∷ []) [] ≡ made → Sums t (x ∷ []) n f c made
 sums_one t x n f c made h i j k = record {
   turns = omega (arith, h);
   stays = or_nothing (is_fail x.0) f i;
-  ends = or_nothing (is_committed x.1) c j;
+  ends = or_nothing (is_commit_reply x.1) c j;
   work = k;
 }

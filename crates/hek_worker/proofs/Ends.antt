@@ -9,7 +9,7 @@ use Rattle.hek_rules.specs.declared.reply.Reply.TheVariants.{Began, Waiting, Pre
 use Rattle.hek_worker.specs.declared.stage.Stage.{Stage}
 use Rattle.hek_worker.specs.declared.stage.Stage.TheVariants.{Start, Working, Preparing, Looking, GivingUp, Releasing, Committing, Stamping, Ending, Ended}
 use Rattle.hek_worker.specs.declared.stage.Position.{Position}
-use Rattle.hek_worker.specs.Grammar.{Leads, IsTranscript, event_at, after, after_start, after_work, after_precommit, after_look, after_fail, after_release, after_commit, after_stamp, answers, at, end_at, or_finish, is_work}
+use Rattle.hek_worker.specs.Grammar.{Leads, IsTranscript, event_at, position_after, after_start, after_work, after_precommit, after_look, after_fail, after_release, after_commit, after_stamp, answers, at, end_at, or_finish, is_work}
 use Rattle.hek_worker.specs.Forms.{BeginsAndEnds}
 use Rattle.hek_worker.proofs.Wholes.{spot, lands, waits_or}
 use Rattle.hek_worker.proofs.Pieces.{no_end, last_one}
@@ -101,7 +101,7 @@ working_inner t work i [] is all = let none = no_work work i is in ap (λ (o : O
 working_inner t work i (e ∷ es) is all = let some = next_work work i e es is in ap (λ (o : Option Event). inner (or_finish t o)) some.0 ∙ work_inner t e all.0
 
 -- a step on the way: the last one, or an event that stands in between
-step_on : (t : ℕ) (work : List Event) (s : Stage) (n : ℕ) (r : Reply) (m : Position) → AreWork t work → IsTrue (on_way s) → after t work s n r ≡ Some m
+step_on : (t : ℕ) (work : List Event) (s : Stage) (n : ℕ) (r : Reply) (m : Position) → AreWork t work → IsTrue (on_way s) → position_after t work s n r ≡ Some m
     → (s ≡ Ending) ⊎ (IsTrue (inner (event_at t work s)) × IsTrue (on_way m.stage))
 step_on t work Start n r m all o h = absurd (cc)
 step_on t work (Working i) n r m all o h = inr (working_inner t work i (drop i work) refl (drop_work t work i all), work_on_way t work i n r m h)

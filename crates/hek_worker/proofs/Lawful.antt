@@ -10,8 +10,8 @@ use Rattle.hek_rules.specs.declared.reply.Reply.TheVariants.{Waiting, ReleasedRe
 use Rattle.hek_worker.specs.declared.stage.Stage.{Stage}
 use Rattle.hek_worker.specs.declared.stage.Stage.TheVariants.{Start, Working, Preparing, Looking, GivingUp, Releasing, Committing, Stamping, Ending, Ended}
 use Rattle.hek_worker.specs.declared.stage.Position.{Position}
-use Rattle.hek_worker.specs.Grammar.{Leads, IsTranscript, AreTranscripts, event_at, after, after_precommit, after_fail, after_release, after_commit, after_stamp, after_end, at, begin_at, end_at, or_finish, is_work, work_of}
-use Rattle.hek_worker.specs.Forms.{IsFull, IsAborted, IsGivenUp, HasForm, BeginsAndEnds, KeepsOrder, KeepsTurns, IsLawful, waits_at, waits, is_fail, fails, is_committed, committed, events_in, may_abort, is_given_up}
+use Rattle.hek_worker.specs.Grammar.{Leads, IsTranscript, AreTranscripts, event_at, position_after, after_precommit, after_fail, after_release, after_commit, after_stamp, after_end, at, begin_at, end_at, or_finish, is_work, work_of}
+use Rattle.hek_worker.specs.Forms.{IsFull, IsAborted, IsGivenUp, HasForm, BeginsAndEnds, KeepsOrder, KeepsTurns, IsLawful, waits_at, wait_count, is_fail, fails, is_commit_reply, has_commit, events_in, may_abort, is_given_up}
 use Rattle.hek_worker.proofs.Transcripts.{none_refused}
 use Rattle.hek_worker.proofs.Wholes.{good, may_stop, spot, Whole, Aborts, Tires, Stops, lands, moved, whole_or_stops, whole_leads, whole_cut, leads_append}
 use Rattle.hek_worker.proofs.Pieces.{no_end, is_rest, rest_leads}
@@ -30,7 +30,7 @@ over Ended = true
 over s = false
 
 abbrev IsCalm : ℕ → Event → Reply → Type 0
-IsCalm t e r = (waits_at e r ≡ false) × (is_fail e ≡ false) × (is_committed r ≡ false) × (is_work t e ≡ false)
+IsCalm t e r = (waits_at e r ≡ false) × (is_fail e ≡ false) × (is_commit_reply r ≡ false) × (is_work t e ≡ false)
 
 is_decided : (s : Stage) (n : ℕ) (m : Position) → at s n ≡ Some m → IsTrue (over s) → IsTrue (over m.stage)
 is_decided s n m h o = subst (λ (p : Position). IsTrue (over p.stage)) (sym (lands s n m h)) o
@@ -53,7 +53,7 @@ calm_end : (t n : ℕ) (r : Reply) (m : Position) → after_end n r ≡ Some m �
 calm_end t n Over m h = (is_decided Ended n m h refl, (refl, refl, refl, refl))
 calm_end t n r m h = absurd (cc)
 
-calm_step : (t : ℕ) (work : List Event) (s : Stage) (n : ℕ) (r : Reply) (m : Position) → IsTrue (over s) → after t work s n r ≡ Some m → IsTrue (over m.stage) × IsCalm t (event_at t work s) r
+calm_step : (t : ℕ) (work : List Event) (s : Stage) (n : ℕ) (r : Reply) (m : Position) → IsTrue (over s) → position_after t work s n r ≡ Some m → IsTrue (over m.stage) × IsCalm t (event_at t work s) r
 calm_step t work (Releasing true) n r m o h = calm_release t n r m h
 calm_step t work (Releasing false) n r m o h = absurd (cc)
 calm_step t work (Stamping true) n r m o h = calm_stamp t n r m h
@@ -154,7 +154,7 @@ no_commit_waits (Stamp t) = refl
 no_commit_waits (End t) = refl
 no_commit_waits Detect = refl
 
-waits_on : (e : Event) (r : Reply) → waits_at e r ≡ true → is_committed r ≡ false
+waits_on : (e : Event) (r : Reply) → waits_at e r ≡ true → is_commit_reply r ≡ false
 waits_on e Committed h = let bad = no_commit_waits e in absurd (cc)
 waits_on e r h = refl
 
@@ -182,7 +182,7 @@ it_fails t work n left (x ∷ xs) h =
     let k = fails_one t work n left xs x.1 h.1.0 h.1.1 h.1.2 in
     record { answer = x.1; rest = xs; order = ap (λ (z : Event × Reply). z ∷ xs) (pair_is x (Fail t) x.1 h.0 refl); given = k.0; later = k.1 }
 
-given_commit : (r : Reply) → IsTrue (is_given_up r) → is_committed r ≡ false
+given_commit : (r : Reply) → IsTrue (is_given_up r) → is_commit_reply r ≡ false
 given_commit Committed h = absurd (cc)
 given_commit r h = refl
 
@@ -192,41 +192,41 @@ pub record Laws (t : ℕ) (work : List Event) (turns : ℕ) (xs : List (Event ×
   pub order : KeepsOrder t work xs
   pub waiting : KeepsTurns turns xs
   pub form : HasForm t work turns xs
-  pub full : IsTrue (committed xs) → IsFull t work turns xs
+  pub full : IsTrue (has_commit xs) → IsFull t work turns xs
 
 order_cut : (b : Bool) (e : Event) (F left T W : List Event) → F ++ T ≡ W → cond b (e ∷ left) left ≡ T → W ≡ (F ++ (cond b (e ∷ []) [] ++ [])) ++ left
 order_cut true e F left T W h k = sym h ∙ ap (λ (ys : List Event). F ++ ys) (sym k) ∙ sym (append_assoc F (e ∷ []) left)
 order_cut false e F left T W h k = sym h ∙ ap (λ (ys : List Event). F ++ ys) (sym k) ∙ sym (append_assoc F [] left)
 
-calm_turns : (turns w m k : ℕ) (f : Bool) (xs : List (Event × Reply)) → w + m ≡ turns → k ≡ 0 → f ≡ false → waits xs ≡ w + (k + 0) → fails xs ≡ f → KeepsTurns turns xs
+calm_turns : (turns w m k : ℕ) (f : Bool) (xs : List (Event × Reply)) → w + m ≡ turns → k ≡ 0 → f ≡ false → wait_count xs ≡ w + (k + 0) → fails xs ≡ f → KeepsTurns turns xs
 calm_turns turns w m k f xs h none calm is stays = record {
   most = omega arith;
-  gives_up = (λ (y : fails xs ≡ true). absurd (cc), λ (z : waits xs ≡ turns + 1). absurd (omega arith));
+  gives_up = (λ (y : fails xs ≡ true). absurd (cc), λ (z : wait_count xs ≡ turns + 1). absurd (omega arith));
 }
 
-last_turns : (turns w m : ℕ) (xs : List (Event × Reply)) → w + m ≡ turns → m ≡ 0 → waits xs ≡ w + (1 + 0) → fails xs ≡ true → KeepsTurns turns xs
+last_turns : (turns w m : ℕ) (xs : List (Event × Reply)) → w + m ≡ turns → m ≡ 0 → wait_count xs ≡ w + (1 + 0) → fails xs ≡ true → KeepsTurns turns xs
 last_turns turns w m xs h none is gives = record {
   most = omega arith;
   gives_up = (λ y. omega arith, λ z. gives);
 }
 
-front_sums : (t : ℕ) (work : List Event) (p : Position) (xs : List (Event × Reply)) (q : Position) → Recorded t work p xs q → IsTrue (open_at q.stage) → Sums t xs (waits xs) false false (work_of t (events_in xs))
+front_sums : (t : ℕ) (work : List Event) (p : Position) (xs : List (Event × Reply)) (q : Position) → Recorded t work p xs q → IsTrue (open_at q.stage) → Sums t xs (wait_count xs) false false (work_of t (events_in xs))
 front_sums t work p xs q h o = record { turns = refl; stays = h.stays; ends = (h.before o).1; work = refl }
 
 -- a front, the event at which it stops, and what is behind it
 all_sums : (t : ℕ) (work : List Event) (p mid : Position) (front rest : List (Event × Reply)) (x : Event × Reply) (k : ℕ) (f : Bool) → Recorded t work p front mid → IsTrue (open_at mid.stage)
-    → one_if (waits_at x.0 x.1) ≡ k → is_fail x.0 ≡ false → is_committed x.1 ≡ false → Sums t rest 0 f false []
-    → Sums t (front ++ x ∷ rest) (waits front + (k + 0)) f false (work_of t (events_in front) ++ (cond (is_work t x.0) (x.0 ∷ []) [] ++ []))
+    → one_if (waits_at x.0 x.1) ≡ k → is_fail x.0 ≡ false → is_commit_reply x.1 ≡ false → Sums t rest 0 f false []
+    → Sums t (front ++ x ∷ rest) (wait_count front + (k + 0)) f false (work_of t (events_in front) ++ (cond (is_work t x.0) (x.0 ∷ []) [] ++ []))
 all_sums t work p mid front rest x k f h o w calm_here ends r =
     let one = sums_one t x k false false (cond (is_work t x.0) (x.0 ∷ []) []) w calm_here ends refl in
     let two = sums_append t (x ∷ []) rest k 0 false f false false (cond (is_work t x.0) (x.0 ∷ []) []) [] one r in
-    sums_append t front (x ∷ rest) (waits front) (k + 0) false f false false (work_of t (events_in front)) (cond (is_work t x.0) (x.0 ∷ []) [] ++ []) (front_sums t work p front mid h o) two
+    sums_append t front (x ∷ rest) (wait_count front) (k + 0) false f false false (work_of t (events_in front)) (cond (is_work t x.0) (x.0 ∷ []) [] ++ []) (front_sums t work p front mid h o) two
 
-cut_order : (t : ℕ) (work : List Event) (xs : List (Event × Reply)) (made left : List Event) → work_of t (events_in xs) ≡ made → work ≡ made ++ left → committed xs ≡ false → KeepsOrder t work xs
+cut_order : (t : ℕ) (work : List Event) (xs : List (Event × Reply)) (made left : List Event) → work_of t (events_in xs) ≡ made → work ≡ made ++ left → has_commit xs ≡ false → KeepsOrder t work xs
 cut_order t work xs made left is h none = record {
   left = left;
   order = h ∙ ap (λ (ys : List Event). ys ++ left) (sym is);
-  all = λ (y : committed xs ≡ true). absurd (cc);
+  all = λ (y : has_commit xs ≡ true). absurd (cc);
 }
 
 aborted_laws : (t : ℕ) (work : List Event) (turns left : ℕ) (xs : List (Event × Reply)) (s : Stops t work (begin_at turns) xs (end_at left)) → AreWork t work
@@ -239,10 +239,10 @@ aborted_laws t work turns left xs s all a =
     let later : Leads t work (spot (Releasing true) s.mid.turns) s.rest (end_at left) = subst (λ (p : Position). Leads t work p s.rest (end_at left)) a.2 s.later in
     let known = told t work (begin_at turns) s.front s.mid all refl s.whole in
     let wait : one_if (waits_at s.x.0 s.x.1) ≡ 0 = none_if (waits_at s.x.0 s.x.1) (ap (λ (r : Reply). waits_at s.x.0 r) a.1 ∙ no_wait s.x.0 c) in
-    let ends : is_committed s.x.1 ≡ false = ap is_committed a.1 in
+    let ends : is_commit_reply s.x.1 ≡ false = ap is_commit_reply a.1 in
     let sums = all_sums t work (begin_at turns) s.mid s.front s.rest s.x 0 false known (stops_open s.mid.stage stop) wait stopped.0 ends (calm t work (spot (Releasing true) s.mid.turns) s.rest (end_at left) refl later) in
-    let mine : Sums t xs (waits s.front + (0 + 0)) false false (work_of t (events_in s.front) ++ (cond (is_work t s.x.0) (s.x.0 ∷ []) [] ++ [])) =
-    subst (λ (ys : List (Event × Reply)). Sums t ys (waits s.front + (0 + 0)) false false (work_of t (events_in s.front) ++ (cond (is_work t s.x.0) (s.x.0 ∷ []) [] ++ []))) (sym s.order) sums in
+    let mine : Sums t xs (wait_count s.front + (0 + 0)) false false (work_of t (events_in s.front) ++ (cond (is_work t s.x.0) (s.x.0 ∷ []) [] ++ [])) =
+    subst (λ (ys : List (Event × Reply)). Sums t ys (wait_count s.front + (0 + 0)) false false (work_of t (events_in s.front) ++ (cond (is_work t s.x.0) (s.x.0 ∷ []) [] ++ []))) (sym s.order) sums in
     let cut = order_cut (is_work t s.x.0) s.x.0 (work_of t (events_in s.front)) stopped.2.0 (todo work s.mid.stage) work known.made stopped.2.1 in
     let form : IsAborted t work turns xs = record {
       front = s.front;
@@ -256,9 +256,9 @@ aborted_laws t work turns left xs s all a =
     } in
     record {
       order = cut_order t work xs (work_of t (events_in s.front) ++ (cond (is_work t s.x.0) (s.x.0 ∷ []) [] ++ [])) stopped.2.0 mine.work cut mine.ends;
-      waiting = calm_turns turns (waits s.front) s.mid.turns 0 false xs known.turns refl refl mine.turns mine.stays;
+      waiting = calm_turns turns (wait_count s.front) s.mid.turns 0 false xs known.turns refl refl mine.turns mine.stays;
       form = inr (inl form);
-      full = λ y. let none : committed xs ≡ false = mine.ends in absurd (cc);
+      full = λ y. let none : has_commit xs ≡ false = mine.ends in absurd (cc);
     }
 
 used_up : (w m turns : ℕ) → w + m ≡ turns → m ≡ 0 → w ≡ turns
@@ -281,8 +281,8 @@ given_laws t work turns left xs s all a =
     (calm t work (spot (Releasing true) 0) f.rest (end_at left) refl f.later) in
     let tail : Sums t s.rest 0 true false [] = subst (λ (ys : List (Event × Reply)). Sums t ys 0 true false []) (sym f.order) failed in
     let sums = all_sums t work (begin_at turns) s.mid s.front s.rest s.x 1 true known (stops_open s.mid.stage stop) wait stopped.0 (waits_on s.x.0 s.x.1 again) tail in
-    let mine : Sums t xs (waits s.front + (1 + 0)) true false (work_of t (events_in s.front) ++ (cond (is_work t s.x.0) (s.x.0 ∷ []) [] ++ [])) =
-    subst (λ (ys : List (Event × Reply)). Sums t ys (waits s.front + (1 + 0)) true false (work_of t (events_in s.front) ++ (cond (is_work t s.x.0) (s.x.0 ∷ []) [] ++ []))) (sym s.order) sums in
+    let mine : Sums t xs (wait_count s.front + (1 + 0)) true false (work_of t (events_in s.front) ++ (cond (is_work t s.x.0) (s.x.0 ∷ []) [] ++ [])) =
+    subst (λ (ys : List (Event × Reply)). Sums t ys (wait_count s.front + (1 + 0)) true false (work_of t (events_in s.front) ++ (cond (is_work t s.x.0) (s.x.0 ∷ []) [] ++ []))) (sym s.order) sums in
     let cut = order_cut (is_work t s.x.0) s.x.0 (work_of t (events_in s.front)) stopped.2.0 (todo work s.mid.stage) work known.made stopped.2.1 in
     let form : IsGivenUp t work turns xs = record {
       front = s.front;
@@ -292,22 +292,22 @@ given_laws t work turns left xs s all a =
       rest = f.rest;
       order = s.order ∙ ap (λ (ys : List (Event × Reply)). s.front ++ s.x ∷ ys) f.order;
       stands = stands_next t work turns s.front s.mid s.x.0 all s.whole stop s.event;
-      used = used_up (waits s.front) s.mid.turns turns known.turns none;
+      used = used_up (wait_count s.front) s.mid.turns turns known.turns none;
       again = again;
       given = f.given;
       left = is_rest t work 0 left f.rest f.later;
     } in
     record {
       order = cut_order t work xs (work_of t (events_in s.front) ++ (cond (is_work t s.x.0) (s.x.0 ∷ []) [] ++ [])) stopped.2.0 mine.work cut mine.ends;
-      waiting = last_turns turns (waits s.front) s.mid.turns xs known.turns none mine.turns mine.stays;
+      waiting = last_turns turns (wait_count s.front) s.mid.turns xs known.turns none mine.turns mine.stays;
       form = inr (inr form);
-      full = λ y. let none : committed xs ≡ false = mine.ends in absurd (cc);
+      full = λ y. let none : has_commit xs ≡ false = mine.ends in absurd (cc);
     }
 
-whole_turns : (turns w left : ℕ) (xs : List (Event × Reply)) → w + left ≡ turns → waits xs ≡ w → fails xs ≡ false → KeepsTurns turns xs
+whole_turns : (turns w left : ℕ) (xs : List (Event × Reply)) → w + left ≡ turns → wait_count xs ≡ w → fails xs ≡ false → KeepsTurns turns xs
 whole_turns turns w left xs h is stays = record {
   most = omega arith;
-  gives_up = (λ (y : fails xs ≡ true). absurd (cc), λ (z : waits xs ≡ turns + 1). absurd (omega arith));
+  gives_up = (λ (y : fails xs ≡ true). absurd (cc), λ (z : wait_count xs ≡ turns + 1). absurd (omega arith));
 }
 
 whole_laws : (t : ℕ) (work : List Event) (turns left : ℕ) (xs : List (Event × Reply)) → AreWork t work → Whole t work (begin_at turns) xs (end_at left) → Laws t work turns xs
@@ -317,7 +317,7 @@ whole_laws t work turns left xs all h =
     let made : work_of t (events_in xs) ++ [] ≡ work = known.made in
     record {
       order = record { left = []; order = sym made; all = λ y. refl };
-      waiting = whole_turns turns (waits xs) left xs known.turns refl known.stays;
+      waiting = whole_turns turns (wait_count xs) left xs known.turns refl known.stays;
       form = inl full;
       full = λ y. full;
     }
@@ -331,7 +331,7 @@ laws t work turns xs all h =
 
 -- the other way round
 
-abort_step : (t : ℕ) (work : List Event) (s : Stage) (n : ℕ) (c : Cause) → IsTrue (good s) → IsTrue (may_abort (event_at t work s)) → after t work s n (Aborted c) ≡ Some (spot (Releasing true) n)
+abort_step : (t : ℕ) (work : List Event) (s : Stage) (n : ℕ) (c : Cause) → IsTrue (good s) → IsTrue (may_abort (event_at t work s)) → position_after t work s n (Aborted c) ≡ Some (spot (Releasing true) n)
 abort_step t work Start n c g h = refl
 abort_step t work (Working i) n c g h = refl
 abort_step t work Preparing n c g h = refl
@@ -380,7 +380,7 @@ working_waits : (t : ℕ) (work : List Event) (i : ℕ) (r : Reply) (es : List E
 working_waits t work i r [] is all = let none = no_work work i is in ap (λ (o : Option Event). waits_at (or_finish t o) r) none.0
 working_waits t work i r (e ∷ es) is all = let some = next_work work i e es is in ap (λ (o : Option Event). waits_at (or_finish t o) r) some.0 ∙ work_waits t e r all.0
 
-tire_step : (t : ℕ) (work : List Event) (s : Stage) (r : Reply) → AreWork t work → waits_at (event_at t work s) r ≡ true → after t work s 0 r ≡ Some (spot GivingUp 0)
+tire_step : (t : ℕ) (work : List Event) (s : Stage) (r : Reply) → AreWork t work → waits_at (event_at t work s) r ≡ true → position_after t work s 0 r ≡ Some (spot GivingUp 0)
 tire_step t work Start r all h = absurd (cc)
 tire_step t work (Working i) r all h = let none = working_waits t work i r (drop i work) refl (drop_work t work i all) in absurd (cc)
 tire_step t work Preparing r all h = waits_precommit t r h
@@ -407,9 +407,9 @@ given_is t work turns xs all h =
     let c = whole_cut t work (begin_at turns) h.front ((h.next, h.stands.reply) ∷ h.stands.later) (end_at left) refl (full_back t work turns whole h.stands.full) in
     let event : h.next ≡ event_at t work c.mid.stage = c.behind.0 in
     let known = told t work (begin_at turns) h.front c.mid all refl c.before in
-    let none : c.mid.turns ≡ 0 = no_turn (waits h.front) c.mid.turns turns known.turns h.used in
+    let none : c.mid.turns ≡ 0 = no_turn (wait_count h.front) c.mid.turns turns known.turns h.used in
     let again : waits_at (event_at t work c.mid.stage) h.reply ≡ true = subst (λ (e : Event). waits_at e h.reply ≡ true) event h.again in
-    let step : after t work c.mid.stage c.mid.turns h.reply ≡ Some (spot GivingUp 0) = subst (λ (n : ℕ). after t work c.mid.stage n h.reply ≡ Some (spot GivingUp 0)) (sym none) (tire_step t work c.mid.stage h.reply all again) in
+    let step : position_after t work c.mid.stage c.mid.turns h.reply ≡ Some (spot GivingUp 0) = subst (λ (n : ℕ). position_after t work c.mid.stage n h.reply ≡ Some (spot GivingUp 0)) (sym none) (tire_step t work c.mid.stage h.reply all again) in
     let rest : Leads t work (spot (Releasing true) 0) h.rest (end_at 0) = rest_leads t work 0 h.rest h.left in
     let failed : Leads t work (spot GivingUp 0) ((Fail t, h.answer) ∷ h.rest) (end_at 0) = (refl, (spot (Releasing true) 0, fail_step 0 h.answer h.given, rest)) in
     let behind : Leads t work c.mid ((h.next, h.reply) ∷ (Fail t, h.answer) ∷ h.rest) (end_at 0) = (event, (spot GivingUp 0, step, failed)) in
@@ -422,7 +422,7 @@ form_is t work turns xs all (inl f) = full_is t work turns xs f
 form_is t work turns xs all (inr (inl f)) = aborted_is t work turns xs f
 form_is t work turns xs all (inr (inr f)) = given_is t work turns xs all f
 
-full_commits : (t : ℕ) (work : List Event) (turns : ℕ) (xs : List (Event × Reply)) → AreWork t work → IsFull t work turns xs → committed xs ≡ true
+full_commits : (t : ℕ) (work : List Event) (turns : ℕ) (xs : List (Event × Reply)) → AreWork t work → IsFull t work turns xs → has_commit xs ≡ true
 full_commits t work turns xs all f =
     let left : ℕ = left_of t work turns xs f in
     elim ((told t work (begin_at turns) xs (end_at left) all refl (full_back t work turns xs f)).behind refl) [
@@ -437,7 +437,7 @@ pub forms_are_exact : (t : ℕ) (steps : List Event) (turns : ℕ) (xs : List (E
 forms_are_exact t steps turns xs =
     (λ h. (laws t (work_of t steps) turns xs (are_work t steps) h).form, λ f. form_is t (work_of t steps) turns xs (are_work t steps) f)
 
-pub full_where_committed : (t : ℕ) (steps : List Event) (turns : ℕ) (xs : List (Event × Reply)) → IsTranscript t (work_of t steps) turns xs → IsTrue (committed xs) ↔ IsFull t (work_of t steps) turns xs
+pub full_where_committed : (t : ℕ) (steps : List Event) (turns : ℕ) (xs : List (Event × Reply)) → IsTranscript t (work_of t steps) turns xs → IsTrue (has_commit xs) ↔ IsFull t (work_of t steps) turns xs
 full_where_committed t steps turns xs h =
     ((laws t (work_of t steps) turns xs (are_work t steps) h).full, λ f. full_commits t (work_of t steps) turns xs (are_work t steps) f)
 

@@ -19,10 +19,10 @@ use Rattle.hek_laws.proofs.Table.Cases.{each_event}
 use Rattle.hek_machine.specs.declared.engine.Engine.{Engine}
 use Rattle.hek_machine.specs.Stands.{StandsFor}
 use Rattle.hek_machine.specs.Observed.{opening_of}
-use Rattle.hek_machine.specs.Steps.{IsStep, IsSmall}
+use Rattle.hek_machine.specs.Steps.{IsMachineStep, IsSmall}
 use Rattle.hek_worker.specs.declared.entry.Entry.{Entry}
 use Rattle.hek_worker.specs.Room.{Fits, room_for}
-use Rattle.hek_worker.specs.History.{Replays, events_of}
+use Rattle.hek_worker.specs.History.{Replays, history_events}
 
 module _ (w : World) (t : ℕ) where
   abbrev Goes : Event → Reply → Type 0
@@ -100,10 +100,10 @@ fits-outcome w e = each_event {w = w} {P = λ e o. IsSmall w o.reply → Fits (r
   detect = fits-victim w (victim w);
 }) e
 
-pub fits_room : (p : Plan) (m n : Engine) (xs : List Entry) (e : Event) (r : Reply) → Replays p m xs → IsStep e m n r
-    → ((w : World) → StandsFor m w → IsSmall w r) → Fits (room_for (run (opening_of p 1) (events_of xs)) e) r
+pub fits_room : (p : Plan) (m n : Engine) (xs : List Entry) (e : Event) (r : Reply) → Replays p m xs → IsMachineStep e m n r
+    → ((w : World) → StandsFor m w → IsSmall w r) → Fits (room_for (run (opening_of p 1) (history_events xs)) e) r
 fits_room p m n xs e r h step small =
-    let w : World = run (opening_of p 1) (events_of xs) in
+    let w : World = run (opening_of p 1) (history_events xs) in
     let is : r ≡ (outcome w e).reply = step.reply w h.ran.machine in
     let own : IsSmall w (outcome w e).reply = subst (IsSmall w) is (small w h.ran.machine) in
     subst (Fits (room_for w e)) (sym is) (fits-outcome w e own)

@@ -12,9 +12,9 @@ use Rattle.hek_laws.proofs.Worlds.Fixed.{fixed-run}
 use Rattle.hek_machine.specs.declared.engine.Engine.{Engine}
 use Rattle.hek_machine.specs.Stands.{StandsFor}
 use Rattle.hek_machine.specs.Observed.{opening_of}
-use Rattle.hek_machine.specs.Steps.{IsStep}
+use Rattle.hek_machine.specs.Steps.{IsMachineStep}
 use Rattle.hek_worker.specs.declared.entry.Entry.{Entry}
-use Rattle.hek_worker.specs.History.{IsEntry, MayStep, Replays, events_of, replies_in}
+use Rattle.hek_worker.specs.History.{IsEntry, MayStep, Replays, history_events, replies_in}
 
 abbrev pub replies_of : World → List Event → List Reply
 replies_of w es = map (λ (x : Event × Reply). x.1) (transcript w es)
@@ -27,7 +27,7 @@ replies_more : (w : World) (es : List Event) (e : Event) → replies_of w (es ++
 replies_more w [] e = refl
 replies_more w (x ∷ xs) e = ap (λ rs. reply w x ∷ rs) (replies_more (next w x) xs e)
 
-events_of-push : (xs : List Entry) (x : Entry) → events_of (xs ++ x ∷ []) ≡ events_of xs ++ x.event ∷ []
+events_of-push : (xs : List Entry) (x : Entry) → history_events (xs ++ x ∷ []) ≡ history_events xs ++ x.event ∷ []
 events_of-push [] x = refl
 events_of-push (y ∷ xs) x = ap (λ es. y.event ∷ es) (events_of-push xs x)
 
@@ -40,16 +40,16 @@ pub bucket_count : (p : Plan) (es : List Event) (m : Engine) → StandsFor m (ru
 bucket_count p es m s = s.shows.buckets.count ∙ (fixed-run (opening_of p 1) es).buckets
 
 pub placed_in : (p : Plan) (m : Engine) (xs : List Entry) (t : ℕ) (e : Event) → Replays p m xs → MayStep p t e → IsPlaced (length m.buckets) e
-placed_in p m xs t e h may = subst (λ (b : ℕ). IsPlaced b e) (sym (bucket_count p (events_of xs) m h.ran.machine)) may.2
+placed_in p m xs t e h may = subst (λ (b : ℕ). IsPlaced b e) (sym (bucket_count p (history_events xs) m h.ran.machine)) may.2
 
 pub Replays-push : (p : Plan) (m n : Engine) (xs ys : List Entry) (t : ℕ) (e : Event) (r : Reply)
-    → Replays p m xs → MayStep p t e → IsStep e m n r → ys ≡ xs ++ record { worker = t; event = e; reply = r } ∷ []
+    → Replays p m xs → MayStep p t e → IsMachineStep e m n r → ys ≡ xs ++ record { worker = t; event = e; reply = r } ∷ []
     → Replays p n ys
 Replays-push p m n xs ys t e r h may step grown =
     let x : Entry = record { worker = t; event = e; reply = r } in
-    let es : List Event = events_of xs in
+    let es : List Event = history_events xs in
     let w : World = run (opening_of p 1) es in
-    let events : events_of (xs ++ x ∷ []) ≡ es ++ e ∷ [] = events_of-push xs x in
+    let events : history_events (xs ++ x ∷ []) ≡ es ++ e ∷ [] = events_of-push xs x in
     let answers : replies_in (xs ++ x ∷ []) ≡ replies_of (opening_of p 1) (es ++ e ∷ []) =
     replies_in-push xs x ∙ ap (λ (rs : List Reply). rs ++ r ∷ []) h.ran.replies
     ∙ ap (λ (z : Reply). replies_of (opening_of p 1) es ++ z ∷ []) (step.reply w h.ran.machine)

@@ -9,7 +9,7 @@ use Rattle.hek_rules.specs.declared.reply.Refusal.{Refusal}
 use Rattle.hek_worker.specs.declared.stage.Stage.{Stage}
 use Rattle.hek_worker.specs.declared.stage.Stage.TheVariants.{Start, Working, Preparing, Looking, GivingUp, Releasing, Committing, Stamping, Ending, Ended}
 use Rattle.hek_worker.specs.declared.stage.Position.{Position}
-use Rattle.hek_worker.specs.Grammar.{Leads, IsTranscript, event_at, after, answers, begin_at, end_at}
+use Rattle.hek_worker.specs.Grammar.{Leads, IsTranscript, event_at, position_after, answers, begin_at, end_at}
 
 never : (e : Event) (why : Refusal) → answers e (Refused why) ≡ false
 never (Begin t) why = refl
@@ -27,7 +27,7 @@ never (Stamp t) why = refl
 never (End t) why = refl
 never Detect why = refl
 
-stops : (t : ℕ) (work : List Event) (s : Stage) (n : ℕ) (why : Refusal) (m : Position) → after t work s n (Refused why) ≡ Some m → ⊥
+stops : (t : ℕ) (work : List Event) (s : Stage) (n : ℕ) (why : Refusal) (m : Position) → position_after t work s n (Refused why) ≡ Some m → ⊥
 stops t work Start n why m h = cc
 stops t work (Working i) n why m h = let k = rw (never (event_at t work (Working i)) why) at h in cc
 stops t work Preparing n why m h = cc
@@ -42,7 +42,7 @@ stops t work Ended n why m h = cc
 along : (t : ℕ) (work : List Event) (p : Position) (xs : List (Event × Reply)) (q : Position) → Leads t work p xs q → (why : Refusal) → All (λ x. x.1 ≢ Refused why) xs
 along t work p [] q h why = All-nil (λ (x : Event × Reply). x.1 ≢ Refused why)
 along t work p (x ∷ xs) q h why =
-    let P : Reply → Type 0 = λ r. after t work p.stage p.turns r ≡ Some h.1.0 in
+    let P : Reply → Type 0 = λ r. position_after t work p.stage p.turns r ≡ Some h.1.0 in
     All-cons (λ (y : Event × Reply). y.1 ≢ Refused why) x xs (λ is. stops t work p.stage p.turns why h.1.0 (subst P is h.1.1)) (along t work h.1.0 xs q h.1.2 why)
 
 pub none_refused : (t : ℕ) (work : List Event) (turns : ℕ) (xs : List (Event × Reply)) → IsTranscript t work turns xs → (why : Refusal) → All (λ x. x.1 ≢ Refused why) xs

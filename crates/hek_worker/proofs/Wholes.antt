@@ -9,7 +9,7 @@ use Rattle.hek_rules.specs.declared.reply.Reply.TheVariants.{Began, Waiting, Pre
 use Rattle.hek_worker.specs.declared.stage.Stage.{Stage}
 use Rattle.hek_worker.specs.declared.stage.Stage.TheVariants.{Start, Working, Preparing, Looking, GivingUp, Releasing, Committing, Stamping, Ending, Ended}
 use Rattle.hek_worker.specs.declared.stage.Position.{Position}
-use Rattle.hek_worker.specs.Grammar.{Leads, event_at, after, after_start, after_work, after_precommit, after_look, after_release, after_commit, after_stamp, after_end, answers, at}
+use Rattle.hek_worker.specs.Grammar.{Leads, event_at, position_after, after_start, after_work, after_precommit, after_look, after_release, after_commit, after_stamp, after_end, answers, at}
 use Rattle.hek_worker.specs.Forms.{waits_at}
 
 -- the transaction has neither aborted nor run out of turns
@@ -36,7 +36,7 @@ abbrev pub Whole : ℕ → List Event → Position → List (Event × Reply) →
 Whole t work p [] q = p ≡ q
 Whole t work p (x ∷ xs) q =
     (x.0 ≡ event_at t work p.stage)
-    × ((m : Position) × (after t work p.stage p.turns x.1 ≡ Some m) × IsTrue (good m.stage) × Whole t work m xs q)
+    × ((m : Position) × (position_after t work p.stage p.turns x.1 ≡ Some m) × IsTrue (good m.stage) × Whole t work m xs q)
 
 abbrev pub Aborts : Stage → ℕ → Reply → Position → Type 0
 Aborts s n r m = (c : Cause) × (r ≡ Aborted c) × (m ≡ spot (Releasing true) n) × IsTrue (may_stop s)
@@ -121,7 +121,7 @@ end_goes t work n Over m h = inl (goes Ended n m h refl)
 end_goes t work n r m h = absurd (cc)
 
 -- from a good stage it goes on, aborts or tires
-pub step_goes : (t : ℕ) (work : List Event) (s : Stage) (n : ℕ) (r : Reply) (m : Position) → IsTrue (good s) → after t work s n r ≡ Some m → Goes t work s n r m
+pub step_goes : (t : ℕ) (work : List Event) (s : Stage) (n : ℕ) (r : Reply) (m : Position) → IsTrue (good s) → position_after t work s n r ≡ Some m → Goes t work s n r m
 step_goes t work Start n r m g h = start_goes t work n r m h
 step_goes t work (Working i) n r m g h = work_goes t work i n r m h
 step_goes t work Preparing n r m g h = precommit_goes t work n r m h
@@ -150,7 +150,7 @@ pub record Stops (t : ℕ) (work : List Event) (p : Position) (xs : List (Event 
   pub later : Leads t work bad rest end
 
 more : (t : ℕ) (work : List Event) (p : Position) (x : Event × Reply) (xs : List (Event × Reply)) (q m : Position)
-    → x.0 ≡ event_at t work p.stage → after t work p.stage p.turns x.1 ≡ Some m → IsTrue (good m.stage)
+    → x.0 ≡ event_at t work p.stage → position_after t work p.stage p.turns x.1 ≡ Some m → IsTrue (good m.stage)
     → Whole t work m xs q ⊎ Stops t work m xs q → Whole t work p (x ∷ xs) q ⊎ Stops t work p (x ∷ xs) q
 more t work p x xs q m here to fine (inl w) = inl (here, (m, to, fine, w))
 more t work p x xs q m here to fine (inr s) = inr (record {

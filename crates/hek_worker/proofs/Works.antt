@@ -11,7 +11,7 @@ use Rattle.hek_rules.specs.declared.reply.Reply.TheVariants.{Ready, Waiting, Pre
 use Rattle.hek_worker.specs.declared.stage.Stage.TheVariants.{Working, Preparing, Looking, Releasing}
 use Rattle.hek_worker.specs.declared.stage.Position.{Position}
 use Rattle.hek_worker.specs.Grammar.{event_at, after_work, after_precommit, after_look, worked, answers, at, end_at, or_finish}
-use Rattle.hek_worker.specs.Forms.{look, is_found}
+use Rattle.hek_worker.specs.Forms.{look, is_search_reply}
 use Rattle.hek_worker.proofs.Wholes.{good, spot, Whole, lands, moved}
 use Rattle.hek_worker.proofs.Pieces.{no_end, went_on, one_turn, none_less, one_less}
 
@@ -137,7 +137,7 @@ pub record Looks (t : ℕ) (work : List Event) (n left : ℕ) (xs : List (Event 
   pub rest : List (Event × Reply)
   pub turns : ℕ
   pub order : xs ≡ flat_map (look t) looks ++ (Precommit t, Precommitted ended) ∷ rest
-  pub searches : AllByRecursion (λ x. IsTrue (is_found x.1)) looks
+  pub searches : AllByRecursion (λ x. IsTrue (is_search_reply x.1)) looks
   pub count : length looks + turns ≡ n
   pub next : Whole t work (spot (Releasing false) turns) rest (end_at left)
 
@@ -145,7 +145,7 @@ pub record Search (t : ℕ) (work : List Event) (n left : ℕ) (xs : List (Event
   pub found : Reply
   pub rest : List (Event × Reply)
   pub order : xs ≡ (Detect, found) ∷ rest
-  pub is : IsTrue (is_found found)
+  pub is : IsTrue (is_search_reply found)
   pub next : Looks t work n left rest
 
 precommitted : (t : ℕ) (work : List Event) (n left time : ℕ) (x : Event × Reply) (xs : List (Event × Reply)) → x.0 ≡ Precommit t → x.1 ≡ Precommitted time
@@ -203,12 +203,12 @@ both t work left (x ∷ xs) = (
 pub looks : (t : ℕ) (work : List Event) (n left : ℕ) (xs : List (Event × Reply)) → Whole t work (spot Preparing n) xs (end_at left) → Looks t work n left xs
 looks t work n left xs h = (both t work left xs).0 n h
 
-found_on : (n : ℕ) (r : Reply) → IsTrue (is_found r) → after_look n r ≡ Some (spot Preparing n)
+found_on : (n : ℕ) (r : Reply) → IsTrue (is_search_reply r) → after_look n r ≡ Some (spot Preparing n)
 found_on n NoCycle h = refl
 found_on n (Victim t cycle) h = refl
 found_on n r h = absurd (cc)
 
-pub looked_back : (t : ℕ) (work : List Event) (left ended : ℕ) (looks : List (ℕ × Reply)) (rest : List (Event × Reply)) (n m : ℕ) → length looks + m ≡ n → AllByRecursion (λ x. IsTrue (is_found x.1)) looks
+pub looked_back : (t : ℕ) (work : List Event) (left ended : ℕ) (looks : List (ℕ × Reply)) (rest : List (Event × Reply)) (n m : ℕ) → length looks + m ≡ n → AllByRecursion (λ x. IsTrue (is_search_reply x.1)) looks
     → Whole t work (spot (Releasing false) m) rest (end_at left)
     → Whole t work (spot Preparing n) (flat_map (look t) looks ++ (Precommit t, Precommitted ended) ∷ rest) (end_at left)
 looked_back t work left ended [] rest n m is all w =

@@ -25,10 +25,10 @@ is_stamped (StampedEnd v) = true
 is_stamped (Left v) = true
 is_stamped _ = false
 
-abbrev pub is_found : Reply → Bool
-is_found NoCycle = true
-is_found (Victim t cycle) = true
-is_found _ = false
+abbrev pub is_search_reply : Reply → Bool
+is_search_reply NoCycle = true
+is_search_reply (Victim t cycle) = true
+is_search_reply _ = false
 
 -- a precommit that waits for so many, and then a search for a deadlock
 abbrev pub look : ℕ → ℕ × Reply → List (Event × Reply)
@@ -56,7 +56,7 @@ pub record IsFull (t : ℕ) (work : List Event) (turns : ℕ) (xs : List (Event 
       ++ (Commit t, Committed) ∷ each (Stamp t) stamped
       ++ (Stamp t, Nothing) ∷ (End t, Over) ∷ []
   pub done : AllZip (λ e r. IsTrue (answers e r)) work answered
-  pub searches : AllByRecursion (λ x. IsTrue (is_found x.1)) looks
+  pub searches : AllByRecursion (λ x. IsTrue (is_search_reply x.1)) looks
   pub releases : AllByRecursion (λ r. IsTrue (is_freed r)) freed
   pub stamps : AllByRecursion (λ r. IsTrue (is_stamped r)) stamped
   pub within : length looks + length pending ≤ turns
@@ -102,8 +102,8 @@ waits_at (Commit t) (WaitingCommits k) = true
 waits_at _ _ = false
 
 -- how often it waited
-abbrev pub waits : List (Event × Reply) → ℕ
-waits xs = count_by (λ x. waits_at x.0 x.1) xs
+abbrev pub wait_count : List (Event × Reply) → ℕ
+wait_count xs = count_by (λ x. waits_at x.0 x.1) xs
 
 abbrev pub is_given_up : Reply → Bool
 is_given_up Failed = true
@@ -120,7 +120,7 @@ pub record IsGivenUp (t : ℕ) (work : List Event) (turns : ℕ) (xs : List (Eve
   pub rest : List (Event × Reply)
   pub order : xs ≡ front ++ (next, reply) ∷ (Fail t, answer) ∷ rest
   pub stands : StandsNext t work turns front next
-  pub used : waits front ≡ turns
+  pub used : wait_count front ≡ turns
   pub again : IsTrue (waits_at next reply)
   pub given : IsTrue (is_given_up answer)
   pub left : IsRest t rest
@@ -128,13 +128,13 @@ pub record IsGivenUp (t : ℕ) (work : List Event) (turns : ℕ) (xs : List (Eve
 abbrev pub events_in : List (Event × Reply) → List Event
 events_in xs = map (λ x. x.0) xs
 
-abbrev pub is_committed : Reply → Bool
-is_committed Committed = true
-is_committed _ = false
+abbrev pub is_commit_reply : Reply → Bool
+is_commit_reply Committed = true
+is_commit_reply _ = false
 
 -- some event was answered Committed
-abbrev pub committed : List (Event × Reply) → Bool
-committed xs = list_any (λ x. is_committed x.1) xs
+abbrev pub has_commit : List (Event × Reply) → Bool
+has_commit xs = list_any (λ x. is_commit_reply x.1) xs
 
 abbrev pub is_fail : Event → Bool
 is_fail (Fail t) = true
@@ -155,12 +155,12 @@ pub record BeginsAndEnds (t : ℕ) (xs : List (Event × Reply)) : Type 0 where
 pub record KeepsOrder (t : ℕ) (work : List Event) (xs : List (Event × Reply)) : Type 0 where
   pub left : List Event
   pub order : work ≡ work_of t (events_in xs) ++ left
-  pub all : IsTrue (committed xs) → left ≡ []
+  pub all : IsTrue (has_commit xs) → left ≡ []
 
 -- it waits once more than it has turns at most; where it does, it fails, and only there
 pub record KeepsTurns (turns : ℕ) (xs : List (Event × Reply)) : Type 0 where
-  pub most : waits xs ≤ turns + 1
-  pub gives_up : IsTrue (fails xs) ↔ (waits xs ≡ turns + 1)
+  pub most : wait_count xs ≤ turns + 1
+  pub gives_up : IsTrue (fails xs) ↔ (wait_count xs ≡ turns + 1)
 
 -- full where it committed, and else cut short by others or for want of turns
 abbrev pub HasForm : ℕ → List Event → ℕ → List (Event × Reply) → Type 0
@@ -172,5 +172,5 @@ pub record IsLawful (t : ℕ) (work : List Event) (turns : ℕ) (xs : List (Even
   pub order : KeepsOrder t work xs
   pub waiting : KeepsTurns turns xs
   pub form : HasForm t work turns xs
-  pub full : IsTrue (committed xs) ↔ IsFull t work turns xs
+  pub full : IsTrue (has_commit xs) ↔ IsFull t work turns xs
   pub taken : (why : Refusal) → All (λ x. x.1 ≢ Refused why) xs

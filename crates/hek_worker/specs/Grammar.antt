@@ -109,24 +109,24 @@ after_end n Over = at Ended n
 after_end n _ = None
 
 -- the position after a reply; None where the reply does not stand there
-abbrev pub after : ℕ → List Event → Stage → ℕ → Reply → Option Position
-after t work Start n r = after_start n r
-after t work (Working i) n r = after_work t work i n r
-after t work Preparing n r = after_precommit n r
-after t work Looking n r = after_look n r
-after t work GivingUp n r = after_fail n r
-after t work (Releasing cut) n r = after_release cut n r
-after t work Committing n r = after_commit n r
-after t work (Stamping cut) n r = after_stamp cut n r
-after t work Ending n r = after_end n r
-after t work Ended n r = None
+abbrev pub position_after : ℕ → List Event → Stage → ℕ → Reply → Option Position
+position_after t work Start n r = after_start n r
+position_after t work (Working i) n r = after_work t work i n r
+position_after t work Preparing n r = after_precommit n r
+position_after t work Looking n r = after_look n r
+position_after t work GivingUp n r = after_fail n r
+position_after t work (Releasing cut) n r = after_release cut n r
+position_after t work Committing n r = after_commit n r
+position_after t work (Stamping cut) n r = after_stamp cut n r
+position_after t work Ending n r = after_end n r
+position_after t work Ended n r = None
 
 -- these events and replies lead from p to q
 abbrev pub Leads : ℕ → List Event → Position → List (Event × Reply) → Position → Type 0
 Leads t work p [] q = p ≡ q
 Leads t work p (x ∷ xs) q =
     (x.0 ≡ event_at t work p.stage)
-    × ((m : Position) × (after t work p.stage p.turns x.1 ≡ Some m) × Leads t work m xs q)
+    × ((m : Position) × (position_after t work p.stage p.turns x.1 ≡ Some m) × Leads t work m xs q)
 
 abbrev pub begin_at : ℕ → Position
 begin_at turns = record { stage = Start; turns = turns }
@@ -139,11 +139,11 @@ abbrev pub IsTranscript : ℕ → List Event → ℕ → List (Event × Reply) �
 IsTranscript t work turns xs = (left : ℕ) × Leads t work (begin_at turns) xs (end_at left)
 
 -- the transaction at this place, from 0
-abbrev pub id_at : ℕ → ℕ
-id_at i = i + 1
+abbrev pub worker_at : ℕ → ℕ
+worker_at i = i + 1
 
 -- one transcript for each transaction, in order from 1
 abbrev pub AreTranscripts : List Event → ℕ → List (List (Event × Reply)) → Type 0
 AreTranscripts steps turns parts =
     (i : ℕ) (p : List (Event × Reply)) → slice_get parts i ≡ Some p
-    → IsTranscript (id_at i) (work_of (i + 1) steps) turns p
+    → IsTranscript (worker_at i) (work_of (i + 1) steps) turns p

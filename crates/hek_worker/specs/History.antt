@@ -31,8 +31,8 @@ IsEntry txns x = IsDeclared txns x.worker × IsTrue (is_own x.worker x.event)
 abbrev pub IsHistory : ℕ → List Entry → Type 0
 IsHistory txns xs = All (IsEntry txns) xs
 
-abbrev pub events_of : List Entry → List Event
-events_of xs = map (λ x. x.event) xs
+abbrev pub history_events : List Entry → List Event
+history_events xs = map (λ x. x.event) xs
 
 abbrev pub replies_in : List Entry → List Reply
 replies_in xs = map (λ x. x.reply) xs
@@ -51,15 +51,15 @@ MayStep p t e = IsDeclared (length p.txns) t × IsTrue (is_own t e) × IsPlaced 
 
 -- the world of the rule table after a history
 abbrev pub world_of : Kept → World
-world_of k = run (opening_of k.plan 1) (events_of k.history)
+world_of k = run (opening_of k.plan 1) (history_events k.history)
 
 -- the history is well formed, its replies are those of the rule table, event by event, and the machine stands for the
 -- table's world after it
 pub record Replays (p : Plan) (machine : Engine) (history : List Entry) : Type 0 where
   pub plan : IsPlan p
   pub formed : IsHistory (length p.txns) history
-  pub ran : IsRun p 1 (events_of history) (replies_in history) machine
+  pub ran : IsRun p 1 (history_events history) (replies_in history) machine
 
 -- serial order: no event of the history is at fault
-abbrev pub IsSerial : Plan → List Entry → Type 0
-IsSerial p history = (i : ℕ) → HasNoFault (recorded_of p (events_of history) (replies_in history)) i
+abbrev pub IsSerialHistory : Plan → List Entry → Type 0
+IsSerialHistory p history = (i : ℕ) → HasNoFault (recorded_of p (history_events history) (replies_in history)) i

@@ -4,7 +4,7 @@ ghost use Rattle.hek_rules.specs.declared.event.Event.{Event};
 ghost use Rattle.hek_rules.specs.declared.reply.Reply.{Reply};
 ghost use Rattle.hek_rules.specs.declared.reply.Refusal.{Refusal};
 ghost use Rattle.hek_worker.specs.Grammar.{AreTranscripts, IsTranscript, work_of};
-ghost use Rattle.hek_worker.specs.Forms.{BeginsAndEnds, HasForm, IsFull, IsLawful, KeepsOrder, KeepsTurns, committed};
+ghost use Rattle.hek_worker.specs.Forms.{BeginsAndEnds, HasForm, IsFull, IsLawful, KeepsOrder, KeepsTurns, has_commit};
 
 /// No reply in a transcript is a refusal.
 pub fn none_refused()
@@ -35,7 +35,7 @@ pub fn transcripts_have_three_forms()
 
 /// A transcript with a reply Committed is a full one, and a full one has that reply.
 pub fn committed_where_full()
-    ensures { (t : ℕ) (steps : List Event) (turns : ℕ) (xs : List (Event × Reply)) → IsTranscript t (work_of t steps) turns xs → IsTrue (committed xs) ↔ IsFull t (work_of t steps) turns xs }
+    ensures { (t : ℕ) (steps : List Event) (turns : ℕ) (xs : List (Event × Reply)) → IsTranscript t (work_of t steps) turns xs → IsTrue (has_commit xs) ↔ IsFull t (work_of t steps) turns xs }
 {}
 
 /// All these laws hold of each transcript that `run_workers` gives, by its clause `grammar`.

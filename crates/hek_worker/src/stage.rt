@@ -1,5 +1,5 @@
 ghost use Rattle.std.specs.Prelude.{◌≡◌, ◌↔◌, IsTrue, length};
-ghost use Rattle.hek_worker.specs.Grammar.{after, answers, begin_at, event_at, is_work};
+ghost use Rattle.hek_worker.specs.Grammar.{position_after, answers, begin_at, event_at, is_work};
 
 use hek_rules::{Event, Reply, TxnId};
 
@@ -68,7 +68,7 @@ impl Position {
 
     /// The position after a reply, if it may stand there.
     pub fn after(self, worker: TxnId, work: &[Event], reply: &Reply) -> Option<Position>
-        ensures { result ≡ after worker work.now self.stage self.turns reply.now }
+        ensures { result ≡ position_after worker work.now self.stage self.turns reply.now }
     {
         let turns = self.turns;
         match self.stage {
