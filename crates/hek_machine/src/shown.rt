@@ -56,11 +56,11 @@ impl Machine {
     }
 
     /// Whether the schedule declares a transaction of this ID.
-    pub fn is_declared(&self, t: TxnId) -> bool
-        ensures shown { IsShown self.now (λ w. declared w.txns t) result }
-        ensures held { IsTrue result ↔ Declared self.now.txns t }
+    pub fn is_declared(&self, txn: TxnId) -> bool
+        ensures shown { IsShown self.now (λ w. declared w.txns txn) result }
+        ensures held { IsTrue result ↔ Declared self.now.txns txn }
     {
-        self.engine.txns.is_declared(t)
+        self.engine.txns.is_declared(txn)
     }
 
     /// How many versions there are: the rows of the schedule, and what inserts and updates made. None is ever taken
@@ -119,68 +119,68 @@ impl Machine {
 
     /// WaitForCounter: how much the transaction waits for (section 4 of the paper). A version that it writes and others
     /// read-lock counts once, and so does each transaction in whose WaitingTxnList it stands.
-    pub fn waits(&self, t: TxnId) -> u64
-        requires { Declared self.now.txns t }
-        ensures { IsShown self.now (λ w. waits w t) result }
+    pub fn waits(&self, txn: TxnId) -> u64
+        requires { Declared self.now.txns txn }
+        ensures { IsShown self.now (λ w. waits w txn) result }
     {
-        self.engine.txns.waits(t)
+        self.engine.txns.waits(txn)
     }
 
     /// CommitDepCounter: on how many preparing transactions this one's commit depends (section 2 of the paper).
-    pub fn commit_deps(&self, t: TxnId) -> u64
-        requires { Declared self.now.txns t }
-        ensures { IsShown self.now (λ w. commit_deps w t) result }
+    pub fn commit_deps(&self, txn: TxnId) -> u64
+        requires { Declared self.now.txns txn }
+        ensures { IsShown self.now (λ w. commit_deps w txn) result }
     {
-        self.engine.txns.commit_deps(t)
+        self.engine.txns.commit_deps(txn)
     }
 
     /// NoMoreWaitFors: the transaction has finished its reads and writes, and takes no further waits (section 4 of the
     /// paper).
-    pub fn no_more_waits(&self, t: TxnId) -> bool
-        requires { Declared self.now.txns t }
-        ensures { IsShown self.now (λ w. (txn_in w.txns t).no_more_waits) result }
+    pub fn no_more_waits(&self, txn: TxnId) -> bool
+        requires { Declared self.now.txns txn }
+        ensures { IsShown self.now (λ w. (txn_in w.txns txn).no_more_waits) result }
     {
-        self.engine.txns.no_more_waits(t)
+        self.engine.txns.no_more_waits(txn)
     }
 
     /// AbortNow: one that the transaction depended on has aborted, so it must abort too (section 2 of the paper).
-    pub fn abort_now(&self, t: TxnId) -> bool
-        requires { Declared self.now.txns t }
-        ensures { IsShown self.now (λ w. (txn_in w.txns t).abort_now) result }
+    pub fn abort_now(&self, txn: TxnId) -> bool
+        requires { Declared self.now.txns txn }
+        ensures { IsShown self.now (λ w. (txn_in w.txns txn).abort_now) result }
     {
-        self.engine.txns.abort_now(t)
+        self.engine.txns.abort_now(txn)
     }
 
     /// Its isolation level, as declared.
-    pub fn level(&self, t: TxnId) -> Level
-        requires { Declared self.now.txns t }
-        ensures { IsShown self.now (λ w. (txn_in w.txns t).level) result }
+    pub fn level(&self, txn: TxnId) -> Level
+        requires { Declared self.now.txns txn }
+        ensures { IsShown self.now (λ w. (txn_in w.txns txn).level) result }
     {
-        self.engine.txns.level(t)
+        self.engine.txns.level(txn)
     }
 
     /// The begin time that it drew, or 0 (section 2 of the paper: timestamps).
-    pub fn begin_time(&self, t: TxnId) -> Time
-        requires { Declared self.now.txns t }
-        ensures { IsShown self.now (λ w. (txn_in w.txns t).begin) result }
+    pub fn begin_time(&self, txn: TxnId) -> Time
+        requires { Declared self.now.txns txn }
+        ensures { IsShown self.now (λ w. (txn_in w.txns txn).begin) result }
     {
-        self.engine.txns.begin_time(t)
+        self.engine.txns.begin_time(txn)
     }
 
     /// The end time that it drew, or 0 (section 2 of the paper: timestamps).
-    pub fn end_time(&self, t: TxnId) -> Time
-        requires { Declared self.now.txns t }
-        ensures { IsShown self.now (λ w. (txn_in w.txns t).end) result }
+    pub fn end_time(&self, txn: TxnId) -> Time
+        requires { Declared self.now.txns txn }
+        ensures { IsShown self.now (λ w. (txn_in w.txns txn).end) result }
     {
-        self.engine.txns.end_time(t)
+        self.engine.txns.end_time(txn)
     }
 
     /// Where the transaction stands (section 2 of the paper: the phases of a transaction).
-    pub fn state(&self, t: TxnId) -> State
-        requires { Declared self.now.txns t }
-        ensures { IsShown self.now (λ w. (txn_in w.txns t).state) result }
+    pub fn state(&self, txn: TxnId) -> State
+        requires { Declared self.now.txns txn }
+        ensures { IsShown self.now (λ w. (txn_in w.txns txn).state) result }
     {
-        self.engine.txns.state(t)
+        self.engine.txns.state(txn)
     }
 
     /// LockCount: how many transactions lock the bucket (section 4 of the paper: bucket locks). Buckets are numbered
@@ -193,44 +193,44 @@ impl Machine {
     }
 
     /// The read set: the versions that the transaction read-locks (section 4 of the paper: record locks).
-    pub fn read_list(&self, t: TxnId) -> Result<Vec<VersionId>, NoMemory>
-        requires { Declared self.now.txns t }
-        ensures { IfOk result (λ list. IsShown self.now (λ w. read_set w t) list.items) }
+    pub fn read_list(&self, txn: TxnId) -> Result<Vec<VersionId>, NoMemory>
+        requires { Declared self.now.txns txn }
+        ensures { IfOk result (λ list. IsShown self.now (λ w. read_set w txn) list.items) }
     {
-        listed(self.engine.alloc, self.engine.txns.read_set(t))
+        listed(self.engine.alloc, self.engine.txns.read_set(txn))
     }
 
     /// The write set: the versions that the transaction made or ended and hasn't stamped yet (section 2 of the paper).
-    pub fn write_list(&self, t: TxnId) -> Result<Vec<WriteEntry>, NoMemory>
-        requires { Declared self.now.txns t }
-        ensures { IfOk result (λ list. IsShown self.now (λ w. write_set w t) list.items) }
+    pub fn write_list(&self, txn: TxnId) -> Result<Vec<WriteEntry>, NoMemory>
+        requires { Declared self.now.txns txn }
+        ensures { IfOk result (λ list. IsShown self.now (λ w. write_set w txn) list.items) }
     {
-        listed(self.engine.alloc, self.engine.txns.write_set(t))
+        listed(self.engine.alloc, self.engine.txns.write_set(txn))
     }
 
     /// The bucket set: the buckets that the transaction locks, numbered from 0 (section 4 of the paper: bucket locks).
-    pub fn bucket_list(&self, t: TxnId) -> Result<Vec<u64>, NoMemory>
-        requires { Declared self.now.txns t }
-        ensures { IfOk result (λ list. IsShown self.now (λ w. bucket_set w t) list.items) }
+    pub fn bucket_list(&self, txn: TxnId) -> Result<Vec<u64>, NoMemory>
+        requires { Declared self.now.txns txn }
+        ensures { IfOk result (λ list. IsShown self.now (λ w. bucket_set w txn) list.items) }
     {
-        listed(self.engine.alloc, self.engine.txns.bucket_set(t))
+        listed(self.engine.alloc, self.engine.txns.bucket_set(txn))
     }
 
     /// WaitingTxnList: the transactions that wait for this one by a bucket (section 4 of the paper: wait-for
     /// dependencies).
-    pub fn waiting_list(&self, t: TxnId) -> Result<Vec<TxnId>, NoMemory>
-        requires { Declared self.now.txns t }
-        ensures { IfOk result (λ list. IsShown self.now (λ w. waiters_in w t) list.items) }
+    pub fn waiting_list(&self, txn: TxnId) -> Result<Vec<TxnId>, NoMemory>
+        requires { Declared self.now.txns txn }
+        ensures { IfOk result (λ list. IsShown self.now (λ w. waiters_in w txn) list.items) }
     {
-        listed(self.engine.alloc, self.engine.txns.waiting_list(t))
+        listed(self.engine.alloc, self.engine.txns.waiting_list(txn))
     }
 
     /// CommitDepSet: the transactions whose commit depends on this one's (section 2 of the paper: commit dependencies).
-    pub fn dependents(&self, t: TxnId) -> Result<Vec<TxnId>, NoMemory>
-        requires { Declared self.now.txns t }
-        ensures { IfOk result (λ list. IsShown self.now (λ w. dependents_of w t) list.items) }
+    pub fn dependents(&self, txn: TxnId) -> Result<Vec<TxnId>, NoMemory>
+        requires { Declared self.now.txns txn }
+        ensures { IfOk result (λ list. IsShown self.now (λ w. dependents_of w txn) list.items) }
     {
-        listed(self.engine.alloc, self.engine.txns.dependents(t))
+        listed(self.engine.alloc, self.engine.txns.dependents(txn))
     }
 
     /// LockList: the transactions that lock the bucket (section 4 of the paper: bucket locks). Buckets are numbered from
