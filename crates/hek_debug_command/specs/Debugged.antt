@@ -6,7 +6,7 @@ use Rattle.std.specs.Str.{IsUtf8}
 use Rattle.hek_rules.specs.declared.reply.Reply.{Reply}
 use Rattle.hek_rules.specs.Plan.{Plan, names_of}
 use Rattle.hek_rules.specs.World.{World}
-use Rattle.hek_asm.specs.Lines.{joined}
+use Rattle.hek_asm.specs.Lines.{joined_words}
 use Rattle.hek_asm.specs.Trace.{reply_words}
 use Rattle.hek_debug.specs.declared.command.Command.{Command}
 use Rattle.hek_debug.specs.declared.command.Reason.{Reason}
@@ -18,7 +18,7 @@ use Rattle.hek_debug.specs.declared.reading.CommandFault.{CommandFault}
 use Rattle.hek_debug.specs.declared.reading.CommandFault.TheVariants as read
 use Rattle.hek_debug.specs.Lines.{commands_of}
 use Rattle.hek_debug.specs.Marks.{looked_at}
-use Rattle.hek_debug.specs.Sessions.{Session, opened, after, stop_of, world_at}
+use Rattle.hek_debug.specs.Sessions.{Session, opened, session_after, stop_of, world_at}
 use Rattle.hek_commands.specs.declared.fault.HekFault.{HekFault}
 use Rattle.hek_commands.specs.declared.fault.HekFault.TheVariants.{NotText, CommandLine, CannotWrite, NoMemory}
 use Rattle.hek_commands.specs.declared.schedule_file.ScheduleFile.{ScheduleFile}
@@ -37,7 +37,7 @@ reason_text reason.Cleared = codes " cleared"
 -- the reply to the last step, if there is one
 abbrev pub answer_text : Option Reply → List ℕ
 answer_text None = []
-answer_text (Some r) = codes " -> " ++ joined (reply_words r)
+answer_text (Some r) = codes " -> " ++ joined_words (reply_words r)
 
 -- at NUMBER REASON -> REPLY
 abbrev pub stop_line : Stop → List ℕ
@@ -92,7 +92,7 @@ told_text s stop = stop_line stop ++ watch_lines s.plan (world_at s.plan s.at) 1
 -- what these commands are answered
 abbrev pub session_text : Session → List Command → List ℕ
 session_text s [] = []
-session_text s (c ∷ cs) = told_text (after s c) (stop_of s c) ++ session_text (after s c) cs
+session_text s (c ∷ cs) = told_text (session_after s c) (stop_of s c) ++ session_text (session_after s c) cs
 
 -- so it was written behind what a writer held, for the commands that a text says over the schedule that a file says
 pub record Debugs {R : Type 0} (left : R → Option (List ℕ)) (said : ScheduleFile R) (text : List ℕ) (before after : Option (List ℕ)) : Type 0 where

@@ -2,7 +2,7 @@
 ghost use Rattle.std.specs.Prelude.{◌≡◌, ◌++◌, Ok, OnOk, IfErr, MatchResult};
 ghost use Rattle.std.specs.Io.KnownBytes.{Appends};
 ghost use Rattle.hek_debug.specs.Lines.{commands_of};
-ghost use Rattle.hek_debug.specs.Sessions.{opened, after, stop_of};
+ghost use Rattle.hek_debug.specs.Sessions.{opened, session_after, stop_of};
 ghost use Rattle.hek_commands.specs.Commands.{IsStop};
 ghost use Rattle.hek_debug_command.specs.Debugged.{told_text, session_text, command_fault, CommandTextFails, Debugs, DebugFails};
 
@@ -95,8 +95,8 @@ pub(crate) fn do_one<'a, W: Write>(
     command: Command,
     out: &mut W,
 ) -> Result<(), HekFault<'a>>
-    ensures stands { OnOk result (debugger.new ≡ after debugger.old command) }
-    ensures written { OnOk result (Appends (W.contents out.old) (W.contents out.new) (told_text (after debugger.old command) (stop_of debugger.old command))) }
+    ensures stands { OnOk result (debugger.new ≡ session_after debugger.old command) }
+    ensures written { OnOk result (Appends (W.contents out.old) (W.contents out.new) (told_text (session_after debugger.old command) (stop_of debugger.old command))) }
     ensures stops { IfErr result IsStop }
 {
     let Ok(stop) = debugger.command(command) else {

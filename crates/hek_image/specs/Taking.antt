@@ -6,7 +6,7 @@ use Rattle.hek_image.specs.declared.fault.LoadFault.{LoadFault}
 use Rattle.hek_image.specs.declared.fault.LoadFault.TheVariants as load
 use Rattle.hek_image.specs.declared.item.Item.{Item}
 use Rattle.hek_image.specs.declared.item.Item.TheVariants as item
-use Rattle.hek_image.specs.Loading.{Header, Reader, both, checked, bytes_at, value, is_new_name, row_at, txn_at, step_at, times}
+use Rattle.hek_image.specs.Loading.{Header, Reader, both, checked_read, bytes_at, value, is_new_name, row_at, txn_at, step_at, times}
 
 -- a fault of a reader r at an offset, where a source gave `text` and `rest` is left: no bytes behind the text change it; the
 -- text ends too early where the source failed, and where it has no more
@@ -33,13 +33,13 @@ pub record Takes {X Y : Type 0} (view : X → Y × ℕ) (r : Reader Y) (at size 
 
 -- ---- items
 -- the name of a transaction of this level, which is added
-abbrev pub name_at : Level → ℕ → Plan → Reader Plan
-name_at level len plan = both (checked (bytes_at len) (is_new_name plan)) (λ name.
+abbrev pub named_txn_at : Level → ℕ → Plan → Reader Plan
+named_txn_at level len plan = both (checked_read (bytes_at len) (is_new_name plan)) (λ name.
     value (record plan { txns = plan.txns ++ (name, level) ∷ [] }))
 
 abbrev pub item_at : Item → Plan → Reader Plan
 item_at item.Row plan = row_at plan
-item_at (item.Name level len) plan = name_at level len plan
+item_at (item.Name level len) plan = named_txn_at level len plan
 item_at item.Step plan = step_at plan
 
 abbrev pub item_size : Item → ℕ

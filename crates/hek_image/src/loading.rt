@@ -1,9 +1,9 @@
 //! A schedule from one of its images.
 ghost use Rattle.std.specs.Prelude.{◌≡◌, ◌+◌, ◌≤◌, ◌⊎◌, [], length, false, OnOk, IfOk, IfErr, IsTrue, Err};
 ghost use Rattle.hek_rules.specs.Plan.{max_rows, max_steps, max_txns};
-ghost use Rattle.hek_image.specs.Loading.{magic_at, version_at, header_at, loading};
+ghost use Rattle.hek_image.specs.Loading.{magic_at, image_version, header_at, loading};
 ghost use Rattle.hek_image.specs.Gives.{FieldFails, FieldGives, LoadFails, LoadGives, AnswerFits, IsOpen, given_between};
-ghost use Rattle.hek_image.specs.Places.{place_of, header_of};
+ghost use Rattle.hek_image.specs.Places.{place_seen, header_of};
 ghost use Rattle.hek_image.specs.Taking.{Takes, body_at};
 ghost use Rattle.hek_image.specs.declared.fault.LoadFault.TheVariants as load;
 
@@ -30,7 +30,7 @@ struct Header {
 
 #[tactic(auto, unfolding(crate::specs::Loading::magic_at, crate::specs::Loading::required))]
 fn magic_at(place: Place<'_>) -> Result<(&[u8], Place<'_>), LoadFault>
-    ensures { FieldGives (λ x. (x.0.now, place_of x.1)) result (magic_at (place_of place.entry)) }
+    ensures { FieldGives (λ x. (x.0.now, place_seen x.1)) result (magic_at (place_seen place.entry)) }
 {
     let (magic, place) = bytes_at(4, place)?;
     if magic != b"HKSC".as_slice() {
@@ -39,9 +39,9 @@ fn magic_at(place: Place<'_>) -> Result<(&[u8], Place<'_>), LoadFault>
     Ok((magic, place))
 }
 
-#[tactic(auto, unfolding(crate::specs::Loading::version_at, crate::specs::Loading::required))]
+#[tactic(auto, unfolding(crate::specs::Loading::image_version, crate::specs::Loading::required))]
 fn version_at(place: Place<'_>) -> Result<(u16, Place<'_>), LoadFault>
-    ensures gives { FieldGives (λ x. (x.0, place_of x.1)) result (version_at (place_of place.entry)) }
+    ensures gives { FieldGives (λ x. (x.0, place_seen x.1)) result (image_version (place_seen place.entry)) }
     ensures known { IfOk result (λ x. x.0 ≤ 2) }
 {
     let (version, place) = u16_at(place)?;
@@ -53,7 +53,7 @@ fn version_at(place: Place<'_>) -> Result<(u16, Place<'_>), LoadFault>
 
 #[tactic(auto, unfolding(crate::specs::Loading::header_at, crate::specs::Loading::both))]
 fn header_at(alloc: Global, place: Place<'_>) -> Result<(Schedule, Header, Place<'_>), LoadFault>
-    ensures gives { FieldGives (λ x. ((x.0, header_of x.1), place_of x.2)) result (header_at (place_of place.entry)) }
+    ensures gives { FieldGives (λ x. ((x.0, header_of x.1), place_seen x.2)) result (header_at (place_seen place.entry)) }
     ensures known { IfOk result (λ x. x.1.version ≤ 2) }
     ensures rows { IfOk result (λ x. (length x.0.rows ≡ 0) × (x.1.rows ≤ max_rows)) }
     ensures txns { IfOk result (λ x. (length x.0.txns ≡ 0) × (x.1.txns ≤ max_txns)) }

@@ -8,8 +8,8 @@ use Rattle.hek_rules.specs.Walk.{Judgement, Refuse, Allow, Purpose}
 use Rattle.hek_rules.specs.Walk as walk
 use Rattle.hek_visible.specs.Seen.{version_seen}
 use Rattle.hek_machine.specs.declared.engine.Engine.{Engine}
-use Rattle.hek_machine.specs.declared.walks.Aim.{Aim}
-use Rattle.hek_machine.specs.declared.walks.Aim.TheVariants.{ToRead, ToWrite}
+use Rattle.hek_machine.specs.declared.judging.Aim.{Aim}
+use Rattle.hek_machine.specs.declared.judging.Aim.TheVariants.{ToRead, ToWrite}
 use Rattle.hek_machine.specs.Stands.{StandsFor}
 
 -- so it is in each world that the parts stand for

@@ -1,6 +1,6 @@
 //! Why an order can't be played.
 use hek_rules::NoMemory;
-use hek_threads::ThreadFault;
+use hek_worker::ThreadFault;
 use std::alloc::{AllocError, AllocFailed};
 use thiserror::Error;
 

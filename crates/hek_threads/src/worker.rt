@@ -1,10 +1,9 @@
 ghost use Rattle.std.specs.Prelude.{◌≡◌, IfOk};
-ghost use Rattle.hek_threads.specs.Grammar.{IsTranscript, work_of};
+ghost use Rattle.hek_worker.specs.Grammar.{IsTranscript, work_of};
 
-use crate::entry::{Part, ThreadFault};
 use crate::shared::Steps;
-use crate::stage::{Position, Stage, is_work};
 use hek_rules::{Event, TxnId};
+use hek_worker::{Part, Position, Stage, ThreadFault, is_work};
 use std::alloc::Global;
 use std::sync::Wait;
 

@@ -16,7 +16,7 @@ use Rattle.hek_rules.specs.Walk.{Judgement, Refuse, Allow, Purpose, read_time, v
 use Rattle.hek_rules.specs.Walk as walk
 use Rattle.hek_rules.specs.Table.{is_claim}
 use Rattle.hek_machine.specs.Observed.{of_version}
-use Rattle.hek_why.specs.Passed.{passes}
+use Rattle.hek_why.specs.Passed.{version_passes}
 use Rattle.hek_why.specs.declared.reason.Met.{Met}
 use Rattle.hek_why.specs.declared.reason.Met.TheVariants.{Writer, Creator, EndedAt, MadeAt, Readers}
 use Rattle.hek_why.specs.declared.stops.Aim.{Aim}
@@ -56,7 +56,7 @@ first_stop w t purpose target (v ∷ vs) = first_some (stop_at w t purpose targe
 
 -- the first version that claims the key
 abbrev pub first_claim : World → ℕ → List ℕ → Option ℕ
-first_claim w t vs = find (λ v. passes (λ v x. is_claim w t (txn_in w.txns t).level x.creator) v w) vs
+first_claim w t vs = find (λ v. version_passes (λ v x. is_claim w t (txn_in w.txns t).level x.creator) v w) vs
 
 -- who or what refuses a lock, by the End word
 abbrev pub met_by : Cause → EndRecord → Met
