@@ -5,6 +5,7 @@ ghost use Rattle.hek_worker.specs.declared.entry.ThreadFault.TheVariants as thre
 use hek_rules::{Event, NoMemory, Reply, TxnId};
 use std::alloc::{AllocError, AllocFailed};
 use std::marker::Model;
+use thiserror::Error;
 
 /// One event, who made it, and what was answered.
 #[derive(Drop, Debug)]
@@ -47,13 +48,16 @@ impl Part {
 }
 
 /// Why a run has no report, or an event no reply.
-#[derive(Clone, Copy, PartialEq, Eq, Debug)]
+#[derive(Clone, Copy, Debug, PartialEq, Eq, Error)]
 pub enum ThreadFault {
     /// A worker's thread can't be started.
+    #[error("no worker")]
     NoWorker,
+    #[error("no memory")]
     NoMemory,
-    /// This worker may not make its event, or its transcript isn't what it should be. 0 stands for no worker: the book is of
-    /// another schedule.
+    /// This worker may not make its event, or its transcript isn't what it should be. The ID 0 is that of no worker: the book is
+    /// of another schedule.
+    #[error("mismatch {number}", number = .0.number())]
     Mismatch(TxnId),
 }
 
