@@ -24,8 +24,8 @@ use Rattle.hek_txn.specs.TxnTable.{Declared}
 use Rattle.hek_buckets.specs.LockLists.{holders_of}
 use Rattle.hek_refinement.proofs.Known.{begun-known, present-known, has-first}
 use Rattle.hek_machine.specs.declared.engine.Engine.{Engine}
-use Rattle.hek_machine.specs.declared.judging.Aim.{Aim}
-use Rattle.hek_machine.specs.declared.judging.Aim.TheVariants as aims
+use Rattle.hek_rules.specs.declared.event.Aim.{Aim}
+use Rattle.hek_rules.specs.declared.event.Aim.TheVariants as aims
 use Rattle.hek_machine.specs.Stands.{Shows, StandsFor, StandsForSome, IsRule, StillShows}
 use Rattle.hek_machine.specs.Judgements.{IsShown, IsAimed, seen_among}
 use Rattle.hek_machine.specs.Room.{Reserved, CanMake, KeepsAdding}

@@ -21,9 +21,10 @@ use Rattle.hek_laws.proofs.Table.Cases.{active-is}
 use Rattle.hek_store.specs.Stored.{of_key}
 use Rattle.hek_refinement.proofs.Known.{begun-known}
 use Rattle.hek_machine.specs.declared.engine.Engine.{Engine}
-use Rattle.hek_machine.specs.declared.judging.Aim.{Aim}
+use Rattle.hek_rules.specs.declared.event.Aim.{Aim}
 use Rattle.hek_machine.specs.Stands.{Shows, StandsFor, StandsForSome, IsRule}
-use Rattle.hek_machine.specs.Judgements.{IsShown, purpose_of, verdict}
+use Rattle.hek_machine.specs.Judgements.{IsShown, verdict}
+use Rattle.hek_rules.specs.Aims.{purpose_of}
 use Rattle.hek_machine.specs.Room.{Reserved, IsThere}
 use Rattle.hek_machine.specs.Applied.{Allowed}
 use Rattle.hek_machine.specs.Walked.{AreVersionPlaces, After}

@@ -12,9 +12,8 @@ ghost use Rattle.hek_machine.specs.Written.{AreEnough, key_walk, after_conflict}
 ghost use Rattle.hek_visible.specs.Seen.{NamesCreator};
 
 use crate::engine::Engine;
-use crate::judging::Aim;
 use hek_rules::{
-    BeginRecord, Cause, Effect, Level, NoMemory, Reply, State, Time, TxnId, VersionId,
+    Aim, BeginRecord, Cause, Effect, Level, NoMemory, Reply, State, Time, TxnId, VersionId,
 };
 
 impl Engine {

@@ -13,19 +13,13 @@ ghost use Rattle.hek_rules.specs.declared.event.State.TheVariants.{Active};
 ghost use Rattle.hek_txn.specs.TxnTable.{Declared};
 ghost use Rattle.hek_visible.specs.Seen.{version_seen};
 ghost use Rattle.hek_machine.specs.Stands.{StandsForSome};
-ghost use Rattle.hek_machine.specs.Judgements.{IsShown, looks, purpose_of, target_of, verdict, judgement_of, seen_among, IsAimed};
+ghost use Rattle.hek_machine.specs.Judgements.{IsShown, looks, verdict, judgement_of, seen_among, IsAimed};
+ghost use Rattle.hek_rules.specs.Aims.{purpose_of, target_of};
 
 use crate::engine::Engine;
 use hek_locks::{can_read_lock, can_write_lock};
-use hek_rules::{Cause, Effect, Level, NoMemory, Sight, Time, TxnId, VersionId};
+use hek_rules::{Aim, Cause, Effect, Level, NoMemory, Sight, Time, TxnId, VersionId};
 use hek_visible::see;
-
-/// What a walk is for: to read what it sees, or to write over the last version that it sees, if it sees one.
-#[derive(Clone, Copy, Debug)]
-pub(crate) enum Aim {
-    ToRead,
-    ToWrite(Option<VersionId>),
-}
 
 pub(crate) fn is_seen(sight: Sight) -> bool
     ensures { result ≡ seen sight }
