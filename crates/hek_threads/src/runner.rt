@@ -1,3 +1,4 @@
+//! A thread for each transaction, all joined, and the report of the run.
 ghost use Rattle.std.specs.Prelude.{◌≡◌, ◌≢◌, ◌⊎◌, ◌<◌, ◌≤◌, ◌+◌, ℕ, Err, Ok, IsTrue, IfOk, IfSome, IfNone, vec_len, vec_capacity, slice_get, slice_index_or, Some, length};
 ghost use Rattle.hek_machine.specs.Steps.{IsRun, RowsAreSerial};
 ghost use Rattle.hek_worker.specs.History.{IsHistory, IsSerialHistory, history_events, part_of, replies_in};

@@ -1,3 +1,4 @@
+//! The lock around the book: one event is one hold of it.
 ghost use Rattle.std.specs.Prelude.{◌≡◌, ◌<◌, IfOk};
 
 use hek_rules::{Event, Reply, TxnId};

@@ -1,3 +1,4 @@
+//! What a worker does next, and the stage to which each reply leads.
 ghost use Rattle.std.specs.Prelude.{◌≡◌, ◌↔◌, IsTrue, length};
 ghost use Rattle.hek_worker.specs.Grammar.{position_after, answers, begin_at, event_at, is_work};
 
