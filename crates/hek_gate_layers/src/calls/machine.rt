@@ -3,7 +3,7 @@ ghost use Rattle.std.specs.Prelude.{length, IfOk, OnOk};
 ghost use Rattle.std.specs.List.{All};
 ghost use Rattle.hek_laws.specs.Runs.{IsFirstClock, IsPlaced};
 
-use crate::answer::{Answer, reply_text};
+use crate::answer::{Answer, reply_text, truth};
 use crate::block::schedule;
 use crate::calls::machine_show::{MACHINE_CALLS, call_machine};
 use crate::fault::{LineFault, only_if};
@@ -32,12 +32,14 @@ enum WholeCall {
     Run,
     Keep,
     Swap,
+    Same,
 }
 
 const WHOLE_CALLS: Calls<WholeCall> = &[
     ("run", 0, WholeCall::Run),
     ("keep", 0, WholeCall::Keep),
     ("swap", 0, WholeCall::Swap),
+    ("same", 0, WholeCall::Same),
 ];
 
 impl MachineScene {
@@ -75,6 +77,10 @@ impl MachineScene {
             WholeCall::Run => return self.run(alloc),
             WholeCall::Keep => self.kept = self.now.copy()?,
             WholeCall::Swap => mem::swap(&mut self.now, &mut self.kept),
+            WholeCall::Same => {
+                let same = shows_same(alloc, &self.schedule, &self.now, &self.kept)?;
+                return Ok(truth(same));
+            }
         }
         Ok(Answer::Done)
     }
