@@ -77,6 +77,6 @@ lasts w (EndedAt time) = false
 lasts w (Held None no_more) = true
 lasts w (Held (Some u) no_more) = not (is_committed (txn_in w.txns u).state)
 
--- the rows that committed transactions made and none of them ended, by key
+-- the rows that the schedule or a committed transaction made and no committed transaction ended, by key
 abbrev pub committed_rows : World → List (ℕ × ℕ)
 committed_rows w = pairs_of w.versions [] (places (λ v x. was_made w x.creator && lasts w x.ender) 0 w.versions)

@@ -1,4 +1,4 @@
--- Deadlock: who waits for whom among the transactions that have finished and wait, and the victim.
+-- Deadlock: the wait graph of the finished transactions that wait, and its victim.
 -- (Section 4 of the paper: deadlock detection.)
 use Rattle.std.specs.Prelude.{ℕ, ◌+◌, Bool, not, ◌&&◌, ◌||◌, ◌==◌, nat_lt, List, Option, length}
 use Rattle.std.specs.List.{list_any}
