@@ -1,4 +1,4 @@
-//! Waits by a bucket: a waiting list and a wait counter change together.
+//! Waits because of a bucket: a waiting list and a wait counter change together.
 ghost use Rattle.std.specs.Prelude.{◌≡◌, ◌+◌, ◌-◌, ◌<◌, ◌≤◌, ◌≢◌, ◌^◌, Some, None, nat_eq, slice_get, length, MatchOption};
 ghost use Rattle.std.specs.List.{All};
 ghost use Rattle.std.specs.Set.{remove_key};
@@ -12,7 +12,7 @@ use crate::Buckets;
 use hek_rules::TxnId;
 use hek_txn::Txns;
 
-/// `waiter` waits for `txn`, unless it does so already.
+/// `waiter` waits for `txn`, unless it does already.
 pub fn impose_wait(txns: &mut Txns, txn: TxnId, waiter: TxnId)
     requires txn { Declared txns.old txn }
     requires waiter { Declared txns.old waiter }
@@ -29,7 +29,7 @@ pub fn impose_wait(txns: &mut Txns, txn: TxnId, waiter: TxnId)
     txns.push_waiter(txn, waiter);
 }
 
-/// The first that waits for `txn` does so no more. The answer is that one, or None where nobody waits.
+/// The first waiter of `txn` no longer waits for it. Returns that waiter, or None if nobody waits.
 pub fn release_waiter(txns: &mut Txns, txn: TxnId) -> Option<TxnId>
     requires txn { Declared txns.old txn }
     requires waiter { All (λ u. Declared txns.old u × (0 < waits_of txns.old u)) (waiting_list_of txns.old txn).items }
@@ -45,7 +45,7 @@ pub fn release_waiter(txns: &mut Txns, txn: TxnId) -> Option<TxnId>
     Some(u)
 }
 
-/// t waits for h too, unless it is h or does so already.
+/// t waits for h, unless t is h or waits for h already.
 fn wait_for(txns: &mut Txns, h: TxnId, t: TxnId)
     requires even { IsEven txns.old }
     requires txn { Declared txns.old t }

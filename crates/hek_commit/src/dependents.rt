@@ -9,7 +9,7 @@ ghost use Rattle.hek_commit.specs.Committed.{AreCounted, depended_deps, lowered}
 use hek_rules::TxnId;
 use hek_txn::Txns;
 
-/// `txn` depends on `other`, unless it does so already.
+/// `txn` depends on `other`, unless it does already.
 pub fn depend(txns: &mut Txns, txn: TxnId, other: TxnId)
     requires txn { Declared txns.old txn }
     requires depended { Declared txns.old other }
@@ -26,7 +26,7 @@ pub fn depend(txns: &mut Txns, txn: TxnId, other: TxnId)
     txns.push_dependent(other, txn);
 }
 
-/// Each that depends on t depends on one transaction less.
+/// Each transaction that depends on t depends on one less.
 pub(crate) fn lower_dependents(txns: &mut Txns, t: TxnId)
     requires txn { Declared txns.old t }
     requires dependents { All (λ x. Declared txns.old x) (dependents_of txns.old t).items }
@@ -40,7 +40,7 @@ pub(crate) fn lower_dependents(txns: &mut Txns, t: TxnId)
     }
 }
 
-/// Each that depends on t is to abort: AbortNow.
+/// Sets AbortNow of each transaction that depends on t.
 pub(crate) fn doom_dependents(txns: &mut Txns, t: TxnId)
     requires txn { Declared txns.old t }
     requires dependents { All (λ x. Declared txns.old x) (dependents_of txns.old t).items }

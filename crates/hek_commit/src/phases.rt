@@ -10,7 +10,7 @@ use crate::dependents::{doom_dependents, lower_dependents};
 use hek_rules::{Cause, State, Time, TxnId};
 use hek_txn::Txns;
 
-/// `txn` prepares, and this is its end time; or Err of how much it still waits for.
+/// `txn` is Preparing with this end time; or Err with its WaitForCounter, if that is above 0.
 pub fn precommit(txns: &mut Txns, txn: TxnId, end: Time) -> Result<(), u64>
     requires { Declared txns.old txn }
     ensures ready { IsOk result ↔ (waits_of txns.old txn ≡ 0) }
@@ -26,7 +26,8 @@ pub fn precommit(txns: &mut Txns, txn: TxnId, end: Time) -> Result<(), u64>
     Ok(())
 }
 
-/// `txn` has committed, and who depended on it depends on one less; or Err of on how many it still depends.
+/// `txn` is Committed, and each transaction that depended on it depends on one less; or Err with its CommitDepCounter,
+/// if that is above 0.
 pub fn commit(txns: &mut Txns, txn: TxnId) -> Result<(), u64>
     requires txn { Declared txns.old txn }
     requires dependents { All (λ x. Declared txns.old x) (dependents_of txns.old txn).items }
@@ -47,7 +48,7 @@ pub fn commit(txns: &mut Txns, txn: TxnId) -> Result<(), u64>
     Ok(())
 }
 
-/// `txn` is aborted for this cause. Those that depend on it are to abort too, and depend on one less.
+/// `txn` is Aborted by this cause. Each transaction that depended on it has AbortNow, and depends on one less.
 pub fn abort(txns: &mut Txns, txn: TxnId, cause: Cause)
     requires txn { Declared txns.old txn }
     requires dependents { All (λ x. Declared txns.old x) (dependents_of txns.old txn).items }
@@ -61,7 +62,7 @@ pub fn abort(txns: &mut Txns, txn: TxnId, cause: Cause)
     txns.clear_dependents(txn);
 }
 
-/// `txn` has ended its last phase.
+/// `txn` is Terminated.
 pub fn end(txns: &mut Txns, txn: TxnId)
     requires { Declared txns.old txn }
     ensures { txns.new ≡ record txns.old { cores = in_state txns.old.cores txn Terminated } }

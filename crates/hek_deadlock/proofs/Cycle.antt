@@ -1,4 +1,4 @@
--- One more member of the cycle, by the levels.
+-- The next member of the cycle, by the levels.
 use Rattle.std.proofs.Common.{ℕ, zero, suc, ◌≡◌, ◌<◌, Bool, true, false, ◌&&◌, List, [], ◌∷◌, ◌++◌, length, get_or, Vec, Global, Option, Some, None, refl, sym, ap, ◌∙◌, inl, inr, arith, append_assoc}
 use Rattle.std.proofs.lemmas.Bool.{cases_Bool, both_ways, and_parts, and_left, eqb-true, eq-eqb}
 use Rattle.std.proofs.lemmas.Option.{slice_get_read, get_or_from_slice_get}
@@ -24,7 +24,7 @@ is_level_from None k e = cc
 pub is_level_of : (o : Option ℕ) (k : ℕ) → o ≡ Some k → is_level o k ≡ true
 is_level_of o k e = ap (λ (v : Option ℕ). is_level v k) e ∙ eq-eqb k k refl
 
--- next to x on a shortest way, the level and the walk of that length are one test
+-- on a shortest walk from x, a next member is of the lower level exactly if a walk of that length leads from it
 level_leads : (edge : ℕ → ℕ → Bool) (n t k x y : ℕ) → fewest edge n t n x ≡ Some (suc k) → y < n → edge x y ≡ true → is_level (fewest edge n t n y) k ≡ leads edge n k y t
 unfolding fewest
 level_leads edge n t k x y e lt joined =
@@ -51,7 +51,7 @@ tests_agree edge n t k x y o e lt is =
       | inr apart ↦ and_left (edge x y) (is_level o k) apart ∙ sym (and_left (edge x y) (leads edge n k y t) apart)
     ]
 
--- the least next member is that of the cycle
+-- the least next member of the lower level is that of the cycle
 pub next_is : (rows : List (Vec ℕ Global)) (t : ℕ) (levels : List (Option ℕ)) → AreLevels rows t levels → (k x : ℕ) → x < length rows → level_at levels x ≡ Some (suc k) → least (λ (y : ℕ). waits_by_rows rows x y && is_level (level_at levels y) k) (length rows) ≡ least (λ y. waits_by_rows rows x y && leads (waits_by_rows rows) (length rows) k y t) (length rows)
 next_is rows t levels are k x lt e =
     least_agree (λ (y : ℕ). waits_by_rows rows x y && is_level (level_at levels y) k) (λ y. waits_by_rows rows x y && leads (waits_by_rows rows) (length rows) k y t) (length rows)
@@ -100,7 +100,7 @@ between-zero edge n k x t e = ap (λ (i : ℕ). between edge n i x t) e
 pub between-at : (edge : ℕ → ℕ → Bool) (n k left x t : ℕ) (ys : List ℕ) → left ≡ suc k → between edge n (suc k) x t ≡ ys → between edge n left x t ≡ ys
 between-at edge n k left x t ys e is = ap (λ (i : ℕ). between edge n i x t) e ∙ is
 
--- an element that was read is the level at its place
+-- an element read from the levels is the level at its place
 pub level_read : (levels : List (Option ℕ)) (k : ℕ) (o : Option ℕ) → k < length levels → o ≡ get_or levels k o → level_at levels k ≡ o
 level_read levels k o lt is = get_or_from_slice_get levels k o None (slice_get_read levels (length levels) k o refl lt is)
 
@@ -121,7 +121,7 @@ pub victim_below-zero : (edge : ℕ → ℕ → Bool) (n : ℕ) → victim_below
 unfolding victim_below
 victim_below-zero edge n = refl
 
--- nobody waits for t: no walk leads there
+-- no walk leads to t if nobody waits for t
 unled : (rows : List (Vec ℕ Global)) (n t : ℕ) → waiters_of rows t ≡ [] → (m x : ℕ) → leads (waits_by_rows rows) n m x t ≡ true → ⊥
 unfolding waits_by_rows
 unled rows n t none zero x e =
@@ -142,7 +142,7 @@ nil_of : (xs : List ℕ) → length xs ≡ 0 → xs ≡ []
 nil_of [] e = refl
 nil_of (x ∷ xs) e = absurd (omega arith)
 
--- the row that was read is empty
+-- nobody waits for t if the row of t is empty
 pub unwaited : (rows : List (Vec ℕ Global)) (t : ℕ) (row : Vec ℕ Global) → t < length rows → row ≡ get_or rows t row → length row.items ≡ 0 → waiters_of rows t ≡ []
 unwaited rows t row lt is empty =
     ap (λ (o : Option (Vec ℕ Global)). row_in o) (slice_get_read rows (length rows) t row refl lt is) ∙ nil_of row.items empty

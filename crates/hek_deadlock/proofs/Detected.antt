@@ -1,4 +1,4 @@
--- The victim among the places of the nodes, by number, is that of the store and the transactions.
+-- The victim among the places of the nodes, as an ID, is that of the store and the transactions.
 use Rattle.std.proofs.Common.{ℕ, zero, suc, ◌≡◌, ◌+◌, ◌<◌, List, [], ◌∷◌, length, Vec, Global, Option, Some, None, sym, ap, ◌∙◌, subst, arith}
 use Rattle.std.specs.List.{All}
 use Rattle.std.specs.Option.{IfSome}
@@ -13,7 +13,7 @@ use Rattle.hek_deadlock.proofs.GraphRows.{edge_from, edge_to, rows_join}
 use Rattle.hek_deadlock.proofs.Placed.{IsPlaced, AreBelow, HaveVictimPlaces, victim_places, victim_at, none_at}
 use Rattle.hek_deadlock.proofs.Waiting.{joins}
 
--- the rows that the search was given
+-- the nodes and the rows that the search works on
 pub record IsGraph (s : Stored) (x : TxnTable) (ids : List ℕ) (rows : List (Vec ℕ Global)) : Type 0 where
   pub rising : IsRising ids
   pub nodes : (u : ℕ) → is_among ids u ≡ is_node x u
@@ -48,7 +48,7 @@ found_victim s x ids rows g None e =
 found_victim s x ids rows g (Some a) e =
     sym (victim_at (is_edge s x) (waits_by_rows rows) (length x.cores + 1) ids (joins s x) (placed s x ids rows g) a.0 a.1 (counted s x ids rows g (Some a) e))
 
--- the same of slices that read these lists
+-- the nodes and rows of slices that read these lists
 pub graph_of : (s : Stored) (x : TxnTable) (ids seen : List ℕ) (rows : List (Vec ℕ Global)) → IsRising ids → ((u : ℕ) → is_among ids u ≡ is_node x u) → seen ≡ ids → AreOfPlaces (is_edge s x) seen rows → IsGraph s x ids rows
 graph_of s x ids seen rows rising nodes same edges =
     record { rising = rising; nodes = nodes; edges = subst (λ (ns : List ℕ). AreOfPlaces (is_edge s x) ns rows) same edges }

@@ -1,4 +1,4 @@
--- Level by level, each number gets its fewest members in between.
+-- Level by level, each number gets the fewest members between it and the target.
 use Rattle.std.proofs.Common.{ℕ, zero, suc, ◌≡◌, ◌+◌, ◌-◌, ◌<◌, ◌≤◌, Bool, true, false, ◌&&◌, ◌||◌, cond, eqb, List, [], ◌∷◌, length, get_or, Vec, Global, Option, Some, None, refl, sym, ap, ◌∙◌, subst, inl, inr, arith, add-one}
 use Rattle.std.specs.List.{list_any, All}
 use Rattle.std.proofs.lemmas.Bool.{both_ways, and_parts, and_from, or_cases, or_left, or_right, eqb-true, eq-eqb}
@@ -11,7 +11,7 @@ use Rattle.hek_deadlock.proofs.Marks.{none_reached, marked_by_none}
 use Rattle.hek_rules.proofs.Least.{IsLeast, IsLeast-least, least_none}
 use Rattle.hek_rules.proofs.Leads.{Next, leads_next, leads_from}
 
--- who waits for the frontier gets level k
+-- the numbers that wait for the frontier are those that get level k
 abbrev pub IsReady : List (Vec ℕ Global) → ℕ → ℕ → List ℕ → Type 0
 IsReady rows t k frontier =
     (x : ℕ) → x < length rows → marked (reaches rows frontier x) k (fewest (waits_by_rows rows) (length rows) t k x) ≡ fewest (waits_by_rows rows) (length rows) t (k + 1) x
@@ -88,17 +88,17 @@ new_hit false b k (Some m) on none e = cc
 new_hit false true k None on none e = cc
 new_hit false false k None on none e = cc
 
--- the step in the form of the recursion
+-- the step of the levels, in the form of the recursion
 step_at : (rows : List (Vec ℕ Global)) (t k : ℕ) (frontier : List ℕ) → IsReady rows t k frontier → (x : ℕ) → x < length rows → marked (reaches rows frontier x) k (fewest (waits_by_rows rows) (length rows) t k x) ≡ option_or (fewest (waits_by_rows rows) (length rows) t k x) (cond (leads (waits_by_rows rows) (length rows) k x t) (Some k) None)
 step_at rows t k frontier ready x lt =
     ready x lt ∙ ap (λ (i : ℕ). fewest (waits_by_rows rows) (length rows) t i x) (add-one k) ∙ fewest-suc (waits_by_rows rows) (length rows) t k x
 
--- who stands in the next frontier
+-- the numbers of the next frontier
 abbrev pub IsNext : List (Vec ℕ Global) → ℕ → ℕ → List ℕ → List ℕ → Type 0
 IsNext rows t k frontier next =
     (x : ℕ) → x < length rows → is_among next x ≡ (reaches rows frontier x && is_unmarked (fewest (waits_by_rows rows) (length rows) t k x))
 
--- only those from whom k members lead to t stand here, and all of them that nothing shorter leads from
+-- the frontier of level k: k members lead from each of its numbers to t, and it has each number without a lower level
 pub record IsFrontier (rows : List (Vec ℕ Global)) (t k : ℕ) (next : List ℕ) : Type 0 where
   pub leads_from_here : (x : ℕ) → x < length rows → is_among next x ≡ true → leads (waits_by_rows rows) (length rows) k x t ≡ true
   pub is_here : (x : ℕ) → x < length rows → is_unmarked (fewest (waits_by_rows rows) (length rows) t k x) ≡ true → leads (waits_by_rows rows) (length rows) k x t ≡ true → is_among next x ≡ true
@@ -112,7 +112,7 @@ leads_next_in : (rows : List (Vec ℕ Global)) (t k : ℕ) (frontier next : List
 leads_next_in rows t k frontier next ready is x lt none on =
     is x lt ∙ and_from _ _ (new_hit (reaches rows frontier x) (leads (waits_by_rows rows) (length rows) k x t) k (fewest (waits_by_rows rows) (length rows) t k x) on none (step_at rows t k frontier ready x lt)) none
 
--- where nothing shorter leads from x, nothing shorter leads from the next member
+-- if no shorter walk leads from x, none leads from its next member
 unmarked_on : (edge : ℕ → ℕ → Bool) (n t k x y : ℕ) → fewest edge n t (suc k) x ≡ None → y < n → edge x y ≡ true → is_unmarked (fewest edge n t k y) ≡ true
 unfolding fewest
 unmarked_on edge n t k x y none lt e = at (least (λ m. leads edge n m y t) k) refl
@@ -165,7 +165,7 @@ pub ready_next : (rows : List (Vec ℕ Global)) (t k : ℕ) (frontier next : Lis
 ready_next rows t k frontier next ready is range =
     subst (λ (i : ℕ). IsReady rows t i next) (sym (add-one k)) (ready_from rows t k next (next_frontier rows t k frontier next ready is) range)
 
--- the step of the levels
+-- the levels after a step
 pub levels_next : (rows : List (Vec ℕ Global)) (t k : ℕ) (frontier : List ℕ) (old new : Option ℕ) → IsReady rows t k frontier → (x : ℕ) → x < length rows → old ≡ fewest (waits_by_rows rows) (length rows) t k x → new ≡ marked (reaches rows frontier x) k old → new ≡ fewest (waits_by_rows rows) (length rows) t (k + 1) x
 levels_next rows t k frontier old new ready x lt inv step =
     step ∙ ap (λ (o : Option ℕ). marked (reaches rows frontier x) k o) inv ∙ ready x lt
@@ -176,7 +176,7 @@ ready_empty rows t k ready =
     (λ x lt. none_reached rows [] x (fewest (waits_by_rows rows) (length rows) t k x) refl)
     (All-nil (λ y. y < length rows))
 
--- after an empty frontier the levels stay
+-- the levels stay after an empty frontier
 stays_on : (rows : List (Vec ℕ Global)) (t d k : ℕ) → IsReady rows t k [] → (x : ℕ) → x < length rows → fewest (waits_by_rows rows) (length rows) t (k + d) x ≡ fewest (waits_by_rows rows) (length rows) t k x
 stays_on rows t zero k ready x lt = let same : k + 0 ≡ k = omega arith in ap (λ (i : ℕ). fewest (waits_by_rows rows) (length rows) t i x) same
 stays_on rows t (suc d) k ready x lt =

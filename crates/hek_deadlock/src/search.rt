@@ -1,5 +1,5 @@
-//! The search over a wait graph: candidates from the greatest down, with marks level by level. Its numbers are the places of
-//! the rows.
+//! The search for a victim: candidates from the greatest down, with marks level by level. Its numbers are places of
+//! rows.
 ghost use Rattle.std.specs.Prelude.{◌≡◌, ◌&&◌, ◌∷◌, ◌<◌, ℕ, length, IfOk, Some};
 ghost use Rattle.hek_rules.specs.Victim.{least, between, victim_of};
 ghost use Rattle.hek_rules.specs.Listing.{is_among};
@@ -10,7 +10,7 @@ use crate::levels::levels_to;
 use hek_rules::NoMemory;
 use std::alloc::Global;
 
-/// Whether `x` is in the row, and the row's number stands at the wanted level.
+/// Whether `x` is in the row, and the level of the row's number is the wanted one.
 fn is_next(row: &[usize], x: usize, level: Option<usize>, wanted: usize) -> bool
     ensures { result ≡ (is_among row.now x && is_level level wanted) }
 {
@@ -20,7 +20,7 @@ fn is_next(row: &[usize], x: usize, level: Option<usize>, wanted: usize) -> bool
     }
 }
 
-/// The least that `x` waits for and that stands at this level.
+/// The least number of this level that `x` waits for.
 fn next_member(
     waiters: &[Vec<usize>],
     levels: &[Option<usize>],
@@ -38,7 +38,7 @@ fn next_member(
     None
 }
 
-/// The cycle from the victim: at each place the least that keeps it shortest.
+/// The cycle from the victim on: at each place the least number that keeps it shortest.
 fn cycle(
     alloc: Global,
     waiters: &[Vec<usize>],
@@ -68,7 +68,7 @@ fn cycle(
     Ok(members)
 }
 
-/// The victim and its cycle, or none, by their rows' places.
+/// The victim and its cycle as places of rows, or None if there is no cycle.
 pub(crate) fn find_victim(
     alloc: Global,
     waiters: &[Vec<usize>],

@@ -27,7 +27,7 @@ fn reads_freely(store: &Store, txns: &Txns, t: TxnId, v: VersionId) -> bool
     is_maker(store, t, v) || txns.reads(t, v)
 }
 
-/// What the word says to one that doesn't read the version yet.
+/// Whether the word takes a reader that does not read the version yet, or why not.
 fn judge_word(txns: &Txns, word: EndWord) -> Result<(), Cause>
     requires { KnowsWriter txns.now word }
     ensures { result ≡ answer_of (word_refusal txns.now.cores (cleared_word txns.now.cores word)) }
@@ -51,8 +51,8 @@ fn judge_word(txns: &Txns, word: EndWord) -> Result<(), Cause>
     }
 }
 
-/// Whether `txn` may read-lock v, or why not. It may where it made v or read-locks it already. The word is asked first, since
-/// it mostly allows a reader.
+/// Whether `txn` may read-lock v, or why not. A transaction that made v or read-locks it may. The word is checked
+/// first, since it allows most readers.
 pub fn can_read_lock(store: &Store, txns: &Txns, txn: TxnId, v: VersionId) -> Result<(), Cause>
     requires version { v < length store.now.versions }
     requires txn { Declared txns.now txn }
@@ -71,7 +71,7 @@ pub fn can_read_lock(store: &Store, txns: &Txns, txn: TxnId, v: VersionId) -> Re
     }
 }
 
-/// The writer of a word waits for the first reader that comes.
+/// Counts the first reader of a word: the word's writer waits for one version more.
 fn count_first(txns: &mut Txns, word: EndWord)
     requires { CanWait txns.old word }
     ensures { txns.new ≡ writer_waits txns.old word }
@@ -84,8 +84,8 @@ fn count_first(txns: &mut Txns, word: EndWord)
     }
 }
 
-/// `txn` read-locks v, unless it made v or read-locks it already. An aborted writer of v is cleared; another one waits for
-/// its first reader.
+/// `txn` read-locks v, unless it made v or read-locks it already. An aborted writer of v is cleared; another writer
+/// waits for its first reader.
 pub fn read_lock(store: &mut Store, txns: &mut Txns, txn: TxnId, v: VersionId)
     requires version { v < length store.old.versions }
     requires txn { Declared txns.old txn }

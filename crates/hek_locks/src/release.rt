@@ -10,8 +10,8 @@ use hek_rules::{Dropped, TxnId, VersionId};
 use hek_store::Store;
 use hek_txn::Txns;
 
-/// `txn` gives its read lock of v up. The answer is the writer that was left alone, which waits for one version less, and
-/// whose version takes no more readers.
+/// `txn` gives up its read lock of v. If v has a writer and no reader left, returns that writer: it waits for one
+/// version less, and v takes no more readers.
 pub fn release_read(store: &mut Store, txns: &mut Txns, txn: TxnId, v: VersionId) -> Option<TxnId>
     requires version { v < length store.old.versions }
     requires txn { Declared txns.old txn }

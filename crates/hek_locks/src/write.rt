@@ -15,7 +15,7 @@ use hek_store::Store;
 use hek_txn::Txns;
 use hek_word::EndWord;
 
-/// Whether v may be write-locked, or why not: it has ended, or a writer that hasn't aborted.
+/// Whether v may be write-locked, or why not: it has ended, or has a writer that has not aborted.
 pub fn can_write_lock(store: &Store, txns: &Txns, v: VersionId) -> Result<(), Cause>
     requires version { v < length store.now.versions }
     requires writer { KnowsWriter txns.now (version_at store.now v).end }
@@ -28,8 +28,7 @@ pub fn can_write_lock(store: &Store, txns: &Txns, v: VersionId) -> Result<(), Ca
     }
 }
 
-/// t gives up its own read lock of v, and tells whether it had one. It had none where the word, which is that of v, has no
-/// readers.
+/// t gives up its read lock of v; returns whether it had one. `word` is the End word of v: without readers, t has none.
 fn give_up(txns: &mut Txns, t: TxnId, v: VersionId, word: EndWord) -> bool
     requires txn { Declared txns.old t }
     requires reader { is_among (read_set_of txns.old t).items v ≡ true → 0 < readers_of word }
@@ -41,7 +40,7 @@ fn give_up(txns: &mut Txns, t: TxnId, v: VersionId, word: EndWord) -> bool
     word.readers() > 0 && txns.take_read(t, v)
 }
 
-/// The word without a reader, where one gave its lock up.
+/// The word with one reader less, if a reader gave its lock up.
 fn left_by(word: EndWord, gave_up: bool) -> EndWord
     requires { gave_up ≡ true → 0 < readers_of word }
     ensures { result ≡ (if gave_up then without_reader word else word) }
@@ -54,7 +53,7 @@ fn left_by(word: EndWord, gave_up: bool) -> EndWord
     }
 }
 
-/// t waits for the readers of a word, if it has any.
+/// t waits for the readers of a word, if the word has any.
 fn count_readers(txns: &mut Txns, t: TxnId, word: EndWord)
     requires txn { Declared txns.old t }
     requires counted { waits_of txns.old t + 1 < 2 ^ 64 }
@@ -66,8 +65,8 @@ fn count_readers(txns: &mut Txns, t: TxnId, word: EndWord)
     }
 }
 
-/// `txn` write-locks v: an aborted writer of v is cleared, its own read lock is given up, and `txn` waits for the readers that are
-/// left, once for the version.
+/// `txn` write-locks v. An aborted writer of v is cleared, `txn` gives up its read lock of v, and waits for the readers
+/// that are left, once for the version.
 pub fn write_lock(store: &mut Store, txns: &mut Txns, txn: TxnId, v: VersionId)
     requires version { v < length store.old.versions }
     requires txn { Declared txns.old txn }

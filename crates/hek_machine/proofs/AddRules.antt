@@ -1,4 +1,4 @@
--- A version is made: what the calls ask, and that the parts show the world with it.
+-- A version is made: what the calls require, and that the parts show the world with the version.
 use Rattle.std.proofs.Common.{◌≡◌, ℕ, ◌+◌, ◌<◌, ◌≤◌, ◌^◌, ◌%◌, true, false, [], ◌∷◌, ◌++◌, ◌∙◌, ap, sym, subst, arith, None, ⊎_elim, length}
 use Rattle.std.proofs.lemmas.Bool.{cases_eq}
 use Rattle.std.specs.Prelude.{slice_index_or}
@@ -36,7 +36,7 @@ add_named m t a =
 pub add_room : (m : Engine) (t b : ℕ) → CanMake m t b → 0 < m.store.room
 add_room m t b c = c.version
 
--- who locks a bucket is present, and there are no more of them than transactions
+-- a transaction that locks a bucket is declared
 holder-known : (m : Engine) (w : World) (t b h : ℕ) → CanAddVersion m t w → has w.bucket_locks h b ≡ true → Declared m.txns h
 holder-known m w t b h a k = present-known m.txns w h a.shows.txns (a.sound.locker_present h b k)
 

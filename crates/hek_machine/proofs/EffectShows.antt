@@ -1,4 +1,4 @@
--- What each effect of a walk leaves shows the world after it, and takes no more room than its own.
+-- Each effect of a walk leaves parts that show the world after it, and takes no more room than it adds.
 use Rattle.std.proofs.Common.{◌≡◌, ℕ, ◌+◌, ◌<◌, ◌≤◌, Bool, true, false, List, refl, ◌∙◌, ap, sym, subst, arith, ⊎_elim, nat_eq, get_or-set_other, inl, inr, ◌++◌, ◌∷◌, []}
 use Rattle.std.proofs.lemmas.Bool.{cond_both, cases_Bool, cases_eq, false≢true, eqb-true}
 use Rattle.std.specs.Prelude.{◌==◌, ◌||◌, ◌⊎◌}

@@ -65,7 +65,7 @@ module _ (w : World) (t : ℕ) (before : List Effect) (e : Effect) (after : List
   pub turn-sound : Sound (apply_all t w before)
   turn-sound = part-sound w t a.purpose a.bucket a.test before (e ∷ after) a.walk
 
-  -- what was seen is still held
+  -- a version that was seen is still held after the first effects
   still-held : (v : ℕ) → is_held (version_in w.versions v).ender ≡ true → is_held (version_in (apply_all t w before).versions v).ender ≡ true
   still-held v h =
       let m = (moved w t a.purpose a.bucket a.test before (walking-first w t a.purpose a.bucket a.test before (e ∷ after) walking) v).ender in
@@ -97,7 +97,7 @@ may-turn w t before (WriteLock v) after a =
       allowed = write-turn w t a.purpose a.bucket a.test before after v a.walk;
     }
 
--- what has been done of a walk
+-- the first i effects of a walk are done
 pub record Done (m : Engine) (t made : ℕ) (effects : List Effect) (i : ℕ) (cur : Engine) : Type 0 where
   pub shows : (w : World) → StandsFor m w → Shows cur (apply_all t w (take i effects))
   pub room : HasRoom cur t made (drop i effects)

@@ -1,4 +1,4 @@
--- Commit and abort, each as its rule.
+-- Commit and abort are their rules.
 use Rattle.std.proofs.Common.{◌≡◌, ℕ, ◌<◌, [], refl, ◌∙◌, ap, sym, subst, arith, length, nat_eq}
 use Rattle.std.proofs.lemmas.Bool.{cond-true}
 use Rattle.std.proofs.lemmas.Bool.Decides.{nat_tests}
@@ -17,7 +17,7 @@ use Rattle.hek_refinement.proofs.Known.{dependents-known}
 use Rattle.hek_machine.specs.declared.engine.Engine.{Engine}
 use Rattle.hek_machine.specs.Stands.{Shows, StandsFor, StandsForSome, IsRule}
 
--- a rule that is another one's outcome
+-- a rule whose outcome is that of another rule
 pub rule-is : (m new : Engine) (one other : World → Outcome) (r : Reply) → ((w : World) → StandsFor m w → one w ≡ other w) → IsRule other m new r → IsRule one m new r
 rule-is m new one other r same rule = record {
   reply = λ w s. rule.reply w s ∙ ap (λ (x : Outcome). x.reply) (sym (same w s));
@@ -46,7 +46,7 @@ row_of_commit m t x d none is empty =
       };
     })
 
--- an abort, whatever the answer
+-- the rule of an abort, with any reply
 pub row_of_abort : (m : Engine) (t : ℕ) (cause : Cause) (r : Reply) (x : TxnTable) → Declared m.txns t →
     x ≡ with_dependents (table_after_abort m.txns t cause) t (dependents_of x t) → (dependents_of x t).items ≡ [] →
     IsRule (λ w. record { reply = r; world = abort w t cause }) m (record m { txns = x }) r

@@ -1,4 +1,4 @@
--- The release of a read lock, a bucket lock or a waiter, as its rule.
+-- The release of a read lock, a bucket lock or a waiter is its rule.
 use Rattle.std.proofs.Common.{◌≡◌, ℕ, ◌-◌, ◌<◌, List, [], ◌∷◌, refl, ◌∙◌, ap, sym, arith, true, Some, None, length, nat_eq}
 use Rattle.std.specs.Prelude.{slice_get, slice_index_or}
 use Rattle.std.specs.Set.{remove_key}
@@ -57,7 +57,7 @@ first_waiter w t u (x ∷ us) h = ap (λ (n : ℕ). one n) (some x u h)
     some : (a b : ℕ) → Some a ≡ Some b → a ≡ b
     some a b e = cc
 
--- who read-locks nothing, and locks no bucket
+-- the release of a transaction without read locks gives up a bucket lock, or else a waiter
 no_reads : (m : Engine) (w : World) (t : ℕ) → StandsFor m w → slice_get (read_set_of m.txns t).items 0 ≡ None → release_rule w t ≡ release_bucket w t (seconds_of w.bucket_locks t)
 no_reads m w t s h = ap (release_first w t) (sym (s.shows.txns.read_sets t) ∙ no_first (read_set_of m.txns t).items h)
 

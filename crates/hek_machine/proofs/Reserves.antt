@@ -1,4 +1,4 @@
--- Room is reserved, and nothing else changes.
+-- Reserving room changes nothing else.
 use Rattle.std.proofs.Common.{◌≡◌, ℕ, zero, suc, ◌+◌, ◌<◌, ◌≤◌, List, [], ◌∷◌, refl, ◌∙◌, ap, sym, subst, arith, inl, inr, ⊎_elim, length, take, get_or}
 use Rattle.std.proofs.lemmas.List.{take_more}
 use Rattle.std.specs.Prelude.{slice_index_or, slice_set}
@@ -200,7 +200,7 @@ reserved_holders m b lists is items more = subst (λ (z : List (Entries ℕ)). R
   more_versions = omega arith;
 })
 
--- ---- what was ready stays so
+-- ---- lists that had room keep it
 
 pub there-kept : (m n : Engine) → Reserved m n → (e : Effect) → IsThere m e → IsThere n e
 there-kept m n r (LockBucket b) h = let a = items-length m.buckets in let c = items-length n.buckets in let k = ap length r.holders in omega (arith, a, c, k, h)

@@ -1,4 +1,4 @@
--- Steps of a machine, and runs of many.
+-- Steps of a machine, and runs of many steps.
 use Rattle.std.proofs.Common.{◌≡◌, ℕ, ◌+◌, ◌<◌, List, [], ◌∷◌, ◌++◌, refl, ◌∙◌, ap, sym, subst, arith, Result, Ok, Err, IfOk, length, take, get_or}
 use Rattle.std.proofs.lemmas.Result.{IfOk-weaker}
 use Rattle.std.proofs.lemmas.List.{take_more}
@@ -53,7 +53,7 @@ pub buckets_after : {E : Type 0} (e : Event) (m n : Engine) (r : Result Reply E)
 buckets_after e m n (Ok x) o i s = (i.shows o.world o.stands).buckets.count ∙ (fixed-next o.world e).buckets ∙ sym o.stands.shows.buckets.count
 buckets_after e m n (Err f) o i s = (s.world o.world o.stands.shows).buckets.count ∙ sym o.stands.shows.buckets.count
 
--- ---- runs, one event more
+-- ---- runs, after one more event
 
 abbrev pub replies_of : World → List Event → List Reply
 replies_of w es = map (λ (x : Event × Reply). x.1) (transcript w es)
@@ -97,7 +97,7 @@ run_rows_are_serial p clock es rs m plan first e s rows shown =
     ∙ run-rows p.buckets clock p.rows (levels_of p) plan.keys first.0 first.1 es
     ∙ ap (λ h. serial_map h (put_all p.rows [])) (history-is p clock es rs e)
 
--- once all events have been taken
+-- the replies after the last event are those of all events
 pub all_taken : (p : Plan) (clock i : ℕ) (es : List Event) (rs : List Reply) → i ≡ length es → rs ≡ replies_of (opening_of p clock) (take i es) → rs ≡ replies_of (opening_of p clock) es
 all_taken p clock i es rs end e = e ∙ ap (replies_of (opening_of p clock)) (ap (λ n. take n es) end ∙ take-length es)
 

@@ -1,4 +1,4 @@
-//! Which versions claim their key, and what becomes of an insert of a claimed one (section 4 of the paper: inserts).
+//! Versions that claim their key, and the insert of a claimed key (section 4 of the paper: inserts).
 ghost use Rattle.std.specs.Prelude.{◌≡◌, ◌<◌, true, None, length, IfOk, OnErr, ◌||◌};
 ghost use Rattle.std.specs.List.{All};
 ghost use Rattle.hek_rules.specs.World.{txn_in, bucket_of, version_in};
@@ -17,7 +17,7 @@ use hek_rules::{
 };
 
 impl Engine {
-    /// Whether another that is active made the version of a Begin.
+    /// Whether another Active transaction made the version with this Begin.
     fn is_made_by_other(&self, t: TxnId, begin: BeginRecord) -> bool
         requires maker { NamesCreator self.now.txns begin }
         ensures { result ≡ made_by_other self.now.txns.cores t begin }
@@ -28,7 +28,8 @@ impl Engine {
         }
     }
 
-    /// The same, or whether it was made later than the transaction looks.
+    /// Whether another Active transaction made the version with this Begin, or it was made after the time at which `t`
+    /// looks.
     fn is_made_since(&self, t: TxnId, begin: BeginRecord) -> bool
         requires known { Declared self.now.txns t }
         requires maker { NamesCreator self.now.txns begin }
@@ -45,8 +46,8 @@ impl Engine {
         }
     }
 
-    /// Whether a Begin claims its key: another that is active made it, or, for a snapshot transaction, it is later than this
-    /// one looks.
+    /// Whether the version with this Begin claims its key: another Active transaction made it, or, if `t` is a snapshot
+    /// one, it was made after the begin of `t`.
     fn is_claim_by(&self, t: TxnId, begin: BeginRecord) -> bool
         requires known { Declared self.now.txns t }
         requires maker { NamesCreator self.now.txns begin }
@@ -58,7 +59,7 @@ impl Engine {
         }
     }
 
-    /// Whether this version claims its key.
+    /// Whether this version claims its key against `t`.
     fn is_claim(&self, t: TxnId, v: VersionId) -> bool
         requires version { v < length self.now.store.versions }
         requires known { Declared self.now.txns t }
@@ -68,7 +69,7 @@ impl Engine {
         self.is_claim_by(t, self.store.begin_of(v).content())
     }
 
-    /// Whether another claims a key by one of these versions.
+    /// Whether one of these versions claims its key against `t`.
     pub(crate) fn is_claimed(&self, t: TxnId, vs: &[VersionId]) -> bool
         requires known { Declared self.now.txns t }
         requires versions { All (λ v. v < length self.now.store.versions) vs.now }
@@ -83,8 +84,8 @@ impl Engine {
         false
     }
 
-    /// The insert of a key that another claims: the transaction aborts, by a refusal of its walk, which comes first, or else by
-    /// the conflict.
+    /// The insert of a claimed key: the transaction aborts, by a refusal of its walk if there is one, otherwise by
+    /// Conflict.
     pub(crate) fn conflict(
         &mut self,
         t: TxnId,

@@ -1,4 +1,4 @@
-//! The effects of a walk, done one after another. Room for them is there.
+//! The effects of a walk, done one after another. The lists have room for them.
 ghost use Rattle.std.specs.Prelude.{◌≡◌, ◌<◌, ◌≤◌, ◌^◌, ◌∷◌, [], length};
 ghost use Rattle.hek_rules.specs.Walk.{apply_all as all_applied};
 ghost use Rattle.hek_rules.specs.declared.event.Effect.TheVariants.{LockBucket, DependOn, MakeWait, ReadLock, WriteLock};
@@ -84,7 +84,7 @@ impl Engine {
         }
     }
 
-    /// The effects of a walk that is allowed, in their order. Room for so many versions is left.
+    /// Does the effects of an allowed walk, in order. Room for `made` versions is left.
     pub(crate) fn apply_all(&mut self, t: TxnId, effects: &[Effect], made: usize)
         requires ordered { StandsForSome self.old }
         requires allowed { (w : _) → StandsFor self.old w → Allowed w t effects.now }

@@ -1,5 +1,5 @@
-//! Walks: what an event would do with the versions of some keys, judged on the machine as it is before anything is done
-//! (section 4 of the paper: reads, updates, and the waits that they bring).
+//! Walks: what an event would do with the versions of some keys, judged on the machine as it is before any change
+//! (section 4 of the paper: reads, updates, and the waits that they cause).
 ghost use Rattle.std.specs.Prelude.{◌≡◌, ◌<◌, ◌%◌, ℕ, true, length, IfOk, OnOk};
 ghost use Rattle.std.specs.List.{All};
 ghost use Rattle.hek_rules.specs.Words.{infinity};
@@ -27,14 +27,14 @@ pub(crate) fn is_seen(sight: Sight) -> bool
     matches!(sight, Sight::Seen | Sight::SeenIf(_))
 }
 
-/// A version that is hidden brings nothing to a walk; most versions are.
+/// Whether the version is hidden, and adds nothing to a walk; most versions are.
 pub(crate) fn is_hidden(sight: &Sight) -> bool
     ensures { result ≡ true → sight.now ≡ Hidden }
 {
     matches!(sight, Sight::Hidden)
 }
 
-/// One effect more, or the cause of a refusal.
+/// Appends an effect, if there is one, or returns the cause of a refusal.
 fn append(
     effects: &mut Vec<Effect>,
     next: Result<Option<Effect>, Cause>,
@@ -52,7 +52,7 @@ fn append(
 }
 
 impl Engine {
-    /// The time at which a transaction looks: a snapshot one as of its begin, the others now.
+    /// The time at which a transaction looks: its begin time at the snapshot level, otherwise the clock.
     pub(crate) fn read_time(&self, t: TxnId) -> Time
         requires known { Declared self.now.txns t }
         ensures { result ≡ looks self.now t }
@@ -76,7 +76,7 @@ impl Engine {
         see(&self.store, &self.txns, t, read_time, v)
     }
 
-    /// The last version that it sees, among these.
+    /// The last of these versions that the transaction sees.
     pub(crate) fn last_seen(&self, t: TxnId, vs: &[VersionId]) -> Option<VersionId>
         requires versions { All (λ v. v < length self.now.store.versions) vs.now }
         requires known { Declared self.now.txns t }
@@ -96,7 +96,7 @@ impl Engine {
         None
     }
 
-    /// The read lock of a version.
+    /// The read lock of a version: none, an effect, or the cause of a refusal.
     #[tactic(auto, using(crate::proofs::WalkRules::writer_known))]
     fn judge_read_lock(&self, t: TxnId, v: VersionId) -> Result<Option<Effect>, Cause>
         requires version { v < length self.now.store.versions }
@@ -110,7 +110,7 @@ impl Engine {
         }
     }
 
-    /// What a transaction reads it locks, unless it looks at the past.
+    /// The read lock of a version that the transaction sees; a snapshot transaction takes none.
     fn judge_read(&self, t: TxnId, v: VersionId) -> Result<Option<Effect>, Cause>
         requires version { v < length self.now.store.versions }
         requires known { Declared self.now.txns t }
@@ -123,7 +123,7 @@ impl Engine {
         }
     }
 
-    /// The write lock that the target of a write gets.
+    /// The write lock of a write's target: an effect, or the cause of a refusal.
     #[tactic(auto, using(crate::proofs::WalkRules::writer_known))]
     fn judge_write(&self, v: VersionId) -> Result<Option<Effect>, Cause>
         requires version { v < length self.now.store.versions }
@@ -136,7 +136,7 @@ impl Engine {
         }
     }
 
-    /// The lock that a seen version gets: a write locks its target alone.
+    /// The lock of a version that the transaction sees; a write locks its target alone.
     fn judge_lock(&self, t: TxnId, aim: Aim, v: VersionId) -> Result<Option<Effect>, Cause>
         requires version { v < length self.now.store.versions }
         requires known { Declared self.now.txns t }
@@ -156,7 +156,7 @@ impl Engine {
         }
     }
 
-    /// An active transaction u made a version that t doesn't see: where t is serializable, u is to wait for t.
+    /// The Active transaction u made a version that t does not see: if t is serializable, u must wait for t.
     fn judge_wait(&self, t: TxnId, u: TxnId) -> Result<Option<Effect>, Cause>
         requires known { Declared self.now.txns t }
         requires maker { Declared self.now.txns u }
@@ -176,7 +176,7 @@ impl Engine {
         }
     }
 
-    /// What a version brings, by what is seen of it: its effects are appended, or the cause of a refusal is the answer.
+    /// Judges one version by what the transaction sees of it: appends its effects, or returns the cause of a refusal.
     pub(crate) fn judge_sight(
         &self,
         t: TxnId,
@@ -204,7 +204,8 @@ impl Engine {
         }
     }
 
-    /// Whether the two words alone hide the version at this time, whoever looks: both are times, and it isn't between them.
+    /// Whether the two words alone hide the version at this time from every transaction: both are times, and the time
+    /// is not between them.
     fn is_outside(&self, read_time: Time, v: VersionId) -> bool
         requires version { v < length self.now.store.versions }
         requires time { read_time < infinity }
@@ -216,8 +217,8 @@ impl Engine {
         }
     }
 
-    /// What a transaction sees of a version, at the time at which it looks. Most versions of a long chain have ended, and are hidden
-    /// by their words.
+    /// What a transaction sees of a version, at the time at which it looks. Most versions of a long chain have ended,
+    /// and their words alone hide them.
     pub(crate) fn sight_at(&self, t: TxnId, read_time: Time, v: VersionId) -> Sight
         requires version { v < length self.now.store.versions }
         requires known { Declared self.now.txns t }
@@ -233,7 +234,7 @@ impl Engine {
         }
     }
 
-    /// The versions are judged in order of creation, up to the first refusal.
+    /// Judges the versions in order of creation, up to the first refusal.
     fn judge_versions(
         &self,
         t: TxnId,
@@ -261,7 +262,7 @@ impl Engine {
         Ok(None)
     }
 
-    /// A serializable transaction locks the bucket first. What the list held is gone.
+    /// Clears the list, and adds the lock of the bucket if the transaction is serializable.
     pub(crate) fn list_first(
         &self,
         t: TxnId,
@@ -281,7 +282,8 @@ impl Engine {
         }
     }
 
-    /// The same by a key of the bucket, which is found only where it is locked.
+    /// Clears the list, and adds the lock of the key's bucket if the transaction is serializable; otherwise the bucket
+    /// is not computed.
     pub(crate) fn list_first_of(
         &self,
         t: TxnId,
@@ -301,8 +303,8 @@ impl Engine {
         }
     }
 
-    /// The walk over these versions, all of one bucket: the cause of its refusal, or else its effects are listed in their order,
-    /// in place of what the list held.
+    /// The walk over these versions, all of one bucket: returns the cause of its refusal, or replaces the list by its
+    /// effects in order.
     pub(crate) fn walk(
         &self,
         t: TxnId,

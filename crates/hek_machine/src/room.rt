@@ -1,4 +1,4 @@
-//! Room: all that an event may add is reserved before it changes anything.
+//! Room: everything that an event may add is reserved before the event changes anything.
 ghost use Rattle.std.specs.Prelude.{◌≡◌, ◌+◌, ◌<◌, ◌≤◌, ◌^◌, ◌∷◌, [], length, OnOk};
 ghost use Rattle.hek_laws.specs.Lists.{In};
 ghost use Rattle.hek_txn.specs.TxnTable.{Declared, read_set_of, write_set_of, bucket_set_of, waiting_list_of};
@@ -19,7 +19,7 @@ struct Needs {
 }
 
 impl Needs {
-    /// With one effect more.
+    /// The needs with another effect.
     fn and(self, effect: Effect) -> Needs
         requires reads { self.reads + 1 < 2 ^ 64 }
         requires writes { self.writes + 1 < 2 ^ 64 }
@@ -62,7 +62,8 @@ fn needs_of(effects: &[Effect]) -> Needs
 }
 
 impl Engine {
-    /// Room in the lists of the transaction itself, and in its write set and its waiting list for so many entries more.
+    /// Makes room in the transaction's lists for these needs, and for `made` new versions in its write set and waiting
+    /// list.
     fn reserve_own(&mut self, t: TxnId, needs: Needs, made: usize) -> Result<(), NoMemory>
         requires known { Declared self.old.txns t }
         requires few_writes { needs.writes + made < 2 ^ 64 }
@@ -79,7 +80,7 @@ impl Engine {
         self.txns.reserve_buckets(t, needs.buckets)
     }
 
-    /// Room for one more in the list of another that an effect adds to.
+    /// Makes room for the transaction in the list of a bucket or another transaction that an effect adds to.
     fn reserve_other(&mut self, t: TxnId, effect: Effect) -> Result<(), NoMemory>
         requires there { IsThere self.old effect }
         ensures reserved { Reserved self.old self.new }
@@ -103,7 +104,7 @@ impl Engine {
         Ok(())
     }
 
-    /// Room for these effects of the transaction, and for so many versions that it makes.
+    /// Makes room for these effects of the transaction, and for `made` versions that it makes.
     pub(crate) fn reserve(
         &mut self,
         t: TxnId,
@@ -120,7 +121,7 @@ impl Engine {
         self.reserve_others(t, effects)
     }
 
-    /// Room for the transaction in the waiting lists of those who lock a bucket.
+    /// Makes room for the transaction in the waiting lists of those that lock a bucket.
     pub(crate) fn reserve_joins(&mut self, t: TxnId, bucket: u64) -> Result<(), NoMemory>
         requires bucket { bucket < length self.old.buckets }
         requires holders { All (λ h. Declared self.old.txns h) (holders_of self.old.buckets bucket).items }

@@ -1,5 +1,5 @@
-//! What a machine shows without changing: its words, counters and flags, and its lists, each in order of entry. A list is copied,
-//! which takes time linear in it.
+//! What a machine shows: its words, counters and flags, and its lists, each in order of entry. No call changes the
+//! machine. A list is copied, in time linear in its length.
 ghost use Rattle.std.specs.Prelude.{◌≡◌, ◌↔◌, ◌<◌, IsTrue, length, IfOk};
 ghost use Rattle.hek_rules.specs.Shown.{begin_word as begin_in, end_word as end_in, lock_count as locks_in, read_set, write_set, bucket_set, waiting_list as waiters_in, dependents_of, lock_list as lockers_in, committed_rows};
 ghost use Rattle.hek_rules.specs.Waits.{waits, commit_deps};
@@ -30,8 +30,8 @@ impl Engine {
 }
 
 impl Machine {
-    /// The next begin or end time that is drawn, from 1 to 2^63 - 2 (section 2 of the paper: timestamps). At 2^63 - 2
-    /// nothing is drawn any more.
+    /// The next begin or end time to be drawn, from 1 to 2^63 - 2 (section 2 of the paper: timestamps). At 2^63 - 2 no
+    /// event draws a time.
     pub fn clock(&self) -> Time
         ensures shown { IsShown self.now (λ w. w.clock) result }
         ensures stands { StandsForSome self.now }
@@ -55,7 +55,7 @@ impl Machine {
         self.engine.txns.count()
     }
 
-    /// Whether the schedule declares a transaction of this ID.
+    /// Whether the schedule declares a transaction with this ID.
     pub fn is_declared(&self, txn: TxnId) -> bool
         ensures shown { IsShown self.now (λ w. declared w.txns txn) result }
         ensures held { IsTrue result ↔ Declared self.now.txns txn }
@@ -63,16 +63,16 @@ impl Machine {
         self.engine.txns.is_declared(txn)
     }
 
-    /// How many versions there are: the rows of the schedule, and what inserts and updates made. None is ever taken
-    /// away.
+    /// How many versions there are: the rows of the schedule, and those that inserts and updates made. No version is
+    /// removed.
     pub fn versions(&self) -> usize
         ensures { IsShown self.now (λ w. length w.versions) result }
     {
         self.engine.store.len() as usize
     }
 
-    /// The Begin word of a version: the time from which it is valid, or who made it (section 2 of the paper). None past
-    /// the last version.
+    /// The Begin word of a version: the time from which it is valid, or the transaction that made it (section 2 of the
+    /// paper). None past the last version.
     pub fn begin_word(&self, v: VersionId) -> Option<BeginWord>
         ensures { IsShown self.now (of_version begin_in v) result }
     {
@@ -83,8 +83,8 @@ impl Machine {
         }
     }
 
-    /// The End word of a version: the time until which it is valid, or a record lock (section 4 of the paper). None past
-    /// the last version.
+    /// The End word of a version: the time until which it is valid, or a record lock (section 4 of the paper). None
+    /// past the last version.
     pub fn end_word(&self, v: VersionId) -> Option<EndWord>
         ensures { IsShown self.now (of_version end_in v) result }
     {
@@ -117,8 +117,8 @@ impl Machine {
         }
     }
 
-    /// WaitForCounter: how much the transaction waits for (section 4 of the paper). A version that it writes and others
-    /// read-lock counts once, and so does each transaction in whose WaitingTxnList it stands.
+    /// WaitForCounter: on how many things the transaction waits (section 4 of the paper). A version that it writes and
+    /// others read-lock counts once, and so does each transaction whose WaitingTxnList it is in.
     pub fn waits(&self, txn: TxnId) -> u64
         requires { Declared self.now.txns txn }
         ensures { IsShown self.now (λ w. waits w txn) result }
@@ -126,7 +126,7 @@ impl Machine {
         self.engine.txns.waits(txn)
     }
 
-    /// CommitDepCounter: on how many preparing transactions this one's commit depends (section 2 of the paper).
+    /// CommitDepCounter: on how many Preparing transactions the commit of this one depends (section 2 of the paper).
     pub fn commit_deps(&self, txn: TxnId) -> u64
         requires { Declared self.now.txns txn }
         ensures { IsShown self.now (λ w. commit_deps w txn) result }
@@ -143,7 +143,8 @@ impl Machine {
         self.engine.txns.no_more_waits(txn)
     }
 
-    /// AbortNow: one that the transaction depended on has aborted, so it must abort too (section 2 of the paper).
+    /// AbortNow: a transaction that this one depended on has aborted, so this one must abort too (section 2 of the
+    /// paper).
     pub fn abort_now(&self, txn: TxnId) -> bool
         requires { Declared self.now.txns txn }
         ensures { IsShown self.now (λ w. (txn_in w.txns txn).abort_now) result }
@@ -151,7 +152,7 @@ impl Machine {
         self.engine.txns.abort_now(txn)
     }
 
-    /// Its isolation level, as declared.
+    /// The isolation level of the transaction, as declared.
     pub fn level(&self, txn: TxnId) -> Level
         requires { Declared self.now.txns txn }
         ensures { IsShown self.now (λ w. (txn_in w.txns txn).level) result }
@@ -159,7 +160,7 @@ impl Machine {
         self.engine.txns.level(txn)
     }
 
-    /// The begin time that it drew, or 0 (section 2 of the paper: timestamps).
+    /// The begin time that the transaction drew, or 0 (section 2 of the paper: timestamps).
     pub fn begin_time(&self, txn: TxnId) -> Time
         requires { Declared self.now.txns txn }
         ensures { IsShown self.now (λ w. (txn_in w.txns txn).begin) result }
@@ -167,7 +168,7 @@ impl Machine {
         self.engine.txns.begin_time(txn)
     }
 
-    /// The end time that it drew, or 0 (section 2 of the paper: timestamps).
+    /// The end time that the transaction drew, or 0 (section 2 of the paper: timestamps).
     pub fn end_time(&self, txn: TxnId) -> Time
         requires { Declared self.now.txns txn }
         ensures { IsShown self.now (λ w. (txn_in w.txns txn).end) result }
@@ -175,7 +176,7 @@ impl Machine {
         self.engine.txns.end_time(txn)
     }
 
-    /// Where the transaction stands (section 2 of the paper: the phases of a transaction).
+    /// The state of the transaction (section 2 of the paper: the phases of a transaction).
     pub fn state(&self, txn: TxnId) -> State
         requires { Declared self.now.txns txn }
         ensures { IsShown self.now (λ w. (txn_in w.txns txn).state) result }
@@ -200,7 +201,7 @@ impl Machine {
         listed(self.engine.alloc, self.engine.txns.read_set(txn))
     }
 
-    /// The write set: the versions that the transaction made or ended and hasn't stamped yet (section 2 of the paper).
+    /// The write set: the versions that the transaction made or ended and has not stamped (section 2 of the paper).
     pub fn write_list(&self, txn: TxnId) -> Result<Vec<WriteEntry>, NoMemory>
         requires { Declared self.now.txns txn }
         ensures { IfOk result (λ list. IsShown self.now (λ w. write_set w txn) list.items) }
@@ -216,7 +217,7 @@ impl Machine {
         listed(self.engine.alloc, self.engine.txns.bucket_set(txn))
     }
 
-    /// WaitingTxnList: the transactions that wait for this one by a bucket (section 4 of the paper: wait-for
+    /// WaitingTxnList: the transactions that wait for this one because of a bucket (section 4 of the paper: wait-for
     /// dependencies).
     pub fn waiting_list(&self, txn: TxnId) -> Result<Vec<TxnId>, NoMemory>
         requires { Declared self.now.txns txn }
@@ -225,7 +226,7 @@ impl Machine {
         listed(self.engine.alloc, self.engine.txns.waiting_list(txn))
     }
 
-    /// CommitDepSet: the transactions whose commit depends on this one's (section 2 of the paper: commit dependencies).
+    /// CommitDepSet: the transactions whose commit depends on this one (section 2 of the paper: commit dependencies).
     pub fn dependents(&self, txn: TxnId) -> Result<Vec<TxnId>, NoMemory>
         requires { Declared self.now.txns txn }
         ensures { IfOk result (λ list. IsShown self.now (λ w. dependents_of w txn) list.items) }
@@ -233,8 +234,8 @@ impl Machine {
         listed(self.engine.alloc, self.engine.txns.dependents(txn))
     }
 
-    /// LockList: the transactions that lock the bucket (section 4 of the paper: bucket locks). Buckets are numbered from
-    /// 0.
+    /// LockList: the transactions that lock the bucket (section 4 of the paper: bucket locks). Buckets are numbered
+    /// from 0.
     pub fn lock_list(&self, bucket: u64) -> Result<Vec<TxnId>, NoMemory>
         requires { bucket < length self.now.buckets }
         ensures { IfOk result (λ list. IsShown self.now (λ w. lockers_in w bucket) list.items) }
@@ -242,8 +243,8 @@ impl Machine {
         listed(self.engine.alloc, self.engine.buckets.holders(bucket))
     }
 
-    /// The committed rows by key, in rising order: of each version that a committed transaction made, or the schedule,
-    /// and that no committed one ended, its key and value.
+    /// The committed rows, in rising order of keys: the key and the value of each version that the schedule loaded or a
+    /// committed transaction made, and that no committed transaction ended.
     pub fn rows(&self) -> Result<Pairs, NoMemory>
         ensures { IfOk result (λ rows. IsShown self.now committed_rows rows) }
     {

@@ -1,4 +1,4 @@
--- Words are stamped, and write entries go.
+-- Words are stamped, and write entries leave.
 use Rattle.std.proofs.Common.{◌≡◌, ℕ, zero, suc, ◌+◌, ◌<◌, true, false, List, [], ◌∷◌, refl, ◌∙◌, ap, sym, arith, inl, inr, Some, None, ⊎_elim, length}
 use Rattle.std.proofs.lemmas.Bool.{cond-true, cond-false, cases_Bool, cases_eq}
 use Rattle.std.proofs.lemmas.Bool.Decides.{nat_tests}
@@ -38,14 +38,14 @@ first-written (p ∷ ps) t e es h =
     (λ no. inr (first-written ps t e es (sym (cond-false (p.0 == t) (p.1 ∷ entries_of ps t) (entries_of ps t) no) ∙ h)))
     (cases_Bool (p.0 == t))
 
--- the entry of t goes
+-- the table after the first entry of t's write set leaves
 pub shows-unwritten : (x : TxnTable) (w : World) (t : ℕ) (e : Entries WriteEntry) → Declared x t → e.items ≡ rest_of (write_set_of x t).items → ShowsTxns x w →
     ShowsTxns (with_write_set x t e) (record w { writes = without_entry w.writes t })
 shows-unwritten x w t e d items s =
     shows-writes x w (without_entry w.writes t) t e d (λ u ne. entries-without_other w.writes t u ne)
     (items ∙ ap rest_of (s.write_sets t) ∙ sym (entries-without_same w.writes t)) s
 
--- nobody comes to wait, and nobody ceases to
+-- the table shows the world with other versions, if no count of waits changes
 quiet : (x : TxnTable) (w : World) (ys : List Version) → ((u : ℕ) → waits (record w { versions = ys }) u ≡ waits w u) → ShowsTxns x w → ShowsTxns x (record w { versions = ys })
 quiet x w ys same s = shows-versions x w ys x.waits refl (λ u. s.waits u ∙ sym (same u)) s
 
@@ -70,7 +70,7 @@ shows-begun_txns x w t v b e d l items s =
 
 -- ---- an End word
 
--- who is no more the writer of a version waits for its readers no more
+-- the counts after the writer of a version goes: it no longer waits for the version's readers
 ender-waits : (w : World) (v : ℕ) (e : Ender) (u : ℕ) → v < length w.versions → ((y : ℕ) → is_held_by y e ≡ false) →
     waits (record w { versions = set_ender w.versions v e }) u + bit (is_waited_for w.read_locks u v (version_in w.versions v)) ≡ waits w u
 ender-waits w v e u l free =
@@ -79,7 +79,7 @@ ender-waits w v e u l free =
     ap (λ (y : Version). is_waited_for w.read_locks u v y) (set_ender-same w.versions v e l) ∙ ap (λ b. b && nat_lt 0 (readers w.read_locks v)) (free u) in
     let none = ap bit here in omega (arith, at, none)
 
--- a committed writer waits for nobody any more
+-- a committed writer waits for nobody, so its stamp changes no count
 settled : (w : World) (t v u : ℕ) → Sound w → v < length w.versions → is_held_by t (version_in w.versions v).ender ≡ true → is_committed (txn_in w.txns t).state ≡ true →
     waits (record w { versions = set_ender w.versions v (EndedAt (txn_in w.txns t).end) }) u ≡ waits w u
 settled w t v u o l mine done =
@@ -135,7 +135,7 @@ word-back t count (EndedAt time) h = cc
 word-back t count (Held None no_more) h = cc
 word-back t count (Held (Some u) no_more) h = word-freed count u no_more
 
--- a version that stays as it is
+-- a version that is set to its own ender stays
 set_ender-own : (vs : List Version) (v : ℕ) → v < length vs → set_ender vs v (version_in vs v).ender ≡ vs
 set_ender-own [] v l = absurd (omega (arith, l))
 set_ender-own (x ∷ xs) zero l = refl

@@ -22,7 +22,7 @@ max_txns = 1024
 abbrev pub max_steps : ℕ
 max_steps = 1000000
 
--- the number of buckets, keys with values, names with levels, and steps, each in order of entry
+-- a schedule: the number of buckets, keys with values, names with levels, and steps, each in order of entry
 pub record Plan : Type 0 where
   pub buckets : ℕ
   pub rows : List (ℕ × ℕ)
@@ -32,7 +32,7 @@ pub record Plan : Type 0 where
 abbrev pub names_of : Plan → List (List ℕ)
 names_of p = keys_of p.txns
 
--- the levels, that of ID 1 first
+-- the levels, ID 1 first
 abbrev pub levels_of : Plan → List Level
 levels_of p = map (λ t. t.1) p.txns
 
@@ -46,15 +46,15 @@ has_name p name = list_any (bytes_eq name) (names_of p)
 abbrev pub id_of : Plan → List ℕ → Option ℕ
 id_of p name = option_map (λ i. i + 1) (position (bytes_eq name) (names_of p))
 
--- IDs are declared from 1 upward
+-- an ID from 1 to the number of transactions
 abbrev pub IsDeclared : ℕ → ℕ → Type 0
 IsDeclared txns t = (0 < t) × (t ≤ txns)
 
--- keys and values are below 2^64
+-- a row: its key and its value are below 2^64
 abbrev pub IsRow : ℕ × ℕ → Type 0
 IsRow row = (row.0 < 2 ^ 64) × (row.1 < 2 ^ 64)
 
--- a step's transaction is declared, its key and value are below 2^64, its bucket exists
+-- a step: its transaction is declared, its key and value are below 2^64, its bucket exists
 abbrev pub IsStep : ℕ → ℕ → Event → Type 0
 IsStep buckets txns (event.Begin t) = IsDeclared txns t
 IsStep buckets txns (event.Read t k) = IsDeclared txns t × (k < 2 ^ 64)
@@ -71,7 +71,7 @@ IsStep buckets txns (event.Stamp t) = IsDeclared txns t
 IsStep buckets txns (event.End t) = IsDeclared txns t
 IsStep buckets txns event.Detect = Unit {0}
 
--- what may be added: there is room, and a key or a name is new
+-- a row fits: there is room, and the key is new
 abbrev pub row_fits : Plan → ℕ → Bool
 row_fits p key = nat_lt (length p.rows) max_rows && not (has_key p key)
 
@@ -81,7 +81,7 @@ txn_fits p name = (nat_lt (length p.txns) max_txns && is_name name) && not (has_
 abbrev pub StepFits : Plan → Event → Type 0
 StepFits p e = (length p.steps < max_steps) × IsStep p.buckets (length p.txns) e
 
--- within all limits, with distinct keys and names, and steps that fit
+-- a plan: within all limits, with distinct keys and names, and with steps that fit
 pub record IsPlan (p : Plan) : Type 0 where
   pub buckets : (0 < p.buckets) × (p.buckets ≤ max_buckets)
   pub row_count : length p.rows ≤ max_rows

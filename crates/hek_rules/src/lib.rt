@@ -1,5 +1,5 @@
-//! The words that all of Hek speaks: transactions, versions, times, the records of the two words of a version, events
-//! and replies; the definitions of the scheme stand in specs/.
+//! The words that all of Hek uses: transactions, versions, times, the records of the two words of a version, events
+//! and replies. The definitions of the scheme are in specs/.
 #![tactic(auto)]
 
 mod check;

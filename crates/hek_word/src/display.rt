@@ -1,4 +1,4 @@
-//! Words as people read them.
+//! Words as text for people.
 use crate::{BeginWord, EndWord};
 use hek_rules::{BeginRecord, EndRecord, Time};
 use std::fmt;

@@ -6,7 +6,7 @@ use Rattle.hek_deadlock.proofs.Marks.{waits-row}
 use Rattle.hek_rules.proofs.Least.{least_skip, least_hit, least_zero}
 use Rattle.hek_deadlock.proofs.search.next_member.Goals as goal
 
--- what `is_next` says of the row at y
+-- the test of `is_next` for the row at y
 at_row : (rows : List (Vec ℕ Global)) (row : Vec ℕ Global) (items : List ℕ) (y x : ℕ) (b c : Bool) → y < length rows → row ≡ get_or rows y row → items ≡ row.items → b ≡ (is_among items x && c) → (waits_by_rows rows x y && c) ≡ b
 at_row rows row items y x b c lt is same e =
     ap (λ (v : Bool). v && c) (waits-row rows y x row (slice_get_read rows (length rows) y row refl lt is))
