@@ -68,6 +68,7 @@ abbrev pub version_of : WriteEntry → ℕ
 version_of (BeginOf v) = v
 version_of (EndOf v) = v
 
+-- the entry can be stamped: its version exists, and the counter of a writer of the version can fall
 abbrev pub CanStamp : Stored → TxnTable → Option WriteEntry → Type 0
 CanStamp s ts None = Unit {0}
 CanStamp s ts (Some e) = (version_of e < length s.versions) × CanFree ts (version_at s (version_of e)).end

@@ -15,7 +15,7 @@ use hek_store::Store;
 use hek_txn::Txns;
 use hek_word::EndWord;
 
-/// Whether v may be write-locked, or why not: it has ended, or has a writer that has not aborted.
+/// Whether v may be write-locked: Err with Conflict if v has ended, or has a writer that has not aborted.
 pub fn can_write_lock(store: &Store, txns: &Txns, v: VersionId) -> Result<(), Cause>
     requires version { v < length store.now.versions }
     requires writer { KnowsWriter txns.now (version_at store.now v).end }

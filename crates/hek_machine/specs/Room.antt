@@ -16,16 +16,19 @@ reads_in [] = 0
 reads_in (ReadLock v ∷ es) = reads_in es + 1
 reads_in (e ∷ es) = reads_in es
 
+-- how many of the effects are write locks, which add to the write set
 abbrev pub writes_in : List Effect → ℕ
 writes_in [] = 0
 writes_in (WriteLock v ∷ es) = writes_in es + 1
 writes_in (e ∷ es) = writes_in es
 
+-- how many of the effects make a transaction wait, which add to the waiting list
 abbrev pub wait_effects : List Effect → ℕ
 wait_effects [] = 0
 wait_effects (MakeWait u ∷ es) = wait_effects es + 1
 wait_effects (e ∷ es) = wait_effects es
 
+-- how many of the effects lock a bucket, which add to the bucket set
 abbrev pub buckets_in : List Effect → ℕ
 buckets_in [] = 0
 buckets_in (LockBucket b ∷ es) = buckets_in es + 1

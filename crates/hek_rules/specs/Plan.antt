@@ -75,6 +75,7 @@ IsStep buckets txns event.Detect = Unit {0}
 abbrev pub row_fits : Plan → ℕ → Bool
 row_fits p key = nat_lt (length p.rows) max_rows && not (has_key p key)
 
+-- a transaction fits: there is room, the word is a name, and the name is new
 abbrev pub txn_fits : Plan → List ℕ → Bool
 txn_fits p name = (nat_lt (length p.txns) max_txns && is_name name) && not (has_name p name)
 

@@ -1,4 +1,4 @@
-//! The words that all of Hek uses: transactions, versions, times, the records of the two words of a version, events
+//! The types that all of Hek uses: transactions, versions, times, the records of the two words of a version, events
 //! and replies. The definitions of the scheme are in specs/.
 #![tactic(auto)]
 

@@ -74,7 +74,7 @@ impl<T: Copy + Eq + Hash> EntrySet<T> {
     }
 
     /// Makes room for `count` more members. If there is too little, the set drops its gone members or grows to about
-    /// four times its size; each growth hashes all members again.
+    /// four times its size; each growth indexes all members again.
     fn reserve(&mut self, count: usize) -> Result<(), NoMemory>
         ensures items { self.new.items ≡ self.old.items }
         ensures room { OnOk result (count ≤ self.new.room) }

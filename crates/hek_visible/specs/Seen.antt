@@ -26,6 +26,7 @@ abbrev pub NamesCreator : TxnTable → BeginRecord → Type 0
 NamesCreator ts (At time) = Unit {0}
 NamesCreator ts (By u) = IsNameable ts u
 
+-- an End word names no writer, or one that may be named
 abbrev pub NamesWriter : TxnTable → EndRecord → Type 0
 NamesWriter ts (Until time) = Unit {0}
 NamesWriter ts (Lock readers None no_more) = Unit {0}
