@@ -133,6 +133,9 @@ fn a_transcript_keeps_events_with_replies(rt: HostRuntime) -> Result<(), Fail> {
     let events = [Event::Begin(TxnId::new(1)), Event::Detect];
     is(&rt, transcript.events(), events.as_slice());
     is(&rt, transcript.replies().len(), 2);
-    holds(&rt, matches!(transcript.replies().last(), Some(Reply::NoCycle)));
+    holds(
+        &rt,
+        matches!(transcript.replies().last(), Some(Reply::NoCycle)),
+    );
     Ok(())
 }
