@@ -47,5 +47,9 @@ impl<T: Drop> From<AllocFailed<T>> for LineFault {
 pub(crate) fn only_if(fact: bool) -> Result<(), LineFault>
     ensures { OnOk result (IsTrue fact) }
 {
-    if fact { Ok(()) } else { Err(LineFault::NotHere) }
+    if fact {
+        Ok(())
+    } else {
+        Err(LineFault::NotHere)
+    }
 }

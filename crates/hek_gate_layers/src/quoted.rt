@@ -12,7 +12,11 @@ pub(crate) fn quoted(alloc: Global, line: &str) -> Result<Vec<String>, LineFault
         }
         is_inside = !is_inside;
     }
-    if is_inside { Ok(texts) } else { Err(LineFault::Unread) }
+    if is_inside {
+        Ok(texts)
+    } else {
+        Err(LineFault::Unread)
+    }
 }
 
 fn unescaped(alloc: Global, text: &str) -> Result<String, LineFault> {
@@ -26,7 +30,11 @@ fn unescaped(alloc: Global, text: &str) -> Result<String, LineFault> {
             is_escaped = false;
         }
     }
-    if is_escaped { Err(LineFault::Unread) } else { Ok(plain) }
+    if is_escaped {
+        Err(LineFault::Unread)
+    } else {
+        Ok(plain)
+    }
 }
 
 /// What a letter after a backslash is.

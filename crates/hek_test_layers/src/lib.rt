@@ -1,5 +1,5 @@
-//! What data can't say of the rules, the layers, the machine and the debugger: devices of a test's own, models beside which a
-//! layer is held, and what is there after memory was refused.
+//! Tests of the rules and the layers that the lines of hek_gate_layers can't say: devices, models beside which a layer is held, and
+//! what is there after memory was refused.
 #![tactic(auto)]
 
 #[cfg(test)]

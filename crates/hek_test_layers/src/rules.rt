@@ -16,11 +16,10 @@ fn numbers_are_wrapped(rt: HostRuntime) {
     is(&rt, Time::new(8).number(), 8);
 }
 
-/// An event of transaction 1, its word, its code, how many operands it has, and these.
-type Row = (Event, &'static str, u8, usize, u64, u64);
-
-fn rows(a: TxnId) -> [Row; 13] {
-    [
+#[test]
+fn events_have_kinds(rt: HostRuntime) {
+    let a = TxnId::new(1);
+    let rows = [
         (Event::Begin(a), "begin", 1, 0, 0, 0),
         (Event::Read(a, 5), "read", 2, 1, 5, 0),
         (Event::Scan(a, 5), "scan", 3, 1, 5, 0),
@@ -34,13 +33,8 @@ fn rows(a: TxnId) -> [Row; 13] {
         (Event::Fail(a), "fail", 11, 0, 0, 0),
         (Event::Stamp(a), "stamp", 12, 0, 0, 0),
         (Event::End(a), "end", 13, 0, 0, 0),
-    ]
-}
-
-#[test]
-fn events_have_kinds(rt: HostRuntime) {
-    let a = TxnId::new(1);
-    for (event, word, opcode, operands, first, second) in rows(a) {
+    ];
+    for (event, word, opcode, operands, first, second) in rows {
         let kind = event.kind();
         is_at(&rt, word, kind.word(), word);
         is_at(&rt, word, EventKind::named(word.as_bytes()), Some(kind));
@@ -133,6 +127,9 @@ fn a_transcript_keeps_events_with_replies(rt: HostRuntime) -> Result<(), Fail> {
     let events = [Event::Begin(TxnId::new(1)), Event::Detect];
     is(&rt, transcript.events(), events.as_slice());
     is(&rt, transcript.replies().len(), 2);
-    holds(&rt, matches!(transcript.replies().last(), Some(Reply::NoCycle)));
+    holds(
+        &rt,
+        matches!(transcript.replies().last(), Some(Reply::NoCycle)),
+    );
     Ok(())
 }

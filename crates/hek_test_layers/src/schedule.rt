@@ -10,12 +10,17 @@ fn add_row(rt: &impl Abort, schedule: &mut Schedule, key: u64, value: u64) -> Re
     schedule.add_row(key, value)
 }
 
-fn add_txn(rt: &impl Abort, schedule: &mut Schedule, name: &str, level: Level) -> Result<(), NoMemory> {
+fn add_txn(
+    rt: &impl Abort,
+    schedule: &mut Schedule,
+    name: &str,
+    level: Level,
+) -> Result<(), NoMemory> {
     assert!(rt; schedule.txn_fits(name));
     schedule.add_txn(name, level)
 }
 
-pub(crate) fn add_step(rt: &impl Abort, schedule: &mut Schedule, event: Event) -> Result<(), NoMemory> {
+fn add_step(rt: &impl Abort, schedule: &mut Schedule, event: Event) -> Result<(), NoMemory> {
     let step = event;
     assert!(rt; schedule.step_fits(event));
     schedule.add_step(step)
@@ -92,7 +97,10 @@ fn the_largest_schedule_takes_no_more(rt: HostRuntime) -> Result<(), Fail> {
     is(&rt, schedule.txn_count(), MAX_TXNS);
     is(&rt, schedule.steps().len(), MAX_STEPS);
     holds(&rt, !schedule.row_fits(65_536) && !schedule.has_key(65_536));
-    holds(&rt, !schedule.txn_fits("t1024") && !schedule.has_name("t1024"));
+    holds(
+        &rt,
+        !schedule.txn_fits("t1024") && !schedule.has_name("t1024"),
+    );
     holds(&rt, !schedule.step_fits(Event::Detect));
     Ok(())
 }

@@ -146,12 +146,7 @@ fn can_stamp(store: &Store, txns: &Txns, t: TxnId) -> Result<(), LineFault>
     can_free(txns, store.end_of(v))
 }
 
-fn stamps(
-    alloc: Global,
-    store: &mut Store,
-    txns: &mut Txns,
-    t: TxnId,
-) -> Result<Answer, LineFault>
+fn stamps(alloc: Global, store: &mut Store, txns: &mut Txns, t: TxnId) -> Result<Answer, LineFault>
     requires { Declared txns.old t }
 {
     can_stamp(store, txns, t)?;

@@ -10,9 +10,7 @@ use hek_serial::{check, serial_reply};
 use std::alloc::Global;
 
 /// Names of transactions that no history declares, by their numbers.
-const UNDECLARED: &[&str] = &[
-    "u1", "u2", "u3", "u4", "u5", "u6", "u7", "u8", "u9",
-];
+const UNDECLARED: &[&str] = &["u1", "u2", "u3", "u4", "u5", "u6", "u7", "u8", "u9"];
 
 /// The history so far, and a schedule that declares nine transactions, over which its lines are read.
 #[derive(Drop)]

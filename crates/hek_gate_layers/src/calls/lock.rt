@@ -135,12 +135,7 @@ fn may_write(store: &Store, txns: &Txns, index: u64) -> Result<Answer, LineFault
 }
 
 /// The transaction read-locks the version, if it may.
-fn reads(
-    store: &mut Store,
-    txns: &mut Txns,
-    number: u64,
-    index: u64,
-) -> Result<Answer, LineFault> {
+fn reads(store: &mut Store, txns: &mut Txns, number: u64, index: u64) -> Result<Answer, LineFault> {
     let t = declared(txns, number)?;
     let v = version(store, index)?;
     let word = store.end_of(v);

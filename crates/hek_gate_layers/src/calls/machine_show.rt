@@ -81,10 +81,8 @@ pub(crate) fn call_machine(
         MachineCall::VersionCount => Answer::Number(machine.versions() as u64),
         MachineCall::IsDeclared => truth(machine.is_declared(TxnId::new(first))),
         MachineCall::Rows => Answer::Text(pairs(alloc, machine.rows()?.items())?),
-        MachineCall::Begin
-        | MachineCall::End
-        | MachineCall::Key
-        | MachineCall::Value => show_version(call, machine, VersionId::new(first)),
+        MachineCall::Begin | MachineCall::End | MachineCall::Key | MachineCall::Value =>
+            show_version(call, machine, VersionId::new(first)),
         MachineCall::LockCount | MachineCall::LockList => {
             return show_bucket(alloc, call, machine, first);
         }

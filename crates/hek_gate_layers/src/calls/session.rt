@@ -1,5 +1,5 @@
 //! A session of the debugger.
-use crate::answer::{Answer, number_or_none, bits_or_none, reply_text};
+use crate::answer::{Answer, bits_or_none, number_or_none, reply_text};
 use crate::block::schedule;
 use crate::fault::LineFault;
 use crate::quoted::quoted;
@@ -41,7 +41,11 @@ fn opened(alloc: Global, text: &str) -> Result<Debugger, LineFault> {
 
 impl Session {
     /// No commands for a debugger over a schedule's text, and so many steps `detect` after its own.
-    pub(crate) fn open(alloc: Global, text: &str, detects: Option<u64>) -> Result<Session, LineFault> {
+    pub(crate) fn open(
+        alloc: Global,
+        text: &str,
+        detects: Option<u64>,
+    ) -> Result<Session, LineFault> {
         let mut opening = String::from_str(alloc, text)?;
         for _ in 0..detects.unwrap_or(0) {
             opening.push_str("detect\n")?;

@@ -23,8 +23,16 @@ pub(crate) const CHANGE_CALLS: Calls<ChangeCall> = &[
     ("set_active", 1, ChangeCall::State(State::Active)),
     ("set_preparing", 1, ChangeCall::State(State::Preparing)),
     ("set_committed", 1, ChangeCall::State(State::Committed)),
-    ("set_aborted", 1, ChangeCall::State(State::Aborted(Cause::Asked))),
-    ("set_victim", 1, ChangeCall::State(State::Aborted(Cause::Deadlock))),
+    (
+        "set_aborted",
+        1,
+        ChangeCall::State(State::Aborted(Cause::Asked)),
+    ),
+    (
+        "set_victim",
+        1,
+        ChangeCall::State(State::Aborted(Cause::Deadlock)),
+    ),
     ("set_begun", 2, ChangeCall::Begun),
     ("set_prepared", 2, ChangeCall::Prepared),
     ("set_begin_time", 2, ChangeCall::BeginTime),

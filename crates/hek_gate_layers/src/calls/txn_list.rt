@@ -80,12 +80,7 @@ pub(crate) fn call_list(
     }
 }
 
-fn push_read(
-    call: ListCall,
-    txns: &mut Txns,
-    t: TxnId,
-    v: VersionId,
-) -> Result<Answer, LineFault>
+fn push_read(call: ListCall, txns: &mut Txns, t: TxnId, v: VersionId) -> Result<Answer, LineFault>
     requires { Declared txns.old t }
 {
     txns.reserve_reads(t, 1)?;

@@ -104,12 +104,7 @@ pub(crate) fn call_show(
     }
 }
 
-fn show_field(
-    call: ShowCall,
-    txns: &Txns,
-    t: TxnId,
-    second: u64,
-) -> Result<Answer, LineFault>
+fn show_field(call: ShowCall, txns: &Txns, t: TxnId, second: u64) -> Result<Answer, LineFault>
     requires { Declared txns.now t }
 {
     Ok(match call {
@@ -125,12 +120,7 @@ fn show_field(
     })
 }
 
-fn show_member(
-    call: ShowCall,
-    txns: &Txns,
-    t: TxnId,
-    second: u64,
-) -> Result<Answer, LineFault>
+fn show_member(call: ShowCall, txns: &Txns, t: TxnId, second: u64) -> Result<Answer, LineFault>
     requires { Declared txns.now t }
 {
     Ok(match call {

@@ -123,11 +123,7 @@ fn size(size: usize) -> Answer {
     Answer::Number(size as u64)
 }
 
-fn call_begin(
-    alloc: Global,
-    call: BeginCall,
-    operands: Operands,
-) -> Result<Answer, LineFault> {
+fn call_begin(alloc: Global, call: BeginCall, operands: Operands) -> Result<Answer, LineFault> {
     let [number, ..] = operands;
     Ok(match call {
         BeginCall::Read => bits_or_none(BeginWord::read(number).map(|word| word.bits())),
