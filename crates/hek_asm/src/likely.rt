@@ -2,7 +2,7 @@
 //! it.
 ghost use Rattle.std.specs.Prelude.{◌≡◌, ◌≤◌, map, drop, length, IfOk, IfSome};
 ghost use Rattle.std.specs.List.{position_or_len};
-ghost use Rattle.hek_asm.specs.Likely.{value_of, first_value, cause_named, refusal_named, is_equals, pair_of, of_one_word, of_two_words, of_three_words, of_few_words, likely_reply, step_named, likely_event, step_len};
+ghost use Rattle.hek_asm.specs.Likely.{number_else_zero, first_value, cause_named, refusal_named, is_equals, pair_of, of_one_word, of_two_words, of_three_words, of_few_words, likely_reply, step_named, likely_event, step_len};
 ghost use Rattle.hek_asm.specs.Trace.{NamesDeclared};
 
 use hek_rules::{
@@ -12,7 +12,7 @@ use hek_rules::{
 use std::alloc::Global;
 
 fn value(word: &[u8]) -> u64
-    ensures { result ≡ value_of word.now }
+    ensures { result ≡ number_else_zero word.now }
 {
     number(word).unwrap_or(0)
 }
@@ -112,7 +112,7 @@ fn pairs(alloc: Global, words: &[&[u8]]) -> Result<Vec<(u64, u64)>, NoMemory>
 }
 
 fn members(alloc: Global, words: &[&[u8]]) -> Result<Vec<TxnId>, NoMemory>
-    ensures { IfOk result (λ v. v.items ≡ map value_of (map (λ w. w.now) words.now)) }
+    ensures { IfOk result (λ v. v.items ≡ map number_else_zero (map (λ w. w.now) words.now)) }
 {
     let mut members = Vec::new(alloc);
     for word in words {

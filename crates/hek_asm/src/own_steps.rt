@@ -2,7 +2,7 @@
 //! words need not be read, only compared with the text. A line of anything else is left to the words.
 ghost use Rattle.std.specs.Prelude.{◌≡◌, ◌++◌, length, IfOk, IfSome};
 ghost use Rattle.hek_rules.specs.Plan.{IsStep};
-ghost use Rattle.hek_asm.specs.Reading.{is_small, IsSmallReply, IsFront, IsRest};
+ghost use Rattle.hek_asm.specs.Reading.{is_small, IsSmallReply, IsFront, IsLineRest};
 ghost use Rattle.hek_asm.specs.Trace.{NamesDeclared, line_front, line_rest};
 
 use crate::comparing::Comparing;
@@ -116,7 +116,7 @@ fn reply_by_letters(text: &[u8]) -> Option<Reply>
 // The reply that the first letters stand for, and what follows the line, if the text begins so. None tells nothing of the
 // text.
 fn rest_by_letters<'t>(text: &'t [u8]) -> Option<(Reply, &'t [u8])>
-    ensures { IfSome result (λ x. IsRest x.0 text.now x.1.now) }
+    ensures { IfSome result (λ x. IsLineRest x.0 text.now x.1.now) }
 {
     let reply = reply_by_letters(text)?;
     let after = behind_rest(&reply, text)?;
@@ -129,7 +129,7 @@ fn rest_by_words<'t>(
     words: &mut Vec<&'t [u8]>,
     text: &'t [u8],
 ) -> Result<Option<(Reply, &'t [u8])>, NoMemory>
-    ensures { IfOk result (λ o. IfSome o (λ x. IsRest x.0 text.now x.1.now)) }
+    ensures { IfOk result (λ o. IfSome o (λ x. IsLineRest x.0 text.now x.1.now)) }
 {
     let Some((line, _)) = next_line(text) else {
         return Ok(None);
@@ -148,7 +148,7 @@ fn likely_rest<'t>(
     words: &mut Vec<&'t [u8]>,
     text: &'t [u8],
 ) -> Result<Option<(Reply, &'t [u8])>, NoMemory>
-    ensures { IfOk result (λ o. IfSome o (λ x. IsRest x.0 text.now x.1.now)) }
+    ensures { IfOk result (λ o. IfSome o (λ x. IsLineRest x.0 text.now x.1.now)) }
 {
     if let Some(rest) = rest_by_letters(text) {
         return Ok(Some(rest));

@@ -7,11 +7,11 @@ ghost use Rattle.hek_asm.specs.Trace.{NamesDeclared};
 
 use crate::laps::Laps;
 use hek_asm::{assemble_text, canonical, read_trace, write_trace};
+use hek_compare::Fault;
 use hek_image::{load_image, write_image};
 use hek_machine::Machine;
 use hek_rules::{Ending, FromWrite, MemorySource, NoMemory, Reply, Schedule, Transcript};
 use hek_serial::check;
-use hek_compare::Fault;
 use std::alloc::Global;
 use std::str;
 use std::time::Instant;
@@ -196,7 +196,7 @@ fn replies_once(
     ensures { IfOk result (λ told. length told.0.items ≡ length schedule.now.steps) }
 {
     // There is a bucket.
-    let _ = schedule.buckets();
+    schedule.known();
     let mut machine = loaded(rt, alloc, schedule, laps)?;
     let replies = run(rt, alloc, schedule, &mut machine, laps)?;
     let rows = machine.rows()?.items().len();
@@ -285,7 +285,7 @@ fn trace_once(
     requires { length replies.now ≡ length schedule.now.steps }
 {
     // Each step is one of this schedule.
-    let _ = schedule.buckets();
+    schedule.known();
     let start = Instant::now(rt)?;
     let mut sink = FromWrite::new(Vec::with_capacity(alloc, trace_room(schedule))?);
     write_trace(schedule, schedule.steps(), replies, &mut sink)?;

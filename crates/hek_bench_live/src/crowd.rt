@@ -1,7 +1,7 @@
 //! More threads, on one word and on words of their own.
 ghost use Rattle.std.specs.Prelude.{◌≡◌, ◌<◌, ◌≤◌, true, false};
 ghost use Rattle.hek_live.specs.Tokens.{newcomer, reads_at};
-ghost use Rattle.hek_live.specs.Ends.{words_of, table_of, seat_table, view_of};
+ghost use Rattle.hek_live.specs.Ends.{word_count_of, table_id_of, seat_table, view_of};
 
 use hek_live::{DropRead, LiveWords, Seat, TryRead, tokens_follow_replies};
 use std::alloc::{AllocError, Global};
@@ -22,23 +22,23 @@ struct Reader<'a> {
     words: &'a LiveWords,
     seat: Seat,
     word: usize,
-    ghost own: { seat_table seat ≡ table_of words.now },
-    ghost exists: { word < words_of words.now },
+    ghost own: { seat_table seat ≡ table_id_of words.now },
+    ghost exists: { word < word_count_of words.now },
     ghost free: { reads_at word (view_of seat) ≡ false },
 }
 
 fn reading<'a>(words: &'a LiveWords, seat: Seat, word: usize) -> Reader<'a>
-    requires own { seat_table seat ≡ table_of words.now }
+    requires own { seat_table seat ≡ table_id_of words.now }
     requires new { view_of seat ≡ newcomer }
-    requires word { word < words_of words.now }
+    requires word { word < word_count_of words.now }
 {
     Reader { words, seat, word }
 }
 
 /// Tries to take the read token, and answers whether it is held.
 fn takes(words: &LiveWords, seat: &mut Seat, word: usize) -> bool
-    requires own { seat_table seat.old ≡ table_of words.now }
-    requires word { word < words_of words.now }
+    requires own { seat_table seat.old ≡ table_id_of words.now }
+    requires word { word < word_count_of words.now }
     requires free { reads_at word (view_of seat.old) ≡ false }
     ensures own { seat_table seat.new ≡ seat_table seat.old }
     ensures held { reads_at word (view_of seat.new) ≡ result }
@@ -54,8 +54,8 @@ fn takes(words: &LiveWords, seat: &mut Seat, word: usize) -> bool
 
 /// Tries to give the read token up, and answers whether it is held still.
 fn keeps(words: &LiveWords, seat: &mut Seat, word: usize) -> bool
-    requires own { seat_table seat.old ≡ table_of words.now }
-    requires word { word < words_of words.now }
+    requires own { seat_table seat.old ≡ table_id_of words.now }
+    requires word { word < word_count_of words.now }
     requires held { reads_at word (view_of seat.old) ≡ true }
     ensures own { seat_table seat.new ≡ seat_table seat.old }
     ensures held { reads_at word (view_of seat.new) ≡ result }
@@ -71,8 +71,8 @@ fn keeps(words: &LiveWords, seat: &mut Seat, word: usize) -> bool
 /// How many of so many turns took and gave up the read token, each tried until it succeeds. A try fails only where another
 /// thread has changed the word, so 16 tries for each turn are enough for 8 threads.
 fn turns_among_others(words: &LiveWords, seat: &mut Seat, word: usize, turns: u64) -> u64
-    requires own { seat_table seat.old ≡ table_of words.now }
-    requires word { word < words_of words.now }
+    requires own { seat_table seat.old ≡ table_id_of words.now }
+    requires word { word < word_count_of words.now }
     requires free { reads_at word (view_of seat.old) ≡ false }
     requires turns { turns ≤ 1000000000 }
 {
@@ -113,9 +113,9 @@ fn readers<'a>(
     threads: usize,
     apart: usize,
 ) -> Result<Vec<Reader<'a>>, AllocError>
-    requires own { seat_table maker.old ≡ table_of words.now }
+    requires own { seat_table maker.old ≡ table_id_of words.now }
     requires makes { (view_of maker.old).makes ≡ true }
-    requires words { words_of words.now ≡ 128 }
+    requires words { word_count_of words.now ≡ 128 }
     requires few { (threads ≤ 8) × (apart ≤ 16) }
 {
     let mut all = Vec::new(alloc);

@@ -60,27 +60,27 @@ impl Buckets {
         list.reserve(1)
     }
 
-    /// t locks a bucket, unless it does so already.
-    pub fn lock(&mut self, bucket: u64, t: TxnId)
+    /// `txn` locks a bucket, unless it does so already.
+    pub fn lock(&mut self, bucket: u64, txn: TxnId)
         requires bucket { bucket < length self.old }
         requires room { 0 < (holders_of self.old bucket).room }
         ensures buckets { self.new ≡ with_holders self.old bucket (holders_of self.new bucket) }
-        ensures items { (holders_of self.new bucket).items ≡ joined nat_eq (holders_of self.old bucket).items t }
+        ensures items { (holders_of self.new bucket).items ≡ joined nat_eq (holders_of self.old bucket).items txn }
         ensures room { (holders_of self.old bucket).room ≤ (holders_of self.new bucket).room + 1 }
     {
         let list = &mut self.holders[bucket as usize];
-        list.insert(t);
+        list.insert(txn);
     }
 
-    /// t locks a bucket no more.
-    pub fn unlock(&mut self, bucket: u64, t: TxnId)
+    /// `txn` locks a bucket no more.
+    pub fn unlock(&mut self, bucket: u64, txn: TxnId)
         requires { bucket < length self.old }
         ensures buckets { self.new ≡ with_holders self.old bucket (holders_of self.new bucket) }
-        ensures items { (holders_of self.new bucket).items ≡ remove_key (nat_eq t) (holders_of self.old bucket).items }
+        ensures items { (holders_of self.new bucket).items ≡ remove_key (nat_eq txn) (holders_of self.old bucket).items }
         ensures room { (holders_of self.old bucket).room ≤ (holders_of self.new bucket).room }
     {
         let list = &mut self.holders[bucket as usize];
-        list.remove(t);
+        list.remove(txn);
     }
 
     /// LockList: the holders of a bucket, in order of entry.

@@ -57,7 +57,10 @@ const LEVEL: ArgumentText = ArgumentText {
 const RELEASE: CommandText = CommandText {
     name: "release",
     about: "Gives up one read lock of an End word",
-    example: "Example:\n  hek release 8040000000000002 1\nThe word is write-locked by transaction 2 and has one reader, for which 2 waits. It prints\n  C000000000000002 0",
+    example: r"Example:
+  hek release 8040000000000002 1
+The word is write-locked by transaction 2 and has one reader, for which 2 waits. It prints
+  C000000000000002 0",
     arguments: &[
         ArgumentText {
             name: "WORD",
@@ -75,7 +78,11 @@ const RELEASE: CommandText = CommandText {
 const WORD: CommandText = CommandText {
     name: "word",
     about: "Says what words are, as Begin and as End words",
-    example: "Example:\n  hek word 8040000000000002 0000000000000007\nprints\n  end lock readers 1 writer 2 no-more-reads clear\n  begin time 7; end time 7",
+    example: r"Example:
+  hek word 8040000000000002 0000000000000007
+prints
+  end lock readers 1 writer 2 no-more-reads clear
+  begin time 7; end time 7",
     arguments: &[ArgumentText {
         name: "WORD",
         help: "a word, as 16 hexadecimal digits, or - for standard input, one word a line",
@@ -86,7 +93,9 @@ const WORD: CommandText = CommandText {
 const ASM: CommandText = CommandText {
     name: "asm",
     about: "Makes the image of a schedule text",
-    example: "Example:\n  hek asm first.hek first.img\nWhere first.hek has the line `buckets 1`, first.img gets the 22 bytes of its image.",
+    example: r"Example:
+  hek asm first.hek first.img
+Where first.hek has the line `buckets 1`, first.img gets the 22 bytes of its image.",
     arguments: &[
         ArgumentText {
             name: "FILE",
@@ -104,14 +113,28 @@ const ASM: CommandText = CommandText {
 const DIS: CommandText = CommandText {
     name: "dis",
     about: "Prints the canonical text of a schedule",
-    example: "Example:\n  hek dis first.img\nWhere first.img is the image of a schedule with one bucket and nothing else, it prints\n  buckets 1",
+    example: r"Example:
+  hek dis first.img
+Where first.img is the image of a schedule with one bucket and nothing else, it prints
+  buckets 1",
     arguments: &[FILE, TEXT],
 };
 
 const RUN: CommandText = CommandText {
     name: "run",
     about: "Runs the steps of a schedule, and prints each with its reply",
-    example: "Example:\n  hek run --text first.hek\nWhere first.hek has the lines\n  buckets 1\n  row 10 100\n  txn a serializable\n  a begin\n  a read 10\nit prints\n  1 a begin -> began 1\n  2 a read 10 -> found 100\nWith --state it goes on with the clock, the versions, the transactions and the locked buckets. With --why the reasons of each reply stand under its line, with --changes what it changed, each behind two spaces.",
+    example: r"Example:
+  hek run --text first.hek
+Where first.hek has the lines
+  buckets 1
+  row 10 100
+  txn a serializable
+  a begin
+  a read 10
+it prints
+  1 a begin -> began 1
+  2 a read 10 -> found 100
+With --state it goes on with the clock, the versions, the transactions and the locked buckets. With --why the reasons of each reply stand under its line, with --changes what it changed, each behind two spaces.",
     arguments: &[
         FILE,
         TEXT,
@@ -145,14 +168,31 @@ const CHANGES: ArgumentText = ArgumentText {
 const DRIVE: CommandText = CommandText {
     name: "drive",
     about: "Does the events that are typed, one a line, and answers each at once",
-    example: "Events are lines as the steps of a schedule, as `a read 10`; the rows and transactions are those of FILE, whose own steps play no part. A line that is no event is answered by `? line 2: 2 BadWord`, and changes nothing.\n\nExample:\n  hek drive --text first.hek\nWhere first.hek has the lines\n  buckets 1\n  row 10 100\n  txn a serializable\nthe lines\n  a begin\n  a read 10\nare answered with\n  1 a begin -> began 1\n  2 a read 10 -> found 100",
+    example: r"Events are lines as the steps of a schedule, as `a read 10`; the rows and transactions are those of FILE, whose own steps play no part. A line that is no event is answered by `? line 2: 2 BadWord`, and changes nothing.
+
+Example:
+  hek drive --text first.hek
+Where first.hek has the lines
+  buckets 1
+  row 10 100
+  txn a serializable
+the lines
+  a begin
+  a read 10
+are answered with
+  1 a begin -> began 1
+  2 a read 10 -> found 100",
     arguments: &[FILE, TEXT, WHY, CHANGES],
 };
 
 const CHECK: CommandText = CommandText {
     name: "check",
     about: "Says whether a trace is serial",
-    example: "Example:\n  hek check first.img trace.txt\nIt prints `serial` where the committed transactions can stand one after another, by end time, and else\n  not serial 2\nwith the number of the first event at fault, and status 1. Each transaction is judged by its own level: of a repeatable one only the values and pairs that it found, so phantoms are serial there; of a snapshot one the reads as of its begin. `--level serializable` judges all as serializable.",
+    example: r"Example:
+  hek check first.img trace.txt
+It prints `serial` where the committed transactions can stand one after another, by end time, and else
+  not serial 2
+with the number of the first event at fault, and status 1. Each transaction is judged by its own level: of a repeatable one only the values and pairs that it found, so phantoms are serial there; of a snapshot one the reads as of its begin. `--level serializable` judges all as serializable.",
     arguments: &[
         FILE,
         ArgumentText {
@@ -173,7 +213,35 @@ const CHECK: CommandText = CommandText {
 const DEBUG: CommandText = CommandText {
     name: "debug",
     about: "Does the steps of a schedule one by one, up to breakpoints and watches, and back",
-    example: "Commands, one a line:\n  step N             N steps\n  run                steps until a breakpoint or a watch fits\n  back N             N steps back\n  break at N         stops after step N\n  break event EVENT  stops after each event of a kind, as update\n  break txn NAME     stops after each event of a transaction\n  watch begin V      stops where the Begin word of version V changes\n  watch end V        the same for its End word\n  watch waits NAME   stops where the number that a transaction waits for changes\n  clear              forgets all breakpoints and watches\nWithout COMMANDS they are read from standard input, and each is answered at once; there `help` lists them, with the questions that only such a session has.\n\nExample:\n  hek debug --text first.hek\nWhere first.hek has the lines\n  buckets 1\n  row 10 100\n  txn a serializable\n  a begin\n  a read 10\nthe commands\n  watch end 0\n  run\nare answered with\n  at 0 set 1\n  1 end 0 7FFFFFFFFFFFFFFF\n  at 2 break 1 -> found 100\n  1 end 0 807FFFFFFFFFFFFF",
+    example: r"Commands, one a line:
+  step N             N steps
+  run                steps until a breakpoint or a watch fits
+  back N             N steps back
+  break at N         stops after step N
+  break event EVENT  stops after each event of a kind, as update
+  break txn NAME     stops after each event of a transaction
+  watch begin V      stops where the Begin word of version V changes
+  watch end V        the same for its End word
+  watch waits NAME   stops where the number that a transaction waits for changes
+  clear              forgets all breakpoints and watches
+Without COMMANDS they are read from standard input, and each is answered at once; there `help` lists them, with the questions that only such a session has.
+
+Example:
+  hek debug --text first.hek
+Where first.hek has the lines
+  buckets 1
+  row 10 100
+  txn a serializable
+  a begin
+  a read 10
+the commands
+  watch end 0
+  run
+are answered with
+  at 0 set 1
+  1 end 0 7FFFFFFFFFFFFFFF
+  at 2 break 1 -> found 100
+  1 end 0 807FFFFFFFFFFFFF",
     arguments: &[
         FILE,
         ArgumentText {
@@ -188,7 +256,14 @@ const DEBUG: CommandText = CommandText {
 const THREADS: CommandText = CommandText {
     name: "threads",
     about: "Runs each transaction of a schedule in a thread of its own, and prints the history",
-    example: "Example:\n  hek threads --text first.hek --turns 5\nWhere first.hek has the lines\n  buckets 1\n  row 10 100\n  txn a repeatable\n  a read 10\nit prints the trace of a whole run of a, from begin to end. What it prints is a trace for hek check. With --repeat 100 it runs 100 times, and prints how many different outcomes there were, and each with how often it was seen.",
+    example: r"Example:
+  hek threads --text first.hek --turns 5
+Where first.hek has the lines
+  buckets 1
+  row 10 100
+  txn a repeatable
+  a read 10
+it prints the trace of a whole run of a, from begin to end. What it prints is a trace for hek check. With --repeat 100 it runs 100 times, and prints how many different outcomes there were, and each with how often it was seen.",
     arguments: &[
         FILE,
         TEXT,
@@ -208,7 +283,24 @@ const THREADS: CommandText = CommandText {
 const PERMUTE: CommandText = CommandText {
     name: "permute",
     about: "Plays every order of a schedule's moves, and counts the outcomes",
-    example: "A transaction's moves are its reads and writes, in the order of the file, and one last move that ends it. Each order of the moves of all transactions is run from the start.\n\nExample:\n  hek permute --text two.hek\nWhere two.hek has the lines\n  buckets 1\n  row 10 100\n  txn a repeatable\n  txn b repeatable\n  a update 10 1\n  b update 10 2\nit prints\n  orders 6 outcomes 4\n  2 a committed; b aborted conflict; rows 10=1; serial; waited 0; first a b a b\n  2 a aborted conflict; b committed; rows 10=2; serial; waited 0; first b a a b\n  1 a committed; b committed; rows 10=2; serial; waited 0; first a a b b\n  1 a committed; b committed; rows 10=1; serial; waited 0; first b b a a\nThe verdict takes all transactions as serializable. `hek permute --text two.hek --order \"a b a b\"` prints the events of that order as a schedule.",
+    example: r#"A transaction's moves are its reads and writes, in the order of the file, and one last move that ends it. Each order of the moves of all transactions is run from the start.
+
+Example:
+  hek permute --text two.hek
+Where two.hek has the lines
+  buckets 1
+  row 10 100
+  txn a repeatable
+  txn b repeatable
+  a update 10 1
+  b update 10 2
+it prints
+  orders 6 outcomes 4
+  2 a committed; b aborted conflict; rows 10=1; serial; waited 0; first a b a b
+  2 a aborted conflict; b committed; rows 10=2; serial; waited 0; first b a a b
+  1 a committed; b committed; rows 10=2; serial; waited 0; first a a b b
+  1 a committed; b committed; rows 10=1; serial; waited 0; first b b a a
+The verdict takes all transactions as serializable. `hek permute --text two.hek --order "a b a b"` prints the events of that order as a schedule."#,
     arguments: &[
         FILE,
         TEXT,
@@ -249,7 +341,9 @@ const PERMUTE: CommandText = CommandText {
 const PAGE: CommandText = CommandText {
     name: "page",
     about: "Writes a schedule's run as a page for a browser",
-    example: "Example:\n  hek page --text first.hek > first.html\nThe page shows each step with its reply, and the versions, transactions and locks at each position. It needs no network and no other file. It has at most 2000 steps; of a longer schedule --from and --to say which.",
+    example: r"Example:
+  hek page --text first.hek > first.html
+The page shows each step with its reply, and the versions, transactions and locks at each position. It needs no network and no other file. It has at most 2000 steps; of a longer schedule --from and --to say which.",
     arguments: &[
         FILE,
         TEXT,
@@ -287,7 +381,17 @@ fn hek<'a>(alloc: Global) -> Result<Command<'a>, AllocError> {
         .version(VERSION)
         .about("The reference machine of pessimistic multiversion locking, step by step")
         .after_help(
-            "Examples:\n  hek run --text first.hek\nruns a schedule, and prints each step with its reply\n  hek release 8040000000000002 1\nprints the word and the waits that are left:\n  C000000000000002 0\n  hek asm first.hek first.img\n  hek dis first.img\nmake the image of a schedule's text, and print it as text again\n  hek check first.img trace.txt\nsays whether a trace over it is serial",
+            r"Examples:
+  hek run --text first.hek
+runs a schedule, and prints each step with its reply
+  hek release 8040000000000002 1
+prints the word and the waits that are left:
+  C000000000000002 0
+  hek asm first.hek first.img
+  hek dis first.img
+make the image of a schedule's text, and print it as text again
+  hek check first.img trace.txt
+says whether a trace over it is serial",
         )
         .subcommand_required(true)
         .subcommands(commands)

@@ -9,9 +9,9 @@ use hek_commands::{
     release_command, report, run_command, state_command, word_command,
 };
 use hek_debug_command::{debug_command, debug_session};
+use hek_page_command::{Part, page_command};
 use hek_permute::Form;
 use hek_permute_command::{Choice, part_of, permute_command};
-use hek_page_command::{Part, page_command};
 use hek_rules::{Level, number};
 use hek_threads_command::{repeat_command, threads_command};
 use hek_why_command::{Extras, drive_command, explain_command};

@@ -11,7 +11,7 @@ use Rattle.hek_rules.specs.Faults.{IsVerdict}
 use Rattle.hek_rules.specs.Plan.{Plan}
 use Rattle.hek_rules.specs.Recorded.{Recorded}
 use Rattle.hek_asm.specs.Reading.{IsTraceOf, StopsAt}
-use Rattle.hek_asm.specs.Lines.{joined}
+use Rattle.hek_asm.specs.Lines.{joined_words}
 use Rattle.hek_asm.specs.Text.{schedule_of}
 use Rattle.hek_asm.specs.Trace.{reply_words}
 use Rattle.hek_asm.specs.Canonical.{canonical_text}
@@ -32,11 +32,11 @@ ReadFails name NoMemory = Unit {0}
 ReadFails name other = ⊥
 
 -- why bytes aren't a schedule's text: a fault only where it is theirs
-abbrev pub TextFails : List ℕ → HekFault → Type 0
-TextFails text NotText = ¬ (IsUtf8 text)
-TextFails text (Line number kind) = schedule_of text ≡ Err (number, kind)
-TextFails text NoMemory = Unit {0}
-TextFails text other = ⊥
+abbrev pub ScheduleTextFails : List ℕ → HekFault → Type 0
+ScheduleTextFails text NotText = ¬ (IsUtf8 text)
+ScheduleTextFails text (Line number kind) = schedule_of text ≡ Err (number, kind)
+ScheduleTextFails text NoMemory = Unit {0}
+ScheduleTextFails text other = ⊥
 
 -- a schedule from the bytes that a reader has left, where they are known
 abbrev pub ImageGives : Option (List ℕ) → Plan → Type 0
@@ -54,7 +54,7 @@ FileGives left (file.Text text) plan = schedule_of text.items ≡ Ok plan
 FileGives left (file.Image reader) plan = ImageGives (left reader) plan
 
 abbrev pub FileFails : {R : Type 0} → (R → Option (List ℕ)) → ScheduleFile R → HekFault → Type 0
-FileFails left (file.Text text) fault = TextFails text.items fault
+FileFails left (file.Text text) fault = ScheduleTextFails text.items fault
 FileFails left (file.Image reader) fault = ImageFails (left reader) fault
 
 -- the image of the schedule that a text is was written behind the bytes that a writer held, where they are known
@@ -65,7 +65,7 @@ pub record Assembles (text : List ℕ) (before after : Option (List ℕ)) : Type
 
 abbrev pub AsmFails : List ℕ → HekFault → Type 0
 AsmFails text CannotWrite = Unit {0}
-AsmFails text fault = TextFails text fault
+AsmFails text fault = ScheduleTextFails text fault
 
 -- the canonical text of the schedule that a file says was written behind them
 pub record Disassembles {R : Type 0} (left : R → Option (List ℕ)) (said : ScheduleFile R) (before after : Option (List ℕ)) : Type 0 where
@@ -101,7 +101,7 @@ verdict_status (NotSerial number) = 1
 
 abbrev pub reply_text : Option Reply → List ℕ
 reply_text None = codes "none"
-reply_text (Some r) = joined (reply_words r)
+reply_text (Some r) = joined_words (reply_words r)
 
 -- what the event with this number would have been answered in the serial order, on a line of its own
 abbrev pub serial_line : Recorded → ℕ → List ℕ

@@ -33,9 +33,9 @@ pub record Runs {R : Type 0} (left : R → Option (List ℕ)) (said : ScheduleFi
   pub serial : HasNoFaults plan plan.steps (replies_to plan plan.steps)
 
 -- so many steps at the front, or all of them
-abbrev pub first_of : Option ℕ → List Event → List Event
-first_of None es = es
-first_of (Some n) es = take n es
+abbrev pub first_events : Option ℕ → List Event → List Event
+first_events None es = es
+first_events (Some n) es = take n es
 
 -- the world after these steps
 abbrev pub world_after : Plan → List Event → World
@@ -52,7 +52,7 @@ pub record TellsClock (clock : ℕ) (before after : Option (List ℕ)) : Type 0 
 -- the trace of a schedule's first steps was written behind them, then the line of the clock after these, and then some bytes
 pub record ShowsState (plan : Plan) (limit : Option ℕ) (before after : Option (List ℕ)) : Type 0 where
   pub more : List ℕ
-  pub written : Appends before after (trace_of plan (first_of limit plan.steps) ++ (clock_text (world_after plan (first_of limit plan.steps)).clock ++ more))
+  pub written : Appends before after (trace_of plan (first_events limit plan.steps) ++ (clock_text (world_after plan (first_events limit plan.steps)).clock ++ more))
 
 -- so it was for the schedule that a file says
 pub record RunsTo {R : Type 0} (left : R → Option (List ℕ)) (said : ScheduleFile R) (limit : Option ℕ) (before after : Option (List ℕ)) : Type 0 where

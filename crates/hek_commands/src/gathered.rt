@@ -1,6 +1,6 @@
 //! Lines and replies, gathered in memory.
 ghost use Rattle.std.specs.Prelude.{◌≡◌, ◌++◌, length, OnOk};
-ghost use Rattle.hek_asm.specs.Lines.{joined};
+ghost use Rattle.hek_asm.specs.Lines.{joined_words};
 ghost use Rattle.hek_asm.specs.Trace.{NamesDeclared, reply_words, trace_line};
 
 use hek_asm::{write_line, write_reply};
@@ -32,7 +32,7 @@ pub fn put_line(
 
 /// The words of a reply come behind the text. After NoMemory nothing of the text is left.
 pub fn put_reply(alloc: Global, reply: &Reply, lines: &mut Vec<u8>) -> Result<(), NoMemory>
-    ensures { OnOk result (lines.new.items ≡ lines.old.items ++ joined (reply_words reply.now)) }
+    ensures { OnOk result (lines.new.items ≡ lines.old.items ++ joined_words (reply_words reply.now)) }
 {
     let mut sink = FromWrite::new(mem::replace(lines, Vec::new(alloc)));
     match write_reply(reply, &mut sink) {

@@ -10,7 +10,7 @@ ghost use Rattle.hek_machine.specs.Stands.{StandsFor};
 ghost use Rattle.hek_machine.specs.Observed.{opening_of};
 ghost use Rattle.hek_machine.specs.Steps.{HasNoFaults};
 ghost use Rattle.hek_commands.specs.Commands.{PrintFails, IsStop};
-ghost use Rattle.hek_commands.specs.Ran.{Runs, RunsTo, ShowsState, TellsClock, trace_of, trace_of_steps, replies_to, first_of};
+ghost use Rattle.hek_commands.specs.Ran.{Runs, RunsTo, ShowsState, TellsClock, trace_of, trace_of_steps, replies_to, first_events};
 
 use crate::fault::HekFault;
 use crate::gathered::put_line;
@@ -49,7 +49,7 @@ fn write_run<'a, W: Write>(
     ensures stops { IfErr result IsStop }
 {
     // There is a bucket, and each step is one of this schedule.
-    let _ = schedule.buckets();
+    schedule.known();
     let mut machine = Machine::load(alloc, schedule)?;
     write_steps(alloc, schedule, &mut machine, schedule.steps(), out)
 }
@@ -80,7 +80,7 @@ fn write_state<'a, W: Write>(
     ensures stops { IfErr result IsStop }
 {
     // There is a bucket, and each step is one of this schedule.
-    let _ = schedule.buckets();
+    schedule.known();
     let steps = first_steps(schedule.steps(), limit);
     let mut machine = Machine::load(alloc, schedule)?;
     write_steps(alloc, schedule, &mut machine, steps, out)?;
@@ -106,7 +106,7 @@ fn write_machine<'a, W: Write>(
 
 /// So many steps at the front, or all of them.
 fn first_steps(steps: &[Event], limit: Option<u64>) -> &[Event]
-    ensures { result.now ≡ first_of limit steps.now }
+    ensures { result.now ≡ first_events limit steps.now }
 {
     match limit {
         None => steps,

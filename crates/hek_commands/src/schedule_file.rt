@@ -1,7 +1,7 @@
 //! Schedules from files: from a text or from an image.
 ghost use Rattle.std.specs.Prelude.{◌≡◌, MatchResult, IfSome, Ok};
 ghost use Rattle.hek_asm.specs.Text.{schedule_of};
-ghost use Rattle.hek_commands.specs.Commands.{ReadFails, TextFails, ImageGives, ImageFails, FileGives, FileFails};
+ghost use Rattle.hek_commands.specs.Commands.{ReadFails, ScheduleTextFails, ImageGives, ImageFails, FileGives, FileFails};
 
 use crate::fault::{HekFault, read_fault};
 use hek_asm::assemble_text;
@@ -42,7 +42,7 @@ pub fn read_text<'a, R: Read + Drop>(
 
 /// The schedule that a text is.
 pub fn schedule_of_text<'a>(alloc: Global, text: &[u8]) -> Result<Schedule, HekFault<'a>>
-    ensures { MatchResult result (λ schedule. schedule_of text.now ≡ Ok schedule) (TextFails text.now) }
+    ensures { MatchResult result (λ schedule. schedule_of text.now ≡ Ok schedule) (ScheduleTextFails text.now) }
 {
     let Ok(text) = str::from_utf8(text) else {
         return Err(HekFault::NotText);

@@ -28,12 +28,12 @@ abbrev pub in_state : List Txn → ℕ → State → List Txn
 in_state ts t s = set_txn ts t (record (txn_in ts t) { state = s })
 
 -- t has committed, and none depends on it any more
-abbrev pub committed : TxnTable → ℕ → TxnTable
-committed ts t = record ts { cores = in_state ts.cores t Committed; commit_deps = lowered ts.commit_deps (dependents_of ts t).items }
+abbrev pub table_after_commit : TxnTable → ℕ → TxnTable
+table_after_commit ts t = record ts { cores = in_state ts.cores t Committed; commit_deps = lowered ts.commit_deps (dependents_of ts t).items }
 
 -- t is aborted, and those that depended on it are to abort too
-abbrev pub aborted : TxnTable → ℕ → Cause → TxnTable
-aborted ts t cause = record ts {
+abbrev pub table_after_abort : TxnTable → ℕ → Cause → TxnTable
+table_after_abort ts t cause = record ts {
   cores = doom (in_state ts.cores t (Aborted cause)) (dependents_of ts t).items;
   commit_deps = lowered ts.commit_deps (dependents_of ts t).items;
 }

@@ -10,7 +10,7 @@ use Rattle.hek_rules.specs.declared.word.EndRecord.{EndRecord}
 use Rattle.hek_rules.specs.declared.word.EndRecord.TheVariants.{Until, Lock}
 use Rattle.hek_rules.specs.Words.{infinity, without_writer}
 use Rattle.hek_rules.specs.World.{Txn, txn_in, is_committed}
-use Rattle.hek_store.specs.Stored.{Stored, version_at, with_begin, with_end}
+use Rattle.hek_store.specs.Stored.{Stored, version_at, with_begin_word, with_end_word}
 use Rattle.hek_txn.specs.TxnTable.{TxnTable}
 use Rattle.hek_locks.specs.Locked.{writer_freed, CanFree}
 
@@ -22,8 +22,8 @@ is_written_by t (Lock readers (Some u) no_more) = u == t
 
 -- a committed transaction's end time replaces it in the word
 abbrev pub stamped_committed : Stored → ℕ → WriteEntry → Stored
-stamped_committed s end (BeginOf v) = with_begin s v (At end)
-stamped_committed s end (EndOf v) = with_end s v (Until end)
+stamped_committed s end (BeginOf v) = with_begin_word s v (At end)
+stamped_committed s end (EndOf v) = with_end_word s v (Until end)
 
 abbrev pub committed_reply : WriteEntry → Reply
 committed_reply (BeginOf v) = reply.StampedBegin v
@@ -31,9 +31,9 @@ committed_reply (EndOf v) = reply.StampedEnd v
 
 -- a version of an aborted one never begins; where it is still the writer, it is so no more
 abbrev pub stamped_aborted : Stored → ℕ → WriteEntry → Stored
-stamped_aborted s t (BeginOf v) = with_begin s v (At infinity)
+stamped_aborted s t (BeginOf v) = with_begin_word s v (At infinity)
 stamped_aborted s t (EndOf v) =
-    if is_written_by t (version_at s v).end then with_end s v (without_writer (version_at s v).end) else s
+    if is_written_by t (version_at s v).end then with_end_word s v (without_writer (version_at s v).end) else s
 
 abbrev pub freed_aborted : Stored → TxnTable → ℕ → WriteEntry → TxnTable
 freed_aborted s ts t (BeginOf v) = ts

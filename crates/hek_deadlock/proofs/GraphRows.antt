@@ -12,7 +12,7 @@ use Rattle.hek_store.specs.Stored.{Stored}
 use Rattle.hek_txn.specs.TxnTable.{TxnTable}
 use Rattle.hek_deadlock.specs.Edges.{is_node, is_edge}
 use Rattle.hek_deadlock.specs.Places.{id_at, AreOfPlaces}
-use Rattle.hek_deadlock.specs.Rows.{waits, row_in, IsInRange}
+use Rattle.hek_deadlock.specs.Rows.{waits_by_rows, row_in, IsInRange}
 use Rattle.hek_deadlock.proofs.Marks.{waits-row}
 use Rattle.hek_deadlock.proofs.Ready.{among_below}
 
@@ -98,19 +98,19 @@ rows_done edge ids rows long are = record {
   edges = λ i j li lj. at i j li (omega (arith, lj, long)) (slice_get rows j) refl;
 }
   where
-    at : (i j : ℕ) → i < length ids → j < length rows → (o : Option (Vec ℕ Global)) → slice_get rows j ≡ o → waits rows i j ≡ edge (id_at ids i) (id_at ids j)
+    at : (i j : ℕ) → i < length ids → j < length rows → (o : Option (Vec ℕ Global)) → slice_get rows j ≡ o → waits_by_rows rows i j ≡ edge (id_at ids i) (id_at ids j)
     at i j li lj (Some row) e = waits-row rows j i row e ∙ (are.each j row e).edges i li
     at i j li lj None e = absurd (within_none rows j lj e)
 
 -- only places wait, and for places
-pub rows_join : (rows : List (Vec ℕ Global)) (n : ℕ) → length rows ≡ n → IsInRange rows → JoinsBelow (waits rows) n
-unfolding waits
-rows_join rows n long range = subst (λ (m : ℕ). JoinsBelow (waits rows) m) long (record {
+pub rows_join : (rows : List (Vec ℕ Global)) (n : ℕ) → length rows ≡ n → IsInRange rows → JoinsBelow (waits_by_rows rows) n
+unfolding waits_by_rows
+rows_join rows n long range = subst (λ (m : ℕ). JoinsBelow (waits_by_rows rows) m) long (record {
   from = λ u t e. (at u t e (slice_get rows t) refl).0;
   to = λ u t e. (at u t e (slice_get rows t) refl).1;
 })
   where
-    at : (u t : ℕ) → waits rows u t ≡ true → (o : Option (Vec ℕ Global)) → slice_get rows t ≡ o → (u < length rows) × (t < length rows)
+    at : (u t : ℕ) → waits_by_rows rows u t ≡ true → (o : Option (Vec ℕ Global)) → slice_get rows t ≡ o → (u < length rows) × (t < length rows)
     at u t k (Some row) e =
         let lt : t < length rows = slice_get-within rows t row e in
         let below : All (λ x. x < length rows) row.items = subst (λ (r : Vec ℕ Global). All (λ x. x < length rows) r.items) (get_or-slice_get rows t row e) (range t row lt) in

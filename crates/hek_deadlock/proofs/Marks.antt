@@ -3,7 +3,7 @@ use Rattle.std.proofs.Common.{ℕ, zero, suc, ◌≡◌, ◌+◌, ◌<◌, Bool,
 use Rattle.std.proofs.lemmas.Bool.{cases_eq, ne_eqb, eq-eqb}
 use Rattle.std.proofs.lemmas.List.Folds.{list_any_more, list_any-append}
 use Rattle.hek_rules.specs.Listing.{is_among}
-use Rattle.hek_deadlock.specs.Rows.{row_in, waits, reaches, level_at, marked, is_unmarked}
+use Rattle.hek_deadlock.specs.Rows.{row_in, waits_by_rows, reaches, level_at, marked, is_unmarked}
 
 marked_hit : (b : Bool) (level : ℕ) (o : Option ℕ) → marked b level o ≡ None → marked (b || true) level o ≡ Some level
 marked_hit b level (Some m) e = cc
@@ -113,12 +113,12 @@ unmarked_twice true false level None = refl
 unmarked_twice false true level None = refl
 unmarked_twice false false level None = refl
 
-reaches-more : (rows : List (Vec ℕ Global)) (ys : List ℕ) (i x : ℕ) → i < length ys → reaches rows (take (i + 1) ys) x ≡ (reaches rows (take i ys) x || waits rows x (get_or ys i 0))
+reaches-more : (rows : List (Vec ℕ Global)) (ys : List ℕ) (i x : ℕ) → i < length ys → reaches rows (take (i + 1) ys) x ≡ (reaches rows (take i ys) x || waits_by_rows rows x (get_or ys i 0))
 unfolding reaches
-reaches-more rows ys i x lt = list_any_more (λ (y : ℕ). waits rows x y) ys i 0 lt
+reaches-more rows ys i x lt = list_any_more (λ (y : ℕ). waits_by_rows rows x y) ys i 0 lt
 
-pub waits-row : (rows : List (Vec ℕ Global)) (y x : ℕ) (row : Vec ℕ Global) → slice_get rows y ≡ Some row → waits rows x y ≡ is_among row.items x
-unfolding waits
+pub waits-row : (rows : List (Vec ℕ Global)) (y x : ℕ) (row : Vec ℕ Global) → slice_get rows y ≡ Some row → waits_by_rows rows x y ≡ is_among row.items x
+unfolding waits_by_rows
 waits-row rows y x row e = ap (λ (o : Option (Vec ℕ Global)). is_among (row_in o) x) e
 
 -- one more of the frontier

@@ -2,7 +2,7 @@
 use Rattle.std.specs.Prelude.{ℕ, ◌≡◌, ◌<◌, Bool, List, Option, Some, None, Vec, length, map, slice_index_or}
 use Rattle.std.specs.List.{All}
 use Rattle.std.specs.declared.alloc.Global.{Global}
-use Rattle.hek_deadlock.specs.Rows.{waits, IsInRange}
+use Rattle.hek_deadlock.specs.Rows.{waits_by_rows, IsInRange}
 
 -- the number at a place
 abbrev pub id_at : List ℕ → ℕ → ℕ
@@ -16,7 +16,7 @@ pub record IsRising (ids : List ℕ) : Type 0 where
 pub record AreOfPlaces (edge : ℕ → ℕ → Bool) (ids : List ℕ) (rows : List (Vec ℕ Global)) : Type 0 where
   pub count : length rows ≡ length ids
   pub range : IsInRange rows
-  pub edges : (i j : ℕ) → i < length ids → j < length ids → waits rows i j ≡ edge (id_at ids i) (id_at ids j)
+  pub edges : (i j : ℕ) → i < length ids → j < length ids → waits_by_rows rows i j ≡ edge (id_at ids i) (id_at ids j)
 
 -- a victim and its cycle, all of them places
 pub record ArePlaces (ids : List ℕ) (found : ℕ × List ℕ) : Type 0 where

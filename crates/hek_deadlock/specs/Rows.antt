@@ -14,8 +14,8 @@ abbrev pub waiters_of : List (Vec ℕ Global) → ℕ → List ℕ
 waiters_of rows t = row_in (slice_get rows t)
 
 -- u waits for t
-unfoldable pub waits : List (Vec ℕ Global) → ℕ → ℕ → Bool
-waits rows u t = is_among (waiters_of rows t) u
+unfoldable pub waits_by_rows : List (Vec ℕ Global) → ℕ → ℕ → Bool
+waits_by_rows rows u t = is_among (waiters_of rows t) u
 
 -- only numbers that have a list of their own wait
 abbrev pub IsInRange : List (Vec ℕ Global) → Type 0
@@ -39,9 +39,9 @@ is_level None level = false
 
 -- x waits for one of these
 unfoldable pub reaches : List (Vec ℕ Global) → List ℕ → ℕ → Bool
-reaches rows ys x = list_any (λ (y : ℕ). waits rows x y) ys
+reaches rows ys x = list_any (λ (y : ℕ). waits_by_rows rows x y) ys
 
 -- of each number, the fewest members between it and the target
 pub record AreLevels (rows : List (Vec ℕ Global)) (target : ℕ) (levels : List (Option ℕ)) : Type 0 where
   pub long : length levels ≡ length rows
-  pub least : (x : ℕ) → x < length rows → level_at levels x ≡ fewest (waits rows) (length rows) target (length rows) x
+  pub least : (x : ℕ) → x < length rows → level_at levels x ≡ fewest (waits_by_rows rows) (length rows) target (length rows) x

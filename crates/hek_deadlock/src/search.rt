@@ -4,7 +4,7 @@ ghost use Rattle.std.specs.Prelude.{◌≡◌, ◌&&◌, ◌∷◌, ◌<◌, ℕ
 ghost use Rattle.hek_rules.specs.Victim.{least, between, victim_of};
 ghost use Rattle.hek_rules.specs.Listing.{is_among};
 ghost use Rattle.hek_deadlock.specs.Places.{by_place};
-ghost use Rattle.hek_deadlock.specs.Rows.{waits, IsInRange, AreLevels, level_at, is_level};
+ghost use Rattle.hek_deadlock.specs.Rows.{waits_by_rows, IsInRange, AreLevels, level_at, is_level};
 
 use crate::levels::levels_to;
 use hek_rules::NoMemory;
@@ -28,7 +28,7 @@ fn next_member(
     level: usize,
 ) -> Option<usize>
     requires { length levels.now ≡ length waiters.now }
-    ensures { result ≡ least (λ y. waits waiters.now x y && is_level (level_at levels.now y) level) (length waiters.now) }
+    ensures { result ≡ least (λ y. waits_by_rows waiters.now x y && is_level (level_at levels.now y) level) (length waiters.now) }
 {
     for y in 0..waiters.len() {
         if is_next(&waiters[y], x, levels[y], level) {
@@ -50,7 +50,7 @@ fn cycle(
     requires victim { victim < length waiters.now }
     requires count { level_at levels.now victim ≡ Some count }
     ensures { IfOk result (λ members.
-        members.items ≡ victim ∷ between (waits waiters.now) (length waiters.now) count victim victim) }
+        members.items ≡ victim ∷ between (waits_by_rows waiters.now) (length waiters.now) count victim victim) }
 {
     let mut members = vec![in alloc; victim]?;
     let mut x = victim;
@@ -74,7 +74,7 @@ pub(crate) fn find_victim(
     waiters: &[Vec<usize>],
 ) -> Result<Option<(usize, Vec<usize>)>, NoMemory>
     requires { IsInRange waiters.now }
-    ensures { IfOk result (λ answer. by_place answer ≡ victim_of (waits waiters.now) (length waiters.now)) }
+    ensures { IfOk result (λ answer. by_place answer ≡ victim_of (waits_by_rows waiters.now) (length waiters.now)) }
 {
     let mut candidate = waiters.len();
     while candidate > 0 {

@@ -6,7 +6,7 @@ use Rattle.std.specs.Str.{IsUtf8}
 use Rattle.hek_rules.specs.declared.reply.Reply.{Reply}
 use Rattle.hek_rules.specs.Plan.{Plan, names_of}
 use Rattle.hek_rules.specs.World.{World}
-use Rattle.hek_asm.specs.Lines.{joined}
+use Rattle.hek_asm.specs.Lines.{joined_words}
 use Rattle.hek_asm.specs.Trace.{reply_words}
 use Rattle.hek_debug.specs.declared.command.Command.{Command}
 use Rattle.hek_debug.specs.declared.command.Reason.{Reason}
@@ -18,7 +18,7 @@ use Rattle.hek_debug.specs.declared.reading.CommandFault.{CommandFault}
 use Rattle.hek_debug.specs.declared.reading.CommandFault.TheVariants as read
 use Rattle.hek_debug.specs.Lines.{commands_of}
 use Rattle.hek_debug.specs.Marks.{looked_at}
-use Rattle.hek_debug.specs.Sessions.{Session, opened, after, stop_of, world_at}
+use Rattle.hek_debug.specs.Sessions.{Session, opened, session_after, stop_of, world_at}
 use Rattle.hek_commands.specs.declared.fault.HekFault.{HekFault}
 use Rattle.hek_commands.specs.declared.fault.HekFault.TheVariants.{NotText, CommandLine, CannotWrite, NoMemory}
 use Rattle.hek_commands.specs.declared.schedule_file.ScheduleFile.{ScheduleFile}
@@ -37,7 +37,7 @@ reason_text reason.Cleared = codes " cleared"
 -- the reply to the last step, if there is one
 abbrev pub answer_text : Option Reply → List ℕ
 answer_text None = []
-answer_text (Some r) = codes " -> " ++ joined (reply_words r)
+answer_text (Some r) = codes " -> " ++ joined_words (reply_words r)
 
 -- at NUMBER REASON -> REPLY
 abbrev pub stop_line : Stop → List ℕ
@@ -92,7 +92,7 @@ told_text s stop = stop_line stop ++ watch_lines s.plan (world_at s.plan s.at) 1
 -- what these commands are answered
 abbrev pub session_text : Session → List Command → List ℕ
 session_text s [] = []
-session_text s (c ∷ cs) = told_text (after s c) (stop_of s c) ++ session_text (after s c) cs
+session_text s (c ∷ cs) = told_text (session_after s c) (stop_of s c) ++ session_text (session_after s c) cs
 
 -- so it was written behind what a writer held, for the commands that a text says over the schedule that a file says
 pub record Debugs {R : Type 0} (left : R → Option (List ℕ)) (said : ScheduleFile R) (text : List ℕ) (before after : Option (List ℕ)) : Type 0 where
@@ -109,12 +109,13 @@ command_fault read.NoMemory = NoMemory
 
 -- why a text isn't one of commands: a line only where it is the first at fault
 abbrev pub CommandTextFails : Plan → List ℕ → HekFault → Type 0
-CommandTextFails plan text NotText = ¬ (IsUtf8 text)
 CommandTextFails plan text (CommandLine number) = commands_of plan text ≡ Err number
 CommandTextFails plan text NoMemory = Unit {0}
 CommandTextFails plan text other = ⊥
 
+-- why `hek debug` fails: bytes that aren't a text come before a fault of the file, and that before a fault of the commands
 abbrev pub DebugFails : {R : Type 0} → (R → Option (List ℕ)) → ScheduleFile R → List ℕ → HekFault → Type 0
 DebugFails left said text CannotWrite = Unit {0}
 DebugFails left said text NoMemory = Unit {0}
-DebugFails left said text fault = FileFails left said fault ⊎ ((plan : Plan) × FileGives left said plan × CommandTextFails plan text fault)
+DebugFails left said text fault =
+    (¬ (IsUtf8 text) × (fault ≡ NotText)) ⊎ (IsUtf8 text × (FileFails left said fault ⊎ ((plan : Plan) × FileGives left said plan × CommandTextFails plan text fault)))

@@ -2,7 +2,7 @@
 ghost use Rattle.std.specs.Prelude.{◌≡◌, ◌++◌, Ok, OnOk, IfErr, MatchResult};
 ghost use Rattle.std.specs.Io.KnownBytes.{Appends};
 ghost use Rattle.hek_debug.specs.Lines.{commands_of};
-ghost use Rattle.hek_debug.specs.Sessions.{opened, after, stop_of};
+ghost use Rattle.hek_debug.specs.Sessions.{opened, session_after, stop_of};
 ghost use Rattle.hek_commands.specs.Commands.{IsStop};
 ghost use Rattle.hek_debug_command.specs.Debugged.{told_text, session_text, command_fault, CommandTextFails, Debugs, DebugFails};
 
@@ -16,7 +16,8 @@ use std::str;
 
 /// Does the commands that a text says with the steps of the schedule that a file says, and writes after each of them where
 /// the debugger stands, why, and what each watch looks at. The answer is the exit status. No command is done before all are
-/// known to be some; after a fault the lines of the commands before it may have been written.
+/// known to be commands; after a fault the lines of the commands before it may have been written. Bytes that aren't a text come
+/// before a fault of the file.
 pub fn debug_command<'a, R: Read + Drop, W: Write>(
     alloc: Global,
     file: ScheduleFile<R>,
@@ -25,6 +26,9 @@ pub fn debug_command<'a, R: Read + Drop, W: Write>(
 ) -> Result<u8, HekFault<'a>>
     ensures { MatchResult result (λ status. (status ≡ 0) × Debugs R.remaining file commands.now (W.contents out.old) (W.contents out.new)) (DebugFails R.remaining file commands.now) }
 {
+    let Ok(commands) = str::from_utf8(commands) else {
+        return Err(HekFault::NotText);
+    };
     let schedule = schedule_in(alloc, file)?;
     let commands = commands_of_text(alloc, &schedule, commands)?;
     debug(alloc, schedule, commands.as_slice(), out)?;
@@ -49,13 +53,10 @@ fn debug<'a, W: Write>(
 fn commands_of_text<'a>(
     alloc: Global,
     schedule: &Schedule,
-    text: &[u8],
+    text: &str,
 ) -> Result<Vec<Command>, HekFault<'a>>
     ensures { MatchResult result (λ commands. commands_of schedule.now text.now ≡ Ok commands.items) (CommandTextFails schedule.now text.now) }
 {
-    let Ok(text) = str::from_utf8(text) else {
-        return Err(HekFault::NotText);
-    };
     match read_commands(alloc, schedule, text) {
         Ok(commands) => Ok(commands),
         Err(fault) => Err(fault_of(fault)),
@@ -94,8 +95,8 @@ pub(crate) fn do_one<'a, W: Write>(
     command: Command,
     out: &mut W,
 ) -> Result<(), HekFault<'a>>
-    ensures stands { OnOk result (debugger.new ≡ after debugger.old command) }
-    ensures written { OnOk result (Appends (W.contents out.old) (W.contents out.new) (told_text (after debugger.old command) (stop_of debugger.old command))) }
+    ensures stands { OnOk result (debugger.new ≡ session_after debugger.old command) }
+    ensures written { OnOk result (Appends (W.contents out.old) (W.contents out.new) (told_text (session_after debugger.old command) (stop_of debugger.old command))) }
     ensures stops { IfErr result IsStop }
 {
     let Ok(stop) = debugger.command(command) else {

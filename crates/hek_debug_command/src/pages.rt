@@ -130,7 +130,7 @@ fn put_key(machine: &Machine, key: u64, lines: &mut Vec<u8>) -> Result<(), NoMem
 fn put_steps(alloc: Global, debugger: &Debugger, lines: &mut Vec<u8>) -> Result<(), NoMemory> {
     let schedule = debugger.schedule();
     // Each step is one of this schedule.
-    let _ = schedule.buckets();
+    schedule.known();
     put_round(alloc, schedule, schedule.steps(), debugger.at(), lines)
 }
 

@@ -8,7 +8,7 @@ use Rattle.std.proofs.lemmas.List.{take-append-le, drop-append-le}
 use Rattle.hek_rules.specs.Plan.{Plan}
 use Rattle.hek_image.specs.declared.fault.LoadFault.{LoadFault}
 use Rattle.hek_image.specs.declared.fault.LoadFault.TheVariants as load
-use Rattle.hek_image.specs.Loading.{Place, Reader, then_read, both, checked_from, required, checked, bytes_at, value, number_at, number_within, is_within, times}
+use Rattle.hek_image.specs.Loading.{Place, Reader, then_read, both, checked_from, required, checked_read, bytes_at, value, number_at, number_within, is_within, times}
 
 abbrev pub longer : Place → List ℕ → Place
 longer p more = record { at = p.at; rest = p.rest ++ more }
@@ -84,8 +84,8 @@ checked_agrees P Q p more m test fault (Ok x) s other keeps g = elim (cases_Bool
   | inr e ↦ rw (g.0, e) (other _ _ refl)
 ]
 
-pub checked_steady : {A : Type 0} (P Q : A → Type 0) (m : ℕ) (r : Reader A) (test : A → Bool) → ((x : A) → P x → test x ≡ true → Q x) → IsSteady P m r → IsSteady Q m (checked r test)
-unfolding checked
+pub checked_steady : {A : Type 0} (P Q : A → Type 0) (m : ℕ) (r : Reader A) (test : A → Bool) → ((x : A) → P x → test x ≡ true → Q x) → IsSteady P m r → IsSteady Q m (checked_read r test)
+unfolding checked_read
 checked_steady P Q m r test keeps h = record { agrees = λ p more. checked_agrees P Q p more m test (load.BadField p.at) (r p) (r (longer p more)) (λ C D d. d) keeps (h.agrees p more) }
 
 pub required_steady : {A : Type 0} (P Q : A → Type 0) (m : ℕ) (r : Reader A) (test : A → Bool) (fault : LoadFault) → ((C D : Type 0) → D → FaultAgrees fault C D) → ((x : A) → P x → test x ≡ true → Q x) → IsSteady P m r → IsSteady Q m (required r test fault)

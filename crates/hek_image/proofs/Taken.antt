@@ -8,7 +8,7 @@ use Rattle.hek_rules.specs.Plan.{Plan}
 use Rattle.hek_image.specs.declared.fault.LoadFault.{LoadFault}
 use Rattle.hek_image.specs.declared.fault.LoadFault.TheVariants.{BadField, Short}
 use Rattle.hek_image.specs.Laws.{IsBytes}
-use Rattle.hek_image.specs.Loading.{Place, Reader, then_read, both, checked_from, required, checked, bytes_at, value, number_at, number_within, is_within, times}
+use Rattle.hek_image.specs.Loading.{Place, Reader, then_read, both, checked_from, required, checked_read, bytes_at, value, number_at, number_within, is_within, times}
 use Rattle.hek_image.proofs.Wide.{IsWide, IsBytes-take, IsBytes-drop, byte_back}
 
 pub record Took (p : Place) (text : List ℕ) (q : Place) : Type 0 where
@@ -49,8 +49,8 @@ checked_from_ok {A = A} (Ok x) test fault y q e =
     (g.1, subst (λ (z : A). test z ≡ true) (gave_is x.0 y x.1 q g.1).0 g.0)
 checked_from_ok (Err d) test fault y q e = absurd cc
 
-pub checked_ok : {A : Type 0} (r : Reader A) (test : A → Bool) (p : Place) (y : A) (q : Place) → checked r test p ≡ gave y q → (r p ≡ gave y q) × (test y ≡ true)
-unfolding checked
+pub checked_ok : {A : Type 0} (r : Reader A) (test : A → Bool) (p : Place) (y : A) (q : Place) → checked_read r test p ≡ gave y q → (r p ≡ gave y q) × (test y ≡ true)
+unfolding checked_read
 checked_ok r test p y q e = checked_from_ok (r p) test (BadField p.at) y q e
 
 pub required_ok : {A : Type 0} (r : Reader A) (test : A → Bool) (fault : LoadFault) (p : Place) (y : A) (q : Place) → required r test fault p ≡ gave y q → (r p ≡ gave y q) × (test y ≡ true)

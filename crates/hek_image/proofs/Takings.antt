@@ -8,7 +8,7 @@ use Rattle.hek_image.specs.declared.fault.LoadFault.{LoadFault}
 use Rattle.hek_image.specs.declared.fault.LoadFault.TheVariants as load
 use Rattle.hek_image.specs.Gives.{FieldFails}
 use Rattle.std.specs.Int.{w8}
-use Rattle.hek_image.specs.Loading.{Place, Reader, then_read, both, checked, bytes_at, number_at, number_within, times}
+use Rattle.hek_image.specs.Loading.{Place, Reader, then_read, both, checked_read, bytes_at, number_at, number_within, times}
 use Rattle.hek_image.specs.Taking.{FaultHolds, Holds, Takes}
 use Rattle.hek_image.proofs.Steady.{IsSteady, Agrees}
 use Rattle.hek_image.proofs.Taken.{gave}
@@ -84,7 +84,7 @@ pub took_nothing : {X Y : Type 0} (view : X → Y × ℕ) (P : Y → Type 0) (si
 took_nothing view P size r at e whole rest steady which ends h same = took_end P size r steady at [] view e whole rest which ends h same
 
 pub nothing_within : (low high at : ℕ) → number_within low high w8 (here at []) ≡ Err load.Short
-unfolding number_within checked number_at both bytes_at
+unfolding number_within checked_read number_at both bytes_at
 nothing_within low high at = refl
 
 -- a text that is all of a buffer

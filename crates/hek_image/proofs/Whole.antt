@@ -7,7 +7,7 @@ use Rattle.std.proofs.Math.Seq.{take-append_seam}
 use Rattle.hek_rules.specs.Plan.{Plan, IsPlan}
 use Rattle.hek_image.specs.declared.fault.LoadFault.{LoadFault}
 use Rattle.hek_image.specs.declared.fault.LoadFault.TheVariants as load
-use Rattle.hek_image.specs.Loading.{Place, Header, row_at, txn_at, kind_at, step_at, magic_at, version_at, header_at, plan_at, ended, loading}
+use Rattle.hek_image.specs.Loading.{Place, Header, row_at, txn_at, kind_at, step_at, magic_at, image_version, header_at, plan_at, ended, loading}
 use Rattle.hek_image.specs.Schedules.{image, image_in}
 use Rattle.hek_image.specs.Gives.{given_between}
 use Rattle.hek_image.proofs.ImageAgain.{image_again}
@@ -38,8 +38,8 @@ magic_steady : IsSteady Any 4 magic_at
 unfolding magic_at
 magic_steady = required_steady Any Any 4 _ _ load.BadMagic (λ C D d. d) (λ x any e. tt) (bytes_steady 4)
 
-version_steady : IsSteady Any 2 version_at
-unfolding version_at
+version_steady : IsSteady Any 2 image_version
+unfolding image_version
 version_steady = required_steady Any Any 2 _ _ load.BadVersion (λ C D d. d) (λ x any e. tt) (number_steady w16)
 
 pub record AreFew (head : Plan × Header) : Type 0 where

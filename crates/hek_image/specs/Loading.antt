@@ -8,7 +8,7 @@ use Rattle.hek_rules.specs.declared.kind.EventKind.{EventKind}
 use Rattle.hek_rules.specs.declared.kind.EventKind.TheVariants as kind
 use Rattle.hek_rules.specs.Name.{is_name}
 use Rattle.hek_rules.specs.Events.{kind_coded, operand_count, event_of, is_detect, is_scan}
-use Rattle.hek_rules.specs.Plan.{Plan, has_key, has_name}
+use Rattle.hek_rules.specs.Plan.{Plan, has_key, has_name, max_buckets, max_rows, max_steps, max_txns}
 use Rattle.hek_image.specs.declared.fault.LoadFault.{LoadFault}
 use Rattle.hek_image.specs.declared.fault.LoadFault.TheVariants.{BadMagic, BadVersion, Short, BadField, Trailing}
 use Rattle.hek_image.specs.Schedules.{magic}
@@ -40,8 +40,8 @@ unfoldable pub required : {A : Type 0} → Reader A → (A → Bool) → LoadFau
 required r test fault p = checked_from (r p) test fault
 
 -- a field that passes a test, else the fault of the place where it begins
-unfoldable pub checked : {A : Type 0} → Reader A → (A → Bool) → Reader A
-checked r test p = checked_from (r p) test (BadField p.at)
+unfoldable pub checked_read : {A : Type 0} → Reader A → (A → Bool) → Reader A
+checked_read r test p = checked_from (r p) test (BadField p.at)
 
 -- n bytes
 unfoldable pub bytes_at : ℕ → Reader (List ℕ)
@@ -58,11 +58,11 @@ abbrev pub is_within : ℕ → ℕ → ℕ → Bool
 is_within low high n = nat_le low n && nat_le n high
 
 unfoldable pub number_within : ℕ → ℕ → Width → Reader ℕ
-number_within low high w = checked (number_at w) (is_within low high)
+number_within low high w = checked_read (number_at w) (is_within low high)
 
 -- ---- rows, transactions and steps, each added to the plan
 unfoldable pub row_at : Plan → Reader Plan
-row_at plan = both (checked (number_at w64) (λ k. not (has_key plan k))) (λ key.
+row_at plan = both (checked_read (number_at w64) (λ k. not (has_key plan k))) (λ key.
     both (number_at w64) (λ v.
     value (record plan { rows = plan.rows ++ (key, v) ∷ [] })))
 
@@ -77,18 +77,18 @@ is_new_name plan w = is_name w && not (has_name plan w)
 unfoldable pub txn_at : ℕ → Plan → Reader Plan
 txn_at version plan = both (number_within 1 (version + 1) w8) (λ level.
     both (number_within 1 32 w8) (λ len.
-    both (checked (bytes_at len) (is_new_name plan)) (λ name.
+    both (checked_read (bytes_at len) (is_new_name plan)) (λ name.
     value (record plan { txns = plan.txns ++ (name, level_coded level) ∷ [] }))))
 
 abbrev pub is_opcode : ℕ → Bool
 is_opcode n = is_some (kind_coded n)
 
 unfoldable pub kind_at : Reader EventKind
-kind_at = both (checked (number_at w8) is_opcode) (λ n. value (unwrap_or (kind_coded n) kind.Detect))
+kind_at = both (checked_read (number_at w8) is_opcode) (λ n. value (unwrap_or (kind_coded n) kind.Detect))
 
 -- a declared transaction, or 0 for `detect`
-abbrev pub txn_fits : Plan → EventKind → ℕ → Bool
-txn_fits plan k t = if is_detect k then t == 0 else (nat_lt 0 t && nat_le t (length plan.txns))
+abbrev pub step_txn_fits : Plan → EventKind → ℕ → Bool
+step_txn_fits plan k t = if is_detect k then t == 0 else (nat_lt 0 t && nat_le t (length plan.txns))
 
 -- 0 where there is no operand, and a bucket that exists
 abbrev pub first_fits : Plan → EventKind → ℕ → Bool
@@ -99,9 +99,9 @@ second_fits k b = operand_count k == 2 || b == 0
 
 unfoldable pub step_at : Plan → Reader Plan
 step_at plan = both kind_at (λ k.
-    both (checked (number_at w32) (txn_fits plan k)) (λ t.
-    both (checked (number_at w64) (first_fits plan k)) (λ a.
-    both (checked (number_at w64) (second_fits k)) (λ b.
+    both (checked_read (number_at w32) (step_txn_fits plan k)) (λ t.
+    both (checked_read (number_at w64) (first_fits plan k)) (λ a.
+    both (checked_read (number_at w64) (second_fits k)) (λ b.
     value (record plan { steps = plan.steps ++ event_of k t a b ∷ [] })))))
 
 -- n items, one after another
@@ -124,16 +124,16 @@ magic_at = required (bytes_at 4) (λ m. bytes_eq m magic) BadMagic
 abbrev pub is_version : ℕ → Bool
 is_version n = is_within 1 2 n
 
-unfoldable pub version_at : Reader ℕ
-version_at = required (number_at w16) is_version BadVersion
+unfoldable pub image_version : Reader ℕ
+image_version = required (number_at w16) is_version BadVersion
 
 unfoldable pub header_at : Reader (Plan × Header)
 header_at = both magic_at (λ m.
-    both version_at (λ version.
-    both (number_within 1 1024 w32) (λ buckets.
-    both (number_within 0 65536 w32) (λ rows.
-    both (number_within 0 1024 w32) (λ txns.
-    both (number_within 0 1000000 w32) (λ steps.
+    both image_version (λ version.
+    both (number_within 1 max_buckets w32) (λ buckets.
+    both (number_within 0 max_rows w32) (λ rows.
+    both (number_within 0 max_txns w32) (λ txns.
+    both (number_within 0 max_steps w32) (λ steps.
     value (record { buckets = buckets; rows = []; txns = []; steps = [] }, record { version = version; rows = rows; txns = txns; steps = steps })))))))
 
 -- all but the end

@@ -1,12 +1,12 @@
 -- What a source gave while fields were read from it, and what is known of them whatever follows.
 use Rattle.std.specs.Prelude.{◌≡◌, ℕ, ◌+◌, ◌≤◌, List, [], ◌∷◌, ◌++◌, length, Result, Ok, Err}
 use Rattle.hek_rules.specs.declared.event.Level.{Level}
-use Rattle.hek_rules.specs.Plan.{Plan}
+use Rattle.hek_rules.specs.Plan.{Plan, max_rows, max_steps, max_txns}
 use Rattle.hek_image.specs.declared.fault.LoadFault.{LoadFault}
 use Rattle.hek_image.specs.declared.fault.LoadFault.TheVariants as load
 use Rattle.hek_image.specs.declared.item.Item.{Item}
 use Rattle.hek_image.specs.declared.item.Item.TheVariants as item
-use Rattle.hek_image.specs.Loading.{Header, Reader, both, checked, bytes_at, value, is_new_name, row_at, txn_at, step_at, times}
+use Rattle.hek_image.specs.Loading.{Header, Reader, both, checked_read, bytes_at, value, is_new_name, row_at, txn_at, step_at, times}
 
 -- a fault of a reader r at an offset, where a source gave `text` and `rest` is left: no bytes behind the text change it; the
 -- text ends too early where the source failed, and where it has no more
@@ -33,13 +33,13 @@ pub record Takes {X Y : Type 0} (view : X → Y × ℕ) (r : Reader Y) (at size 
 
 -- ---- items
 -- the name of a transaction of this level, which is added
-abbrev pub name_at : Level → ℕ → Plan → Reader Plan
-name_at level len plan = both (checked (bytes_at len) (is_new_name plan)) (λ name.
+abbrev pub named_txn_at : Level → ℕ → Plan → Reader Plan
+named_txn_at level len plan = both (checked_read (bytes_at len) (is_new_name plan)) (λ name.
     value (record plan { txns = plan.txns ++ (name, level) ∷ [] }))
 
 abbrev pub item_at : Item → Plan → Reader Plan
 item_at item.Row plan = row_at plan
-item_at (item.Name level len) plan = name_at level len plan
+item_at (item.Name level len) plan = named_txn_at level len plan
 item_at item.Step plan = step_at plan
 
 abbrev pub item_size : Item → ℕ
@@ -49,9 +49,9 @@ item_size item.Step = 21
 
 -- there is room for n of them
 abbrev pub ItemsFit : Item → ℕ → Plan → Type 0
-ItemsFit item.Row n plan = length plan.rows + n ≤ 65536
-ItemsFit (item.Name level len) n plan = length plan.txns + n ≤ 1024
-ItemsFit item.Step n plan = length plan.steps + n ≤ 1000000
+ItemsFit item.Row n plan = length plan.rows + n ≤ max_rows
+ItemsFit (item.Name level len) n plan = length plan.txns + n ≤ max_txns
+ItemsFit item.Step n plan = length plan.steps + n ≤ max_steps
 
 abbrev pub HasMore : ℕ → ℕ → ℕ → Plan → Plan → Type 0
 HasMore rows txns steps old new = (length new.rows ≡ length old.rows + rows) × (length new.txns ≡ length old.txns + txns) × (length new.steps ≡ length old.steps + steps)

@@ -1,5 +1,6 @@
 //! Items of an image, read from a source one after another and judged with each piece of them that comes.
 ghost use Rattle.std.specs.Prelude.{◌≡◌, ◌+◌, ◌*◌, ◌^◌, ◌<◌, ◌≤◌, length, false, IsTrue, OnOk, IfOk};
+ghost use Rattle.hek_rules.specs.Plan.{max_txns};
 ghost use Rattle.std.specs.Int.{w8};
 ghost use Rattle.hek_image.specs.Loading.{number_within, txn_at, times};
 ghost use Rattle.hek_image.specs.Gives.{AnswerFits};
@@ -101,7 +102,7 @@ fn next_txn<S: Source>(
 ) -> Result<u64, LoadFault>
     requires works { S.failed source.old ≡ false }
     requires known { version ≤ 2 }
-    requires room { length schedule.old.txns < 1024 }
+    requires room { length schedule.old.txns < max_txns }
     requires at { at + 2 < 2 ^ 32 }
     ensures takes { IsTrue (S.tells source.old) → Takes (λ n. (schedule.new, n)) (txn_at version schedule.old) at 34 result (S.left source.old) (S.left source.new) }
     ensures grown { OnOk result (HasMore 0 1 0 schedule.old schedule.new) }
@@ -129,7 +130,7 @@ pub(crate) fn next_txns<S: Source>(
 ) -> Result<u64, LoadFault>
     requires works { S.failed source.old ≡ false }
     requires known { version ≤ 2 }
-    requires room { length schedule.old.txns + count ≤ 1024 }
+    requires room { length schedule.old.txns + count ≤ max_txns }
     requires at { at + count * 34 < 2 ^ 32 }
     ensures takes { IsTrue (S.tells source.old) → Takes (λ n. (schedule.new, n)) (times count (txn_at version) schedule.old) at (count * 34) result (S.left source.old) (S.left source.new) }
     ensures grown { OnOk result (HasMore 0 count 0 schedule.old schedule.new) }

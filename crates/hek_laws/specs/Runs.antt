@@ -19,8 +19,8 @@ abbrev pub IsFirstClock : ℕ → Type 0
 IsFirstClock clock = (0 < clock) × (clock < infinity)
 
 -- what a checker is told of a run
-abbrev pub told : ℕ → List (ℕ × ℕ) → List Level → ℕ → List Event → Recorded
-told buckets rows levels clock events =
+abbrev pub recorded_run : ℕ → List (ℕ × ℕ) → List Level → ℕ → List Event → Recorded
+recorded_run buckets rows levels clock events =
     record { buckets = buckets; rows = rows; levels = levels; history = transcript (opening buckets rows levels clock) events }
 
 -- the event may be made of a world with so many buckets: a scan is of one of them

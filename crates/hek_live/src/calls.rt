@@ -4,8 +4,8 @@ ghost use Rattle.std.specs.Prelude.{◌≡◌, ◌≢◌, ◌<◌, ◌≤◌, If
 ghost use Rattle.hek_rules.specs.Words.{end_number, IsTxn, readers_of, writer_of, without_reader, dropped_of};
 ghost use Rattle.hek_live.specs.Tokens.{newcomer, maker, split_from, HoldsNone, meets, changed, reads_at, writes_at, MayChange};
 ghost use Rattle.hek_live.specs.Rule.{IsLive, Row};
-ghost use Rattle.hek_live.specs.Told.{Found, Read, Dropped, Wrote, Cleared};
-ghost use Rattle.hek_live.specs.Ends.{words_of, table_of, seat_table, view_of};
+ghost use Rattle.hek_live.specs.Told.{FoundWord, Read, Dropped, Wrote, Cleared};
+ghost use Rattle.hek_live.specs.Ends.{word_count_of, table_id_of, seat_table, view_of};
 
 use crate::ends::{LiveWords, Seat};
 use crate::replies::{DropRead, DropWrite, TryRead, TryWrite};
@@ -37,7 +37,7 @@ impl LiveWords {
     /// words.
     pub fn new(alloc: Global, n: usize) -> Result<(LiveWords, Seat), NoMemory>
         requires { (1 ≤ n) × (n ≤ 1024) }
-        ensures { IfOk result (λ r. (words_of r.0 ≡ n) × (table_of r.0 ≡ seat_table r.1) × (view_of r.1 ≡ maker)) }
+        ensures { IfOk result (λ r. (word_count_of r.0 ≡ n) × (table_id_of r.0 ≡ seat_table r.1) × (view_of r.1 ≡ maker)) }
     {
         let words = Vec::from_elem(alloc, EndWord::infinity().bits(), n)?;
         let (table, seat) = Table::of_words(alloc, words.as_slice(), &n)?;
@@ -46,7 +46,7 @@ impl LiveWords {
 
     /// A new seat, which holds nothing. Only the seat that `new` gave makes others.
     pub fn split(&self, seat: &mut Seat) -> Seat
-        requires own { seat_table seat.old ≡ table_of self.now }
+        requires own { seat_table seat.old ≡ table_id_of self.now }
         requires makes { (view_of seat.old).makes ≡ true }
         ensures kept { (seat_table seat.new ≡ seat_table seat.old) × (view_of seat.new ≡ split_from (view_of seat.old)) }
         ensures new { (seat_table result ≡ seat_table seat.old) × (view_of result ≡ newcomer) }
@@ -57,7 +57,7 @@ impl LiveWords {
 
     /// Ends a seat that holds nothing and isn't the one that `new` gave. The seat that stays is as before.
     pub fn join(&self, seat: &mut Seat, other: Seat)
-        requires own { (seat_table seat.old ≡ table_of self.now) × (seat_table other ≡ table_of self.now) }
+        requires own { (seat_table seat.old ≡ table_id_of self.now) × (seat_table other ≡ table_id_of self.now) }
         requires none_held { HoldsNone (view_of other) }
         ensures { (seat_table seat.new ≡ seat_table seat.old) × (view_of seat.new ≡ view_of seat.old) }
     {
@@ -69,10 +69,10 @@ impl LiveWords {
 
     /// The word as one load finds it. Who holds its read token finds a reader there, who holds its write token a writer.
     pub fn look(&self, seat: &mut Seat, word: usize) -> EndWord
-        requires own { seat_table seat.old ≡ table_of self.now }
-        requires word { word < words_of self.now }
+        requires own { seat_table seat.old ≡ table_id_of self.now }
+        requires word { word < word_count_of self.now }
         ensures own { seat_table seat.new ≡ seat_table seat.old }
-        ensures found { Found word (view_of seat.old) result }
+        ensures found { FoundWord word (view_of seat.old) result }
         ensures met { view_of seat.new ≡ meets word (end_number result) (end_number result) (view_of seat.old) }
         ensures reader { reads_at word (view_of seat.old) ≡ true → 0 < readers_of result }
         ensures writer { writes_at word (view_of seat.old) ≡ true → IsSome (writer_of result) }
@@ -90,13 +90,13 @@ impl LiveWords {
         new: EndWord,
         change: Change,
     ) -> Result<(), EndWord>
-        requires own { seat_table seat.old ≡ table_of self.now }
-        requires word { word < words_of self.now }
+        requires own { seat_table seat.old ≡ table_id_of self.now }
+        requires word { word < word_count_of self.now }
         requires row { IsLive old × Row change old new }
         requires token { MayChange change word (view_of seat.old) }
         ensures own { seat_table seat.new ≡ seat_table seat.old }
-        ensures ok { IfOk result (λ _. Row change old new × Found word (view_of seat.old) old × (view_of seat.new ≡ changed change word (meets word (end_number old) (end_number new) (view_of seat.old)))) }
-        ensures err { IfErr result (λ y. (y ≢ old) × Found word (view_of seat.old) y × (view_of seat.new ≡ meets word (end_number y) (end_number y) (view_of seat.old))) }
+        ensures ok { IfOk result (λ _. Row change old new × FoundWord word (view_of seat.old) old × (view_of seat.new ≡ changed change word (meets word (end_number old) (end_number new) (view_of seat.old)))) }
+        ensures err { IfErr result (λ y. (y ≢ old) × FoundWord word (view_of seat.old) y × (view_of seat.new ≡ meets word (end_number y) (end_number y) (view_of seat.old))) }
     {
         let expected = old.bits();
         let found = self
@@ -112,11 +112,11 @@ impl LiveWords {
     /// Tries once to take the read token of the word: to add a reader. NoMore where NoMoreReadLocks is set, Full where there
     /// are 255 readers; Changed where the exchange found another word than the load.
     pub fn try_read(&self, seat: &mut Seat, word: usize) -> TryRead
-        requires own { seat_table seat.old ≡ table_of self.now }
-        requires word { word < words_of self.now }
+        requires own { seat_table seat.old ≡ table_id_of self.now }
+        requires word { word < word_count_of self.now }
         requires free { reads_at word (view_of seat.old) ≡ false }
         ensures own { seat_table seat.new ≡ seat_table seat.old }
-        ensures told { (x : _) × Found word (view_of seat.old) x × Read word (view_of seat.old) (view_of seat.new) x result }
+        ensures told { (x : _) × FoundWord word (view_of seat.old) x × Read word (view_of seat.old) (view_of seat.new) x result }
     {
         let x = self.look(seat, word);
         if x.no_more() {
@@ -135,11 +135,11 @@ impl LiveWords {
     /// Tries once to give the read token of the word up: to drop a reader. Last where it was the last under a writer, which
     /// stands alone then, with NoMoreReadLocks; Changed where the exchange found another word than the load.
     pub fn drop_read(&self, seat: &mut Seat, word: usize) -> DropRead
-        requires own { seat_table seat.old ≡ table_of self.now }
-        requires word { word < words_of self.now }
+        requires own { seat_table seat.old ≡ table_id_of self.now }
+        requires word { word < word_count_of self.now }
         requires held { reads_at word (view_of seat.old) ≡ true }
         ensures own { seat_table seat.new ≡ seat_table seat.old }
-        ensures told { (x : _) × Found word (view_of seat.old) x × Dropped word (view_of seat.old) (view_of seat.new) x result }
+        ensures told { (x : _) × FoundWord word (view_of seat.old) x × Dropped word (view_of seat.old) (view_of seat.new) x result }
     {
         let x = self.look(seat, word);
         let (z, kind) = one_reader_less(x);
@@ -157,12 +157,12 @@ impl LiveWords {
     /// Tries once to take the write token of the word under `u`, 1 to 2^54 - 2. Writer where there is a writer; Changed where
     /// the exchange found another word than the load.
     pub fn try_write(&self, seat: &mut Seat, word: usize, u: TxnId) -> TryWrite
-        requires own { seat_table seat.old ≡ table_of self.now }
-        requires word { word < words_of self.now }
+        requires own { seat_table seat.old ≡ table_id_of self.now }
+        requires word { word < word_count_of self.now }
         requires id { IsTxn u }
         requires free { writes_at word (view_of seat.old) ≡ false }
         ensures own { seat_table seat.new ≡ seat_table seat.old }
-        ensures told { (x : _) × Found word (view_of seat.old) x × Wrote u word (view_of seat.old) (view_of seat.new) x result }
+        ensures told { (x : _) × FoundWord word (view_of seat.old) x × Wrote u word (view_of seat.old) (view_of seat.new) x result }
     {
         let x = self.look(seat, word);
         if let Some(t) = x.writer() {
@@ -178,11 +178,11 @@ impl LiveWords {
     /// Tries once to give the write token of the word up, and NoMoreReadLocks with it. Changed where the exchange found
     /// another word than the load.
     pub fn drop_write(&self, seat: &mut Seat, word: usize) -> DropWrite
-        requires own { seat_table seat.old ≡ table_of self.now }
-        requires word { word < words_of self.now }
+        requires own { seat_table seat.old ≡ table_id_of self.now }
+        requires word { word < word_count_of self.now }
         requires held { writes_at word (view_of seat.old) ≡ true }
         ensures own { seat_table seat.new ≡ seat_table seat.old }
-        ensures told { (x : _) × Found word (view_of seat.old) x × Cleared word (view_of seat.old) (view_of seat.new) x result }
+        ensures told { (x : _) × FoundWord word (view_of seat.old) x × Cleared word (view_of seat.old) (view_of seat.new) x result }
     {
         let x = self.look(seat, word);
         let z = x.clear_writer();

@@ -12,7 +12,7 @@ use Rattle.hek_rules.specs.World.{Txn, txn_in, is_made_by, is_aborted}
 use Rattle.hek_rules.specs.Listing.{is_among}
 use Rattle.hek_rules.specs.Shown.{ender_of}
 use Rattle.hek_rules.specs.Locks.{read_refusal, write_refusal}
-use Rattle.hek_store.specs.Stored.{Stored, version_at, with_end}
+use Rattle.hek_store.specs.Stored.{Stored, version_at, with_end_word}
 use Rattle.hek_txn.specs.TxnTable.{TxnTable, Declared, waits_of, with_waits, read_set_of}
 
 -- the writer of a word, if it has one, is declared
@@ -82,7 +82,7 @@ CanWait ts (Lock readers (Some u) no_more) = Declared ts u × (waits_of ts u + 1
 
 abbrev pub read_locked : Stored → TxnTable → ℕ → ℕ → Stored
 read_locked s ts t v =
-    if reads_freely s ts t v then s else with_end s v (with_reader (cleared_word ts.cores (version_at s v).end))
+    if reads_freely s ts t v then s else with_end_word s v (with_reader (cleared_word ts.cores (version_at s v).end))
 
 abbrev pub read_lock_waits : Stored → TxnTable → ℕ → ℕ → TxnTable
 read_lock_waits s ts t v =
@@ -107,7 +107,7 @@ abbrev pub to_write : Stored → TxnTable → ℕ → ℕ → EndRecord
 to_write s ts t v = given_up ts t v (cleared_word ts.cores (version_at s v).end)
 
 abbrev pub write_locked : Stored → TxnTable → ℕ → ℕ → Stored
-write_locked s ts t v = with_end s v (with_writer (to_write s ts t v) t)
+write_locked s ts t v = with_end_word s v (with_writer (to_write s ts t v) t)
 
 -- t waits for the readers that are left
 abbrev pub write_lock_waits : Stored → TxnTable → ℕ → ℕ → TxnTable

@@ -2,7 +2,7 @@
 ghost use Rattle.std.specs.Prelude.{◌≡◌, ◌<◌, IsSome, length};
 ghost use Rattle.hek_rules.specs.World.{is_aborted};
 ghost use Rattle.hek_rules.specs.Words.{writer_of, without_writer};
-ghost use Rattle.hek_store.specs.Stored.{version_at, with_end};
+ghost use Rattle.hek_store.specs.Stored.{version_at, with_end_word};
 ghost use Rattle.hek_locks.specs.Locked.{KnowsWriter, CanFree, writer_freed, is_stale as stale, cleared_word, cleared_waits};
 
 use hek_rules::{State, VersionId};
@@ -63,7 +63,7 @@ pub fn clear_write(store: &mut Store, txns: &mut Txns, v: VersionId)
     requires version { v < length store.old.versions }
     requires written { IsSome (writer_of (version_at store.old v).end) }
     requires counted { CanFree txns.old (version_at store.old v).end }
-    ensures store { store.new ≡ with_end store.old v (without_writer (version_at store.old v).end) }
+    ensures store { store.new ≡ with_end_word store.old v (without_writer (version_at store.old v).end) }
     ensures txns { txns.new ≡ writer_freed txns.old (version_at store.old v).end }
 {
     let word = store.end_of(v);

@@ -23,7 +23,7 @@ use Rattle.hek_visible.specs.Seen.{version_seen}
 use Rattle.hek_machine.specs.declared.engine.Engine.{Engine}
 use Rattle.hek_machine.specs.Stands.{StandsFor, StandsForSome}
 use Rattle.hek_machine.specs.Judgements.{looks}
-use Rattle.hek_machine.specs.Walked.{ArePlaces}
+use Rattle.hek_machine.specs.Walked.{AreVersionPlaces}
 use Rattle.hek_machine.specs.Written.{AreEnough}
 use Rattle.hek_machine.proofs.KeyPlaces.{of_key-below, of_key-same, filter_below}
 use Rattle.hek_machine.proofs.RuleWalks.{key_places}
@@ -113,7 +113,7 @@ pub record IsIdle (m : Engine) (t v : ℕ) : Type 0 where
 pub all_enough : (m : Engine) (t key : ℕ) (vs : List ℕ) → StandsForSome m → vs ≡ of_key m.store.versions key → AreEnough m t key vs
 all_enough m t key vs o e = record {
   below = subst (All (λ v. v < length m.store.versions)) (sym e) (of_key-below m.store key);
-  places = subst (ArePlaces m (key % m.store.buckets)) (sym e) (key_places m key o);
+  places = subst (AreVersionPlaces m (key % m.store.buckets)) (sym e) (key_places m key o);
   walked = λ w p s. ap (walk w t p (bucket_of w key)) (e ∙ of_key-same m.store w key s.shows.store);
   seen = λ w s. ap (seen_of w t) (e ∙ of_key-same m.store w key s.shows.store);
   claimed = λ w s. ap (is_claimed w t) (e ∙ of_key-same m.store w key s.shows.store);

@@ -24,12 +24,12 @@ use Rattle.hek_txn.specs.TxnTable.{Declared}
 use Rattle.hek_buckets.specs.LockLists.{holders_of}
 use Rattle.hek_refinement.proofs.Known.{begun-known, present-known, has-first}
 use Rattle.hek_machine.specs.declared.engine.Engine.{Engine}
-use Rattle.hek_machine.specs.declared.walks.Aim.{Aim}
-use Rattle.hek_machine.specs.declared.walks.Aim.TheVariants as aims
+use Rattle.hek_rules.specs.declared.event.Aim.{Aim}
+use Rattle.hek_rules.specs.declared.event.Aim.TheVariants as aims
 use Rattle.hek_machine.specs.Stands.{Shows, StandsFor, StandsForSome, IsRule, StillShows}
 use Rattle.hek_machine.specs.Judgements.{IsShown, IsAimed, seen_among}
 use Rattle.hek_machine.specs.Room.{Reserved, CanMake, KeepsAdding}
-use Rattle.hek_machine.specs.Walked.{ArePlaces, After, CanAdd, IsAdding, told, deleted_reply}
+use Rattle.hek_machine.specs.Walked.{AreVersionPlaces, After, CanAddVersion, IsAdding, told, deleted_reply}
 use Rattle.hek_machine.specs.Written.{AreEnough, key_walk, after_walk, after_making, after_conflict}
 use Rattle.hek_machine.proofs.Joining.{can_make_kept}
 use Rattle.hek_machine.proofs.Reserves.{reserved-shows}
@@ -38,8 +38,8 @@ use Rattle.hek_machine.proofs.WalkRules.{seen-same}
 
 -- ---- the versions of a key
 
-pub bucket_places : (m : Engine) (t key bucket : ℕ) (vs : List ℕ) → bucket ≡ key % m.store.buckets → AreEnough m t key vs → ArePlaces m bucket vs
-bucket_places m t key bucket vs a e = subst (λ n. ArePlaces m n vs) (sym a) e.places
+pub bucket_places : (m : Engine) (t key bucket : ℕ) (vs : List ℕ) → bucket ≡ key % m.store.buckets → AreEnough m t key vs → AreVersionPlaces m bucket vs
+bucket_places m t key bucket vs a e = subst (λ n. AreVersionPlaces m n vs) (sym a) e.places
 
 pub enough_as : (m : Engine) (t key : ℕ) (vs xs : List ℕ) → vs ≡ xs → AreEnough m t key xs → AreEnough m t key vs
 enough_as m t key vs xs e h = subst (AreEnough m t key) (sym e) h
@@ -136,8 +136,8 @@ each_allowed m n w t bucket vs p (Refuse cause) e a = absurd a
 each_allowed m n w t bucket vs p (Allow es) e a = (es, e, a)
 
 -- after an allowed walk t may make a version
-can_add : (m n : Engine) (w : World) (t bucket : ℕ) (vs : List ℕ) (p : Purpose) (es : List Effect) → StandsFor m w → ArePlaces m bucket vs → is_open (txn_in m.txns.cores t) ≡ true →
-    length m.store.versions < 2 ^ 58 → walk w t p bucket vs ≡ Allow es → Shows n (apply_all t w es) → CanAdd n t (apply_all t w es)
+can_add : (m n : Engine) (w : World) (t bucket : ℕ) (vs : List ℕ) (p : Purpose) (es : List Effect) → StandsFor m w → AreVersionPlaces m bucket vs → is_open (txn_in m.txns.cores t) ≡ true →
+    length m.store.versions < 2 ^ 58 → walk w t p bucket vs ≡ Allow es → Shows n (apply_all t w es) → CanAddVersion n t (apply_all t w es)
 can_add m n w t bucket vs p es s places open_now small allowed shows =
     let same = (apply_all-times t w es).txns in
     let long = length-walked t w es in
@@ -177,7 +177,7 @@ pub room_left : (m n : Engine) (t key : ℕ) → KeepsAdding m n t → n.store.b
 room_left m n t key kept same make = subst (λ b. CanMake n t (key % b)) (sym same) (can_make_kept m n t (key % m.store.buckets) kept make)
 
 pub key_made : (m n new : Engine) (t key value bucket : ℕ) (vs : List ℕ) (p : Purpose) (o : Option Cause) → StandsForSome m → is_open (txn_in m.txns.cores t) ≡ true → length m.store.versions < 2 ^ 58 →
-    bucket ≡ key % m.store.buckets → AreEnough m t key vs → o ≡ None → Came m n t p bucket vs o → ((w : World) → CanAdd n t w → Shows new (add_version w t key value)) →
+    bucket ≡ key % m.store.buckets → AreEnough m t key vs → o ≡ None → Came m n t p bucket vs o → ((w : World) → CanAddVersion n t w → Shows new (add_version w t key value)) →
     IsRule (λ w. after_making w t key value (key_walk w t p key)) m new reply.Done
 key_made m n new t key value bucket vs p o order open_now small a b none came added = record {
   reply = λ w s. ap (λ (x : Outcome). x.reply) (sym (same w s));
@@ -190,7 +190,7 @@ key_made m n new t key value bucket vs p o order open_now small a b none came ad
     same : (w : World) (s : StandsFor m w) → after_making w t key value (key_walk w t p key) ≡ record { reply = reply.Done; world = add_version (apply_all t w (found_in w s).0) t key value }
     same w s = ap (after_making w t key value) (sym (walk-enough m w t key bucket vs p s a b) ∙ (found_in w s).1)
 
-    can : (w : World) (s : StandsFor m w) → CanAdd n t (apply_all t w (found_in w s).0)
+    can : (w : World) (s : StandsFor m w) → CanAddVersion n t (apply_all t w (found_in w s).0)
     can w s = can_add m n w t bucket vs p (found_in w s).0 s (bucket_places m t key bucket vs a b) open_now small (found_in w s).1 (found_in w s).2
 
 -- ---- what was seen

@@ -3,7 +3,7 @@ use Rattle.std.proofs.Common.{◌≡◌, ℕ, ◌+◌, ◌<◌, ◌≤◌, List,
 use Rattle.std.proofs.lemmas.List.{drop_more}
 use Rattle.hek_rules.specs.declared.event.Effect.{Effect}
 use Rattle.hek_rules.specs.declared.event.Effect.TheVariants.{LockBucket, DependOn, MakeWait, ReadLock, WriteLock}
-use Rattle.hek_machine.specs.Room.{reads_in, writes_in, waits_in, buckets_in}
+use Rattle.hek_machine.specs.Room.{reads_in, writes_in, wait_effects, buckets_in}
 
 -- one effect, and the others
 pub reads-first : (e : Effect) (es : List Effect) → reads_in (e ∷ es) ≡ reads_in (e ∷ []) + reads_in es
@@ -20,7 +20,7 @@ writes-first (MakeWait u) es = omega arith
 writes-first (ReadLock v) es = omega arith
 writes-first (WriteLock v) es = omega arith
 
-pub waits-first : (e : Effect) (es : List Effect) → waits_in (e ∷ es) ≡ waits_in (e ∷ []) + waits_in es
+pub waits-first : (e : Effect) (es : List Effect) → wait_effects (e ∷ es) ≡ wait_effects (e ∷ []) + wait_effects es
 waits-first (LockBucket b) es = omega arith
 waits-first (DependOn u) es = omega arith
 waits-first (MakeWait u) es = omega arith
@@ -59,10 +59,10 @@ writes-few es = few writes_in refl writes-first one es
     one (ReadLock v) = omega arith
     one (WriteLock v) = omega arith
 
-pub waits-few : (es : List Effect) → waits_in es ≤ length es
-waits-few es = few waits_in refl waits-first one es
+pub waits-few : (es : List Effect) → wait_effects es ≤ length es
+waits-few es = few wait_effects refl waits-first one es
   where
-    one : (e : Effect) → waits_in (e ∷ []) ≤ 1
+    one : (e : Effect) → wait_effects (e ∷ []) ≤ 1
     one (LockBucket b) = omega arith
     one (DependOn u) = omega arith
     one (MakeWait u) = omega arith

@@ -21,12 +21,13 @@ use Rattle.hek_laws.proofs.Table.Cases.{active-is}
 use Rattle.hek_store.specs.Stored.{of_key}
 use Rattle.hek_refinement.proofs.Known.{begun-known}
 use Rattle.hek_machine.specs.declared.engine.Engine.{Engine}
-use Rattle.hek_machine.specs.declared.walks.Aim.{Aim}
+use Rattle.hek_rules.specs.declared.event.Aim.{Aim}
 use Rattle.hek_machine.specs.Stands.{Shows, StandsFor, StandsForSome, IsRule}
-use Rattle.hek_machine.specs.Judgements.{IsShown, purpose_of, verdict}
+use Rattle.hek_machine.specs.Judgements.{IsShown, verdict}
+use Rattle.hek_rules.specs.Aims.{purpose_of}
 use Rattle.hek_machine.specs.Room.{Reserved, IsThere}
 use Rattle.hek_machine.specs.Applied.{Allowed}
-use Rattle.hek_machine.specs.Walked.{ArePlaces, After}
+use Rattle.hek_machine.specs.Walked.{AreVersionPlaces, After}
 use Rattle.hek_machine.proofs.Loads.{copied-shows}
 use Rattle.hek_machine.proofs.Reserves.{reserved-shows}
 use Rattle.hek_machine.proofs.KeyPlaces.{of_key-same}
@@ -82,7 +83,7 @@ effect-there m w t es s a (WriteLock v) i = tt
 pub effects_there : (m : Engine) (t : ℕ) (es : List Effect) → StandsForSome m → ((w : World) → StandsFor m w → Allowed w t es) → (e : Effect) → In e es → IsThere m e
 effects_there m t es o a = effect-there m o.world t es o.stands (a o.world o.stands)
 
-pub allowed_by : (m : Engine) (t bucket : ℕ) (vs : List ℕ) (aim : Aim) (o : Option Cause) (es : List Effect) → ArePlaces m bucket vs → is_open (txn_in m.txns.cores t) ≡ true → o ≡ None →
+pub allowed_by : (m : Engine) (t bucket : ℕ) (vs : List ℕ) (aim : Aim) (o : Option Cause) (es : List Effect) → AreVersionPlaces m bucket vs → is_open (txn_in m.txns.cores t) ≡ true → o ≡ None →
     IsShown m (λ w. walk w t (purpose_of aim) bucket vs) (verdict o es) → (w : World) → StandsFor m w → Allowed w t es
 allowed_by m t bucket vs aim o es p open_now none judged w s = record {
   purpose = purpose_of aim;
@@ -133,7 +134,7 @@ rule_allowed m n t rule judged r is after = record {
 
 -- ---- the versions of a key
 
-pub key_places : (m : Engine) (key : ℕ) → StandsForSome m → ArePlaces m (key % m.store.buckets) (of_key m.store.versions key)
+pub key_places : (m : Engine) (key : ℕ) → StandsForSome m → AreVersionPlaces m (key % m.store.buckets) (of_key m.store.versions key)
 key_places m key o = record {
   test = λ v x. x.key == key;
   same = λ w s. sym (of_key-same m.store w key s.shows.store);

@@ -12,7 +12,7 @@ use Rattle.hek_store.specs.Stored.{of_bucket}
 use Rattle.hek_machine.specs.declared.engine.Engine.{Engine}
 use Rattle.hek_machine.specs.Stands.{StandsFor, IsRule}
 use Rattle.hek_machine.specs.Judgements.{IsShown, seen_among}
-use Rattle.hek_machine.specs.Walked.{ArePlaces, After, told}
+use Rattle.hek_machine.specs.Walked.{AreVersionPlaces, After, told}
 use Rattle.hek_machine.proofs.WalkRules.{seen-same}
 use Rattle.hek_machine.proofs.KeyPlaces.{of_bucket-same}
 use Rattle.hek_machine.proofs.RuleWalks.{rule_refused, rule_allowed}
@@ -20,7 +20,7 @@ use Rattle.hek_machine.proofs.RuleWalks.{rule_refused, rule_allowed}
 abbrev pub in_bucket : Engine → ℕ → List ℕ
 in_bucket m bucket = of_bucket m.store.buckets m.store.versions bucket
 
-pub bucket_places : (m : Engine) (bucket : ℕ) (vs : List ℕ) → vs ≡ in_bucket m bucket → bucket < m.store.buckets → ArePlaces m bucket vs
+pub bucket_places : (m : Engine) (bucket : ℕ) (vs : List ℕ) → vs ≡ in_bucket m bucket → bucket < m.store.buckets → AreVersionPlaces m bucket vs
 bucket_places m bucket vs a below = record {
   test = λ v x. x.key % m.store.buckets == bucket;
   same = λ w s. ap (λ n. places (λ v x. x.key % n == bucket) 0 w.versions) s.shows.store.buckets ∙ sym (a ∙ of_bucket-same m.store w bucket s.shows.store);

@@ -28,9 +28,10 @@ use Rattle.hek_refinement.proofs.Clears.{knows-writer}
 use Rattle.hek_locks.specs.Locked.{KnowsWriter, answer_of, read_refused, write_refused}
 use Rattle.hek_txn.specs.TxnTable.{Declared, waiting_list_of}
 use Rattle.hek_refinement.proofs.Pairs.{among-seconds}
-use Rattle.hek_machine.specs.Judgements.{IsShown, IsAimed, looks, purpose_of, target_of, verdict, seen_among}
-use Rattle.hek_machine.specs.declared.walks.Aim.TheVariants as aims
-use Rattle.hek_machine.specs.declared.walks.Aim.{Aim}
+use Rattle.hek_machine.specs.Judgements.{IsShown, IsAimed, looks, verdict, seen_among}
+use Rattle.hek_rules.specs.Aims.{purpose_of, target_of}
+use Rattle.hek_rules.specs.declared.event.Aim.TheVariants as aims
+use Rattle.hek_rules.specs.declared.event.Aim.{Aim}
 use Rattle.hek_laws.proofs.Sound.WordsAndSights.{sight-counts}
 use Rattle.hek_laws.proofs.Walks.Sights.{Counts}
 use Rattle.hek_laws.proofs.Walks.Looks.{IsNow, reads-past}

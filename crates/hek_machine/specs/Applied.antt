@@ -4,7 +4,7 @@ use Rattle.hek_rules.specs.declared.event.Effect.{Effect}
 use Rattle.hek_rules.specs.declared.event.Effect.TheVariants.{LockBucket, DependOn, MakeWait, ReadLock, WriteLock}
 use Rattle.hek_rules.specs.World.{World, Version, txn_in, is_not_begun}
 use Rattle.hek_rules.specs.Walk.{Purpose, apply}
-use Rattle.hek_laws.specs.Laws.{IsWalk}
+use Rattle.hek_laws.specs.Laws.{IsAllowedWalk}
 use Rattle.hek_laws.specs.Sound.{Sound}
 use Rattle.hek_txn.specs.TxnTable.{Declared}
 use Rattle.hek_refinement.specs.MayLock.{MayRead, MayWrite}
@@ -40,4 +40,4 @@ pub record Allowed (w : World) (t : ℕ) (effects : List Effect) : Type 0 where
   pub purpose : Purpose
   pub bucket : ℕ
   pub test : ℕ → Version → Bool
-  pub walk : IsWalk w t purpose bucket test effects
+  pub walk : IsAllowedWalk w t purpose bucket test effects

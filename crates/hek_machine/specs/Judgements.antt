@@ -4,26 +4,17 @@ use Rattle.hek_rules.specs.declared.event.Cause.{Cause}
 use Rattle.hek_rules.specs.declared.event.Effect.{Effect}
 use Rattle.hek_rules.specs.World.{World, txn_in}
 use Rattle.hek_rules.specs.Visibility.{is_seen}
-use Rattle.hek_rules.specs.Walk.{Judgement, Refuse, Allow, Purpose}
+use Rattle.hek_rules.specs.Walk.{Judgement, Refuse, Allow}
 use Rattle.hek_rules.specs.Walk as walk
 use Rattle.hek_visible.specs.Seen.{version_seen}
 use Rattle.hek_machine.specs.declared.engine.Engine.{Engine}
-use Rattle.hek_machine.specs.declared.walks.Aim.{Aim}
-use Rattle.hek_machine.specs.declared.walks.Aim.TheVariants.{ToRead, ToWrite}
+use Rattle.hek_rules.specs.declared.event.Aim.{Aim}
+use Rattle.hek_rules.specs.declared.event.Aim.TheVariants.{ToRead, ToWrite}
 use Rattle.hek_machine.specs.Stands.{StandsFor}
 
 -- so it is in each world that the parts stand for
 abbrev pub IsShown : {X : Type 0} → Engine → (World → X) → X → Type 0
 IsShown m f x = (w : World) → StandsFor m w → f w ≡ x
-
-abbrev pub purpose_of : Aim → Purpose
-purpose_of ToRead = walk.ToRead
-purpose_of (ToWrite target) = walk.ToWrite
-
--- the last version seen, which a write locks
-abbrev pub target_of : Aim → Option ℕ
-target_of ToRead = None
-target_of (ToWrite target) = target
 
 abbrev pub verdict : Option Cause → List Effect → Judgement
 verdict None effects = Allow effects

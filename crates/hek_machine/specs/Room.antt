@@ -21,10 +21,10 @@ writes_in [] = 0
 writes_in (WriteLock v ∷ es) = writes_in es + 1
 writes_in (e ∷ es) = writes_in es
 
-abbrev pub waits_in : List Effect → ℕ
-waits_in [] = 0
-waits_in (MakeWait u ∷ es) = waits_in es + 1
-waits_in (e ∷ es) = waits_in es
+abbrev pub wait_effects : List Effect → ℕ
+wait_effects [] = 0
+wait_effects (MakeWait u ∷ es) = wait_effects es + 1
+wait_effects (e ∷ es) = wait_effects es
 
 abbrev pub buckets_in : List Effect → ℕ
 buckets_in [] = 0
@@ -40,21 +40,21 @@ IsThere m (ReadLock v) = Unit {0}
 IsThere m (WriteLock v) = Unit {0}
 
 -- and has room for t, unless t stands in the list
-abbrev pub IsReady : Engine → ℕ → Effect → Type 0
-IsReady m t (LockBucket b) = is_among (holders_of m.buckets b).items t ≡ false → 0 < (holders_of m.buckets b).room
-IsReady m t (DependOn u) = is_among (dependents_of m.txns u).items t ≡ false → 0 < (dependents_of m.txns u).room
-IsReady m t (MakeWait u) = Unit {0}
-IsReady m t (ReadLock v) = Unit {0}
-IsReady m t (WriteLock v) = Unit {0}
+abbrev pub IsEffectReady : Engine → ℕ → Effect → Type 0
+IsEffectReady m t (LockBucket b) = is_among (holders_of m.buckets b).items t ≡ false → 0 < (holders_of m.buckets b).room
+IsEffectReady m t (DependOn u) = is_among (dependents_of m.txns u).items t ≡ false → 0 < (dependents_of m.txns u).room
+IsEffectReady m t (MakeWait u) = Unit {0}
+IsEffectReady m t (ReadLock v) = Unit {0}
+IsEffectReady m t (WriteLock v) = Unit {0}
 
 -- room for all these effects, and for so many entries more in the write set and in the waiting list: those of the versions that
 -- are made after them
 pub record HasRoom (m : Engine) (t made : ℕ) (effects : List Effect) : Type 0 where
   pub reads : reads_in effects ≤ (read_set_of m.txns t).room
   pub writes : writes_in effects + made ≤ (write_set_of m.txns t).room
-  pub waits : waits_in effects + made ≤ (waiting_list_of m.txns t).room
+  pub waits : wait_effects effects + made ≤ (waiting_list_of m.txns t).room
   pub buckets : buckets_in effects ≤ (bucket_set_of m.txns t).room
-  pub others : (e : Effect) → In e effects → IsReady m t e
+  pub others : (e : Effect) → In e effects → IsEffectReady m t e
 
 -- what making a version counts on: the store has no less room, nor has t less in the lists of others, and none but t has come
 -- to lock a bucket
@@ -67,9 +67,9 @@ pub record KeepsAdding (old new : Engine) (t : ℕ) : Type 0 where
 pub record KeepsRoom (old new : Engine) (t : ℕ) (effect : Effect) : Type 0 where
   pub reads : (read_set_of old.txns t).room ≤ (read_set_of new.txns t).room + reads_in (effect ∷ [])
   pub writes : (write_set_of old.txns t).room ≤ (write_set_of new.txns t).room + writes_in (effect ∷ [])
-  pub waits : (waiting_list_of old.txns t).room ≤ (waiting_list_of new.txns t).room + waits_in (effect ∷ [])
+  pub waits : (waiting_list_of old.txns t).room ≤ (waiting_list_of new.txns t).room + wait_effects (effect ∷ [])
   pub buckets : (bucket_set_of old.txns t).room ≤ (bucket_set_of new.txns t).room + buckets_in (effect ∷ [])
-  pub others : (e : Effect) → IsReady old t e → IsReady new t e
+  pub others : (e : Effect) → IsEffectReady old t e → IsEffectReady new t e
   pub adding : KeepsAdding old new t
 
 -- room for a version of a bucket: in the store, and for t in the lists of those who lock the bucket
@@ -93,7 +93,7 @@ pub record Reserved (old new : Engine) : Type 0 where
   pub more_versions : old.store.room ≤ new.store.room
 
 abbrev pub AreReady : Engine → ℕ → List Effect → Type 0
-AreReady m t effects = (e : Effect) → In e effects → IsReady m t e
+AreReady m t effects = (e : Effect) → In e effects → IsEffectReady m t e
 
 -- room for t in the waiting lists of each of these
 abbrev pub AreJoined : Engine → ℕ → List ℕ → Type 0

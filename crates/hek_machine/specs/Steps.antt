@@ -11,7 +11,7 @@ use Rattle.hek_rules.specs.World.{World}
 use Rattle.hek_rules.specs.Run.{next, reply, run, transcript}
 use Rattle.hek_rules.specs.Plan.{Plan, levels_of}
 use Rattle.hek_rules.specs.Recorded.{Recorded}
-use Rattle.hek_rules.specs.Serial.{laid_over, serial_order}
+use Rattle.hek_rules.specs.Serial.{serial_map}
 use Rattle.hek_rules.specs.Faults.{put_all, is_declared, HasNoFault}
 use Rattle.hek_machine.specs.declared.engine.Engine.{Engine}
 use Rattle.hek_rules.specs.Shown.{committed_rows}
@@ -34,7 +34,7 @@ abbrev pub NeedsNone : Engine → Event → Type 0
 NeedsNone m e = (w : World) → StandsFor m w → (takes_memory e && passes w e) ≡ false
 
 -- for each world that was stood for, the answer is the table's, and the table's next world is stood for
-pub record IsStep (e : Event) (before after : Engine) (answer : Reply) : Type 0 where
+pub record IsMachineStep (e : Event) (before after : Engine) (answer : Reply) : Type 0 where
   pub reply : (w : World) → StandsFor before w → answer ≡ reply w e
   pub world : (w : World) → StandsFor before w → StandsFor after (next w e)
 
@@ -57,7 +57,7 @@ HasNoFaults p events replies =
 
 -- the rows that the committed transactions leave, one after another by end time
 abbrev pub serial_rows_of : Plan → List Event → List Reply → List (ℕ × ℕ)
-serial_rows_of p events replies = laid_over (zip events replies) (serial_order (zip events replies)) (put_all p.rows [])
+serial_rows_of p events replies = serial_map (zip events replies) (put_all p.rows [])
 
 -- and whatever rows a machine shows as committed are those
 abbrev pub RowsAreSerial : Plan → List Event → List Reply → Engine → Type 0

@@ -12,7 +12,7 @@ use Rattle.hek_machine.specs.declared.engine.Engine.{Engine}
 use Rattle.hek_machine.specs.Stands.{Shows, StandsFor}
 
 -- the versions of one bucket that pass a test of theirs
-pub record ArePlaces (m : Engine) (bucket : ℕ) (vs : List ℕ) : Type 0 where
+pub record AreVersionPlaces (m : Engine) (bucket : ℕ) (vs : List ℕ) : Type 0 where
   pub test : ℕ → Version → Bool
   pub same : (w : World) → StandsFor m w → places test 0 w.versions ≡ vs
   pub there : (w : World) → StandsFor m w → bucket < w.buckets
@@ -35,7 +35,7 @@ deleted_reply None = reply.Absent
 deleted_reply (Some v) = reply.Done
 
 -- the parts show a sound world in which t may make a version
-pub record CanAdd (m : Engine) (t : ℕ) (w : World) : Type 0 where
+pub record CanAddVersion (m : Engine) (t : ℕ) (w : World) : Type 0 where
   pub shows : Shows m w
   pub sound : Sound w
   pub walker : Declared m.txns t
@@ -44,4 +44,4 @@ pub record CanAdd (m : Engine) (t : ℕ) (w : World) : Type 0 where
 
 pub record IsAdding (m : Engine) (t : ℕ) : Type 0 where
   pub world : World
-  pub can : CanAdd m t world
+  pub can : CanAddVersion m t world

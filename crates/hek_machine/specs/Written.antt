@@ -10,7 +10,7 @@ use Rattle.hek_rules.specs.Walk.{Judgement, Refuse, Allow, Purpose, walk, apply_
 use Rattle.hek_rules.specs.Table.{Outcome, aborted, is_claimed}
 use Rattle.hek_machine.specs.declared.engine.Engine.{Engine}
 use Rattle.hek_machine.specs.Stands.{StandsFor}
-use Rattle.hek_machine.specs.Walked.{ArePlaces}
+use Rattle.hek_machine.specs.Walked.{AreVersionPlaces}
 
 -- the walk of t over the versions of a key
 abbrev pub key_walk : World → ℕ → Purpose → ℕ → Judgement
@@ -19,7 +19,7 @@ key_walk w t purpose key = walk w t purpose (bucket_of w key) (of_key w key)
 -- these versions are enough of a key's for t: the walk over them is that over all, and so is what t sees, and what others claim
 pub record AreEnough (m : Engine) (t key : ℕ) (vs : List ℕ) : Type 0 where
   pub below : All (λ v. v < length m.store.versions) vs
-  pub places : ArePlaces m (key % m.store.buckets) vs
+  pub places : AreVersionPlaces m (key % m.store.buckets) vs
   pub walked : (w : World) (purpose : Purpose) → StandsFor m w → walk w t purpose (bucket_of w key) vs ≡ key_walk w t purpose key
   pub seen : (w : World) → StandsFor m w → seen_of w t vs ≡ seen_of w t (of_key w key)
   pub claimed : (w : World) → StandsFor m w → is_claimed w t vs ≡ is_claimed w t (of_key w key)

@@ -12,11 +12,9 @@ ghost use Rattle.hek_machine.specs.Written.{AreEnough, key_walk, after_conflict}
 ghost use Rattle.hek_visible.specs.Seen.{NamesCreator};
 
 use crate::engine::Engine;
-use crate::walks::Aim;
-use hek_rules::{BeginRecord, Cause, Effect, Level, NoMemory, Reply, State, TxnId, VersionId};
-
-/// The number of the time that never comes.
-const INFINITY: u64 = 0x7FFF_FFFF_FFFF_FFFF;
+use hek_rules::{
+    Aim, BeginRecord, Cause, Effect, Level, NoMemory, Reply, State, Time, TxnId, VersionId,
+};
 
 impl Engine {
     /// Whether another that is active made the version of a Begin.
@@ -38,7 +36,7 @@ impl Engine {
     {
         let time = self.read_time(t);
         match begin {
-            BeginRecord::At(made) => time < made && made.number() < INFINITY,
+            BeginRecord::At(made) => time < made && made.number() < Time::INFINITY,
             BeginRecord::By(u) => match self.txns.state(u) {
                 State::Active => u != t,
                 State::Preparing | State::Committed => time < self.txns.end_time(u),

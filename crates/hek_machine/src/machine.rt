@@ -5,7 +5,7 @@ ghost use Rattle.hek_rules.specs.World.{World};
 ghost use Rattle.hek_laws.specs.Runs.{IsFirstClock, IsPlaced};
 ghost use Rattle.hek_machine.specs.Stands.{StandsFor};
 ghost use Rattle.hek_machine.specs.Observed.{opening_of, StandsAs};
-ghost use Rattle.hek_machine.specs.Steps.{NeedsNone, IsStep, IsSmall};
+ghost use Rattle.hek_machine.specs.Steps.{NeedsNone, IsMachineStep, IsSmall};
 
 use crate::engine::Engine;
 use crate::scratch::Scratch;
@@ -71,7 +71,7 @@ impl Machine {
     /// `Detect` in the transactions times the waits.
     pub fn step(&mut self, event: Event) -> Result<Reply, NoMemory>
         requires { IsPlaced (length self.old.buckets) event }
-        ensures step { IfOk result (IsStep event self.old self.new) }
+        ensures step { IfOk result (IsMachineStep event self.old self.new) }
         ensures small { IfOk result (λ r. (w : World) → StandsFor self.old w → IsSmall w r) }
         ensures still { OnErr result (StandsAs self.old self.new) }
         ensures sure { NeedsNone self.old event → IsOk result }

@@ -4,19 +4,19 @@ ghost use Rattle.std.specs.List.{All};
 ghost use Rattle.hek_rules.specs.World.{txn_in, bucket_of};
 ghost use Rattle.hek_rules.specs.Checks.{is_open};
 ghost use Rattle.hek_txn.specs.TxnTable.{Declared};
-ghost use Rattle.hek_machine.specs.Judgements.{IsAimed, purpose_of};
+ghost use Rattle.hek_machine.specs.Judgements.{IsAimed};
+ghost use Rattle.hek_rules.specs.Aims.{purpose_of};
 ghost use Rattle.hek_machine.specs.Room.{HasRoom, CanMake, Reserved};
 ghost use Rattle.hek_buckets.specs.LockLists.{holders_of as holders_in};
 ghost use Rattle.hek_machine.specs.Stands.{Shows, StandsForSome, IsRule, StillShows};
-ghost use Rattle.hek_machine.specs.Walked.{CanAdd, IsAdding, told};
+ghost use Rattle.hek_machine.specs.Walked.{CanAddVersion, IsAdding, told};
 ghost use Rattle.hek_rules.specs.declared.reply.Reply.TheVariants.{Done};
 ghost use Rattle.hek_machine.specs.Written.{AreEnough, key_walk, after_making};
 ghost use Rattle.hek_rules.specs.Locks.{add_version as version_added};
 
 use crate::engine::Engine;
-use crate::walks::Aim;
 use hek_buckets::wait_for_holders;
-use hek_rules::{Cause, Effect, NoMemory, TxnId, VersionId, WriteEntry};
+use hek_rules::{Aim, Cause, Effect, NoMemory, TxnId, VersionId, WriteEntry};
 use hek_store::Version;
 use hek_word::{BeginWord, EndWord};
 
@@ -39,7 +39,7 @@ impl Engine {
         requires room { HasRoom self.old t 1 [] }
         requires bucket { bucket ≡ key % self.old.store.buckets }
         requires make { CanMake self.old t (key % self.old.store.buckets) }
-        ensures { (w : _) → CanAdd self.old t w → Shows self.new (version_added w t key value) }
+        ensures { (w : _) → CanAddVersion self.old t w → Shows self.new (version_added w t key value) }
     {
         let made = WriteEntry::BeginOf(VersionId::new(self.store.len()));
         self.store.add_version(Version {

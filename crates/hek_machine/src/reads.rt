@@ -15,10 +15,10 @@ ghost use Rattle.hek_machine.specs.Stands.{StandsFor, StandsForSome, IsRule, Sti
 ghost use Rattle.hek_machine.specs.Written.{key_walk};
 
 use crate::engine::Engine;
-use crate::key_walks::told;
+use crate::judging::{is_hidden, is_seen};
 use crate::scratch::{Met, Scratch};
-use crate::walks::{Aim, is_hidden, is_seen};
-use hek_rules::{Cause, Effect, NoMemory, Reply, Sight, TxnId, VersionId};
+use crate::walks::told;
+use hek_rules::{Aim, Cause, Effect, NoMemory, Reply, Sight, TxnId, VersionId};
 use hek_store::KeyVersions;
 
 /// The last version seen, after one more.

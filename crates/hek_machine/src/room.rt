@@ -2,7 +2,7 @@
 ghost use Rattle.std.specs.Prelude.{◌≡◌, ◌+◌, ◌<◌, ◌≤◌, ◌^◌, ◌∷◌, [], length, OnOk};
 ghost use Rattle.hek_laws.specs.Lists.{In};
 ghost use Rattle.hek_txn.specs.TxnTable.{Declared, read_set_of, write_set_of, bucket_set_of, waiting_list_of};
-ghost use Rattle.hek_machine.specs.Room.{reads_in, writes_in, waits_in, buckets_in, IsThere, IsReady, HasRoom, Reserved, AreReady, AreJoined};
+ghost use Rattle.hek_machine.specs.Room.{reads_in, writes_in, wait_effects, buckets_in, IsThere, IsEffectReady, HasRoom, Reserved, AreReady, AreJoined};
 ghost use Rattle.std.specs.List.{All};
 ghost use Rattle.hek_buckets.specs.LockLists.{holders_of};
 
@@ -27,7 +27,7 @@ impl Needs {
         requires buckets { self.buckets + 1 < 2 ^ 64 }
         ensures reads { result.reads ≡ self.reads + reads_in (effect ∷ []) }
         ensures writes { result.writes ≡ self.writes + writes_in (effect ∷ []) }
-        ensures waits { result.waits ≡ self.waits + waits_in (effect ∷ []) }
+        ensures waits { result.waits ≡ self.waits + wait_effects (effect ∷ []) }
         ensures buckets { result.buckets ≡ self.buckets + buckets_in (effect ∷ []) }
     {
         let mut more = self;
@@ -45,7 +45,7 @@ impl Needs {
 fn needs_of(effects: &[Effect]) -> Needs
     ensures reads { result.reads ≡ reads_in effects.now }
     ensures writes { result.writes ≡ writes_in effects.now }
-    ensures waits { result.waits ≡ waits_in effects.now }
+    ensures waits { result.waits ≡ wait_effects effects.now }
     ensures buckets { result.buckets ≡ buckets_in effects.now }
     ensures small { length effects.now < 2 ^ 63 }
 {
@@ -83,7 +83,7 @@ impl Engine {
     fn reserve_other(&mut self, t: TxnId, effect: Effect) -> Result<(), NoMemory>
         requires there { IsThere self.old effect }
         ensures reserved { Reserved self.old self.new }
-        ensures ready { OnOk result (IsReady self.new t effect) }
+        ensures ready { OnOk result (IsEffectReady self.new t effect) }
     {
         match effect {
             Effect::LockBucket(bucket) => self.buckets.reserve(bucket),

@@ -15,11 +15,11 @@ ghost use Rattle.hek_machine.specs.Judgements.{IsShown, seen_among, verdict};
 ghost use Rattle.hek_machine.specs.Stands.{StandsFor, StandsForSome, IsRule, StillShows};
 
 use crate::engine::Engine;
-use crate::key_walks::told;
+use crate::judging::{is_hidden, is_seen};
 use crate::pairs::put;
 use crate::scratch::Scratch;
-use crate::walks::{Aim, is_hidden, is_seen};
-use hek_rules::{Cause, Effect, NoMemory, Pairs, Reply, Sight, State, TxnId, VersionId};
+use crate::walks::told;
+use hek_rules::{Aim, Cause, Effect, NoMemory, Pairs, Reply, Sight, State, TxnId, VersionId};
 use hek_store::Versions;
 use hek_word::{BeginWord, EndWord};
 use std::collections::BTreeMap;

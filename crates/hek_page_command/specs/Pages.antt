@@ -7,16 +7,16 @@ use Rattle.hek_commands.specs.Commands.{FileGives}
 use Rattle.hek_page_command.specs.declared.page.Part.{Part}
 
 -- of so many steps the number of the last that is asked for
-abbrev pub last_of : Part → ℕ → ℕ
-last_of part steps = min (unwrap_or part.to steps) steps
+abbrev pub last_step : Part → ℕ → ℕ
+last_step part steps = min (unwrap_or part.to steps) steps
 
 -- how many are done before the page: those before the first that is asked for
 abbrev pub done_of : Part → ℕ → ℕ
-done_of part steps = min (unwrap_or part.from 1 - 1) (last_of part steps)
+done_of part steps = min (unwrap_or part.from 1 - 1) (last_step part steps)
 
 -- how many the page has
 abbrev pub count_of : Part → ℕ → ℕ
-count_of part steps = last_of part steps - done_of part steps
+count_of part steps = last_step part steps - done_of part steps
 
 -- some bytes, of which nothing is said, were written behind those that a writer held, where they are known
 pub record WritesPage (before after : Option (List ℕ)) : Type 0 where

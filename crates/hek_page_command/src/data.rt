@@ -36,7 +36,7 @@ struct Gathered {
 #[tactic(auto, using(hek_asm::proofs::RowLemmas::steps_declared, hek_machine::proofs::PlacedSteps::steps_placed))]
 pub(crate) fn data_of(alloc: Global, schedule: &Schedule, shown: Shown) -> Result<Value, NoMemory> {
     // There is a bucket, and each step is one of this schedule.
-    let _ = schedule.buckets();
+    schedule.known();
     let mut machine = Machine::load(alloc, schedule)?;
     gather(alloc, schedule, &mut machine, schedule.steps(), shown)
 }

@@ -1,7 +1,7 @@
 //! The command itself.
 ghost use Rattle.std.specs.Prelude.{◌≡◌, length, IfOk, IfErr, OnOk, MatchResult};
 ghost use Rattle.hek_commands.specs.Commands.{PrintFails, IsStop};
-ghost use Rattle.hek_page_command.specs.Pages.{Pages, IsAnswer, WritesPage, count_of, done_of, last_of};
+ghost use Rattle.hek_page_command.specs.Pages.{Pages, IsAnswer, WritesPage, count_of, done_of, last_step};
 
 use crate::data::{Shown, data_of};
 use crate::frame::{BACK, FRONT, MIDDLE};
@@ -61,7 +61,7 @@ fn write_page<'a, W: Write, E: Write>(
 
 /// Of so many steps those of a part.
 fn shown_of(part: Part, steps: u64) -> Shown
-    ensures { (result.done ≡ done_of part steps) × (result.last ≡ last_of part steps) }
+    ensures { (result.done ≡ done_of part steps) × (result.last ≡ last_step part steps) }
 {
     let last = part.to.unwrap_or(steps).min(steps);
     let done = part.from.unwrap_or(1).saturating_sub(1).min(last);

@@ -11,18 +11,18 @@ use Rattle.hek_laws.proofs.Table.SetTxns.{slice_get-set_same, slice_get-set}
 use Rattle.hek_rules.specs.declared.event.Event.{Event}
 use Rattle.hek_rules.specs.declared.event.Event.TheVariants.{Detect}
 use Rattle.hek_rules.specs.declared.reply.Reply.{Reply}
-use Rattle.hek_threads.specs.declared.entry.Entry.{Entry}
-use Rattle.hek_threads.specs.declared.stage.Stage.{Stage}
-use Rattle.hek_threads.specs.declared.stage.Stage.TheVariants.{Start, Working, Preparing, Looking, GivingUp, Releasing, Committing, Stamping, Ending, Ended}
-use Rattle.hek_threads.specs.Grammar.{event_at}
-use Rattle.hek_threads.specs.History.{part_of}
+use Rattle.hek_worker.specs.declared.entry.Entry.{Entry}
+use Rattle.hek_worker.specs.declared.stage.Stage.{Stage}
+use Rattle.hek_worker.specs.declared.stage.Stage.TheVariants.{Start, Working, Preparing, Looking, GivingUp, Releasing, Committing, Stamping, Ending, Ended}
+use Rattle.hek_worker.specs.Grammar.{event_at}
+use Rattle.hek_worker.specs.History.{part_of}
 use Rattle.hek_permute.specs.declared.moves.Form.{Form}
 use Rattle.hek_permute.specs.declared.play.Place.{Place}
 use Rattle.hek_permute.specs.Moves.{Work, last_moves}
-use Rattle.hek_permute.specs.Orders.{times}
+use Rattle.hek_permute.specs.Orders.{name_count}
 use Rattle.hek_permute.specs.Tallies.{one_if}
 use Rattle.hek_permute.specs.Plays.{Standing, at_start, may_go, turned, Makes, Walks, AllStand, IsPlay}
-use Rattle.hek_permute.specs.Places.{first_place, standing_of, entry_of, IsResting, IsMade, HasGone, HasCome, AreAt, AllRest, RestBut, IsCounted, IsLater, HasMoved, AreCounted}
+use Rattle.hek_permute.specs.Places.{first_place, standing_of, entry_of, IsResting, IsMade, HasGone, HasCome, AreAt, AllRest, RestBut, IsMoveCounted, IsLater, HasMoved, MovesAreCounted}
 
 lt_more : (i n : ℕ) → IsTrue (nat_lt i n) → IsTrue (nat_lt i (n + 1))
 lt_more i n h = grind (arith, nat_tests)
@@ -252,7 +252,7 @@ count_at form works k p places h all gp = record {
 }
 
 -- one more move has come, and all but the mover rest
-pub counted : (form : Form) (works : List Work) (t : ℕ) (old new : List Place) (h : List Entry) → AllRest form works old h → IsCounted t old new → RestBut form works t new h
+pub counted : (form : Form) (works : List Work) (t : ℕ) (old new : List Place) (h : List Entry) → AllRest form works old h → IsMoveCounted t old new → RestBut form works t new h
 counted form works t old new h all c =
     subst (λ (ps : List Place). RestBut form works t ps h) (sym c.counted)
     (subst (λ (u : ℕ). RestBut form works u (slice_set old c.place (record c.was { moves = c.was.moves + 1 })) h) (sym c.mover) (count_at form works c.place c.was old h all c.is))
@@ -272,7 +272,7 @@ counted_there k i p r places gp gr (inr n) =
     let none : one_if (k + 1 == i + 1) ≡ 0 = rw (is_other (k + 1) (i + 1) (λ e. n (omega arith))) refl in
     (r, set_other places k i (record p { moves = p.moves + 1 }) r n gr, omega arith)
 
-counted_moves : (t i : ℕ) (r : Place) (old new : List Place) → IsCounted t old new → slice_get new i ≡ Some r
+counted_moves : (t i : ℕ) (r : Place) (old new : List Place) → IsMoveCounted t old new → slice_get new i ≡ Some r
     → (z : Place) × (slice_get old i ≡ Some z) × (r.moves ≡ one_if (t == i + 1) + z.moves)
 counted_moves t i r old new c gr =
     subst (λ (u : ℕ). (z : Place) × (slice_get old i ≡ Some z) × (r.moves ≡ one_if (u == i + 1) + z.moves)) (sym c.mover)
@@ -280,7 +280,7 @@ counted_moves t i r old new c gr =
     (subst (λ (ps : List Place). slice_get ps i ≡ Some r) c.counted gr) (same_or_not i c.place))
 
 -- a move came, and then events were made
-pub moved : (t : ℕ) (ps qs rs : List Place) (h now : List Entry) → IsCounted t ps qs → IsLater qs h rs now → HasMoved t ps h rs now
+pub moved : (t : ℕ) (ps qs rs : List Place) (h now : List Entry) → IsMoveCounted t ps qs → IsLater qs h rs now → HasMoved t ps h rs now
 moved t ps qs rs h now c later = record {
   more = later.more;
   grown = later.grown;
@@ -288,10 +288,10 @@ moved t ps qs rs h now c later = record {
 }
 
 -- the play of one move more
-pub times_more : (t u : ℕ) (us : List ℕ) → times t (u ∷ us) ≡ one_if (u == t) + times t us
+pub times_more : (t u : ℕ) (us : List ℕ) → name_count t (u ∷ us) ≡ one_if (u == t) + name_count t us
 times_more t u us = sum_by-cons (λ x. one_if (x == t)) u us
 
-pub counted_more : (t : ℕ) (ps rs : List Place) (h now : List Entry) (past : List ℕ) → AreCounted ps past → HasMoved t ps h rs now → AreCounted rs (t ∷ past)
+pub counted_more : (t : ℕ) (ps rs : List Place) (h now : List Entry) (past : List ℕ) → MovesAreCounted ps past → HasMoved t ps h rs now → MovesAreCounted rs (t ∷ past)
 counted_more t ps rs h now past c m = λ i r gr. let p = m.moves i r gr in
     p.2 ∙ ap (λ (n : ℕ). one_if (t == i + 1) + n) (c i p.0 p.1) ∙ sym (times_more (i + 1) t past)
 
@@ -304,26 +304,26 @@ rest_by : (form : Form) (w : Work) (p : Place) (n : ℕ) → p.moves ≡ n → I
 rest_by form w p n e (inl h) = inl h
 rest_by form w p n e (inr h) = inr (ap (λ (m : ℕ). may_go form w m p.stage) (sym e) ∙ h)
 
-pub stands : (form : Form) (works : List Work) (places : List Place) (h : List Entry) (names : List ℕ) → AllRest form works places h → AreCounted places names → AllStand form works names h
+pub stands : (form : Form) (works : List Work) (places : List Place) (h : List Entry) (names : List ℕ) → AllRest form works places h → MovesAreCounted places names → AllStand form works names h
 stands form works places h names all c = λ i w gw.
     let low : i < length places = omega (arith, slice_get_within works i w gw, all.at.long) in
     let p = some_at places i low in
     record {
       standing = standing_of p.0;
       walk = subst (λ (n : ℕ). Walks form (i + 1) w n at_start (part_of (i + 1) h) (standing_of p.0)) (c i p.0 p.1) (all.at.walks i w p.0 gw p.1);
-      rest = rest_by form w p.0 (times (i + 1) names) (c i p.0 p.1) (all.rest i w p.0 gw p.1);
+      rest = rest_by form w p.0 (name_count (i + 1) names) (c i p.0 p.1) (all.rest i w p.0 gw p.1);
     }
 
 -- so far
 pub record IsSoFar (form : Form) (works : List Work) (past : List ℕ) (places : List Place) (h : List Entry) : Type 0 where
   pub rest : AllRest form works places h
-  pub counted : AreCounted places past
+  pub counted : MovesAreCounted places past
   pub play : IsPlay form works past h
 
 pub on_and_on : (form : Form) (works : List Work) (t : ℕ) (past : List ℕ) (ps rs : List Place) (h now : List Entry) → IsSoFar form works past ps h → AllRest form works rs now
     → HasMoved t ps h rs now → IsSoFar form works (t ∷ past) rs now
 on_and_on form works t past ps rs h now so all m =
-    let c : AreCounted rs (t ∷ past) = counted_more t ps rs h now past so.counted m in
+    let c : MovesAreCounted rs (t ∷ past) = counted_more t ps rs h now past so.counted m in
     record {
       rest = all;
       counted = c;
@@ -361,7 +361,7 @@ back_more xs i d h = ap (λ (n : ℕ). reverse (take n xs)) (add-one i) ∙ ap r
 pub came_to : (form : Form) (t : ℕ) (w : Work) (p q : Place) (old new : List Entry) → HasGone form t w p q old new → IsResting form w q → HasCome form t w p q old new
 came_to form t w p q old new gone rest = record { gone = gone; rest = rest }
 
-pub moved_if : {A E : Type 0} (r : Result A E) (t : ℕ) (ps qs rs ss : List Place) (h now last : List Entry) → IsCounted t ps qs → IsLater qs h rs now
+pub moved_if : {A E : Type 0} (r : Result A E) (t : ℕ) (ps qs rs ss : List Place) (h now last : List Entry) → IsMoveCounted t ps qs → IsLater qs h rs now
     → OnOk r (IsLater rs now ss last) → OnOk r (HasMoved t ps h ss last)
 moved_if (Ok x) t ps qs rs ss h now last c later g = moved t ps qs ss h last c (later_on qs rs ss h now last later g)
 moved_if (Err e) t ps qs rs ss h now last c later g = tt

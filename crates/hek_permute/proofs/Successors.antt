@@ -7,7 +7,7 @@ use Rattle.std.proofs.lemmas.List.Sorted.{IsPermutation-reverse, sum_by-IsPermut
 use Rattle.std.proofs.lemmas.List.Sums.{sum_by-cons}
 use Rattle.std.proofs.lemmas.Grind.{get_or_default_zero}
 use Rattle.std.proofs.lemmas.Bool.Decides.{nat_tests}
-use Rattle.hek_permute.specs.Orders.{IsBelow, times, AreAlike, IsNext, IsLast}
+use Rattle.hek_permute.specs.Orders.{IsBelow, name_count, AreAlike, IsNext, IsLast}
 use Rattle.hek_permute.specs.Falls.{FallsFrom, IsFalling, IsTurn, IsLastAbove}
 
 -- a number stands in a list
@@ -26,18 +26,18 @@ is_itself u = grind (arith, nat_tests)
 abbrev pub one_if : Bool → ℕ
 one_if b = cond b 1 0
 
-times_cons : (t x : ℕ) (xs : List ℕ) → times t (x ∷ xs) ≡ one_if (x == t) + times t xs
+times_cons : (t x : ℕ) (xs : List ℕ) → name_count t (x ∷ xs) ≡ one_if (x == t) + name_count t xs
 times_cons t x xs = sum_by-cons (λ u. one_if (u == t)) x xs
 
-found_here : (z x : ℕ) (xs : List ℕ) (b : Bool) → (x == z) ≡ b → 0 < one_if b + times z xs → (0 < times z xs → IsIn z xs) → IsIn z (x ∷ xs)
+found_here : (z x : ℕ) (xs : List ℕ) (b : Bool) → (x == z) ≡ b → 0 < one_if b + name_count z xs → (0 < name_count z xs → IsIn z xs) → IsIn z (x ∷ xs)
 found_here z x xs true e h later = (0, omega arith, same_number x z e)
 found_here z x xs false e h later = let at : IsIn z xs = later (omega arith) in (suc at.0, omega (arith, at.1), at.2)
 
-found : (z : ℕ) (xs : List ℕ) → 0 < times z xs → IsIn z xs
+found : (z : ℕ) (xs : List ℕ) → 0 < name_count z xs → IsIn z xs
 found z [] h = absurd (omega arith)
 found z (x ∷ xs) h = found_here z x xs (x == z) refl (omega (arith, times_cons z x xs)) (found z xs)
 
-one_of : (z : ℕ) (xs : List ℕ) → 0 < times z (z ∷ xs)
+one_of : (z : ℕ) (xs : List ℕ) → 0 < name_count z (z ∷ xs)
 one_of z xs = omega (arith, times_cons z z xs, ap one_if (is_itself z))
 
 -- the head of one of two lists that are alike stands in the other
@@ -129,12 +129,12 @@ is_next (f ∷ g ∷ fs) tail zero y up e h = absurd (omega arith)
 is_next (f ∷ fs) tail (suc place) y up e h = behind_front f (fs ++ tail) (set fs place y ++ up) (is_next fs tail place y up (omega arith) h)
 
 -- a number in the place of another
-set_times : (t x : ℕ) (tail : List ℕ) (j : ℕ) → j < length tail → one_if (slice_index tail j == t) + times t (set tail j x) ≡ one_if (x == t) + times t tail
+set_times : (t x : ℕ) (tail : List ℕ) (j : ℕ) → j < length tail → one_if (slice_index tail j == t) + name_count t (set tail j x) ≡ one_if (x == t) + name_count t tail
 set_times t x [] j h = absurd (omega arith)
 set_times t x (z ∷ tail) zero h = omega (arith, times_cons t z tail, times_cons t x tail)
 set_times t x (z ∷ tail) (suc j) h = omega (arith, times_cons t z tail, times_cons t z (set tail j x), set_times t x tail j (omega arith))
 
-reverse_times : (t : ℕ) (xs : List ℕ) → times t (reverse xs) ≡ times t xs
+reverse_times : (t : ℕ) (xs : List ℕ) → name_count t (reverse xs) ≡ name_count t xs
 reverse_times t xs = sum_by-IsPermutation (λ u. one_if (u == t)) xs (reverse xs) (IsPermutation-reverse xs)
 
 set_falls_here : (tail : List ℕ) (x j i k : ℕ) → IsFalling tail → IsLastAbove tail x j → i ≤ k → k < length tail → (i ≡ j) ⊎ (i ≡ j → ⊥) → (k ≡ j) ⊎ (k ≡ j → ⊥)

@@ -5,7 +5,7 @@ use Rattle.std.specs.List.{AllByRecursion}
 use Rattle.hek_rules.specs.Plan.{Plan}
 use Rattle.hek_permute.specs.declared.moves.Form.{Form}
 use Rattle.hek_permute.specs.Found.{Line}
-use Rattle.hek_permute.specs.Moves.{Work, AreMoves, counts_of, first_of}
+use Rattle.hek_permute.specs.Moves.{Work, AreMoves, counts_of, first_order_from}
 use Rattle.hek_permute.specs.Orders.{IsBelow, AreAlike, IsNext, IsLast, IsAmong, AreFalling}
 use Rattle.hek_permute.specs.Tallies.{Goes, IsTally, is_between, total, one_if}
 use Rattle.hek_permute.specs.Wholes.{IsWhole, first_in}
@@ -56,9 +56,9 @@ copies_rise : (n t : ℕ) (xs : List ℕ) → RisesFrom t xs → RisesFrom t (re
 copies_rise zero t xs r = r
 copies_rise (suc n) t xs r = (omega arith, copies_rise n t xs r)
 
-first_rises : (t : ℕ) (ns : List ℕ) → RisesFrom t (first_of t ns)
+first_rises : (t : ℕ) (ns : List ℕ) → RisesFrom t (first_order_from t ns)
 first_rises t [] = tt
-first_rises t (n ∷ ns) = copies_rise n t (first_of (t + 1) ns) (rises_lower t (t + 1) (first_of (t + 1) ns) (omega arith) (first_rises (t + 1) ns))
+first_rises t (n ∷ ns) = copies_rise n t (first_order_from (t + 1) ns) (rises_lower t (t + 1) (first_order_from (t + 1) ns) (omega arith) (first_rises (t + 1) ns))
 
 lowest : (b : ℕ) (xs : List ℕ) (k : ℕ) → RisesFrom b xs → k < length xs → b ≤ slice_index xs k
 lowest b [] k r h = absurd (omega arith)
@@ -72,8 +72,8 @@ rising b (x ∷ xs) r zero (suc k) low h = lowest x xs k r.1 (omega arith)
 rising b (x ∷ xs) r (suc i) zero low h = absurd (omega arith)
 rising b (x ∷ xs) r (suc i) (suc k) low h = rising x xs r.1 i k (omega arith) (omega arith)
 
-pub none_below : (ns : List ℕ) (q : List ℕ) → AreAlike (first_of 1 ns) q → IsBelow q (first_of 1 ns) → ⊥
-none_below ns q a b = least (first_of 1 ns) q (rising 1 (first_of 1 ns) (first_rises 1 ns)) a b
+pub none_below : (ns : List ℕ) (q : List ℕ) → AreAlike (first_order_from 1 ns) q → IsBelow q (first_order_from 1 ns) → ⊥
+none_below ns q a b = least (first_order_from 1 ns) q (rising 1 (first_order_from 1 ns) (first_rises 1 ns)) a b
 
 -- the orders before one, the last first, and the tally of those in the part
 pub record IsSoFar (p : Plan) (form : Form) (from to number : ℕ) (moves : List Work) (order : List ℕ) (rows : List Line) : Type 0 where

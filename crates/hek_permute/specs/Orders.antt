@@ -9,12 +9,12 @@ IsBelow [] (y ∷ ys) = Unit {0}
 IsBelow (x ∷ xs) (y ∷ ys) = (x < y) ⊎ ((x ≡ y) × IsBelow xs ys)
 
 -- how often a transaction stands in an order
-abbrev pub times : ℕ → List ℕ → ℕ
-times t xs = count_by (λ u. u == t) xs
+abbrev pub name_count : ℕ → List ℕ → ℕ
+name_count t xs = count_by (λ u. u == t) xs
 
 -- each transaction stands in both equally often
 abbrev pub AreAlike : List ℕ → List ℕ → Type 0
-AreAlike xs ys = (t : ℕ) → times t xs ≡ times t ys
+AreAlike xs ys = (t : ℕ) → name_count t xs ≡ name_count t ys
 
 -- of the orders that are like the old one, the new one is the first that comes behind it
 pub record IsNext (old new : List ℕ) : Type 0 where

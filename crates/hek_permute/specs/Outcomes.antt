@@ -12,8 +12,8 @@ use Rattle.hek_rules.specs.Shown.{committed_rows}
 use Rattle.hek_rules.specs.Run.{run}
 use Rattle.hek_machine.specs.Observed.{opening_of}
 use Rattle.hek_serial.specs.Leveled.{at_level}
-use Rattle.hek_threads.specs.declared.entry.Entry.{Entry}
-use Rattle.hek_threads.specs.History.{events_of, recorded_by}
+use Rattle.hek_worker.specs.declared.entry.Entry.{Entry}
+use Rattle.hek_worker.specs.History.{history_events, recorded_by}
 use Rattle.hek_permute.specs.declared.outcome.Ending.{Ending}
 use Rattle.hek_permute.specs.declared.outcome.Ending.TheVariants as ending
 use Rattle.hek_permute.specs.Found.{Found}
@@ -41,9 +41,9 @@ is_wait (reply.WaitingCommits n) = true
 is_wait r = false
 
 -- somebody was told to wait
-abbrev pub waits_in : List Entry → Bool
-waits_in [] = false
-waits_in (x ∷ xs) = is_wait x.reply || waits_in xs
+abbrev pub has_wait : List Entry → Bool
+has_wait [] = false
+has_wait (x ∷ xs) = is_wait x.reply || has_wait xs
 
 -- what a checker is told of a history, with all taken as serializable
 abbrev pub told_as_serializable : Plan → List Entry → Recorded
@@ -52,6 +52,6 @@ told_as_serializable p xs = at_level Serializable (recorded_by p xs)
 -- the outcome of a history
 pub record IsOutcomeOf (p : Plan) (history : List Entry) (o : Found) : Type 0 where
   pub ends : o.ends ≡ ends_upto (length p.txns) history
-  pub rows : o.rows ≡ committed_rows (run (opening_of p 1) (events_of history))
+  pub rows : o.rows ≡ committed_rows (run (opening_of p 1) (history_events history))
   pub serial : IsTrue o.serial ↔ IsVerdict (told_as_serializable p history) Serial
-  pub waited : o.waited ≡ waits_in history
+  pub waited : o.waited ≡ has_wait history

@@ -2,14 +2,14 @@
 use Rattle.std.specs.Prelude.{ℕ, ◌≡◌, ◌+◌, ◌⊎◌, ◌==◌, false, IsTrue, Some, List, [], ◌∷◌, ◌++◌, length, map, slice_get, slice_set}
 use Rattle.hek_rules.specs.declared.event.Event.{Event}
 use Rattle.hek_rules.specs.declared.reply.Reply.{Reply}
-use Rattle.hek_threads.specs.declared.entry.Entry.{Entry}
-use Rattle.hek_threads.specs.declared.stage.Stage.TheVariants.{Start}
-use Rattle.hek_threads.specs.Grammar.{event_at}
-use Rattle.hek_threads.specs.History.{part_of}
+use Rattle.hek_worker.specs.declared.entry.Entry.{Entry}
+use Rattle.hek_worker.specs.declared.stage.Stage.TheVariants.{Start}
+use Rattle.hek_worker.specs.Grammar.{event_at}
+use Rattle.hek_worker.specs.History.{part_of}
 use Rattle.hek_permute.specs.declared.moves.Form.{Form}
 use Rattle.hek_permute.specs.declared.play.Place.{Place}
 use Rattle.hek_permute.specs.Moves.{Work}
-use Rattle.hek_permute.specs.Orders.{times}
+use Rattle.hek_permute.specs.Orders.{name_count}
 use Rattle.hek_permute.specs.Tallies.{one_if}
 use Rattle.hek_permute.specs.Plays.{Standing, at_start, may_go, turned, after_reply, Walks}
 
@@ -63,7 +63,7 @@ pub record RestBut (form : Form) (works : List Work) (t : ℕ) (places : List Pl
   pub rest : (i : ℕ) (w : Work) (p : Place) → (t ≡ i + 1 → ⊥) → slice_get works i ≡ Some w → slice_get places i ≡ Some p → IsResting form w p
 
 -- one more move of t has come
-pub record IsCounted (t : ℕ) (old new : List Place) : Type 0 where
+pub record IsMoveCounted (t : ℕ) (old new : List Place) : Type 0 where
   pub place : ℕ
   pub was : Place
   pub mover : t ≡ place + 1
@@ -84,5 +84,5 @@ pub record HasMoved (t : ℕ) (places : List Place) (h : List Entry) (later : Li
       → (q : Place) × (slice_get places i ≡ Some q) × (p.moves ≡ one_if (t == i + 1) + q.moves)
 
 -- so many moves of each have come as it has among these names
-abbrev pub AreCounted : List Place → List ℕ → Type 0
-AreCounted places names = (i : ℕ) (p : Place) → slice_get places i ≡ Some p → p.moves ≡ times (i + 1) names
+abbrev pub MovesAreCounted : List Place → List ℕ → Type 0
+MovesAreCounted places names = (i : ℕ) (p : Place) → slice_get places i ≡ Some p → p.moves ≡ name_count (i + 1) names

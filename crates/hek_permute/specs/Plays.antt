@@ -3,16 +3,16 @@ use Rattle.std.specs.Prelude.{ℕ, ◌≡◌, ◌+◌, ◌⊎◌, Bool, true, fa
 use Rattle.hek_rules.specs.declared.event.Event.{Event}
 use Rattle.hek_rules.specs.declared.event.Event.TheVariants.{Detect}
 use Rattle.hek_rules.specs.declared.reply.Reply.{Reply}
-use Rattle.hek_threads.specs.declared.entry.Entry.{Entry}
-use Rattle.hek_threads.specs.declared.stage.Stage.{Stage}
-use Rattle.hek_threads.specs.declared.stage.Stage.TheVariants.{Start, Working, Preparing, GivingUp, Releasing, Ended}
-use Rattle.hek_threads.specs.declared.stage.Position.{Position}
-use Rattle.hek_threads.specs.Grammar.{event_at, after}
-use Rattle.hek_threads.specs.History.{part_of}
+use Rattle.hek_worker.specs.declared.entry.Entry.{Entry}
+use Rattle.hek_worker.specs.declared.stage.Stage.{Stage}
+use Rattle.hek_worker.specs.declared.stage.Stage.TheVariants.{Start, Working, Preparing, GivingUp, Releasing, Ended}
+use Rattle.hek_worker.specs.declared.stage.Position.{Position}
+use Rattle.hek_worker.specs.Grammar.{event_at, position_after}
+use Rattle.hek_worker.specs.History.{part_of}
 use Rattle.hek_permute.specs.declared.moves.Form.{Form}
 use Rattle.hek_permute.specs.declared.moves.Form.TheVariants.{Whole, Split}
 use Rattle.hek_permute.specs.Moves.{Work, last_moves}
-use Rattle.hek_permute.specs.Orders.{times}
+use Rattle.hek_permute.specs.Orders.{name_count}
 use Rattle.hek_permute.specs.Outcomes.{is_wait}
 
 -- where a transaction stands: what it does next, and whether it was told to wait
@@ -44,7 +44,7 @@ went (Some p) = Some (record { stage = p.stage; waits = false })
 
 -- where it stands after a reply: where it did if it is told to wait, else by the workers' grammar
 abbrev pub after_reply : Form → ℕ → Work → Stage → Reply → Option Standing
-after_reply form t w s r = if is_wait r then Some (record { stage = s; waits = true }) else went (after t w.events (turned form w s) 0 r)
+after_reply form t w s r = if is_wait r then Some (record { stage = s; waits = true }) else went (position_after t w.events (turned form w s) 0 r)
 
 -- the next event of t, and its reply
 abbrev pub Makes : Form → ℕ → Work → ℕ → Standing → Event × Reply → Standing → Type 0
@@ -57,7 +57,7 @@ Walks form t w n s [] z = s ≡ z
 Walks form t w n s (x ∷ xs) z = (m : Standing) × (((x.0 ≡ Detect) × (m ≡ s)) ⊎ Makes form t w n s x m) × Walks form t w n m xs z
 
 -- by n of its moves t has done this, and goes no further: it was told to wait, or what is next belongs to a later move
-pub record Stands (form : Form) (t : ℕ) (w : Work) (n : ℕ) (xs : List (Event × Reply)) : Type 0 where
+pub record HasGoneOn (form : Form) (t : ℕ) (w : Work) (n : ℕ) (xs : List (Event × Reply)) : Type 0 where
   pub standing : Standing
   pub walk : Walks form t w n at_start xs standing
   pub rest : IsTrue standing.waits ⊎ (may_go form w n standing.stage ≡ false)
@@ -65,7 +65,7 @@ pub record Stands (form : Form) (t : ℕ) (w : Work) (n : ℕ) (xs : List (Event
 -- each does so by as many moves as it has among these
 abbrev pub AllStand : Form → List Work → List ℕ → List Entry → Type 0
 AllStand form works names h =
-    (i : ℕ) (w : Work) → slice_get works i ≡ Some w → Stands form (i + 1) w (times (i + 1) names) (part_of (i + 1) h)
+    (i : ℕ) (w : Work) → slice_get works i ≡ Some w → HasGoneOn form (i + 1) w (name_count (i + 1) names) (part_of (i + 1) h)
 
 -- the history is a play of these moves, of which the last stands first
 abbrev pub IsPlay : Form → List Work → List ℕ → List Entry → Type 0

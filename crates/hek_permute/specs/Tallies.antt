@@ -1,8 +1,8 @@
 -- How often each outcome was met.
 use Rattle.std.specs.Prelude.{ℕ, ◌≡◌, ◌+◌, ◌<◌, ◌⊎◌, Bool, true, false, ◌&&◌, cond, nat_le, nat_lt, List, [], ◌∷◌, ◌++◌, length, reverse, slice_get, slice_set, Some, sum_by}
 use Rattle.hek_rules.specs.Plan.{Plan}
-use Rattle.hek_threads.specs.declared.entry.Entry.{Entry}
-use Rattle.hek_threads.specs.History.{IsHistory, events_of, replies_in}
+use Rattle.hek_worker.specs.declared.entry.Entry.{Entry}
+use Rattle.hek_worker.specs.History.{IsHistory, history_events, replies_in}
 use Rattle.hek_rules.specs.declared.event.Event.{Event}
 use Rattle.hek_rules.specs.declared.reply.Reply.{Reply}
 use Rattle.hek_rules.specs.Run.{transcript}
@@ -58,7 +58,7 @@ total rows = sum_by (λ r. r.orders) rows
 pub record IsPlayed (p : Plan) (form : Form) (works : List Work) (order : List ℕ) (o : Found) : Type 0 where
   pub history : List Entry
   pub formed : IsHistory (length p.txns) history
-  pub replies : replies_in history ≡ map (λ (x : Event × Reply). x.1) (transcript (opening_of p 1) (events_of history))
+  pub replies : replies_in history ≡ map (λ (x : Event × Reply). x.1) (transcript (opening_of p 1) (history_events history))
   pub play : IsPlay form works (reverse order) history
   pub outcome : IsOutcomeOf p history o
 

@@ -1,14 +1,14 @@
 //! What an order comes to: how each transaction ended, the rows at the end, and the checker's verdict.
 ghost use Rattle.std.specs.Prelude.{◌≡◌, ◌↔◌, IfOk, IsTrue, length};
-ghost use Rattle.hek_threads.specs.History.{Replays};
-ghost use Rattle.hek_permute.specs.Outcomes.{IsOutcomeOf, end_in, ends_upto, told_as_serializable, waits_in};
+ghost use Rattle.hek_worker.specs.History.{Replays};
+ghost use Rattle.hek_permute.specs.Outcomes.{IsOutcomeOf, end_in, ends_upto, told_as_serializable, has_wait};
 ghost use Rattle.hek_rules.specs.Faults.{IsVerdict};
 ghost use Rattle.hek_rules.specs.declared.serial.Verdict.TheVariants as verdict;
 
 use crate::play::Play;
 use hek_rules::{Cause, Level, NoMemory, Pairs, Reply, Schedule, TxnId, Verdict};
 use hek_serial::check_at;
-use hek_threads::{Entry, transcript_of};
+use hek_worker::{Entry, transcript_of};
 use std::alloc::Global;
 use std::marker::Model;
 
@@ -148,7 +148,7 @@ fn end_of(txn: TxnId, history: &[Entry]) -> Ending
 
 /// Whether a transaction was told to wait.
 fn some_waited(history: &[Entry]) -> bool
-    ensures { result ≡ waits_in history.now }
+    ensures { result ≡ has_wait history.now }
 {
     let mut rest = history;
     while let Some((entry, later)) = rest.split_first() {

@@ -1,15 +1,15 @@
 //! One order of moves, played on a machine of its own.
 ghost use Rattle.std.specs.Prelude.{◌≡◌, ◌+◌, ◌<◌, ◌⊎◌, IfOk, IfSome, OnOk, false, length, reverse, slice_get};
-ghost use Rattle.hek_threads.specs.History.{Replays};
+ghost use Rattle.hek_worker.specs.History.{Replays};
 ghost use Rattle.hek_permute.specs.Plays.{IsPlay, may_go, turned};
-ghost use Rattle.hek_permute.specs.Places.{AllRest, HasCome, IsCounted, IsLater, IsMade, RestBut};
+ghost use Rattle.hek_permute.specs.Places.{AllRest, HasCome, IsMoveCounted, IsLater, IsMade, RestBut};
 
 use crate::fault::OrderFault;
 use crate::moves::{Form, Moves, move_count};
 use crate::outcome::is_wait;
 use hek_machine::Machine;
 use hek_rules::{Event, NoMemory, Reply, Schedule, TxnId};
-use hek_threads::{Book, Entry, Position, Stage};
+use hek_worker::{Book, Entry, Position, Stage};
 use std::alloc::Global;
 
 /// What an order comes to: the machine after it, and all events in the order in which they were made.
@@ -177,7 +177,7 @@ ghost use Rattle.hek_permute.specs.Places.{HasMoved};
 
 /// One more move of a transaction has come. The answer is whether the transaction isn't over.
 fn count_move(places: &mut [Place], mover: TxnId) -> Result<bool, OrderFault>
-    ensures { OnOk result (IsCounted mover places.old places.new) }
+    ensures { OnOk result (IsMoveCounted mover places.old places.new) }
 {
     let at = place_of(mover)?;
     let Some(place) = places.get(at) else {

@@ -14,9 +14,9 @@ use crate::tally::Tally;
 use hek_rules::{Schedule, TxnId};
 use std::alloc::Global;
 
-/// Who is shown each order with its outcome.
+/// Looks at each order with its outcome. No contract says what a watcher is shown: tests alone do.
 pub trait Watch {
-    /// Is called for each order that is played, in their order. Where it answers false no more are played.
+    /// `play_all` calls this for each order that it plays, in turn. After `false` it plays no more.
     fn see(&mut self, order: &[TxnId], outcome: &Outcome) -> bool;
 }
 

@@ -3,7 +3,7 @@ use crate::choice::{Choice, range_of};
 use crate::leveled::schedule_with;
 use crate::lines::{put_order, put_outcome, put_row, put_written};
 use crate::one::{fault_of, write_one};
-use crate::table::{LEVELS, put_table};
+use crate::table::put_table;
 use hek_commands::{HekFault, ScheduleFile, schedule_in, send};
 use hek_permute::{Form, Outcome, Tally, Watch, moves_of, order_count, play_all};
 use hek_rules::{Level, NoMemory, Schedule, TxnId};
@@ -214,7 +214,7 @@ fn put_levels<'a>(
     text: &mut Vec<u8>,
 ) -> Result<(), HekFault<'a>> {
     let mut tallies = Vec::new(alloc);
-    for level in LEVELS {
+    for level in Level::ALL {
         let tally = tally_at(alloc, schedule, level, form, from, to)?;
         if tallies.push(tally).is_err() {
             return Err(HekFault::NoMemory);

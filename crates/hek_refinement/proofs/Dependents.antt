@@ -11,7 +11,7 @@ use Rattle.hek_rules.specs.Shown.{dependents_of}
 use Rattle.hek_txn.specs.Entries.{Entries}
 use Rattle.hek_txn.specs.TxnTable.{TxnTable, Declared, entry_at, set_at, dependents_of as dependents_in, with_dependents}
 use Rattle.hek_txn.specs.TxnLemmas.{length_set_at, length_set_txn}
-use Rattle.hek_commit.specs.Committed.{AreCounted, lowered, in_state, committed, aborted}
+use Rattle.hek_commit.specs.Committed.{AreCounted, lowered, in_state, table_after_commit, table_after_abort}
 use Rattle.hek_laws.specs.Lists.{Once}
 use Rattle.hek_refinement.specs.Shows.{ShowsTxns}
 use Rattle.hek_refinement.proofs.Pairs.{bit, head-once, seconds-without_same, seconds-without_other, firsts-without_count}
@@ -90,13 +90,13 @@ shows-undepended x w t cores txns e d once long same empty s =
     }
 
 pub shows-commit : (x : TxnTable) (w : World) (t : ℕ) (e : Entries ℕ) → Declared x t → Once w.dependents → e.items ≡ [] → ShowsTxns x w →
-    ShowsTxns (with_dependents (committed x t) t e) (commit w t)
+    ShowsTxns (with_dependents (table_after_commit x t) t e) (commit w t)
 shows-commit x w t e d once empty s =
     shows-undepended x w t (in_state x.cores t Committed) _ e d once (length_set_txn x.cores t _)
     (ap (λ ts. in_state ts t Committed) s.cores) empty s
 
 pub shows-abort : (x : TxnTable) (w : World) (t : ℕ) (cause : Cause) (e : Entries ℕ) → Declared x t → Once w.dependents → e.items ≡ [] → ShowsTxns x w →
-    ShowsTxns (with_dependents (aborted x t cause) t e) (abort w t cause)
+    ShowsTxns (with_dependents (table_after_abort x t cause) t e) (abort w t cause)
 shows-abort x w t cause e d once empty s =
     let ts : List Txn = in_state x.cores t (Aborted cause) in
     shows-undepended x w t (doom (in_state x.cores t (Aborted cause)) (dependents_in x t).items) _ e d once

@@ -10,7 +10,7 @@ use Rattle.hek_rules.specs.World.{World, Version, Txn, Ender, EndedAt, Held, ver
 use Rattle.hek_rules.specs.Waits.{readers, waits, is_waited_for}
 use Rattle.hek_rules.specs.Locks.{cleared, set_ender, reads_freely, read_refusal, add_read}
 use Rattle.hek_rules.specs.Shown.{end_word_by, readers_alone}
-use Rattle.hek_store.specs.Stored.{Stored, version_at, with_end}
+use Rattle.hek_store.specs.Stored.{Stored, version_at, with_end_word}
 use Rattle.hek_txn.specs.Entries.{Entries, joined}
 use Rattle.hek_txn.specs.TxnTable.{TxnTable, Declared, entry_at, set_at, waits_of, read_set_of, with_read_set}
 use Rattle.hek_txn.specs.TxnLemmas.{length_set_at}
@@ -135,7 +135,7 @@ same_but w t v l =
     record { there = same.there; long = same.long; versions = same.versions; counts = λ j ne. ap length (firsts-join_other w.read_locks t v j ne) }
 
 joined_store : (s : Stored) (x : TxnTable) (w : World) (t v : ℕ) → NewReader w t v → ShowsStore s w.buckets w.versions w.read_locks → ShowsTxns x w →
-    ShowsStore (with_end s v (with_reader (cleared_word x.cores (version_at s v).end))) w.buckets (set_ender w.versions v (cleared w.txns (version_in w.versions v).ender)) (join w.read_locks t v)
+    ShowsStore (with_end_word s v (with_reader (cleared_word x.cores (version_at s v).end))) w.buckets (set_ender w.versions v (cleared w.txns (version_in w.versions v).ender)) (join w.read_locks t v)
 joined_store s x w t v r h q =
     let e : Ender = cleared w.txns (version_in w.versions v).ender in
     shows-end s w.buckets w.versions (set_ender w.versions v (cleared w.txns (version_in w.versions v).ender)) w.read_locks (join w.read_locks t v) v
@@ -227,7 +227,7 @@ shows-read_store s x w t v m h q =
     (λ free. subst (λ z. ShowsStore z w.buckets (add_read w t v).versions (add_read w t v).read_locks) (sym (cond-true (freely s x t v) s _ (free-same s x w t v h q ∙ free)))
     (subst (λ (z : World). ShowsStore s w.buckets z.versions z.read_locks) (sym (cond-true (reads_freely w t v) w (joined_world w t v) free)) h))
     (λ bound. subst (λ z. ShowsStore z w.buckets (add_read w t v).versions (add_read w t v).read_locks) (sym (cond-false (freely s x t v) s _ (free-same s x w t v h q ∙ bound)))
-    (subst (λ (z : World). ShowsStore (with_end s v (with_reader (cleared_word x.cores (version_at s v).end))) w.buckets z.versions z.read_locks) (sym (cond-false (reads_freely w t v) w (joined_world w t v) bound))
+    (subst (λ (z : World). ShowsStore (with_end_word s v (with_reader (cleared_word x.cores (version_at s v).end))) w.buckets z.versions z.read_locks) (sym (cond-false (reads_freely w t v) w (joined_world w t v) bound))
     (joined_store s x w t v (new-reader w t v m bound) h q)))
     (cases_Bool (reads_freely w t v))
 

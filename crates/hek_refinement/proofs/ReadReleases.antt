@@ -14,7 +14,7 @@ use Rattle.hek_rules.specs.Waits.{readers, waits, is_waited_for}
 use Rattle.hek_rules.specs.Locks.{with_ender, set_ender}
 use Rattle.hek_rules.specs.Table.{drop_read, sealed, writer_left}
 use Rattle.hek_rules.specs.Shown.{end_word_by}
-use Rattle.hek_store.specs.Stored.{Stored, version_at, with_end}
+use Rattle.hek_store.specs.Stored.{Stored, version_at, with_end_word}
 use Rattle.hek_txn.specs.Entries.{Entries}
 use Rattle.hek_txn.specs.TxnTable.{TxnTable, Declared, entry_at, set_at, waits_of, read_set_of, with_read_set}
 use Rattle.hek_txn.specs.TxnLemmas.{length_set_at}
@@ -166,7 +166,7 @@ pub told-same : (s : Stored) (w : World) (t v : ℕ) → Reading w t v → Shows
 told-same s w t v r h = ap left_writer (dropped s w t v r h) ∙ told-kind (readers (leave w.read_locks t v) v) (version_in w.versions v).ender
 
 pub shows-released_store : (s : Stored) (w : World) (t v : ℕ) → Reading w t v → ShowsStore s w.buckets w.versions w.read_locks →
-    ShowsStore (with_end s v (without_reader (version_at s v).end)) w.buckets (drop_read w t v).versions (drop_read w t v).read_locks
+    ShowsStore (with_end_word s v (without_reader (version_at s v).end)) w.buckets (drop_read w t v).versions (drop_read w t v).read_locks
 shows-released_store s w t v r h =
     let count : ℕ = readers (leave w.read_locks t v) v in
     shows-end s w.buckets w.versions (after_leave w.versions v (readers (leave w.read_locks t v) v)) w.read_locks (leave w.read_locks t v) v

@@ -12,7 +12,7 @@ use Rattle.hek_rules.specs.Waits.{readers, waits, is_waited_for}
 use Rattle.hek_rules.specs.Locks.{set_ender}
 use Rattle.hek_rules.specs.Table.{entries_of, without_entry, set_creator, given_back}
 use Rattle.hek_rules.specs.Shown.{end_word_by}
-use Rattle.hek_store.specs.Stored.{Stored, version_at, with_begin, with_end}
+use Rattle.hek_store.specs.Stored.{Stored, version_at, with_begin_word, with_end_word}
 use Rattle.hek_txn.specs.Entries.{Entries}
 use Rattle.hek_txn.specs.TxnTable.{TxnTable, Declared, write_set_of, with_write_set}
 use Rattle.hek_locks.specs.Locked.{writer_freed}
@@ -52,7 +52,7 @@ quiet x w ys same s = shows-versions x w ys x.waits refl (λ u. s.waits u ∙ sy
 -- ---- a Begin word
 
 pub shows-begun_store : (s : Stored) (w : World) (v : ℕ) (b : BeginRecord) → v < length w.versions → ShowsStore s w.buckets w.versions w.read_locks →
-    ShowsStore (with_begin s v b) w.buckets (set_creator w.versions v b) w.read_locks
+    ShowsStore (with_begin_word s v b) w.buckets (set_creator w.versions v b) w.read_locks
 shows-begun_store s w v b l h = shows-begin s w.buckets w.versions w.read_locks v b l h
 
 creator-waits : (w : World) (v : ℕ) (b : BeginRecord) (u : ℕ) → v < length w.versions → waits (record w { versions = set_creator w.versions v b }) u ≡ waits w u
@@ -99,7 +99,7 @@ settled w t v u o l mine done =
     held-alone (Held (Some x) no_more) t u h ne = grind (arith, nat_tests, h, ne)
 
 pub shows-ended_store : (s : Stored) (w : World) (v time : ℕ) → v < length w.versions → ShowsStore s w.buckets w.versions w.read_locks →
-    ShowsStore (with_end s v (Until time)) w.buckets (set_ender w.versions v (EndedAt time)) w.read_locks
+    ShowsStore (with_end_word s v (Until time)) w.buckets (set_ender w.versions v (EndedAt time)) w.read_locks
 shows-ended_store s w v time l h =
     shows-end s w.buckets w.versions (set_ender w.versions v (EndedAt time)) w.read_locks w.read_locks v (Until time) (EndedAt time)
     (same-set w.read_locks w.versions v _ l) (set_ender-same w.versions v (EndedAt time) l) refl h
@@ -147,7 +147,7 @@ left-as_is w t v l h = ap (set_ender w.versions v) (back-other t (version_in w.v
 
 pub shows-back_store : (s : Stored) (w : World) (t v : ℕ) → v < length w.versions → is_held_by t (version_in w.versions v).ender ≡ true →
     ShowsStore s w.buckets w.versions w.read_locks →
-    ShowsStore (with_end s v (without_writer (version_at s v).end)) w.buckets (set_ender w.versions v (given_back t (version_in w.versions v).ender)) w.read_locks
+    ShowsStore (with_end_word s v (without_writer (version_at s v).end)) w.buckets (set_ender w.versions v (given_back t (version_in w.versions v).ender)) w.read_locks
 shows-back_store s w t v l mine h =
     let e : Ender = given_back t (version_in w.versions v).ender in
     shows-end s w.buckets w.versions (set_ender w.versions v (given_back t (version_in w.versions v).ender)) w.read_locks w.read_locks v (without_writer (version_at s v).end) (given_back t (version_in w.versions v).ender)

@@ -10,7 +10,7 @@ use Rattle.hek_rules.specs.Shown.{end_word_by}
 use Rattle.hek_rules.specs.Locks.{with_ender, set_ender}
 use Rattle.hek_rules.specs.Table.{set_creator}
 use Rattle.hek_store.specs.declared.version.Version.{Version as StoredVersion}
-use Rattle.hek_store.specs.Stored.{Stored, version_at, no_version, with_begin, with_end}
+use Rattle.hek_store.specs.Stored.{Stored, version_at, no_version, with_begin_word, with_end_word}
 use Rattle.hek_refinement.specs.Shows.{ShowsStore, version_shown}
 use Rattle.hek_refinement.proofs.Counts.{SameBut, version-set_same, version-set_other}
 
@@ -39,7 +39,7 @@ shows-set s n vs ys R S v x same is h = record {
 
 -- another End word
 pub shows-end : (s : Stored) (n : ℕ) (vs ys : List Version) (R S : List (ℕ × ℕ)) (v : ℕ) (word : EndRecord) (e : Ender) → SameBut R S vs ys v →
-    version_in ys v ≡ with_ender (version_in vs v) e → word ≡ end_word_by (readers S v) e → ShowsStore s n vs R → ShowsStore (with_end s v word) n ys S
+    version_in ys v ≡ with_ender (version_in vs v) e → word ≡ end_word_by (readers S v) e → ShowsStore s n vs R → ShowsStore (with_end_word s v word) n ys S
 shows-end s n vs ys R S v word e same here is h =
     shows-set s n vs ys R S v (record (version_at s v) { end = word }) same
     (ap (λ (x : StoredVersion). record x { end = word }) (h.versions v)
@@ -56,7 +56,7 @@ same-set R vs v x l = record {
 
 -- another Begin word
 pub shows-begin : (s : Stored) (n : ℕ) (vs : List Version) (R : List (ℕ × ℕ)) (v : ℕ) (b : BeginRecord) → v < length vs →
-    ShowsStore s n vs R → ShowsStore (with_begin s v b) n (set_creator vs v b) R
+    ShowsStore s n vs R → ShowsStore (with_begin_word s v b) n (set_creator vs v b) R
 shows-begin s n vs R v b l h =
     shows-set s n vs (set_creator vs v b) R R v (record (version_at s v) { begin = b }) (same-set R vs v _ l)
     (ap (λ (x : StoredVersion). record x { begin = b }) (h.versions v)

@@ -9,6 +9,19 @@ use Rattle.hek_rules.specs.declared.event.Event.{Event}
 use Rattle.hek_rules.specs.declared.event.Event.TheVariants as event
 use Rattle.hek_rules.specs.Name.{is_name}
 
+-- the limits of every schedule
+abbrev pub max_buckets : ℕ
+max_buckets = 1024
+
+abbrev pub max_rows : ℕ
+max_rows = 65536
+
+abbrev pub max_txns : ℕ
+max_txns = 1024
+
+abbrev pub max_steps : ℕ
+max_steps = 1000000
+
 -- the number of buckets, keys with values, names with levels, and steps, each in order of entry
 pub record Plan : Type 0 where
   pub buckets : ℕ
@@ -60,20 +73,20 @@ IsStep buckets txns event.Detect = Unit {0}
 
 -- what may be added: there is room, and a key or a name is new
 abbrev pub row_fits : Plan → ℕ → Bool
-row_fits p key = nat_lt (length p.rows) 65536 && not (has_key p key)
+row_fits p key = nat_lt (length p.rows) max_rows && not (has_key p key)
 
 abbrev pub txn_fits : Plan → List ℕ → Bool
-txn_fits p name = (nat_lt (length p.txns) 1024 && is_name name) && not (has_name p name)
+txn_fits p name = (nat_lt (length p.txns) max_txns && is_name name) && not (has_name p name)
 
 abbrev pub StepFits : Plan → Event → Type 0
-StepFits p e = (length p.steps < 1000000) × IsStep p.buckets (length p.txns) e
+StepFits p e = (length p.steps < max_steps) × IsStep p.buckets (length p.txns) e
 
 -- within all limits, with distinct keys and names, and steps that fit
 pub record IsPlan (p : Plan) : Type 0 where
-  pub buckets : (0 < p.buckets) × (p.buckets ≤ 1024)
-  pub row_count : length p.rows ≤ 65536
-  pub txn_count : length p.txns ≤ 1024
-  pub step_count : length p.steps ≤ 1000000
+  pub buckets : (0 < p.buckets) × (p.buckets ≤ max_buckets)
+  pub row_count : length p.rows ≤ max_rows
+  pub txn_count : length p.txns ≤ max_txns
+  pub step_count : length p.steps ≤ max_steps
   pub rows : AllByRecursion IsRow p.rows
   pub keys : IsDistinct nat_eq (keys_of p.rows)
   pub names : IsDistinct bytes_eq (names_of p)

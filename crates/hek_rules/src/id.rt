@@ -85,6 +85,9 @@ impl Model for Time {
 }
 
 impl Time {
+    /// The ticks of the time that never comes, the last that a word can hold.
+    pub const INFINITY: u64 = 0x7FFF_FFFF_FFFF_FFFF;
+
     /// The time after so many ticks of the clock.
     pub fn new(ticks: u64) -> Time
         ensures { result ≡ ticks }

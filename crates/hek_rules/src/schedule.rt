@@ -1,6 +1,6 @@
 //! Schedules: rows, transactions and steps, within all limits.
 ghost use Rattle.std.specs.Prelude.{◌≡◌, ◌+◌, ◌-◌, ◌<◌, ◌≤◌, ◌↔◌, [], ◌∷◌, ◌++◌, length, slice_get, IsTrue, OnOk, OnErr, IfSome, Some};
-ghost use Rattle.hek_rules.specs.Plan.{IsPlan, IsDeclared, IsStep, row_fits, txn_fits, StepFits, has_key, has_name, id_of, names_of, levels_of};
+ghost use Rattle.hek_rules.specs.Plan.{IsPlan, IsDeclared, IsStep, row_fits, txn_fits, StepFits, has_key, has_name, id_of, names_of, levels_of, max_buckets};
 
 use crate::event::{Event, Level};
 use crate::id::TxnId;
@@ -45,9 +45,17 @@ impl Model for Schedule {
 }
 
 impl Schedule {
+    /// Does nothing. A caller that proves something from what every schedule keeps, its limits and its distinct keys and names,
+    /// names it here.
+    pub fn known(&self)
+        ensures { IsPlan self.now }
+    {
+        let _buckets = self.buckets;
+    }
+
     /// A schedule of no rows, transactions or steps.
     pub fn new(alloc: Global, buckets: u64) -> Schedule
-        requires { (0 < buckets) × (buckets ≤ 1024) }
+        requires { (0 < buckets) × (buckets ≤ max_buckets) }
         ensures { result ≡ record { buckets = buckets; rows = []; txns = []; steps = [] } }
     {
         Schedule {

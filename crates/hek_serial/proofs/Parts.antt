@@ -12,21 +12,21 @@ use Rattle.hek_laws.proofs.Lists.Overlay.{left_by, value_of-put, value_of-lay}
 use Rattle.hek_laws.proofs.Lists.Rising.{same_rows, rising-put, rising-filter, rising-lay_all, value_of-filter}
 use Rattle.hek_laws.specs.Rows.{AreRising, key_of}
 use Rattle.hek_laws.proofs.Worlds.Histories.{option_or-none}
-use Rattle.hek_serial.specs.BucketRows.{joined, gathered, part_at, AreParts}
+use Rattle.hek_serial.specs.BucketRows.{joined_rows, gathered, part_at, AreParts}
 
 or_if : (b : Bool) (x : ℕ) (a o : Option ℕ) → (if b then Some x else option_or a o) ≡ option_or (if b then Some x else a) o
 or_if true x a o = refl
 or_if false x a o = refl
 
-value_of-joined : (xs others : List (ℕ × ℕ)) (q : ℕ) → value_of (joined xs others) q ≡ option_or (value_of xs q) (value_of others q)
+value_of-joined : (xs others : List (ℕ × ℕ)) (q : ℕ) → value_of (joined_rows xs others) q ≡ option_or (value_of xs q) (value_of others q)
 value_of-joined [] others q = refl
 value_of-joined (p ∷ ps) others q =
-    value_of-put (joined ps others) p.0 p.1 q ∙ ap (λ o. if p.0 == q then Some p.1 else o) (value_of-joined ps others q)
+    value_of-put (joined_rows ps others) p.0 p.1 q ∙ ap (λ o. if p.0 == q then Some p.1 else o) (value_of-joined ps others q)
     ∙ or_if (p.0 == q) p.1 (value_of ps q) (value_of others q)
 
-rising-joined : (xs others : List (ℕ × ℕ)) → AreRising others → AreRising (joined xs others)
+rising-joined : (xs others : List (ℕ × ℕ)) → AreRising others → AreRising (joined_rows xs others)
 rising-joined [] others r = r
-rising-joined (p ∷ ps) others r = rising-put (joined ps others) p.0 p.1 (rising-joined ps others r)
+rising-joined (p ∷ ps) others r = rising-put (joined_rows ps others) p.0 p.1 (rising-joined ps others r)
 
 pub rising-gathered : (parts : List (List (ℕ × ℕ))) → AreRising (gathered parts)
 rising-gathered [] = tt

@@ -9,14 +9,14 @@ pub record BucketRows : Type 0 where
   pub rows : List (ℕ × ℕ)
 
 -- the rows of both, by key
-abbrev pub joined : List (ℕ × ℕ) → List (ℕ × ℕ) → List (ℕ × ℕ)
-joined [] others = others
-joined (p ∷ ps) others = put p.0 p.1 (joined ps others)
+abbrev pub joined_rows : List (ℕ × ℕ) → List (ℕ × ℕ) → List (ℕ × ℕ)
+joined_rows [] others = others
+joined_rows (p ∷ ps) others = put p.0 p.1 (joined_rows ps others)
 
 -- the rows of all parts, by key
 abbrev pub gathered : List (List (ℕ × ℕ)) → List (ℕ × ℕ)
 gathered [] = []
-gathered (p ∷ ps) = joined p (gathered ps)
+gathered (p ∷ ps) = joined_rows p (gathered ps)
 
 abbrev pub part_at : List (List (ℕ × ℕ)) → ℕ → List (ℕ × ℕ)
 part_at parts i = slice_index_or parts i []

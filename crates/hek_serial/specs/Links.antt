@@ -20,13 +20,13 @@ pub record IsNextOf (t : ℕ) (es : List Event) (from n : ℕ) : Type 0 where
   pub there : n < length es → comes_at t es n ≡ true
 
 -- the place that is kept for t, or the number of places; those of low numbers are kept in a list
-abbrev pub place_in : List ℕ → List (ℕ × ℕ) → ℕ → ℕ → ℕ
-place_in near far count t = if nat_lt t (length near) then slice_index near t else unwrap_or (value_of far t) count
+abbrev pub linked_place : List ℕ → List (ℕ × ℕ) → ℕ → ℕ → ℕ
+linked_place near far count t = if nat_lt t (length near) then slice_index near t else unwrap_or (value_of far t) count
 
 -- the place that is kept for the transaction of an event, if there is one
 abbrev pub next_in : List ℕ → List (ℕ × ℕ) → ℕ → Option ℕ → ℕ
 next_in near far count None = count
-next_in near far count (Some t) = place_in near far count t
+next_in near far count (Some t) = linked_place near far count t
 
 -- a place is kept for the transaction of an event, if there is one and its number is low
 abbrev pub with_near : List ℕ → ℕ → Option ℕ → List ℕ
@@ -38,7 +38,7 @@ abbrev pub with_far : List ℕ → List (ℕ × ℕ) → ℕ → Option ℕ → 
 with_far near far place None = far
 with_far near far place (Some t) = if nat_lt t (length near) then far else put t place far
 
-pub record AreLinks (es : List Event) (near : List ℕ) (far : List (ℕ × ℕ)) (next : List ℕ) : Type 0 where
+pub record AreEventLinks (es : List Event) (near : List ℕ) (far : List (ℕ × ℕ)) (next : List ℕ) : Type 0 where
   pub long : length next ≡ length es
-  pub starts : (t : ℕ) → IsNextOf t es 0 (place_in near far (length es) t)
+  pub starts : (t : ℕ) → IsNextOf t es 0 (linked_place near far (length es) t)
   pub follows : (t i : ℕ) → comes_at t es i ≡ true → IsNextOf t es (i + 1) (slice_index next i)

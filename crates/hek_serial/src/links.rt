@@ -1,7 +1,7 @@
 //! Where the events of each transaction stand, so that one can go along them.
 ghost use Rattle.std.specs.Prelude.{◌≡◌, ◌<◌, ℕ, Some, length, slice_index, IfOk, OnOk};
 ghost use Rattle.hek_rules.specs.Events.{txn_of as txn_in};
-ghost use Rattle.hek_serial.specs.Links.{AreLinks, place_in, next_in, with_near, with_far};
+ghost use Rattle.hek_serial.specs.Links.{AreEventLinks, linked_place, next_in, with_near, with_far};
 
 use crate::number_map::NumberMap;
 use hek_rules::{Event, NoMemory, TxnId};
@@ -18,7 +18,7 @@ pub(crate) struct Links {
 
 /// The place that is kept for t, or the number of places.
 pub(crate) fn place_of(near: &[usize], far: &NumberMap, t: TxnId, count: usize) -> usize
-    ensures { result ≡ place_in near.now far.now count t }
+    ensures { result ≡ linked_place near.now far.now count t }
 {
     if t.number() < near.len() as u64 {
         near[t.number() as usize]
@@ -38,7 +38,7 @@ pub(crate) fn keep_place(
     place: usize,
     count: usize,
 ) -> Result<usize, NoMemory>
-    ensures before { IfOk result (λ n. n ≡ place_in near.old far.old count t) }
+    ensures before { IfOk result (λ n. n ≡ linked_place near.old far.old count t) }
     ensures near { OnOk result (near.new ≡ with_near near.old place (Some t)) }
     ensures far { OnOk result (far.new ≡ with_far near.old far.old place (Some t)) }
 {
@@ -76,7 +76,7 @@ pub(crate) fn link(
 impl Links {
     /// The first places of transactions below a number stand in a list.
     pub(crate) fn new(alloc: Global, below: usize, events: &[Event]) -> Result<Links, NoMemory>
-        ensures { IfOk result (λ links. AreLinks events.now links.near.items links.far links.next.items) }
+        ensures { IfOk result (λ links. AreEventLinks events.now links.near.items links.far links.next.items) }
     {
         let count = events.len();
         let mut near = vec![in alloc; count; below]?;
@@ -90,7 +90,7 @@ impl Links {
 
     /// The first place of t, or the number of places.
     pub(crate) fn first(&self, t: TxnId) -> usize
-        ensures { result ≡ place_in self.now.near.items self.now.far (length self.now.next.items) t }
+        ensures { result ≡ linked_place self.now.near.items self.now.far (length self.now.next.items) t }
     {
         place_of(&self.near, &self.far, t, self.next.len())
     }

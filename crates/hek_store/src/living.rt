@@ -13,9 +13,6 @@ use crate::version::Version;
 use hek_rules::Time;
 use hek_word::EndWord;
 
-/// The number of the time that never comes.
-const INFINITY: u64 = 0x7FFF_FFFF_FFFF_FFFF;
-
 /// Whether the word is a time that isn't later than this one.
 pub(crate) fn is_past(end: EndWord, time: Time) -> bool
     ensures { result ≡ is_past time (end_time end) }
@@ -31,7 +28,7 @@ fn is_over(version: &Version, time: Time) -> bool
     ensures { result ≡ is_over time version.now }
 {
     match version.begin.time() {
-        Some(from) => is_past(version.end, time) || from.number() == INFINITY,
+        Some(from) => is_past(version.end, time) || from.number() == Time::INFINITY,
         None => false,
     }
 }

@@ -1,8 +1,8 @@
 mod benchmarks;
 
 use crate::asserts::is_at;
-use hek_rules::Verdict;
 use hek_compare::{Difference, Raised, Stored, Summary, compare};
+use hek_rules::Verdict;
 use std::alloc::Global;
 use std::process::Abort;
 

@@ -1,15 +1,15 @@
+//! A thread for each transaction, all joined, and the report of the run.
 ghost use Rattle.std.specs.Prelude.{◌≡◌, ◌≢◌, ◌⊎◌, ◌<◌, ◌≤◌, ◌+◌, ℕ, Err, Ok, IsTrue, IfOk, IfSome, IfNone, vec_len, vec_capacity, slice_get, slice_index_or, Some, length};
 ghost use Rattle.hek_machine.specs.Steps.{IsRun, RowsAreSerial};
-ghost use Rattle.hek_threads.specs.History.{IsHistory, IsSerial, events_of, part_of, replies_in};
-ghost use Rattle.hek_threads.specs.Grammar.{AreTranscripts, IsTranscript, work_of, id_at};
+ghost use Rattle.hek_worker.specs.History.{IsHistory, IsSerialHistory, history_events, part_of, replies_in};
+ghost use Rattle.hek_worker.specs.Grammar.{AreTranscripts, IsTranscript, work_of, worker_at};
 
-use crate::book::Book;
-use crate::entry::{Entry, Part, ThreadFault};
 use crate::parts::compare;
 use crate::shared::{Shared, Steps};
 use crate::worker::{Gate, work};
 use hek_machine::Machine;
 use hek_rules::{Event, Schedule, TxnId};
+use hek_worker::{Book, Entry, Part, ThreadFault};
 use std::alloc::Global;
 use std::sync::Wait;
 use std::thread;
@@ -200,9 +200,9 @@ pub fn run_workers<G: Gate + Sync, R: Threads + Wait + Sync>(
     gate: &G,
 ) -> Result<Report, ThreadFault>
     ensures formed { IfOk result (λ r. IsHistory (length schedule.now.txns) r.history.items) }
-    ensures run { IfOk result (λ r. IsRun schedule.now 1 (events_of r.history.items) (replies_in r.history.items) r.machine) }
-    ensures serial { IfOk result (λ r. IsSerial schedule.now r.history.items) }
-    ensures rows { IfOk result (λ r. RowsAreSerial schedule.now (events_of r.history.items) (replies_in r.history.items) r.machine) }
+    ensures run { IfOk result (λ r. IsRun schedule.now 1 (history_events r.history.items) (replies_in r.history.items) r.machine) }
+    ensures serial { IfOk result (λ r. IsSerialHistory schedule.now r.history.items) }
+    ensures rows { IfOk result (λ r. RowsAreSerial schedule.now (history_events r.history.items) (replies_in r.history.items) r.machine) }
     ensures count { IfOk result (λ r. vec_len r.transcripts ≡ length schedule.now.txns) }
     ensures grammar { IfOk result (λ r. AreTranscripts schedule.now.steps turns r.transcripts.items) }
     ensures parts { IfOk result (λ r. (i : ℕ) (p : _) → slice_get r.transcripts.items i ≡ Some p → p ≡ part_of (i + 1) r.history.items) }

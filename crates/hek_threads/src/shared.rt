@@ -1,8 +1,8 @@
+//! The lock around the book: one event is one hold of it.
 ghost use Rattle.std.specs.Prelude.{◌≡◌, ◌<◌, IfOk};
 
-use crate::book::Book;
-use crate::entry::ThreadFault;
 use hek_rules::{Event, Reply, TxnId};
+use hek_worker::{Book, ThreadFault};
 use std::sync::{Mutex, Wait};
 
 /// A book that threads share.

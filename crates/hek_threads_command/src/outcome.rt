@@ -1,9 +1,9 @@
 //! What a run came to: who committed, who aborted and why, the rows at the end, and the checker's verdict.
 ghost use Rattle.std.specs.Prelude.{◌≡◌, ◌++◌, ℕ, List, IfOk};
 ghost use Rattle.hek_rules.specs.declared.serial.Verdict.TheVariants as verdict;
-ghost use Rattle.hek_threads.specs.History.{IsSerial};
+ghost use Rattle.hek_worker.specs.History.{IsSerialHistory};
 ghost use Rattle.hek_threads_command.specs.Threaded.{HasRun};
-ghost use Rattle.hek_threads_command.specs.Outcomes.{end_of, verdict_text};
+ghost use Rattle.hek_threads_command.specs.Outcomes.{ending_reply, verdict_ending};
 
 use hek_commands::put_reply;
 use hek_rules::{Cause, NoMemory, Reply, Schedule, TxnId, Verdict};
@@ -20,7 +20,7 @@ pub(crate) fn outcome_text(
     report: Report,
 ) -> Result<Vec<u8>, NoMemory>
     requires { HasRun schedule.now report.history.items }
-    ensures { IfOk result (λ text. (before : List ℕ) × (text.items ≡ before ++ verdict_text verdict.Serial)) }
+    ensures { IfOk result (λ text. (before : List ℕ) × (text.items ≡ before ++ verdict_ending verdict.Serial)) }
 {
     let Report {
         machine,
@@ -55,7 +55,7 @@ fn put_ends(
 
 /// How a worker's transaction ended: Committed, or Aborted with the cause.
 fn end_of(part: &Part) -> Reply
-    ensures { result ≡ end_of part.now }
+    ensures { result ≡ ending_reply part.now }
 {
     let mut rest = part.as_slice();
     while let Some(((_, reply), later)) = rest.split_first() {
@@ -71,7 +71,7 @@ fn end_of(part: &Part) -> Reply
 
 /// The checker's verdict on a history that is serial.
 fn judge(alloc: Global, schedule: &Schedule, history: Vec<Entry>) -> Result<Verdict, NoMemory>
-    requires { IsSerial schedule.now history.items }
+    requires { IsSerialHistory schedule.now history.items }
     ensures { IfOk result (λ v. v ≡ verdict.Serial) }
 {
     let told = transcript_of(alloc, schedule, history)?;
@@ -80,7 +80,7 @@ fn judge(alloc: Global, schedule: &Schedule, history: Vec<Entry>) -> Result<Verd
 
 /// The verdict comes behind the text.
 fn put_verdict(verdict: Verdict, text: &mut Vec<u8>) -> Result<(), NoMemory>
-    ensures { IfOk result (λ _. text.new.items ≡ text.old.items ++ verdict_text verdict) }
+    ensures { IfOk result (λ _. text.new.items ≡ text.old.items ++ verdict_ending verdict) }
 {
     let written = match verdict {
         Verdict::Serial => write!(text, "; serial"),

@@ -1,7 +1,7 @@
 //! Many runs in threads, and how many different outcomes they have.
 ghost use Rattle.std.specs.Prelude.{◌≡◌, MatchResult, IfErr};
 ghost use Rattle.hek_commands.specs.Commands.{FileGives};
-ghost use Rattle.hek_threads_command.specs.Threaded.{IsRunFault, IsStop, ThreadsFail};
+ghost use Rattle.hek_threads_command.specs.Threaded.{IsRunFault, IsThreadsStop, ThreadsFail};
 
 use crate::outcome::outcome_text;
 use crate::threads::report_of;
@@ -44,7 +44,7 @@ fn write_outcomes<'a, T: Threads + Wait + Sync, W: Write>(
     times: u64,
     out: &mut W,
 ) -> Result<(), HekFault<'a>>
-    ensures { IfErr result IsStop }
+    ensures { IfErr result IsThreadsStop }
 {
     let outcomes = outcomes_of(rt, alloc, schedule, turns, times)?;
     let mut text = outcome_lines(alloc, &outcomes, times)?;

@@ -16,13 +16,13 @@ use hek_word::EndWord;
 
 /// What a reader sees at its read time of a version that another transaction writes, by the writer's end time and state
 /// (section 2 of the paper: version visibility). A writer that hasn't begun or is terminated is never met.
-pub fn under_writer(read_time: Time, u: TxnId, end: Time, state: State) -> Sight
-    ensures { result ≡ under_writer read_time u end state }
+pub fn under_writer(read_time: Time, writer: TxnId, end: Time, state: State) -> Sight
+    ensures { result ≡ under_writer read_time writer end state }
 {
     match state {
         State::Active | State::Aborted(_) => Sight::Seen,
         State::Preparing if read_time < end => Sight::Seen,
-        State::Preparing => Sight::HiddenIf(u),
+        State::Preparing => Sight::HiddenIf(writer),
         State::Committed if read_time < end => Sight::Seen,
         State::Committed | State::NotBegun | State::Terminated => Sight::Hidden,
     }
@@ -31,13 +31,19 @@ pub fn under_writer(read_time: Time, u: TxnId, end: Time, state: State) -> Sight
 /// What a reader sees at its read time of a version that another transaction made, by the creator's end time and state, and
 /// by what the End word says (section 2 of the paper: version visibility). A creator that hasn't begun or is terminated is
 /// never met.
-pub fn from_creator(read_time: Time, u: TxnId, end: Time, state: State, by_end: Sight) -> Sight
-    ensures { result ≡ from_creator read_time u end state by_end }
+pub fn from_creator(
+    read_time: Time,
+    creator: TxnId,
+    end: Time,
+    state: State,
+    by_end: Sight,
+) -> Sight
+    ensures { result ≡ from_creator read_time creator end state by_end }
 {
     match state {
-        State::Active => Sight::HiddenActive(u),
+        State::Active => Sight::HiddenActive(creator),
         State::Preparing if read_time < end => Sight::Hidden,
-        State::Preparing if by_end == Sight::Seen => Sight::SeenIf(u),
+        State::Preparing if by_end == Sight::Seen => Sight::SeenIf(creator),
         State::Preparing => by_end,
         State::Committed if read_time < end => Sight::Hidden,
         State::Committed => by_end,

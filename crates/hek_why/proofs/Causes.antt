@@ -33,7 +33,7 @@ use Rattle.hek_why.specs.declared.reason.Met.{Met}
 use Rattle.hek_why.specs.declared.reason.Reason.{Reason}
 use Rattle.hek_why.specs.declared.reason.Reason.TheVariants.{Stopped, DoomedBy, AbortedBefore}
 use Rattle.hek_why.specs.declared.stops.Stop.{Stop}
-use Rattle.hek_why.specs.Passed.{passes}
+use Rattle.hek_why.specs.Passed.{version_passes}
 use Rattle.hek_why.specs.Stops.{refused_by, stop_by, first_some, first_stop, first_claim, met_by, met_seen, met_begin}
 use Rattle.hek_why.specs.Explained.{walked, stopped_by, claimed_in, stop_in, stops_in, abort_in, reasons_in, AreReasons}
 use Rattle.hek_why.specs.Causes.{Tells, TellCause}
@@ -149,10 +149,10 @@ found_first true c v n later here either rest = here
 found_first false c v n later here either rest = rest either
 
 claim_found : (w : World) (f : ℕ → Version → Bool) (vs : List ℕ) → Below (length w.versions) vs → list_any (λ v. f v (version_in w.versions v)) vs ≡ true →
-    IsFound (length w.versions) (find (λ v. passes f v w) vs)
+    IsFound (length w.versions) (find (λ v. version_passes f v w) vs)
 claim_found w f [] below any = cc
 claim_found w f (v ∷ vs) below any =
-    let g : ℕ → Bool = λ (x : ℕ). passes f x w in
+    let g : ℕ → Bool = λ (x : ℕ). version_passes f x w in
     let later : Option ℕ = find g vs in
     subst (λ (b : Bool). IsFound (length w.versions) (if b && f v (version_in w.versions v) then Some v else later)) (sym (lt-ltb v (length w.versions) below.0))
     (found_first (f v (version_in w.versions v)) (list_any (λ x. f x (version_in w.versions x)) vs) v (length w.versions) later below.0 any (claim_found w f vs below.1))

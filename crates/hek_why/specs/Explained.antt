@@ -18,7 +18,7 @@ use Rattle.hek_why.specs.declared.reason.Reason.{Reason}
 use Rattle.hek_why.specs.declared.reason.Reason.TheVariants.{Stopped, DoomedBy, AbortedBefore}
 use Rattle.hek_why.specs.declared.stops.Stop.{Stop}
 use Rattle.hek_why.specs.Waited.{waits_in, commits_in}
-use Rattle.hek_why.specs.Looks.{looks}
+use Rattle.hek_why.specs.Looks.{looked_reasons}
 use Rattle.hek_why.specs.Stops.{first_stop, first_claim, met_at, made_at}
 
 -- the versions that the walk of an event goes over
@@ -68,11 +68,11 @@ abbrev pub reasons_in : World → List (ℕ × ℕ) → ℕ → Event → Reply 
 reasons_in w dooms t e (reply.Waiting count) = Some (waits_in w t)
 reasons_in w dooms t e (reply.WaitingCommits count) = Some (commits_in w t)
 reasons_in w dooms t e (reply.Aborted cause) = Some (abort_in w dooms t e cause (txn_in w.txns t).state)
-reasons_in w dooms t e (reply.Found value) = Some (looks w t (walked w e))
-reasons_in w dooms t e reply.Absent = Some (looks w t (walked w e))
-reasons_in w dooms t e (reply.Rows pairs) = Some (looks w t (walked w e))
-reasons_in w dooms t e reply.Exists = Some (looks w t (walked w e))
-reasons_in w dooms t e reply.Done = Some (looks w t (walked w e))
+reasons_in w dooms t e (reply.Found value) = Some (looked_reasons w t (walked w e))
+reasons_in w dooms t e reply.Absent = Some (looked_reasons w t (walked w e))
+reasons_in w dooms t e (reply.Rows pairs) = Some (looked_reasons w t (walked w e))
+reasons_in w dooms t e reply.Exists = Some (looked_reasons w t (walked w e))
+reasons_in w dooms t e reply.Done = Some (looked_reasons w t (walked w e))
 reasons_in w dooms t e r = None
 
 -- so it is in each world that the machine stands for

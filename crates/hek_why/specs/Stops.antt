@@ -13,24 +13,12 @@ use Rattle.hek_rules.specs.World.{World, txn_in}
 use Rattle.hek_rules.specs.Shown.{begin_word, end_word}
 use Rattle.hek_rules.specs.Visibility.{sight}
 use Rattle.hek_rules.specs.Walk.{Judgement, Refuse, Allow, Purpose, read_time, version_judged}
-use Rattle.hek_rules.specs.Walk as walk
 use Rattle.hek_rules.specs.Table.{is_claim}
 use Rattle.hek_machine.specs.Observed.{of_version}
-use Rattle.hek_why.specs.Passed.{passes}
+use Rattle.hek_why.specs.Passed.{version_passes}
 use Rattle.hek_why.specs.declared.reason.Met.{Met}
 use Rattle.hek_why.specs.declared.reason.Met.TheVariants.{Writer, Creator, EndedAt, MadeAt, Readers}
-use Rattle.hek_why.specs.declared.stops.Aim.{Aim}
-use Rattle.hek_why.specs.declared.stops.Aim.TheVariants.{ToRead, ToWrite}
 use Rattle.hek_why.specs.declared.stops.Stop.{Stop}
-
-abbrev pub purpose_of : Aim → Purpose
-purpose_of ToRead = walk.ToRead
-purpose_of (ToWrite target) = walk.ToWrite
-
--- the last version seen, which a write locks
-abbrev pub target_of : Aim → Option ℕ
-target_of ToRead = None
-target_of (ToWrite target) = target
 
 abbrev pub refused_by : Judgement → Option Cause
 refused_by (Refuse cause) = Some cause
@@ -56,7 +44,7 @@ first_stop w t purpose target (v ∷ vs) = first_some (stop_at w t purpose targe
 
 -- the first version that claims the key
 abbrev pub first_claim : World → ℕ → List ℕ → Option ℕ
-first_claim w t vs = find (λ v. passes (λ v x. is_claim w t (txn_in w.txns t).level x.creator) v w) vs
+first_claim w t vs = find (λ v. version_passes (λ v x. is_claim w t (txn_in w.txns t).level x.creator) v w) vs
 
 -- who or what refuses a lock, by the End word
 abbrev pub met_by : Cause → EndRecord → Met

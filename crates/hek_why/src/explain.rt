@@ -5,7 +5,8 @@ ghost use Rattle.hek_rules.specs.Listing.{firsts_of};
 ghost use Rattle.hek_rules.specs.World.{txn_in};
 ghost use Rattle.hek_txn.specs.TxnTable.{Declared};
 ghost use Rattle.hek_machine.specs.Judgements.{IsShown};
-ghost use Rattle.hek_why.specs.Stops.{purpose_of, target_of, first_claim};
+ghost use Rattle.hek_why.specs.Stops.{first_claim};
+ghost use Rattle.hek_rules.specs.Aims.{purpose_of, target_of};
 ghost use Rattle.hek_why.specs.Causes.{TellCause};
 ghost use Rattle.hek_why.specs.Explained.{walked, purpose_in, target_in, stopped_by, claimed_in, stops_in, abort_in, AreReasons};
 
@@ -14,11 +15,11 @@ use crate::facts::state_of;
 use crate::met::{made_by, met_at};
 use crate::reason::{Met, Reason};
 use crate::refused::refusal_reason;
-use crate::stops::{Aim, first_claim, first_stop};
+use crate::stops::{first_claim, first_stop};
 use crate::waits::{commit_reasons, wait_reasons};
 use crate::walked::{last_seen, looks, versions_in, versions_of};
 use hek_machine::Machine;
-use hek_rules::{Cause, Event, NoMemory, Reply, State, TxnId, VersionId};
+use hek_rules::{Aim, Cause, Event, NoMemory, Reply, State, TxnId, VersionId};
 use std::alloc::Global;
 
 /// An event with its reply, between two machines.

@@ -12,16 +12,13 @@ use hek_rules::{BeginRecord, EndRecord, Sight, Time, TxnId, VersionId};
 use hek_visible::{from_creator, under_writer};
 use hek_word::{BeginWord, EndWord};
 
-/// The number of the time that never comes.
-const INFINITY: u64 = 0x7FFF_FFFF_FFFF_FFFF;
-
 /// By the End word.
 fn by_end(machine: &Machine, reader: TxnId, read_time: Time, word: EndWord) -> Sight
     ensures { IsShown machine.now (λ w. end_sight w.txns reader read_time (ender_of word)) result }
 {
     match word.content() {
         EndRecord::Until(time) => {
-            if time.number() == INFINITY || read_time.number() < time.number() {
+            if time.number() == Time::INFINITY || read_time.number() < time.number() {
                 Sight::Seen
             } else {
                 Sight::Hidden

@@ -5,22 +5,16 @@ ghost use Rattle.hek_rules.specs.World.{txn_in};
 ghost use Rattle.hek_rules.specs.Table.{is_claim};
 ghost use Rattle.hek_txn.specs.TxnTable.{Declared};
 ghost use Rattle.hek_machine.specs.Judgements.{IsShown};
-ghost use Rattle.hek_why.specs.Passed.{passes};
-ghost use Rattle.hek_why.specs.Stops.{purpose_of, target_of, refused_by, stop_by, stop_at, first_stop, first_claim};
+ghost use Rattle.hek_why.specs.Passed.{version_passes};
+ghost use Rattle.hek_why.specs.Stops.{refused_by, stop_by, stop_at, first_stop, first_claim};
+ghost use Rattle.hek_rules.specs.Aims.{purpose_of, target_of};
 
 use crate::facts::{end_of, has_finished, is_listed, read_time, state_of};
 use crate::met::{no_read_lock, no_write_lock};
 use crate::see::see;
 use hek_machine::Machine;
-use hek_rules::{BeginRecord, Cause, Level, NoMemory, Sight, State, TxnId, VersionId};
+use hek_rules::{Aim, BeginRecord, Cause, Level, NoMemory, Sight, State, TxnId, VersionId};
 use hek_word::{BeginWord, EndWord};
-
-/// What a walk is for: to read what it sees, or to write over the last version that it sees.
-#[derive(Clone, Copy, Debug, PartialEq, Eq)]
-pub(crate) enum Aim {
-    ToRead,
-    ToWrite(Option<VersionId>),
-}
 
 /// The version at which a transaction is stopped, what it sees of it, and the cause.
 #[derive(Clone, Copy, Debug, PartialEq, Eq)]
@@ -154,7 +148,7 @@ fn is_claim(machine: &Machine, t: TxnId, begin: BeginWord) -> bool
 /// Whether there is such a version.
 fn claims(machine: &Machine, t: TxnId, v: VersionId) -> bool
     requires { Declared machine.now.txns t }
-    ensures { IsShown machine.now (λ w. passes (λ v x. is_claim w t (txn_in w.txns t).level x.creator) v w) result }
+    ensures { IsShown machine.now (λ w. version_passes (λ v x. is_claim w t (txn_in w.txns t).level x.creator) v w) result }
 {
     match machine.begin_word(v) {
         None => false,

@@ -4,8 +4,8 @@ ghost use Rattle.std.specs.List.{All, list_any};
 ghost use Rattle.hek_rules.specs.Waits.{is_waited_for, waits, commit_deps};
 ghost use Rattle.hek_txn.specs.TxnTable.{Declared};
 ghost use Rattle.hek_machine.specs.Judgements.{IsShown};
-ghost use Rattle.hek_why.specs.Passed.{passes};
-ghost use Rattle.hek_why.specs.Waited.{is_made_in, readers_in, held_over, holders_of, depended_on, shared_bucket, waits_in, commits_in};
+ghost use Rattle.hek_why.specs.Passed.{version_passes};
+ghost use Rattle.hek_why.specs.Waited.{is_made_in, readers_in, held_over, waiting_list_holders, depended_on, shared_bucket, waits_in, commits_in};
 
 use crate::facts::{is_dependent, is_listed, reads};
 use crate::kept::keep_if;
@@ -33,7 +33,7 @@ pub(crate) fn readers_of(
 
 /// The holders in whose lists a transaction stands, by ID.
 fn holders_of(alloc: Global, machine: &Machine, u: TxnId) -> Result<Vec<TxnId>, NoMemory>
-    ensures members { IfOk result (λ list. IsShown machine.now (λ w. holders_of w u) list.items) }
+    ensures members { IfOk result (λ list. IsShown machine.now (λ w. waiting_list_holders w u) list.items) }
     ensures declared { IfOk result (λ list. All (Declared machine.now.txns) list.items) }
 {
     let mut txns = Vec::new(alloc);
@@ -70,7 +70,7 @@ fn held_over(alloc: Global, machine: &Machine, u: TxnId) -> Result<Vec<VersionId
 
 #[tactic(auto, using(crate::proofs::Sounds::waited_word))]
 fn is_waited_for(machine: &Machine, u: TxnId, v: VersionId) -> bool
-    ensures { IsShown machine.now (λ w. passes (is_waited_for w.read_locks u) v w) result }
+    ensures { IsShown machine.now (λ w. version_passes (is_waited_for w.read_locks u) v w) result }
 {
     match machine.end_word(v) {
         None => false,

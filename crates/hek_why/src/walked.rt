@@ -5,8 +5,8 @@ ghost use Rattle.hek_rules.specs.Visibility.{is_seen};
 ghost use Rattle.hek_rules.specs.Walk.{of_key, of_bucket, seen_of, last};
 ghost use Rattle.hek_txn.specs.TxnTable.{Declared};
 ghost use Rattle.hek_machine.specs.Judgements.{IsShown};
-ghost use Rattle.hek_why.specs.Passed.{passes};
-ghost use Rattle.hek_why.specs.Looks.{looks};
+ghost use Rattle.hek_why.specs.Passed.{version_passes};
+ghost use Rattle.hek_why.specs.Looks.{looked_reasons};
 
 use crate::kept::keep_if;
 use crate::reason::Reason;
@@ -16,14 +16,14 @@ use hek_rules::{NoMemory, Sight, TxnId, VersionId};
 use std::alloc::Global;
 
 fn is_of_key(machine: &Machine, key: u64, v: VersionId) -> bool
-    ensures { IsShown machine.now (λ w. passes (λ v x. x.key == key) v w) result }
+    ensures { IsShown machine.now (λ w. version_passes (λ v x. x.key == key) v w) result }
 {
     machine.key_of(v) == Some(key)
 }
 
 /// Whether a version is of a key of a bucket.
 pub(crate) fn is_of_bucket(machine: &Machine, bucket: u64, v: VersionId) -> bool
-    ensures { IsShown machine.now (λ w. passes (λ v x. bucket_of w x.key == bucket) v w) result }
+    ensures { IsShown machine.now (λ w. version_passes (λ v x. bucket_of w x.key == bucket) v w) result }
 {
     // There is a bucket.
     let _ = machine.clock();
@@ -93,7 +93,7 @@ pub(crate) fn looks(
     vs: &[VersionId],
 ) -> Result<Vec<Reason>, NoMemory>
     requires { Declared machine.now.txns t }
-    ensures { IfOk result (λ list. IsShown machine.now (λ w. looks w t vs.now) list.items) }
+    ensures { IfOk result (λ list. IsShown machine.now (λ w. looked_reasons w t vs.now) list.items) }
 {
     let mut list = Vec::new(alloc);
     for v in vs {

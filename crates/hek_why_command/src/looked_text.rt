@@ -7,9 +7,6 @@ use hek_rules::{
 use hek_word::EndWord;
 use std::io::Write;
 
-/// The time that never comes.
-const INFINITY: u64 = (1 << 63) - 1;
-
 /// `version 0 is seen: made at time 0, held by nobody (0000000000000000, 807FFFFFFFFFFFFF)`.
 pub(crate) fn put_looked(
     schedule: &Schedule,
@@ -74,7 +71,7 @@ fn put_made(
 ) -> Result<(), NoMemory> {
     match begin {
         BeginRecord::At(time) => match time.number() {
-            INFINITY => put(write!(lines, "never made")),
+            Time::INFINITY => put(write!(lines, "never made")),
             ticks => put(write!(lines, "made at {ticks}")),
         },
         BeginRecord::By(u) => {
@@ -103,7 +100,7 @@ fn put_ended(
 
 fn put_end_time(time: Time, lines: &mut Vec<u8>) -> Result<(), NoMemory> {
     match time.number() {
-        INFINITY => put(write!(lines, "not written over")),
+        Time::INFINITY => put(write!(lines, "not written over")),
         ticks => put(write!(lines, "ended at {ticks}")),
     }
 }

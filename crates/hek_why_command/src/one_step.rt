@@ -25,7 +25,7 @@ pub fn explain_step(
     requires place { place < length schedule.now.steps }
 {
     // Each step is one of this schedule.
-    let _ = schedule.buckets();
+    schedule.known();
     let event = schedule.steps()[place as usize];
     let mut telling = Telling {
         schedule,
@@ -63,7 +63,7 @@ fn note_all(
     dooms: &mut Dooms,
 ) -> Result<(), NoMemory> {
     // There is a bucket, and each step is one of this schedule.
-    let _ = schedule.buckets();
+    schedule.known();
     let mut machine = Machine::load(alloc, schedule)?;
     note_steps(&mut machine, schedule.steps(), count, t, dooms)
 }

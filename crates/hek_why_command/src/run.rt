@@ -41,7 +41,7 @@ fn explain<'a, W: Write>(
     out: &mut W,
 ) -> Result<(), HekFault<'a>> {
     // There is a bucket, and each step is one of this schedule.
-    let _ = schedule.buckets();
+    schedule.known();
     let mut machine = Machine::load(alloc, schedule)?;
     let mut telling = Telling {
         schedule,

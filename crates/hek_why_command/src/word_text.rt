@@ -7,9 +7,6 @@ use hek_word::{BeginWord, EndWord};
 use std::io;
 use std::io::Write;
 
-/// The time that never comes, as a word holds it.
-const INFINITY: u64 = (1 << 63) - 1;
-
 /// Writing to a list of bytes fails only where there is no memory.
 pub(crate) fn put(written: io::Result<()>) -> Result<(), NoMemory> {
     match written {
@@ -48,7 +45,7 @@ pub(crate) fn put_names(
 
 pub(crate) fn put_time(time: Time, lines: &mut Vec<u8>) -> Result<(), NoMemory> {
     match time.number() {
-        INFINITY => put(write!(lines, "infinity")),
+        Time::INFINITY => put(write!(lines, "infinity")),
         ticks => put(write!(lines, "time {ticks}")),
     }
 }

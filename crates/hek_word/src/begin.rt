@@ -4,7 +4,7 @@ ghost use Rattle.hek_rules.specs.Words.{IsBegin, IsTime, IsTxn, infinity, begin_
 ghost use Rattle.hek_rules.specs.declared.word.BeginRecord.{BeginRecord};
 ghost use Rattle.hek_rules.specs.declared.word.BeginRecord.TheVariants.{At, By};
 
-use crate::{INFINITY, NAMED, NO_WRITER, TIMES};
+use crate::{NAMED, NO_WRITER, TIMES};
 use hek_rules::{BeginRecord, Time, TxnId};
 use std::marker::Model;
 
@@ -72,7 +72,9 @@ impl BeginWord {
     pub fn infinity() -> BeginWord
         ensures { result ≡ At infinity }
     {
-        BeginWord { number: INFINITY }
+        BeginWord {
+            number: Time::INFINITY,
+        }
     }
 
     /// The word of a version that this transaction, 1 to 2^54 - 2, has made and not yet stamped.

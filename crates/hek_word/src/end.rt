@@ -5,7 +5,7 @@ ghost use Rattle.hek_rules.specs.declared.word.EndRecord.{EndRecord};
 ghost use Rattle.hek_rules.specs.declared.word.EndRecord.TheVariants.{Until};
 ghost use Rattle.hek_word.specs.Decoded.{end_record};
 
-use crate::{INFINITY, NAMED, NO_MORE, NO_WRITER, READER, TIMES};
+use crate::{NAMED, NO_MORE, NO_WRITER, READER, TIMES};
 use hek_rules::{Dropped, EndRecord, Time, TxnId};
 use std::marker::Model;
 
@@ -154,7 +154,9 @@ impl EndWord {
     pub fn infinity() -> EndWord
         ensures { result ≡ Until infinity }
     {
-        EndWord { number: INFINITY }
+        EndWord {
+            number: Time::INFINITY,
+        }
     }
 
     /// The word of a version that is valid until this time, 0 to 2^63 - 1.
@@ -211,7 +213,7 @@ impl EndWord {
         ensures { IsTrue result ↔ CanAdd self }
     {
         match self.content() {
-            EndRecord::Until(time) => time.number() == INFINITY,
+            EndRecord::Until(time) => time.number() == Time::INFINITY,
             EndRecord::Lock {
                 readers,
                 no_more,
@@ -288,7 +290,7 @@ impl EndWord {
         ensures { IsTrue result ↔ CanTakeWriter self }
     {
         match self.content() {
-            EndRecord::Until(time) => time.number() == INFINITY,
+            EndRecord::Until(time) => time.number() == Time::INFINITY,
             EndRecord::Lock { writer, .. } => writer.is_none(),
         }
     }

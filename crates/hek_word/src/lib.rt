@@ -16,9 +16,6 @@ pub use release::{ReleaseFault, release_word};
 /// The first time that a word can't hold: times are below it.
 const TIMES: u64 = 1 << 63;
 
-/// The time that never comes.
-const INFINITY: u64 = TIMES - 1;
-
 /// The bit of a word that names transactions.
 const NAMED: u64 = 1 << 63;
 

@@ -2,10 +2,12 @@
 ghost use Rattle.std.specs.Prelude.{◌≡◌, ◌++◌, false, IsTrue, OnOk, is_err};
 
 use super::Sink;
+use thiserror::Error;
 
 /// Why not all bytes went to a sink: it has failed.
-#[derive(Clone, Copy, Debug, PartialEq, Eq)]
+#[derive(Clone, Copy, Debug, PartialEq, Eq, Error)]
 pub enum WriteFault {
+    #[error("cannot write")]
     Write,
 }
 

@@ -3,10 +3,10 @@
 ghost use Rattle.std.specs.Prelude.{◌≡◌, length};
 
 use hek_asm::{assemble_text, canonical, read_trace, write_trace};
+use hek_compare::Fault;
 use hek_image::{load_image, write_image};
 use hek_rules::{Ending, Event, MemorySink, MemorySource, Reply, Schedule, Time, Verdict};
 use hek_serial::check;
-use hek_compare::Fault;
 use std::alloc::Global;
 use std::io::Write;
 use std::str;

@@ -4,7 +4,7 @@ use Rattle.std.specs.List.{All}
 use Rattle.hek_rules.specs.World.{World}
 use Rattle.hek_rules.specs.Walk.{behind, last}
 use Rattle.hek_store.specs.Places.{key_versions_left}
-use Rattle.hek_machine.specs.declared.walks.Aim.TheVariants.{ToRead}
+use Rattle.hek_rules.specs.declared.event.Aim.TheVariants.{ToRead}
 use Rattle.hek_machine.specs.Judgements.{seen_among}
 use Rattle.hek_machine.specs.Stands.{StandsFor}
 use Rattle.hek_machine.proofs.Along.{last_of}
