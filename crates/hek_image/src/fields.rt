@@ -63,7 +63,7 @@ pub(crate) fn u64_at(place: Place<'_>) -> Result<(u64, Place<'_>), LoadFault>
     Ok((number, place))
 }
 
-#[tactic(auto, unfolding(crate::specs::Loading::number_within, crate::specs::Loading::checked))]
+#[tactic(auto, unfolding(crate::specs::Loading::number_within, crate::specs::Loading::checked_read))]
 pub(crate) fn u8_within(low: u8, high: u8, place: Place<'_>) -> Result<(u8, Place<'_>), LoadFault>
     ensures gives { FieldGives (λ x. (x.0, place_seen x.1)) result (number_within low high w8 (place_seen place.entry)) }
     ensures within { IfOk result (λ x. (low ≤ x.0) × (x.0 ≤ high)) }
@@ -75,7 +75,7 @@ pub(crate) fn u8_within(low: u8, high: u8, place: Place<'_>) -> Result<(u8, Plac
     Ok((number, after))
 }
 
-#[tactic(auto, unfolding(crate::specs::Loading::number_within, crate::specs::Loading::checked))]
+#[tactic(auto, unfolding(crate::specs::Loading::number_within, crate::specs::Loading::checked_read))]
 pub(crate) fn u32_within(
     low: u32,
     high: u32,
