@@ -48,7 +48,7 @@ entry_again p n x text after line more is h entry e l =
     let first : line ≡ joined_words (entry_words p n x) = heads line (joined_words (entry_words p n x)) more (lines_of after) lines in
     ap (λ (w : List ℕ). likely_entry p (words_of w)) first ∙ ap (likely_entry p) (words_of-joined (entry_words p n x) (entry_is_words p n x is h entry)) ∙ words_again p n x is entry
 
--- a text without lines has none of an entry
+-- a text without lines does not begin with the line of an entry
 pub no_lines : (p : Plan) (n : ℕ) (text : List ℕ) → IsPlan p → is_small n → lines_of text ≡ [] → HasNoLine p n text
 no_lines p n text is h e = λ x after entry same.
     let none : [] ≡ joined_words (entry_words p n x) ∷ lines_of after = sym e ∙ ap lines_of same ∙ front_lines p n x after is h entry in absurd cc
@@ -56,21 +56,21 @@ no_lines p n text is h e = λ x after entry same.
 some_apart : {X : Type 0} (x : X) → Some x ≡ None → ⊥
 some_apart x e = absurd cc
 
--- a line that can be of no entry is of none
+-- a line whose words can be of no entry is the line of none
 pub none_likely : (p : Plan) (n : ℕ) (text line : List ℕ) (more : List (List ℕ)) → IsPlan p → is_small n → lines_of text ≡ line ∷ more → likely_entry p (words_of line) ≡ None → HasNoLine p n text
 none_likely p n text line more is h l none = λ x after entry same. some_apart x (sym (entry_again p n x text after line more is h entry same l) ∙ none)
 
 some_same : {X : Type 0} (x y : X) → Some x ≡ Some y → x ≡ y
 some_same x y e = cc
 
--- nor is one whose only entry has another line
+-- a line that differs from that of the only entry it can be of is the line of none
 pub other_line : (p : Plan) (n : ℕ) (y : Event × Reply) (text line : List ℕ) (more : List (List ℕ)) → IsPlan p → is_small n → lines_of text ≡ line ∷ more → likely_entry p (words_of line) ≡ Some y →
     ((after : List ℕ) → text ≡ trace_line p n y.0 y.1 ++ after → ⊥) → HasNoLine p n text
 other_line p n y text line more is h l likely other = λ x after entry same.
     let only : x ≡ y = some_same x y (sym (entry_again p n x text after line more is h entry same l) ∙ likely) in
     other after (same ∙ ap (λ (z : Event × Reply). trace_line p n z.0 z.1 ++ after) only)
 
--- two texts that are the same begin with the same entry
+-- two equal texts begin with the same entry
 pub same_entry : (p : Plan) (n : ℕ) (x y : Event × Reply) (behind further : List ℕ) → IsPlan p → is_small n → IsTraceEntry (length p.txns) x → IsTraceEntry (length p.txns) y →
     trace_line p n x.0 x.1 ++ behind ≡ trace_line p n y.0 y.1 ++ further → x ≡ y
 same_entry p n x y behind further is h first second e =

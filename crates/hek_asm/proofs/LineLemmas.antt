@@ -49,7 +49,7 @@ line_parts p n e r =
     ∙ append_assoc (decimal n) (spaced steps ++ (codes " -> " ++ joined_words (reply_words r))) (10 ∷ [])
     ∙ ap (λ (bs : List ℕ). decimal n ++ bs) (append_assoc (spaced steps) (codes " -> " ++ joined_words (reply_words r)) (10 ∷ []))
 
--- a released read lock, and then who waited for it
+-- a released read lock, and then the writer that waited for it
 pub released_parts : (old : List ℕ) (v : ℕ) (ws : List (List ℕ)) → (old ++ (codes "released read" ++ spaced (decimal v ∷ []))) ++ spaced ws ≡ old ++ joined_words (codes "released" ∷ codes "read" ∷ decimal v ∷ ws)
 released_parts old v ws =
     append_assoc old (codes "released read" ++ spaced (decimal v ∷ [])) (spaced ws)

@@ -1,4 +1,4 @@
--- The numbers of what a line may be of are below 2^64.
+-- The numbers of an entry that a line can be of are below 2^64.
 use Rattle.std.proofs.Common.{◌≡◌, ℕ, ◌+◌, ◌^◌, Bool, true, false, List, [], ◌∷◌, length, map, drop, take, Option, Some, None, IfSome, refl, codes, subst, arith}
 use Rattle.std.specs.Prelude.{nat_lt, nat_le, ◌&&◌, unwrap_or, if◌then◌else◌}
 use Rattle.std.specs.List.{AllByRecursion, position_or_len}

@@ -1,4 +1,5 @@
--- The one event and the one reply that the words of a trace line may be of. Whether they are is told by writing them.
+-- The one event and the one reply that the words of a trace line can be of. Writing them shows whether the line is
+-- theirs.
 use Rattle.std.specs.Prelude.{ℕ, ◌+◌, ◌==◌, Bool, List, [], ◌∷◌, codes, map, drop, take, Option, None, Some, unwrap_or, if◌then◌else◌}
 use Rattle.std.specs.List.{position_or_len}
 use Rattle.std.specs.Str.{bytes_eq}
@@ -23,7 +24,7 @@ None >>= f = None
 abbrev pub number_else_zero : List ℕ → ℕ
 number_else_zero word = unwrap_or (number_of word) 0
 
--- that of the first word
+-- the number that the first word is, or 0
 abbrev pub first_value : List (List ℕ) → ℕ
 first_value [] = 0
 first_value (w ∷ ws) = number_else_zero w
@@ -48,7 +49,7 @@ refusal_named w = if bytes_eq w (codes "UnknownTxn") then refusal.UnknownTxn
 abbrev pub is_equals : ℕ → Bool
 is_equals b = b == 61
 
--- the numbers before and behind the first '='
+-- the numbers before and after the first '='
 abbrev pub pair_of : List ℕ → ℕ × ℕ
 pair_of w = (number_else_zero (take (position_or_len is_equals w) w), number_else_zero (drop 1 (drop (position_or_len is_equals w) w)))
 

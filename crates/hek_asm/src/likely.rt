@@ -1,5 +1,5 @@
-//! The one event and the one reply that the words of a trace line may be of. Whether the line is theirs is told by writing
-//! it.
+//! The one event and the one reply that the words of a trace line can be of. Writing them shows whether the line is
+//! theirs.
 ghost use Rattle.std.specs.Prelude.{◌≡◌, ◌≤◌, map, drop, length, IfOk, IfSome};
 ghost use Rattle.std.specs.List.{position_or_len};
 ghost use Rattle.hek_asm.specs.Likely.{number_else_zero, first_value, cause_named, refusal_named, is_equals, pair_of, of_one_word, of_two_words, of_three_words, of_few_words, likely_reply, step_named, likely_event, step_len};
@@ -26,7 +26,7 @@ fn first_value(words: &[&[u8]]) -> u64
     }
 }
 
-// The words behind so many.
+// The words after the first `count`.
 pub(crate) fn behind<'w, 't>(words: &'w [&'t [u8]], count: usize) -> &'w [&'t [u8]]
     ensures { map (λ w. w.now) result.now ≡ drop count (map (λ w. w.now) words.now) }
 {

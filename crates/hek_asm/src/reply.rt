@@ -20,7 +20,7 @@ fn refusal_text(refusal: Refusal) -> &'static str
     }
 }
 
-// Words, the last of which has its space behind it, and a number.
+// Words, the last with a space after it, and a number.
 fn put_counted<S: Sink>(words: &str, number: u64, sink: &mut S) -> Result<(), WriteFault>
     requires { S.failed sink.old ≡ false }
     ensures ok { OnOk result (IsTrue (S.tells sink.old) → S.holds sink.new ≡ S.holds sink.old ++ (words.now ++ joined_words (decimal number ∷ []))) }
@@ -31,7 +31,7 @@ fn put_counted<S: Sink>(words: &str, number: u64, sink: &mut S) -> Result<(), Wr
     put_number(number, sink)
 }
 
-// A word that words stand before.
+// Words, and a name directly after them.
 fn put_named<S: Sink>(words: &str, name: &str, sink: &mut S) -> Result<(), WriteFault>
     requires { S.failed sink.old ≡ false }
     ensures ok { OnOk result (IsTrue (S.tells sink.old) → S.holds sink.new ≡ S.holds sink.old ++ (words.now ++ name.now)) }
@@ -89,7 +89,7 @@ fn put_writer<S: Sink>(writer: Option<TxnId>, sink: &mut S) -> Result<(), WriteF
     }
 }
 
-/// Writes a reply as a trace has it. After a fault nothing is known of how much went out.
+/// Writes a reply as a trace has it. After a fault it is unknown how many bytes went out.
 pub fn write_reply<S: Sink>(reply: &Reply, sink: &mut S) -> Result<(), WriteFault>
     requires { S.failed sink.old ≡ false }
     ensures ok { OnOk result (IsTrue (S.tells sink.old) → S.holds sink.new ≡ S.holds sink.old ++ joined_words (reply_words reply.now)) }

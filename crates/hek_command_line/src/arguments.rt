@@ -3,7 +3,7 @@ use clap::{Arg, ArgAction, ArgMatches, Command, Error};
 use std::alloc::{AllocError, Global};
 use std::convert::AsStr;
 
-/// What a command is called, what it does, an example of it, and its arguments.
+/// The name of a command, what it does, an example of it, and its arguments.
 struct CommandText {
     name: &'static str,
     about: &'static str,
@@ -11,7 +11,7 @@ struct CommandText {
     arguments: &'static [ArgumentText],
 }
 
-/// What an argument is called, what it says, and how it is given.
+/// The name of an argument, what it means, and how it is given.
 struct ArgumentText {
     name: &'static str,
     help: &'static str,
@@ -20,19 +20,19 @@ struct ArgumentText {
 
 #[derive(Clone, Copy)]
 enum Form {
-    /// A word in its place.
+    /// A word at its place.
     Word,
-    /// A word in its place, or none.
+    /// A word at its place, or none.
     MaybeWord,
-    /// Words in their place, one at least.
+    /// Words at their place, at least one.
     Words,
     /// `--name`.
     Flag,
     /// `--name N`.
     Number,
-    /// `--name VALUE`, with the word that stands for the value.
+    /// `--name VALUE`, with the word that the help prints for the value.
     Value(&'static str),
-    /// `--name N`, which has to be there.
+    /// `--name N`, which is required.
     NeededNumber,
 }
 
@@ -360,7 +360,7 @@ The page shows each step with its reply, and the versions, transactions and lock
     ],
 };
 
-/// What `hek --version` says behind the name.
+/// What `hek --version` prints after the name.
 const VERSION: &str = "0.2.0";
 
 const COMMANDS: &[CommandText] = &[
@@ -409,7 +409,7 @@ fn command<'a>(alloc: Global, text: &CommandText) -> Result<Command<'a>, AllocEr
         .args(arguments)
 }
 
-/// The arguments that an argument can't stand beside.
+/// The arguments that cannot be given together with this one.
 fn rivals_of(name: &str) -> &'static [&'static str] {
     match name {
         "order" => &["each", "levels", "part"],

@@ -17,11 +17,11 @@ use Rattle.hek_machine.proofs.RunRules.{replies_of}
 use Rattle.hek_machine.proofs.PlacedSteps.{steps_placed}
 use Rattle.hek_commands.specs.Ran.{first_events}
 
--- the lines that are still to come once so many steps are done
+-- the lines still to come after the first i steps
 abbrev pub to_come : Plan → World → List Event → ℕ → List ℕ
 to_come p w es i = trace_from p (i + 1) (drop i es) (replies_of (run w (take i es)) (drop i es))
 
--- the next of them
+-- the next line to come
 pub next_line : (p : Plan) (w : World) (es : List Event) (i : ℕ) (e : Event) (r : Reply) → i < length es → e ≡ get_or es i e → r ≡ reply (run w (take i es)) e →
     to_come p w es i ≡ trace_line p (i + 1) e r ++ to_come p w es (i + 1)
 next_line p w es i e r below at is =
@@ -32,7 +32,7 @@ next_line p w es i e r below at is =
     ∙ ap (λ (y : Reply). trace_line p (i + 1) e y ++ trace_from p ((i + 1) + 1) (drop (i + 1) es) (replies_of (next here e) (drop (i + 1) es))) (sym is)
     ∙ ap (λ (v : World). trace_line p (i + 1) e r ++ trace_from p ((i + 1) + 1) (drop (i + 1) es) (replies_of v (drop (i + 1) es))) after
 
--- none are, after the last
+-- after the last step no lines are to come
 pub none_to_come : (p : Plan) (w : World) (es : List Event) (i : ℕ) → i ≡ length es → to_come p w es i ≡ []
 none_to_come p w es i end =
     ap (λ (xs : List Event). trace_from p (i + 1) xs (replies_of (run w (take i es)) xs)) (ap (λ (n : ℕ). drop n es) end ∙ drop-length es)

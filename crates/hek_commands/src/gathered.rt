@@ -8,7 +8,7 @@ use hek_rules::{Event, FromWrite, NoMemory, Reply, Schedule};
 use std::alloc::Global;
 use std::mem;
 
-/// The line of an event and its reply in a trace comes behind the lines. After NoMemory nothing of them is left.
+/// Appends the line of an event and its reply, as a trace has it. After NoMemory nothing is left of the lines.
 pub fn put_line(
     alloc: Global,
     schedule: &Schedule,
@@ -30,7 +30,7 @@ pub fn put_line(
     }
 }
 
-/// The words of a reply come behind the text. After NoMemory nothing of the text is left.
+/// Appends the words of a reply. After NoMemory nothing is left of the text.
 pub fn put_reply(alloc: Global, reply: &Reply, lines: &mut Vec<u8>) -> Result<(), NoMemory>
     ensures { OnOk result (lines.new.items ≡ lines.old.items ++ joined_words (reply_words reply.now)) }
 {

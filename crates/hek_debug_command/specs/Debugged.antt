@@ -45,21 +45,21 @@ stop_line s = codes "at " ++ (decimal s.at ++ (reason_text s.reason ++ (answer_t
 
 -- ---- watches
 
--- upper-case hexadecimal
+-- an upper-case hexadecimal digit
 abbrev pub hex_digit : ℕ → ℕ
 hex_digit n = if nat_lt n 10 then 48 + n else 55 + n
 
--- so many digits, the last of a number
+-- the last digits of a number in hexadecimal, as many as asked for
 abbrev pub hex_text : ℕ → ℕ → List ℕ
 hex_text zero n = []
 hex_text (suc k) n = hex_text k (n / 16) ++ hex_digit (n % 16) ∷ []
 
--- a word
+-- a word that a watch looks at
 unfoldable pub seen_text : Option ℕ → List ℕ
 seen_text None = codes "none"
 seen_text (Some n) = hex_text 16 n
 
--- a counter
+-- a counter that a watch looks at
 abbrev pub count_text : Option ℕ → List ℕ
 count_text None = codes "none"
 count_text (Some n) = decimal n
@@ -78,7 +78,7 @@ watch_line p w index (WatchBegin v) = decimal index ++ (codes " begin " ++ (deci
 watch_line p w index (WatchEnd v) = decimal index ++ (codes " end " ++ (decimal v ++ 32 ∷ (seen_text (looked_at (WatchEnd v) w) ++ 10 ∷ [])))
 watch_line p w index (WatchWaits t) = decimal index ++ (codes " waits " ++ (name_text p t ++ 32 ∷ (count_text (looked_at (WatchWaits t) w) ++ 10 ∷ [])))
 
--- the marks from this index on
+-- the lines of the marks; the first mark has this index
 abbrev pub watch_lines : Plan → World → ℕ → List Mark → List ℕ
 watch_lines p w index [] = []
 watch_lines p w index (m ∷ ms) = watch_line p w index m ++ watch_lines p w (index + 1) ms
@@ -89,12 +89,12 @@ watch_lines p w index (m ∷ ms) = watch_line p w index m ++ watch_lines p w (in
 abbrev pub told_text : Session → Stop → List ℕ
 told_text s stop = stop_line stop ++ watch_lines s.plan (world_at s.plan s.at) 1 s.marks
 
--- what these commands are answered
+-- what the debugger writes after these commands
 abbrev pub session_text : Session → List Command → List ℕ
 session_text s [] = []
 session_text s (c ∷ cs) = told_text (session_after s c) (stop_of s c) ++ session_text (session_after s c) cs
 
--- so it was written behind what a writer held, for the commands that a text says over the schedule that a file says
+-- the answers to the commands in a text, over the schedule in a file, were written after the bytes that a writer held
 pub record Debugs {R : Type 0} (left : R → Option (List ℕ)) (said : ScheduleFile R) (text : List ℕ) (before after : Option (List ℕ)) : Type 0 where
   pub plan : Plan
   pub is : FileGives left said plan
@@ -107,7 +107,7 @@ abbrev pub command_fault : CommandFault → HekFault
 command_fault (read.Line number) = CommandLine number
 command_fault read.NoMemory = NoMemory
 
--- why a text isn't one of commands: a line only where it is the first at fault
+-- why a text has no commands: a fault that names a line names the first one at fault
 abbrev pub CommandTextFails : Plan → List ℕ → HekFault → Type 0
 CommandTextFails plan text (CommandLine number) = commands_of plan text ≡ Err number
 CommandTextFails plan text NoMemory = Unit {0}

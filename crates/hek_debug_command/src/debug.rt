@@ -14,10 +14,10 @@ use std::alloc::Global;
 use std::io::{Read, Write};
 use std::str;
 
-/// Does the commands that a text says with the steps of the schedule that a file says, and writes after each of them where
-/// the debugger stands, why, and what each watch looks at. The answer is the exit status. No command is done before all are
-/// known to be commands; after a fault the lines of the commands before it may have been written. Bytes that aren't a text come
-/// before a fault of the file.
+/// Does the commands in a text with the steps of the schedule in a file. After each command, writes where the debugger
+/// is, why it stopped there, and what each watch looks at. Answers the exit status. No command is done before all lines
+/// are known to be commands; after a fault the lines of the commands before it may have been written. Bytes that aren't
+/// a text are reported before a fault of the file.
 pub fn debug_command<'a, R: Read + Drop, W: Write>(
     alloc: Global,
     file: ScheduleFile<R>,
@@ -35,7 +35,7 @@ pub fn debug_command<'a, R: Read + Drop, W: Write>(
     Ok(0)
 }
 
-/// Does commands from the start of a schedule on.
+/// Does commands from the start of a schedule.
 fn debug<'a, W: Write>(
     alloc: Global,
     schedule: Schedule,
@@ -49,7 +49,7 @@ fn debug<'a, W: Write>(
     do_all(alloc, &mut debugger, commands, out)
 }
 
-/// The commands that a text says, over the names of a schedule.
+/// The commands in a text, with the names that a schedule gives.
 fn commands_of_text<'a>(
     alloc: Global,
     schedule: &Schedule,
@@ -88,7 +88,7 @@ fn do_all<'a, W: Write>(
     Ok(())
 }
 
-/// Does a command, and writes where the debugger stands then.
+/// Does a command, and writes where the debugger is then.
 pub(crate) fn do_one<'a, W: Write>(
     alloc: Global,
     debugger: &mut Debugger,

@@ -258,7 +258,7 @@ header_ok p h q fits e =
     subst (λ (z : Plan × Header). Took p (head_bytes z) q × (z.0 ≡ begun z.0.buckets) × (is_version z.1.version ≡ true)) same.0 (subst (λ (z : Place). Took p (head_bytes head) z) same.1 taken, refl, version.1)
 
 -- ---- the whole
--- bytes up to q are an image of the plan, which has no other levels than the image's version
+-- the bytes up to q are an image of the plan, and the image's version has all levels of the plan
 record IsImage (p : Place) (plan : Plan) (q : Place) : Type 0 where
   pub version : ℕ
   pub known : is_version version ≡ true

@@ -31,7 +31,7 @@ both_reads {A = A} {B = B} r f s t x y h k = record {
       ∙ ap (λ (n : ℕ). Ok (y, here n more)) size;
 }
 
--- a value of what was read
+-- a value made of what was read
 pub then_reads : {A B : Type 0} (r : Reader A) (g : A → B) (s : List ℕ) (x : A) → Reads r s x → Reads (both r (λ a. value (g a))) s (g x)
 unfolding both
 then_reads {A = A} r g s x h = record { reads = λ at more. ap (λ (res : Result (A × Place) LoadFault). then_read res (λ a. value (g a))) (h.reads at more) }

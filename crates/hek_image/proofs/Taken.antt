@@ -21,7 +21,7 @@ took_then p m q s t h k = record { parts = h.parts ∙ ap (λ (bs : List ℕ). s
 pub took_none : (p : Place) → IsBytes p.rest → Took p [] p
 took_none p h = record { parts = refl; bytes = h }
 
--- a value and a place, as they were given
+-- a reader's answer: a value and a place
 abbrev pub gave : {A : Type 0} → A → Place → Result (A × Place) LoadFault
 gave x q = Ok (x, q)
 
@@ -30,7 +30,7 @@ gave_is {A = A} x y p q e =
     let both : (x, p) ≡ (y, q) = cc in
     (ap (λ (z : A × Place). z.0) both, ap (λ (z : A × Place). z.1) both)
 
--- what came before, where what follows it did not fail
+-- if two readers in a row give a value, the first gives one
 pub then_ok : {A B : Type 0} (r : Result (A × Place) LoadFault) (f : A → Reader B) (y : B) (q : Place) → then_read r f ≡ gave y q → (x : A) × (m : Place) × (r ≡ gave x m) × (f x m ≡ gave y q)
 then_ok (Ok x) f y q e = (x.0, x.1, refl, e)
 then_ok (Err d) f y q e = absurd cc

@@ -1,4 +1,4 @@
--- What bytes say, read front to back, or the first fault.
+-- What bytes say, read from front to back, or the first fault.
 use Rattle.std.specs.Prelude.{ℕ, zero, suc, ◌+◌, Bool, ◌&&◌, ◌||◌, not, ◌==◌, nat_lt, nat_le, List, [], ◌∷◌, ◌++◌, length, take, drop, is_some, unwrap_or, Result, Ok, Err, if◌then◌else◌}
 use Rattle.std.specs.Int.{Width, w8, w16, w32, w64, byte_len, from_be_bytes}
 use Rattle.std.specs.Str.{bytes_eq}
@@ -26,7 +26,7 @@ abbrev pub then_read : {A B : Type 0} → Result (A × Place) LoadFault → (A �
 then_read (Ok x) f = f x.0 x.1
 then_read (Err e) f = Err e
 
--- r, and then what follows its value
+-- a reader, and then the one that f makes of its value
 unfoldable pub both : {A B : Type 0} → Reader A → (A → Reader B) → Reader B
 both r f p = then_read (r p) f
 
@@ -35,11 +35,11 @@ abbrev pub checked_from : {A : Type 0} → Result (A × Place) LoadFault → (A 
 checked_from (Ok x) test fault = if test x.0 then Ok x else Err fault
 checked_from (Err e) test fault = Err e
 
--- a field that passes a test, else this fault
+-- a field that passes a test; otherwise this fault
 unfoldable pub required : {A : Type 0} → Reader A → (A → Bool) → LoadFault → Reader A
 required r test fault p = checked_from (r p) test fault
 
--- a field that passes a test, else the fault of the place where it begins
+-- a field that passes a test; otherwise the fault of the place where it begins
 unfoldable pub checked_read : {A : Type 0} → Reader A → (A → Bool) → Reader A
 checked_read r test p = checked_from (r p) test (BadField p.at)
 
@@ -69,7 +69,7 @@ row_at plan = both (checked_read (number_at w64) (λ k. not (has_key plan k))) (
 abbrev pub level_coded : ℕ → Level
 level_coded n = if n == 1 then Serializable else if n == 2 then Repeatable else Snapshot
 
--- a name that is new
+-- a name that no transaction has yet
 abbrev pub is_new_name : Plan → List ℕ → Bool
 is_new_name plan w = is_name w && not (has_name plan w)
 
@@ -86,11 +86,11 @@ is_opcode n = is_some (kind_coded n)
 unfoldable pub kind_at : Reader EventKind
 kind_at = both (checked_read (number_at w8) is_opcode) (λ n. value (unwrap_or (kind_coded n) kind.Detect))
 
--- a declared transaction, or 0 for `detect`
+-- the transaction of a step fits: declared, or 0 for `detect`
 abbrev pub step_txn_fits : Plan → EventKind → ℕ → Bool
 step_txn_fits plan k t = if is_detect k then t == 0 else (nat_lt 0 t && nat_le t (length plan.txns))
 
--- 0 where there is no operand, and a bucket that exists
+-- the first operand of a step fits: 0 if its kind has none, and for a scan a bucket that exists
 abbrev pub first_fits : Plan → EventKind → ℕ → Bool
 first_fits plan k a = if operand_count k == 0 then a == 0 else (not (is_scan k) || nat_lt a plan.buckets)
 
@@ -109,8 +109,8 @@ unfoldable pub times : ℕ → (Plan → Reader Plan) → Plan → Reader Plan
 times zero item plan p = Ok (plan, p)
 times (suc n) item plan p = then_read (item plan p) (times n item)
 
--- ---- the whole
--- the version, and how many rows, transactions and steps there are
+-- ---- the whole image
+-- the version, and the numbers of rows, transactions and steps
 pub record Header : Type 0 where
   pub version : ℕ
   pub rows : ℕ
@@ -120,7 +120,7 @@ pub record Header : Type 0 where
 unfoldable pub magic_at : Reader (List ℕ)
 magic_at = required (bytes_at 4) (λ m. bytes_eq m magic) BadMagic
 
--- 1 and 2
+-- the versions of the format, 1 and 2
 abbrev pub is_version : ℕ → Bool
 is_version n = is_within 1 2 n
 
@@ -136,7 +136,7 @@ header_at = both magic_at (λ m.
     both (number_within 0 max_steps w32) (λ steps.
     value (record { buckets = buckets; rows = []; txns = []; steps = [] }, record { version = version; rows = rows; txns = txns; steps = steps })))))))
 
--- all but the end
+-- everything in an image, without a look at what follows
 unfoldable pub plan_at : Reader Plan
 plan_at = both header_at (λ head.
     both (times head.1.rows row_at head.0) (λ plan.

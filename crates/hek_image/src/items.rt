@@ -13,7 +13,7 @@ use crate::item::Item;
 use crate::place::Place;
 use hek_rules::{EventKind, Level, Schedule, TxnId, name_text};
 
-// A row, which is added.
+// Reads a row and adds it to the schedule. Answers the place after it.
 #[tactic(auto, unfolding(crate::specs::Loading::row_at, crate::specs::Loading::checked_read, crate::specs::Loading::both))]
 fn row_at<'a>(schedule: &mut Schedule, place: Place<'a>) -> Result<Place<'a>, LoadFault>
     requires { length schedule.old.rows < max_rows }
@@ -42,7 +42,7 @@ pub(crate) fn level_coded(byte: u8) -> Level
     }
 }
 
-// The name of a transaction of this level, which is added.
+// Reads the name of a transaction of this level and adds the transaction. Answers the place after it.
 #[tactic(auto, unfolding(crate::specs::Loading::checked_read, crate::specs::Loading::both))]
 fn name_at<'a>(
     level: Level,
@@ -146,7 +146,7 @@ fn second_at(kind: EventKind, place: Place<'_>) -> Result<(u64, Place<'_>), Load
     Ok((second, after))
 }
 
-// A step, which is added.
+// Reads a step and adds it to the schedule. Answers the place after it.
 #[tactic(auto, unfolding(crate::specs::Loading::step_at, crate::specs::Loading::both), using(crate::proofs::StepLemmas::coded_step))]
 fn step_at<'a>(schedule: &mut Schedule, place: Place<'a>) -> Result<Place<'a>, LoadFault>
     requires { length schedule.old.steps < max_steps }
@@ -165,7 +165,7 @@ fn step_at<'a>(schedule: &mut Schedule, place: Place<'a>) -> Result<Place<'a>, L
     Ok(after)
 }
 
-// An item, which is added.
+// Reads an item and adds it to the schedule. Answers the place after it.
 pub(crate) fn item_at<'a>(
     item: Item,
     schedule: &mut Schedule,

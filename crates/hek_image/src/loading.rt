@@ -19,7 +19,7 @@ use std::alloc::Global;
 /// How many bytes the header has.
 const HEADER: usize = 22;
 
-// The version, and how many rows, transactions and steps there are.
+// The version, and the numbers of rows, transactions and steps.
 #[derive(Clone, Copy)]
 struct Header {
     version: u8,
@@ -75,7 +75,7 @@ fn header_at(alloc: Global, place: Place<'_>) -> Result<(Schedule, Header, Place
     Ok((schedule, header, place))
 }
 
-// The header that a source begins with, judged with each piece of it that comes.
+// Reads the header of a source, and judges it with each piece that comes.
 fn next_header<S: Source>(alloc: Global, source: &mut S) -> Result<(Schedule, Header), LoadFault>
     requires { S.failed source.old ≡ false }
     ensures takes { IsTrue (S.tells source.old) → Takes (λ x. ((x.0, header_of x.1), 22)) header_at 0 22 result (S.left source.old) (S.left source.new) }
@@ -105,7 +105,7 @@ fn next_header<S: Source>(alloc: Global, source: &mut S) -> Result<(Schedule, He
     }
 }
 
-// All that the header counts. It answers where it ends.
+// Reads all items that the header counts. Answers the offset where they end.
 fn next_body<S: Source>(
     header: Header,
     schedule: &mut Schedule,
@@ -125,7 +125,7 @@ fn next_body<S: Source>(
     next_items(Item::Step, header.steps, schedule, at, source)
 }
 
-// The end of the source.
+// Checks that the source has no more bytes.
 fn at_end<S: Source>(source: &mut S) -> Result<(), LoadFault>
     requires { S.failed source.old ≡ false }
     ensures end { OnOk result (IsTrue (S.tells source.old) → S.left source.old ≡ []) }
@@ -141,10 +141,10 @@ fn at_end<S: Source>(source: &mut S) -> Result<(), LoadFault>
     }
 }
 
-/// The schedule of which the bytes of a source are, to their end, the version 2 image or the version 1 image, else the first
-/// fault. It takes at most one byte more than the longest image has: `taken` counts them by what the source has left, so it
-/// speaks of sources that tell their bytes. Where the source fails, a fault of the bytes that it gave before is told, and Read
-/// only where they have none but that more would have to follow, or could.
+/// The schedule whose version 2 or version 1 image the bytes of a source are, to their end; otherwise the first fault.
+/// Takes at most one byte more than the longest image has: `taken` counts bytes by what the source has left, so it
+/// applies to sources that tell their bytes. If the source fails, a fault of the bytes that it gave before comes first;
+/// the fault is Read only if those bytes have no fault, except that they may end too early.
 pub fn load_image<S: Source>(alloc: Global, source: &mut S) -> Result<Schedule, LoadFault>
     requires { S.failed source.old ≡ false }
     ensures gives { IsTrue (S.tells source.old) → LoadGives (λ s. s) result (loading (S.left source.old)) }

@@ -1,4 +1,4 @@
-//! Items of an image, read from a source one after another and judged with each piece of them that comes.
+//! Items of an image, read from a source one after another, and judged with each piece that comes.
 ghost use Rattle.std.specs.Prelude.{◌≡◌, ◌+◌, ◌*◌, ◌^◌, ◌<◌, ◌≤◌, length, false, IsTrue, OnOk, IfOk};
 ghost use Rattle.hek_rules.specs.Plan.{max_txns};
 ghost use Rattle.std.specs.Int.{w8};
@@ -14,7 +14,7 @@ use crate::pieces::{ROOM, is_short, take_more};
 use crate::place::Place;
 use hek_rules::{Schedule, Source};
 
-// The item at an offset, which is added. It answers where the next one begins.
+// Reads the item at an offset and adds it to the schedule. Answers the offset of the next one.
 fn next_item<S: Source>(
     item: Item,
     schedule: &mut Schedule,
@@ -50,7 +50,7 @@ fn next_item<S: Source>(
     }
 }
 
-// Several items of one kind: rows or steps.
+// Reads several items of one kind: rows or steps.
 pub(crate) fn next_items<S: Source>(
     item: Item,
     count: u32,
@@ -78,7 +78,7 @@ pub(crate) fn next_items<S: Source>(
     Ok(next)
 }
 
-// A byte that is a number in a range.
+// Reads a byte that is a number in a range.
 fn next_u8<S: Source>(low: u8, high: u8, at: u64, source: &mut S) -> Result<u8, LoadFault>
     requires works { S.failed source.old ≡ false }
     requires at { at < 2 ^ 32 }
@@ -93,7 +93,7 @@ fn next_u8<S: Source>(low: u8, high: u8, at: u64, source: &mut S) -> Result<u8, 
     Ok(number)
 }
 
-// A transaction of an image of this version, which is added.
+// Reads a transaction of an image of this version and adds it to the schedule.
 fn next_txn<S: Source>(
     version: u8,
     schedule: &mut Schedule,
@@ -120,7 +120,7 @@ fn next_txn<S: Source>(
     )
 }
 
-// Several transactions.
+// Reads several transactions.
 pub(crate) fn next_txns<S: Source>(
     version: u8,
     count: u32,

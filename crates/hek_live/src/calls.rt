@@ -1,5 +1,5 @@
-//! The lock calls (section 4 of the paper: record locks). Each makes one load and at most one exchange; none but `new` takes
-//! memory, and none waits. That a call succeeds in the end isn't promised: a caller tries again.
+//! The lock calls (section 4 of the paper: record locks). Each makes one load and at most one exchange. Only `new`
+//! takes memory, and no call waits. A call need not succeed in the end: a caller tries again.
 ghost use Rattle.std.specs.Prelude.{◌≡◌, ◌≢◌, ◌<◌, ◌≤◌, IfOk, IfErr, IsSome, true, false};
 ghost use Rattle.hek_rules.specs.Words.{end_number, IsTxn, readers_of, writer_of, without_reader, dropped_of};
 ghost use Rattle.hek_live.specs.Tokens.{newcomer, maker, split_from, HoldsNone, meets, changed, reads_at, writes_at, MayChange};
@@ -16,10 +16,10 @@ use hek_rules::{NoMemory, TxnId};
 use hek_word::EndWord;
 use std::alloc::Global;
 
-/// ReadLockCount has 8 bits.
+/// The most readers of a word: ReadLockCount has 8 bits.
 const MOST_READERS: u8 = 255;
 
-// `drop_reader`, and quicker where the reader is alone, as on most words.
+// `drop_reader`, but quicker if the reader is the only one, as on most words.
 fn one_reader_less(x: EndWord) -> (EndWord, hek_rules::Dropped)
     requires { 0 < readers_of x }
     ensures word { result.0 ≡ without_reader x }
@@ -33,8 +33,8 @@ fn one_reader_less(x: EndWord) -> (EndWord, hek_rules::Dropped)
 }
 
 impl LiveWords {
-    /// So many words of infinity, 1 to 1,024, and the seat that makes the others. NoMemory where there is no room for the
-    /// words.
+    /// Makes `n` words of infinity, 1 to 1,024, and the seat that makes the others. NoMemory if there is no room for
+    /// the words.
     pub fn new(alloc: Global, n: usize) -> Result<(LiveWords, Seat), NoMemory>
         requires { (1 ≤ n) × (n ≤ 1024) }
         ensures { IfOk result (λ r. (word_count_of r.0 ≡ n) × (table_id_of r.0 ≡ seat_table r.1) × (view_of r.1 ≡ maker)) }
@@ -44,7 +44,7 @@ impl LiveWords {
         Ok((LiveWords { table }, Seat { seat }))
     }
 
-    /// A new seat, which holds nothing. Only the seat that `new` gave makes others.
+    /// Makes a new seat, which holds nothing. Only the seat that `new` gave makes others.
     pub fn split(&self, seat: &mut Seat) -> Seat
         requires own { seat_table seat.old ≡ table_id_of self.now }
         requires makes { (view_of seat.old).makes ≡ true }
@@ -55,7 +55,7 @@ impl LiveWords {
         Seat { seat: other }
     }
 
-    /// Ends a seat that holds nothing and isn't the one that `new` gave. The seat that stays is as before.
+    /// Ends the seat `other`, which holds nothing and isn't the one that `new` gave. `seat` stays as it is.
     pub fn join(&self, seat: &mut Seat, other: Seat)
         requires own { (seat_table seat.old ≡ table_id_of self.now) × (seat_table other ≡ table_id_of self.now) }
         requires none_held { HoldsNone (view_of other) }
@@ -67,7 +67,8 @@ impl LiveWords {
             .join_seat::<Newcomer>(&mut seat.seat, other);
     }
 
-    /// The word as one load finds it. Who holds its read token finds a reader there, who holds its write token a writer.
+    /// The word as one load finds it. A seat with the word's read token finds a reader there, one with its write token
+    /// a writer.
     pub fn look(&self, seat: &mut Seat, word: usize) -> EndWord
         requires own { seat_table seat.old ≡ table_id_of self.now }
         requires word { word < word_count_of self.now }
@@ -81,7 +82,7 @@ impl LiveWords {
         EndWord::from_bits(number)
     }
 
-    // One exchange. `Err` is the word that it found in place of `old`.
+    // Makes one exchange. `Err` is the word that it found in place of `old`.
     fn exchange(
         &self,
         seat: &mut Seat,
@@ -109,8 +110,8 @@ impl LiveWords {
         Err(EndWord::from_bits(found))
     }
 
-    /// Tries once to take the read token of the word: to add a reader. NoMore where NoMoreReadLocks is set, Full where there
-    /// are 255 readers; Changed where the exchange found another word than the load.
+    /// Tries once to take the read token of the word: to add a reader. NoMore if NoMoreReadLocks is set; Full if there
+    /// are 255 readers; Changed if the exchange found another word than the load.
     pub fn try_read(&self, seat: &mut Seat, word: usize) -> TryRead
         requires own { seat_table seat.old ≡ table_id_of self.now }
         requires word { word < word_count_of self.now }
@@ -132,8 +133,9 @@ impl LiveWords {
         }
     }
 
-    /// Tries once to give the read token of the word up: to drop a reader. Last where it was the last under a writer, which
-    /// stands alone then, with NoMoreReadLocks; Changed where the exchange found another word than the load.
+    /// Tries once to give up the read token of the word: to drop a reader. Last if it was the last one under a writer:
+    /// the word then has the writer alone, with NoMoreReadLocks. Changed if the exchange found another word than the
+    /// load.
     pub fn drop_read(&self, seat: &mut Seat, word: usize) -> DropRead
         requires own { seat_table seat.old ≡ table_id_of self.now }
         requires word { word < word_count_of self.now }
@@ -154,8 +156,8 @@ impl LiveWords {
         }
     }
 
-    /// Tries once to take the write token of the word under `u`, 1 to 2^54 - 2. Writer where there is a writer; Changed where
-    /// the exchange found another word than the load.
+    /// Tries once to take the write token of the word under `u`, 1 to 2^54 - 2. Writer if the word has a writer;
+    /// Changed if the exchange found another word than the load.
     pub fn try_write(&self, seat: &mut Seat, word: usize, u: TxnId) -> TryWrite
         requires own { seat_table seat.old ≡ table_id_of self.now }
         requires word { word < word_count_of self.now }
@@ -175,7 +177,7 @@ impl LiveWords {
         }
     }
 
-    /// Tries once to give the write token of the word up, and NoMoreReadLocks with it. Changed where the exchange found
+    /// Tries once to give up the write token of the word, and NoMoreReadLocks with it. Changed if the exchange found
     /// another word than the load.
     pub fn drop_write(&self, seat: &mut Seat, word: usize) -> DropWrite
         requires own { seat_table seat.old ≡ table_id_of self.now }

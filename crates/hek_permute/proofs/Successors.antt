@@ -10,7 +10,7 @@ use Rattle.std.proofs.lemmas.Bool.Decides.{nat_tests}
 use Rattle.hek_permute.specs.Orders.{IsBelow, name_count, AreAlike, IsNext, IsLast}
 use Rattle.hek_permute.specs.Falls.{FallsFrom, IsFalling, IsTurn, IsLastAbove}
 
--- a number stands in a list
+-- a number occurs in a list
 abbrev pub IsIn : ℕ → List ℕ → Type 0
 IsIn z xs = (k : ℕ) × (k < length xs) × (slice_index xs k ≡ z)
 
@@ -40,7 +40,7 @@ found z (x ∷ xs) h = found_here z x xs (x == z) refl (omega (arith, times_cons
 one_of : (z : ℕ) (xs : List ℕ) → 0 < name_count z (z ∷ xs)
 one_of z xs = omega (arith, times_cons z z xs, ap one_if (is_itself z))
 
--- the head of one of two lists that are alike stands in the other
+-- the head of one of two lists of the same numbers occurs in the other
 head_in : (xs : List ℕ) (z : ℕ) (ys : List ℕ) → AreAlike xs (z ∷ ys) → IsIn z xs
 head_in xs z ys a = found z xs (omega (arith, a z, one_of z ys))
 
@@ -56,7 +56,7 @@ turned xs ys a = λ t. sym (a t)
 joined : (xs ys zs : List ℕ) → AreAlike xs ys → AreAlike ys zs → AreAlike xs zs
 joined xs ys zs a b = λ t. a t ∙ b t
 
--- none that is like a falling list comes behind it
+-- no list of the same numbers comes after a falling one
 pub greatest : (t p : List ℕ) → IsFalling t → AreAlike t p → IsBelow t p → ⊥
 greatest [] [] f a b = b
 greatest (h ∷ t) [] f a b = b
@@ -68,7 +68,7 @@ greatest (h ∷ t) (z ∷ p) f a (inl less) =
 greatest (h ∷ t) (z ∷ p) f a (inr same) =
     greatest t p (λ i k low up within. f (suc i) (suc k) (omega arith) (omega arith) (omega arith)) (tails h z t p same.0 a) same.1
 
--- none that is like a rising list comes before it
+-- no list of the same numbers comes before a rising one
 pub least : (t p : List ℕ) → IsRising t → AreAlike t p → IsBelow p t → ⊥
 least [] [] f a b = b
 least [] (z ∷ p) f a b = b
@@ -80,7 +80,7 @@ least (h ∷ t) (z ∷ p) f a (inl less) =
 least (h ∷ t) (z ∷ p) f a (inr same) =
     least t p (λ i k low within. f (suc i) (suc k) (omega arith) (omega arith)) (tails h z t p (sym same.0) a) same.1
 
--- behind x the numbers fall; y is the least of them that is above x, and what is left then rises
+-- the numbers after x fall; y is the least of them above x, and the others, with x in the place of y, then rise
 pub record Turns (x : ℕ) (tail : List ℕ) (y : ℕ) (up : List ℕ) : Type 0 where
   pub falling : IsFalling tail
   pub rising : IsRising up
@@ -207,7 +207,7 @@ falls_behind (x ∷ front) tail (suc n) e f =
 pub is_last : (xs : List ℕ) → IsFalling xs → IsLast xs
 is_last xs f = record { none = λ q a b. greatest xs q f a b }
 
--- what stands behind the front, by its place in the whole
+-- the first number after a front, by its place in the whole list
 pub behind : (front tail : List ℕ) (n : ℕ) → length front ≡ n → slice_index (front ++ tail) n ≡ slice_index tail 0
 behind [] tail n e = subst (λ (m : ℕ). slice_index tail m ≡ slice_index tail 0) e refl
 behind (x ∷ front) tail zero e = absurd (omega arith)

@@ -43,7 +43,7 @@ compared [] (y ∷ b) = inl tt
 compared (x ∷ a) [] = inr (inr tt)
 compared (x ∷ a) (y ∷ b) = heads_meet x y a b (three x y) (compared a b)
 
--- the first order rises
+-- a list rises, from b on
 abbrev pub RisesFrom : ℕ → List ℕ → Type 0
 RisesFrom b [] = Unit {0}
 RisesFrom b (x ∷ xs) = (b ≤ x) × RisesFrom x xs
@@ -75,7 +75,7 @@ rising b (x ∷ xs) r (suc i) (suc k) low h = rising x xs r.1 i k (omega arith) 
 pub none_below : (ns : List ℕ) (q : List ℕ) → AreAlike (first_order_from 1 ns) q → IsBelow q (first_order_from 1 ns) → ⊥
 none_below ns q a b = least (first_order_from 1 ns) q (rising 1 (first_order_from 1 ns) (first_rises 1 ns)) a b
 
--- the orders before one, the last first, and the tally of those in the part
+-- the orders before one, with the last first, and the tally of those in the part
 pub record IsSoFar (p : Plan) (form : Form) (from to number : ℕ) (moves : List Work) (order : List ℕ) (rows : List Line) : Type 0 where
   pub are : AreMoves p moves
   pub past : List (List ℕ)
@@ -107,7 +107,7 @@ all_below : (old new : List ℕ) (past : List (List ℕ)) → IsBelow old new �
 all_below old new [] h all = tt
 all_below old new (q ∷ past) h all = (below_trans q old new all.0 h, all_below old new past h all.1)
 
--- what is like the first and not behind the order is the order or among those before
+-- an order of the same moves that does not come after this one is this one or among those before it
 here_or_before : (first order : List ℕ) (past : List (List ℕ)) (q : List ℕ) → ((q : List ℕ) → AreAlike first q → IsBelow q order → IsAmong q past) → AreAlike first q
     → (IsBelow order q → ⊥) → IsBelow q order ⊎ ((q ≡ order) ⊎ IsBelow order q) → IsAmong q (order ∷ past)
 here_or_before first order past q all a not_behind (inl h) = inr (all q a h)
@@ -166,7 +166,7 @@ front_of [] rest (suc n) e = absurd (omega arith)
 front_of (x ∷ new) rest zero e = absurd (omega arith)
 front_of (x ∷ new) rest (suc n) e = ap (λ (l : List ℕ). x ∷ l) (front_of new rest n (omega arith))
 
--- what an event of the walk did, by the test and the slices that it was given
+-- what the loop did with an order, by the test and the slices that it was given
 pub goes_with : (p : Plan) (form : Form) (works moves : List Work) (from to number : ℕ) (part : Bool) (order slice : List ℕ) (was rows : List Line) → moves ≡ works
     → part ≡ is_between from to number → slice ≡ order → Goes p form moves part slice was rows → Goes p form works (is_between from to number) order was rows
 goes_with p form works moves from to number part order slice was rows same e is g =

@@ -1,4 +1,4 @@
--- What a history comes to.
+-- The outcome of a history.
 use Rattle.std.specs.Prelude.{ℕ, suc, zero, ◌≡◌, ◌+◌, ◌↔◌, Bool, true, false, ◌==◌, ◌||◌, if◌then◌else◌, IsTrue, List, [], ◌∷◌, ◌++◌, length}
 use Rattle.hek_rules.specs.declared.event.Cause.TheVariants as cause
 use Rattle.hek_rules.specs.declared.event.Level.TheVariants.{Serializable}
@@ -18,19 +18,19 @@ use Rattle.hek_permute.specs.declared.outcome.Ending.{Ending}
 use Rattle.hek_permute.specs.declared.outcome.Ending.TheVariants as ending
 use Rattle.hek_permute.specs.Found.{Found}
 
--- how a transaction ends with a reply, or else later on
+-- how a transaction ends with a reply, or by a later one
 abbrev pub ends_with : Reply → Ending → Ending
 ends_with reply.Committed later = ending.Committed
 ends_with (reply.Aborted why) later = ending.Aborted why
 ends_with reply.Failed later = ending.Aborted cause.Asked
 ends_with r later = later
 
--- how t ends
+-- how t ends in a history
 abbrev pub end_in : ℕ → List Entry → Ending
 end_in t [] = ending.Unended
 end_in t (x ∷ xs) = if x.worker == t then ends_with x.reply (end_in t xs) else end_in t xs
 
--- how so many transactions end, that of ID 1 first
+-- how the first transactions end, by ID
 abbrev pub ends_upto : ℕ → List Entry → List Ending
 ends_upto zero xs = []
 ends_upto (suc n) xs = ends_upto n xs ++ end_in (n + 1) xs ∷ []
@@ -40,12 +40,12 @@ is_wait (reply.Waiting n) = true
 is_wait (reply.WaitingCommits n) = true
 is_wait r = false
 
--- somebody was told to wait
+-- some transaction had to wait
 abbrev pub has_wait : List Entry → Bool
 has_wait [] = false
 has_wait (x ∷ xs) = is_wait x.reply || has_wait xs
 
--- what a checker is told of a history, with all taken as serializable
+-- the transcript of a history, with all transactions taken as serializable
 abbrev pub told_as_serializable : Plan → List Entry → Recorded
 told_as_serializable p xs = at_level Serializable (recorded_by p xs)
 

@@ -1,22 +1,22 @@
-//! Why an order can't be played.
+//! Why an order cannot be played.
 use hek_rules::NoMemory;
 use hek_worker::ThreadFault;
 use std::alloc::{AllocError, AllocFailed};
 use thiserror::Error;
 
-/// Why there is no play of an order, or no tally of them.
+/// Why there is no play of an order, or no tally of the orders.
 #[derive(Clone, Copy, Debug, PartialEq, Eq, Error)]
 pub enum OrderFault {
     #[error("no memory")]
     NoMemory,
-    /// A reply that the grammar of transactions doesn't have at its place, or an event of a transaction that isn't declared. No
-    /// play has shown it.
+    /// A reply that the grammar of transactions does not allow at its place, or an event of an undeclared transaction.
+    /// No play has shown this fault.
     #[error("mismatch")]
     Mismatch,
-    /// There are more orders than the limit, or more than can be counted.
+    /// There are more orders than the limit, or too many to be counted.
     #[error("too many orders")]
     TooMany,
-    /// The watcher asks for no more.
+    /// The watcher asks for no more orders.
     #[error("stopped")]
     Stopped,
 }

@@ -1,4 +1,4 @@
-//! The moves of transactions, and the orders that they can come in.
+//! The moves of transactions, and the orders in which they can come.
 ghost use Rattle.std.specs.Prelude.{◌≡◌, ◌+◌, ◌++◌, IfOk, OnOk, length, replicate};
 ghost use Rattle.hek_permute.specs.Moves.{AreMoves, counts_of, last_moves, has_fail, first_order_from};
 ghost use Rattle.hek_worker.specs.Grammar.{work_of};
@@ -13,7 +13,7 @@ use std::marker::Model;
 pub enum Form {
     /// One move, from `finish` to `end`.
     Whole,
-    /// Two: `finish` and `precommit`, and then what is left.
+    /// Two moves: `finish` and `precommit`, and then the rest.
     Split,
 }
 
@@ -145,7 +145,7 @@ pub(crate) fn move_count(of_one: &Moves, form: Form) -> usize
     of_one.work().len() + form.last_moves()
 }
 
-/// How many orders there are; None where the number is 2^64 or more, or passes it on the way.
+/// How many orders there are; None if the number, or a product on the way to it, is 2^64 or more.
 pub fn order_count(moves: &[Moves], form: Form) -> Option<u64> {
     let mut count = 1u64;
     let mut length = 0u64;

@@ -5,8 +5,8 @@ use hek_rules::{Level, NoMemory, Schedule};
 use std::alloc::Global;
 use std::io::Write;
 
-/// The levels in a line, and a line for each outcome: how many orders have it at each level, and the outcome. The tallies are
-/// those of the levels, in order.
+/// A line of the levels, and a line for each outcome: how many orders have it at each level, and the outcome. There is
+/// one tally for each level, in the order of the levels.
 pub(crate) fn put_table(
     alloc: Global,
     schedule: &Schedule,

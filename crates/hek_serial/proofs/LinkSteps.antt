@@ -1,4 +1,4 @@
--- The places of each transaction, with one event more in front.
+-- The places of each transaction, with one more event in front.
 use Rattle.std.proofs.Common.{◌≡◌, ℕ, zero, suc, ◌+◌, ◌<◌, ◌≤◌, Bool, true, false, List, [], ◌∷◌, ◌++◌, take, length, refl, ◌∙◌, ap, sym, subst, Some, None, Option, arith, ⊎_elim, get_or, set, replicate}
 use Rattle.std.proofs.lemmas.List.{length-set, length-replicate, get_or-replicate, get_or-set_same, get_or-set_other}
 use Rattle.std.proofs.Math.Seq.{take-append_seam}
@@ -28,7 +28,7 @@ past t [] i l = refl
 past t (e ∷ es) zero l = absurd (omega (arith, l))
 past t (e ∷ es) (suc i) l = past t es i (omega (arith, l))
 
--- before any event is put there is a place for none
+-- before the first event no place is kept
 none_kept : (below count t : ℕ) → linked_place (replicate below count) [] count t ≡ count
 none_kept below count t =
     cond_both (nat_lt t (length (replicate below count))) (slice_index (replicate below count) t) count (λ n. n ≡ count)
@@ -51,7 +51,7 @@ none_linked es below near next far all none long =
 pub all_linked : (es : List Event) (near : List ℕ) (far : List (ℕ × ℕ)) (next : List ℕ) → AreFrom es 0 near far next → AreEventLinks es near far next
 all_linked es near far next a = record { long = a.long; starts = a.starts; follows = λ t i c. a.follows t i (omega arith) c }
 
--- the place kept for another stays
+-- the place kept for another transaction stays
 other_set : (near : List ℕ) (far : List (ℕ × ℕ)) (i count t x : ℕ) → (x == t) ≡ false → linked_place (set near x i) far count t ≡ linked_place near far count t
 other_set near far i count t x n =
     ap (λ m. if nat_lt t m then slice_index (set near x i) t else unwrap_or (value_of far t) count) (length-set near x i)

@@ -1,4 +1,4 @@
-//! One transaction a thread, each event in one hold of one lock, with the history that the lock keeps.
+//! One thread for each transaction. Each event is one hold of one lock, which also keeps the history.
 #![tactic(auto)]
 
 mod parts;

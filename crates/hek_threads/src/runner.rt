@@ -38,7 +38,7 @@ impl<'a> Promise<Result<Part, ThreadFault>> for Transcribes<'a> {
 
 type Handle<'s> = PromisedHandle<Result<Part, ThreadFault>, Transcribes<'s>>;
 
-// Starts a thread for each transaction. `Err` hands back those that were started where one could not be.
+// Starts a thread for each transaction. If one cannot be started, `Err` hands back those that were.
 fn start_all<'s, E, S: Steps + Sync, G: Gate + Sync, R: Threads + Wait + Sync>(
     scope: &Scope<'s, E>,
     rt: &'s R,
@@ -74,7 +74,7 @@ fn start_all<'s, E, S: Steps + Sync, G: Gate + Sync, R: Threads + Wait + Sync>(
     Ok(handles)
 }
 
-// The fault that is answered of two: want of memory first, and else the earlier one.
+// The fault of two that counts: NoMemory first, otherwise the earlier one.
 fn first_of(fault: Option<ThreadFault>, next: ThreadFault) -> ThreadFault
     ensures memory { (fault ≡ Some ThreadFault.NoMemory) ⊎ (next ≡ ThreadFault.NoMemory) → result ≡ ThreadFault.NoMemory }
     ensures earlier { IfSome fault (λ f. next ≢ ThreadFault.NoMemory → result ≡ f) }
@@ -142,7 +142,7 @@ fn run_all<'s, E, S: Steps + Sync, G: Gate + Sync, R: Threads + Wait + Sync>(
     }
 }
 
-// Runs all workers in a scope of their own.
+// Runs all workers in one scope.
 fn gather<S: Steps + Sync, G: Gate + Sync, R: Threads + Wait + Sync>(
     rt: &R,
     alloc: Global,
@@ -164,7 +164,8 @@ fn gather<S: Steps + Sync, G: Gate + Sync, R: Threads + Wait + Sync>(
     )
 }
 
-// The transcripts, where the book is of the run's own schedule. What no worker is at fault for is told first.
+// The transcripts, if the book is of the run's own schedule; otherwise Mismatch(0), but NoWorker and NoMemory come
+// first.
 fn of_own_book(joined: Result<Vec<Part>, ThreadFault>, own: bool) -> Result<Vec<Part>, ThreadFault>
     ensures own { IfOk result (λ v. IsTrue own × (joined ≡ Ok v)) }
     ensures kept { IsTrue own → result ≡ joined }
@@ -184,14 +185,16 @@ fn of_own_book(joined: Result<Vec<Part>, ThreadFault>, own: bool) -> Result<Vec<
     }
 }
 
-/// Runs each declared transaction in a thread of its own, and joins all that were started. A worker makes `begin`, its
-/// transaction's reads and writes in the order of the schedule's steps, `finish`, `precommit`, `release` and `commit`, and
-/// `stamp`s and `end`s what it did; where it has to wait it uses one of `turns`, looks for a deadlock and tries again, and
-/// without a turn it makes `fail`. All other steps of the schedule are passed over. `gate` is called before each event.
+/// Runs each declared transaction in its own thread, and joins all threads that were started. A worker makes `begin`,
+/// its transaction's reads and writes in the order of the schedule's steps, `finish`, `precommit`, `release` and
+/// `commit`, and `stamp`s and `end`s what it did. When it has to wait it uses one of `turns`, looks for a deadlock and
+/// tries again; without a turn left it makes `fail`. All other steps of the schedule are skipped. `gate` is called
+/// before each event.
 ///
-/// NoWorker: a thread can't be started. NoMemory: a worker met it, and made no more events; the others went on to their
-/// ends. Mismatch: a worker's replies, or its part of the history, aren't what they should be. Of several faults they are
-/// told in this order, and of mismatches that of the least worker, where 0 stands for the book.
+/// NoWorker: a thread cannot be started. NoMemory: a worker ran out of memory and made no more events; the others ran
+/// to their ends. Mismatch: a worker's replies, or its part of the history, are not what they should be. Of several
+/// faults the first in this order counts, and of mismatches that of the worker with the least ID, where 0 means the
+/// book.
 pub fn run_workers<G: Gate + Sync, R: Threads + Wait + Sync>(
     rt: &R,
     alloc: Global,

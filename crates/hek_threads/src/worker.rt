@@ -8,7 +8,7 @@ use hek_worker::{Part, Position, Stage, ThreadFault, is_work};
 use std::alloc::Global;
 use std::sync::Wait;
 
-/// What holds workers back. No contract says when a gate is called, nor with what: tests alone do.
+/// Holds workers back, for tests. No contract says when a gate is called, nor with what: tests alone show it.
 pub trait Gate {
     /// A worker calls this before each of its events, outside the lock. `nth` counts that worker's events from 1, `detect` too.
     fn before(&self, worker: TxnId, nth: u64);

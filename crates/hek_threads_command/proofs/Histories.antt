@@ -35,7 +35,7 @@ all_named n (x ∷ xs) h =
     let here : IsEntry n x = h 0 x (omega arith) in
     (named n x.worker (txn_of x.event) here.0 here.1, all_named n xs (λ k d below. h (suc k) d (omega arith)))
 
--- an event has a reply
+-- each event has a reply
 pub paired : (xs : List Entry) → length (replies_in xs) ≡ length (history_events xs)
 paired [] = refl
 paired (x ∷ xs) = ap suc (paired xs)
@@ -45,7 +45,7 @@ zipped : (xs : List Entry) → zip (history_events xs) (replies_in xs) ≡ map (
 zipped [] = refl
 zipped (x ∷ xs) = ap (λ (ps : List (Event × Reply)). (x.event, x.reply) ∷ ps) (zipped xs)
 
--- there is one verdict on a history that is serial
+-- a serial history has one verdict
 is_serial : (p : Plan) (xs : List Entry) (v : Verdict) → IsSerialHistory p xs → IsVerdict (recorded_by p xs) v → v ≡ Serial
 is_serial p xs Serial h is = refl
 is_serial p xs (NotSerial n) h is =
@@ -56,7 +56,7 @@ pub judged : (p : Plan) (xs : List Entry) (told : Recorded) (r : Result Verdict 
 judged p xs told (Ok v) h is verdict = is_serial p xs v h (subst (λ (t : Recorded). IsVerdict t v) is verdict)
 judged p xs told (Err e) h is verdict = tt
 
--- such a fault is one of the command, whatever the file says
+-- a fault of a run in threads is a fault of the command, whatever the file has
 pub stop_fails : {R : Type 0} (left : R → Option (List ℕ)) (said : ScheduleFile R) (fault : HekFault) → IsThreadsStop fault → ThreadsFail left said fault
 stop_fails left said hek.NoWorker h = tt
 stop_fails left said (hek.Mismatch w) h = tt

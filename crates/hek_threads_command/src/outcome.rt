@@ -1,4 +1,5 @@
-//! What a run came to: who committed, who aborted and why, the rows at the end, and the checker's verdict.
+//! The outcome of a run: which transactions committed, which aborted and why, the rows at the end, and the checker's
+//! verdict.
 ghost use Rattle.std.specs.Prelude.{◌≡◌, ◌++◌, ℕ, List, IfOk};
 ghost use Rattle.hek_rules.specs.declared.serial.Verdict.TheVariants as verdict;
 ghost use Rattle.hek_worker.specs.History.{IsSerialHistory};
@@ -78,7 +79,7 @@ fn judge(alloc: Global, schedule: &Schedule, history: Vec<Entry>) -> Result<Verd
     check(alloc, &told)
 }
 
-/// The verdict comes behind the text.
+/// Appends the verdict to the text.
 fn put_verdict(verdict: Verdict, text: &mut Vec<u8>) -> Result<(), NoMemory>
     ensures { IfOk result (λ _. text.new.items ≡ text.old.items ++ verdict_ending verdict) }
 {

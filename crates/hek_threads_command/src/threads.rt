@@ -14,9 +14,8 @@ use std::io::{Read, Write};
 use std::sync::Wait;
 use std::thread::Threads;
 
-/// Runs each transaction of the schedule that a file says in a thread of its own, and writes the history as a trace. A
-/// worker that waits goes on waiting for so many turns. The answer is the exit status. Nothing is written before the run
-/// is over.
+/// Runs each transaction of the schedule in a file in its own thread, and writes the history as a trace. A worker may
+/// wait as often as it has turns, `turns` times. Answers the exit status. Nothing is written before the run is over.
 #[tactic(auto, using(crate::proofs::Histories::stop_fails))]
 pub fn threads_command<'a, T: Threads + Wait + Sync, R: Read + Drop, W: Write>(
     rt: &T,
@@ -55,7 +54,7 @@ impl Gate for Open {
     fn before(&self, _worker: TxnId, _nth: u64) {}
 }
 
-/// What a run in threads gives.
+/// The report of a run in threads.
 pub(crate) fn report_of<'a, T: Threads + Wait + Sync>(
     rt: &T,
     alloc: Global,

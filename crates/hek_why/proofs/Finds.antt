@@ -1,4 +1,4 @@
--- Lists that are gathered over the versions and the transactions that a machine shows, one more at a time.
+-- Lists that a loop gathers over the versions and the transactions that a machine shows, one at a time.
 use Rattle.std.proofs.Common.{◌≡◌, ℕ, ◌+◌, ◌<◌, Bool, true, false, List, [], ◌∷◌, ◌++◌, append_assoc, refl, ◌∙◌, ap, sym, subst, arith, length, drop, add-one}
 use Rattle.std.proofs.lemmas.Bool.{lt-ltb}
 use Rattle.std.proofs.lemmas.Option.{unwrap_or-slice_get}
@@ -61,7 +61,7 @@ pub ids_all : (m : Engine) (test : World → ℕ → Bool) (n : ℕ) (found : Li
     IsShown m (λ w. ids_where (test w) (length w.txns)) found
 ids_all m test n found count so_far w s = ap (ids_where (test w)) (count w s) ∙ sym (so_far w s)
 
--- the same at the loop's own variable
+-- the places found after the next version, for a loop's variable
 pub finds_next : (m : Engine) (test : World → ℕ → Version → Bool) (i v n : ℕ) (b : Bool) (before after : List ℕ) → v ≡ i → i < n → IsShown m (λ w. length w.versions) n →
     IsShown m (λ w. version_passes (test w) v w) b → after ≡ (if b then before ++ v ∷ [] else before) → Finds m test before i → Finds m test after (i + 1)
 finds_next m test i v n b before after same below count shown grown left =
@@ -74,7 +74,7 @@ ids_next m test i t b before after same shown grown so_far =
     ids_more m test i b before after (subst (λ (k : ℕ). IsShown m (λ w. test w k) b) same shown)
     (subst (λ (k : ℕ). after ≡ (if b then before ++ k ∷ [] else before)) same grown) so_far
 
--- at the end of a loop
+-- at the end of the loop the places found are all
 pub finds_end : (m : Engine) (test : World → ℕ → Version → Bool) (i n : ℕ) (found : List ℕ) → i ≡ n → IsShown m (λ w. length w.versions) n → Finds m test found i →
     IsShown m (λ w. places (test w) 0 w.versions) found
 finds_end m test i n found same count left = finds_all m test n found count (subst (Finds m test found) same left)

@@ -1,4 +1,4 @@
--- Reasons to wait are as many as the counters say.
+-- There are as many reasons to wait as the counters say.
 use Rattle.std.proofs.Common.{◌≡◌, ℕ, ◌+◌, ◌<◌, ◌≤◌, true, List, [], ◌++◌, ◌∙◌, ap, sym, arith, length, length-append, map}
 use Rattle.std.proofs.lemmas.List.{length-map}
 use Rattle.hek_rules.specs.World.{World, txn_in, is_present, is_preparing}
@@ -33,7 +33,7 @@ commits_number m w t s =
     ∙ members-count w.dependents t (length w.txns) (sound_of m w s).dependents_once
     (λ u h. present-named m w u s (preparing-present w u ((sound_of m w s).depended_preparing u t h)))
 
--- the reasons that were gathered are as many
+-- there are as many gathered reasons as the WaitForCounter says
 pub gathered_number : (m : Engine) (w : World) (u : ℕ) (versions holders : List ℕ) (l0 l1 l2 : List Reason) → StandsFor m w → l0 ≡ [] →
     l0 ++ map (λ v. ReadLocked v (readers_in w v)) versions ≡ l1 → l1 ++ map (λ h. Listed h (shared_bucket w h u)) holders ≡ l2 →
     held_over w u ≡ versions → waiting_list_holders w u ≡ holders → waits w u ≡ length l2

@@ -1,4 +1,4 @@
--- Whether there is a version at a place, and it passes a test.
+-- Whether a version exists and passes a test.
 use Rattle.std.specs.Prelude.{ℕ, Bool, ◌&&◌, nat_lt, length}
 use Rattle.hek_rules.specs.World.{World, Version, version_in}
 

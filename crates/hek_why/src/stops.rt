@@ -1,4 +1,4 @@
-//! Where a walk stops, or an insert.
+//! Where a walk is refused, or an insert meets a claim.
 ghost use Rattle.std.specs.Prelude.{◌≡◌, IfOk};
 ghost use Rattle.hek_rules.specs.Walk.{version_judged, lock_judged, wait_judged};
 ghost use Rattle.hek_rules.specs.World.{txn_in};
@@ -16,7 +16,7 @@ use hek_machine::Machine;
 use hek_rules::{Aim, BeginRecord, Cause, Level, NoMemory, Sight, State, TxnId, VersionId};
 use hek_word::{BeginWord, EndWord};
 
-/// The version at which a transaction is stopped, what it sees of it, and the cause.
+/// The version at which a walk is refused, what the transaction sees of it, and the cause.
 #[derive(Clone, Copy, Debug, PartialEq, Eq)]
 pub(crate) struct Stop {
     pub(crate) version: VersionId,
@@ -24,7 +24,7 @@ pub(crate) struct Stop {
     pub(crate) cause: Cause,
 }
 
-/// What refuses the lock that a seen version gets.
+/// What refuses the lock that a walk takes of a version that it sees.
 fn lock_refused(
     machine: &Machine,
     t: TxnId,
@@ -44,7 +44,7 @@ fn lock_refused(
     }
 }
 
-/// What refuses to make an active u wait, which made a version that t doesn't see.
+/// What refuses to make u wait, an Active transaction whose version t meets and does not see.
 fn wait_refused(machine: &Machine, t: TxnId, u: TxnId) -> Result<Option<Cause>, NoMemory>
     requires { Declared machine.now.txns t }
     ensures { IfOk result (IsShown machine.now (λ w. refused_by (wait_judged w t u (txn_in w.txns t).level))) }
@@ -61,7 +61,7 @@ fn wait_refused(machine: &Machine, t: TxnId, u: TxnId) -> Result<Option<Cause>, 
     }
 }
 
-/// What refuses a walk at a version of which this is seen, if something does.
+/// What refuses a walk at a version of which the transaction sees this, if something does.
 fn refused_at(
     machine: &Machine,
     t: TxnId,
@@ -121,8 +121,8 @@ pub(crate) fn first_stop(
     Ok(None)
 }
 
-/// Whether another that is active made the version of a Begin word, or for a snapshot transaction it was made later than
-/// it looks.
+/// Whether a version with this Begin word claims its key: another Active transaction made it, or t is at the snapshot
+/// level and it was made after t's read time.
 fn is_claim(machine: &Machine, t: TxnId, begin: BeginWord) -> bool
     requires { Declared machine.now.txns t }
     ensures { IsShown machine.now (λ w. is_claim w t (txn_in w.txns t).level begin) result }
@@ -145,7 +145,7 @@ fn is_claim(machine: &Machine, t: TxnId, begin: BeginWord) -> bool
     }
 }
 
-/// Whether there is such a version.
+/// Whether a version exists and claims its key against an insert of t.
 fn claims(machine: &Machine, t: TxnId, v: VersionId) -> bool
     requires { Declared machine.now.txns t }
     ensures { IsShown machine.now (λ w. version_passes (λ v x. is_claim w t (txn_in w.txns t).level x.creator) v w) result }

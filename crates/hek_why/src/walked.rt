@@ -1,4 +1,4 @@
-//! The versions that an event's walk goes over, and what is seen of them.
+//! The versions that an event's walk goes over, and what its transaction sees of them.
 ghost use Rattle.std.specs.Prelude.{◌≡◌, ◌==◌, IfOk};
 ghost use Rattle.hek_rules.specs.World.{bucket_of};
 ghost use Rattle.hek_rules.specs.Visibility.{is_seen};
@@ -21,11 +21,11 @@ fn is_of_key(machine: &Machine, key: u64, v: VersionId) -> bool
     machine.key_of(v) == Some(key)
 }
 
-/// Whether a version is of a key of a bucket.
+/// Whether a version's key is in a bucket.
 pub(crate) fn is_of_bucket(machine: &Machine, bucket: u64, v: VersionId) -> bool
     ensures { IsShown machine.now (λ w. version_passes (λ v x. bucket_of w x.key == bucket) v w) result }
 {
-    // There is a bucket.
+    // The contract of `clock` gives that the machine has at least one bucket.
     let _ = machine.clock();
     match machine.key_of(v) {
         None => false,
@@ -71,7 +71,7 @@ fn is_seen(sight: Sight) -> bool
     matches!(sight, Sight::Seen | Sight::SeenIf(_))
 }
 
-/// The last of these that a transaction sees.
+/// The last of these versions that a transaction sees.
 pub(crate) fn last_seen(machine: &Machine, t: TxnId, vs: &[VersionId]) -> Option<VersionId>
     requires { Declared machine.now.txns t }
     ensures { IsShown machine.now (λ w. last (seen_of w t vs.now)) result }
@@ -85,7 +85,7 @@ pub(crate) fn last_seen(machine: &Machine, t: TxnId, vs: &[VersionId]) -> Option
     seen
 }
 
-/// What a transaction sees of each of these.
+/// What a transaction sees of each of these versions.
 pub(crate) fn looks(
     alloc: Global,
     machine: &Machine,

@@ -1,4 +1,4 @@
-//! What a transaction saw of a version, and by what: both words, and where those stand whom they name.
+//! What a transaction saw of a version, and why: both words, and the states of the transactions that they name.
 use crate::word_text::{put, put_name};
 use hek_machine::Machine;
 use hek_rules::{
@@ -48,7 +48,7 @@ fn put_sight(schedule: &Schedule, sight: Sight, lines: &mut Vec<u8>) -> Result<(
     }
 }
 
-/// The time at which it looks.
+/// The time at which the transaction looks.
 fn put_time(machine: &Machine, t: TxnId, lines: &mut Vec<u8>) -> Result<(), NoMemory> {
     let ticks = looks_at(machine, t).number();
     put(write!(lines, " at {ticks}: "))
@@ -105,7 +105,7 @@ fn put_end_time(time: Time, lines: &mut Vec<u8>) -> Result<(), NoMemory> {
     }
 }
 
-/// A transaction that a word names, and where it stands; or that it is the one that looks.
+/// The transaction that a word names, with its state, or `itself` if it is the one that looks.
 fn put_party(
     schedule: &Schedule,
     machine: &Machine,

@@ -1,11 +1,11 @@
-//! Where a transaction was stopped, and by whom.
+//! Where a transaction was stopped, and by what.
 use crate::word_text::{put, put_name};
 use hek_machine::Machine;
 use hek_rules::{Cause, NoMemory, Schedule, State, TxnId, VersionId};
 use hek_why::Met;
 use std::io::Write;
 
-/// A stop at a version: whom or what the transaction met there, and the word that says so.
+/// A stop at a version: what the transaction met there, and the word that says so.
 pub(crate) fn put_stopped(
     schedule: &Schedule,
     machine: &Machine,
@@ -57,8 +57,8 @@ fn put_writer(
     put_end_word(machine, v, lines)
 }
 
-/// The transaction that made the version. Of one that is active the line says what the cause rests on: that it has finished, or
-/// that it is active.
+/// The transaction that made the version. For an active one the line says what the cause rests on: that it has
+/// finished, or that it is active.
 fn put_creator(
     schedule: &Schedule,
     machine: &Machine,

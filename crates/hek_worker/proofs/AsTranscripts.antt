@@ -15,7 +15,7 @@ pairs_of xs = map (λ x. (x.event, x.reply)) xs
 abbrev pub over : Plan → List (Event × Reply) → Recorded
 over p ps = record { buckets = p.buckets; rows = p.rows; levels = levels_of p; history = ps }
 
--- the transcript so far is over a plan, and with what is left of a history it is the whole
+-- the transcript so far is over plan p, and with the entries left it is that of the whole history
 pub record IsFront (p : Plan) (xs rest : List Entry) (told : Recorded) : Type 0 where
   pub plan : told ≡ over p told.history
   pub all : told.history ++ pairs_of rest ≡ pairs_of xs

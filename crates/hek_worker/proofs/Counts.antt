@@ -19,7 +19,7 @@ use Rattle.hek_worker.proofs.Pieces.{went_on}
 use Rattle.hek_worker.proofs.Works.{went_work, next_work, no_work, worked_more, worked_all}
 use Rattle.hek_worker.proofs.Fulls.{AreWork, drop_work}
 
--- before the commit
+-- whether a stage comes before the commit
 abbrev pub open_at : Stage → Bool
 open_at Start = true
 open_at (Working i) = true
@@ -29,7 +29,7 @@ open_at (Releasing cut) = not cut
 open_at Committing = true
 open_at s = false
 
--- the reads and writes that are still to be made
+-- the reads and writes still to be made at a stage
 abbrev pub todo : List Event → Stage → List Event
 todo work Start = work
 todo work (Working i) = drop i work
@@ -65,7 +65,7 @@ start_step t work n (Began time) m h g =
 start_step t work n (Aborted c) m h g = let bad : IsTrue (good (Releasing true)) = moved (λ (p : Position). IsTrue (good p.stage)) (Releasing true) n m h g in absurd (cc)
 start_step t work n r m h g = absurd (cc)
 
--- a read, a write or finish doesn't wait, fail or commit
+-- a read, a write or finish neither waits, fails nor commits
 
 calm_work : (e : Event) (r : Reply) → answers e r ≡ true → (waits_at e r ≡ false) × (is_fail e ≡ false)
 calm_work (Precommit t) r h = absurd (cc)
@@ -250,7 +250,7 @@ told t work p (x ∷ xs) q all g h =
     let one : Step t work p.stage p.turns (event_at t work p.stage) x.1 h.1.0 = step_at t work p.stage p.turns x.1 h.1.0 all g h.1.1 h.1.2 in
     told_more t work p x xs h.1.0 q (subst (λ (e : Event). Step t work p.stage p.turns e x.1 h.1.0) (sym h.0) one) (told t work h.1.0 xs q all h.1.2 h.1.3)
 
--- what any piece counts, and two pieces together
+-- what any piece of a transcript counts, and what two pieces count together
 pub record Sums (t : ℕ) (xs : List (Event × Reply)) (n : ℕ) (f c : Bool) (made : List Event) : Type 0 where
   pub turns : wait_count xs ≡ n
   pub stays : fails xs ≡ f

@@ -16,13 +16,13 @@ use Rattle.hek_worker.proofs.Pieces.{no_end, last_one}
 use Rattle.hek_worker.proofs.Works.{next_work, no_work}
 use Rattle.hek_worker.proofs.Fulls.{AreWork, drop_work}
 
--- neither before begin nor behind the end
+-- whether a stage is neither the first nor the last
 abbrev on_way : Stage → Bool
 on_way Start = false
 on_way Ended = false
 on_way s = true
 
--- an event that stands in between
+-- whether an event is neither begin nor the end
 abbrev inner : Event → Bool
 inner (Begin t) = false
 inner (End t) = false
@@ -100,7 +100,7 @@ working_inner : (t : ℕ) (work : List Event) (i : ℕ) (es : List Event) → dr
 working_inner t work i [] is all = let none = no_work work i is in ap (λ (o : Option Event). inner (or_finish t o)) none.0
 working_inner t work i (e ∷ es) is all = let some = next_work work i e es is in ap (λ (o : Option Event). inner (or_finish t o)) some.0 ∙ work_inner t e all.0
 
--- a step on the way: the last one, or an event that stands in between
+-- a step from a stage between the first and the last: the end, or an event in between
 step_on : (t : ℕ) (work : List Event) (s : Stage) (n : ℕ) (r : Reply) (m : Position) → AreWork t work → IsTrue (on_way s) → position_after t work s n r ≡ Some m
     → (s ≡ Ending) ⊎ (IsTrue (inner (event_at t work s)) × IsTrue (on_way m.stage))
 step_on t work Start n r m all o h = absurd (cc)

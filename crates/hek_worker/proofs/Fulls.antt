@@ -92,7 +92,7 @@ full_back t work turns xs f =
     (zip work f.answered) (flat_map (look t) f.looks) (each (Release t) f.freed) (map (pend t) f.pending) (each (Stamp t) f.stamped) last ∙ sym f.order in
     subst (λ (ys : List (Event × Reply)). Whole t work (begin_at turns) ys (end_at m)) order whole
 
--- a way on to the end from each stage that it can stop at
+-- a way on to the end from each stage at which a transcript can stop
 
 abbrev pub AreWork : ℕ → List Event → Type 0
 AreWork t work = AllByRecursion (λ e. IsTrue (is_work t e)) work
@@ -122,7 +122,7 @@ drop_work t work zero h = h
 drop_work t [] (suc i) h = h
 drop_work t (w ∷ ws) (suc i) h = drop_work t ws i h.1
 
--- from a stage on, the event that stands there, a reply, and the rest
+-- a reply to the event of a stage, and the rest of a whole transcript from there on
 pub record Way (t : ℕ) (work : List Event) (s : Stage) (n : ℕ) : Type 0 where
   pub reply : Reply
   pub later : List (Event × Reply)
@@ -169,7 +169,7 @@ way_on t work (Releasing true) n all h = absurd (cc)
 way_on t work Committing n all h = named t work Committing n (Commit t, Committed) (ending t) (committing t work n)
 way_on t work s n all h = absurd (cc)
 
--- behind a front that goes on, the event of its last stage stands next in a full transcript
+-- after a front that goes on, the event of its last stage comes next in a full transcript
 pub stands_next : (t : ℕ) (work : List Event) (turns : ℕ) (front : List (Event × Reply)) (mid : Position) (e : Event) → AreWork t work → Whole t work (begin_at turns) front mid
     → IsTrue (may_stop mid.stage) → e ≡ event_at t work mid.stage → StandsNext t work turns front e
 stands_next t work turns front mid e all w stop is =

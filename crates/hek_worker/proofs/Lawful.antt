@@ -20,7 +20,7 @@ use Rattle.hek_worker.proofs.Fulls.{AreWork, drop_work, full_from, full_back, le
 use Rattle.hek_worker.proofs.Ends.{begins_and_ends}
 use Rattle.hek_worker.proofs.Counts.{Recorded, Sums, told, todo, open_at, one_if, sums_append, sums_one}
 
--- what is left to do for one that has aborted neither waits, fails, commits, reads nor writes
+-- what an aborted transaction does neither waits, fails, commits, reads nor writes
 
 abbrev over : Stage → Bool
 over (Releasing cut) = cut
@@ -78,7 +78,7 @@ calm t work p (x ∷ xs) q o h =
     let here : IsCalm t x.0 x.1 = subst (λ (e : Event). IsCalm t e x.1) (sym h.0) c.1 in
     sums_append t (x ∷ []) xs 0 0 false false false false [] [] (calm_one t x here) (calm t work h.1.0 xs q c.0 h.1.2)
 
--- the event at which it stops
+-- the event at which a transcript stops
 
 abbrev Stopped : ℕ → List Event → Stage → Event → Type 0
 Stopped t work s e = (is_fail e ≡ false) × IsTrue (may_abort e) × ((left : List Event) × (cond (is_work t e) (e ∷ left) left ≡ todo work s))
@@ -158,7 +158,7 @@ waits_on : (e : Event) (r : Reply) → waits_at e r ≡ true → is_commit_reply
 waits_on e Committed h = let bad = no_commit_waits e in absurd (cc)
 waits_on e r h = refl
 
--- one that fails
+-- a transcript that fails
 
 pub record Fails (t : ℕ) (work : List Event) (n left : ℕ) (xs : List (Event × Reply)) : Type 0 where
   pub answer : Reply
@@ -186,7 +186,7 @@ given_commit : (r : Reply) → IsTrue (is_given_up r) → is_commit_reply r ≡ 
 given_commit Committed h = absurd (cc)
 given_commit r h = refl
 
--- the laws of one that stops, and of one that doesn't
+-- the laws of a transcript, whether it stops or not
 
 pub record Laws (t : ℕ) (work : List Event) (turns : ℕ) (xs : List (Event × Reply)) : Type 0 where
   pub order : KeepsOrder t work xs
@@ -213,7 +213,7 @@ last_turns turns w m xs h none is gives = record {
 front_sums : (t : ℕ) (work : List Event) (p : Position) (xs : List (Event × Reply)) (q : Position) → Recorded t work p xs q → IsTrue (open_at q.stage) → Sums t xs (wait_count xs) false false (work_of t (events_in xs))
 front_sums t work p xs q h o = record { turns = refl; stays = h.stays; ends = (h.before o).1; work = refl }
 
--- a front, the event at which it stops, and what is behind it
+-- a front, the event at which a transcript stops, and what comes after it
 all_sums : (t : ℕ) (work : List Event) (p mid : Position) (front rest : List (Event × Reply)) (x : Event × Reply) (k : ℕ) (f : Bool) → Recorded t work p front mid → IsTrue (open_at mid.stage)
     → one_if (waits_at x.0 x.1) ≡ k → is_fail x.0 ≡ false → is_commit_reply x.1 ≡ false → Sums t rest 0 f false []
     → Sums t (front ++ x ∷ rest) (wait_count front + (k + 0)) f false (work_of t (events_in front) ++ (cond (is_work t x.0) (x.0 ∷ []) [] ++ []))
@@ -329,7 +329,7 @@ laws t work turns xs all h =
       | inr s ↦ elim s.stop [ inl a ↦ aborted_laws t work turns h.0 xs s all a | inr a ↦ given_laws t work turns h.0 xs s all a ]
     ]
 
--- the other way round
+-- each list of one of the three forms is a transcript
 
 abort_step : (t : ℕ) (work : List Event) (s : Stage) (n : ℕ) (c : Cause) → IsTrue (good s) → IsTrue (may_abort (event_at t work s)) → position_after t work s n (Aborted c) ≡ Some (spot (Releasing true) n)
 abort_step t work Start n c g h = refl

@@ -14,7 +14,7 @@ use Rattle.hek_worker.specs.Grammar.{Leads, after_release, after_commit, after_s
 use Rattle.hek_worker.specs.Forms.{IsRest, each, pend, is_freed, is_stamped}
 use Rattle.hek_worker.proofs.Wholes.{good, spot, Whole, moved, waits_or}
 
--- one event again and again, until it is answered last
+-- one event repeated, until it has the reply `last`
 pub record Repeats (e : Event) (last : Reply) (kind : Reply → Bool) (Q : List (Event × Reply) → Type 0) (xs : List (Event × Reply)) : Type 0 where
   pub again : List Reply
   pub rest : List (Event × Reply)
@@ -47,7 +47,7 @@ pub repeated : (e : Event) (last : Reply) (kind : Reply → Bool) (P Q : List (E
 repeated e last kind P Q on stop [] rest all q = stop rest q
 repeated e last kind P Q on stop (r ∷ rs) rest all q = on r (each e rs ++ (e, last) ∷ rest) all.0 (repeated e last kind P Q on stop rs rest all.1 q)
 
--- no stage but the last is the end
+-- only the last stage is at the end
 pub no_end : (s : Stage) (n left : ℕ) → spot s n ≡ end_at left → s ≡ Ended
 no_end s n left h = ap (λ (p : Position). p.stage) h
 
@@ -132,7 +132,7 @@ commit_waits t work n left k x xs at is some c =
       next = c.next;
     }
 
--- a wait of a transaction that goes on has a turn
+-- a wait after which a transaction goes on uses a turn
 pub went_on : (s : Stage) (n : ℕ) (m : Position) → (if n == 0 then at GivingUp 0 else at s (n - 1)) ≡ Some m → IsTrue (good m.stage) → (n ≡ 0 → ⊥) × (m ≡ spot s (n - 1))
 went_on s n m h g =
     elim (waits_or (n == 0) s n m h) [
@@ -200,7 +200,7 @@ released_back t work n left rs rest all q =
     (λ r xs k p. (refl, (spot (Releasing false) n, release_on false n r k, refl, p)))
     (λ xs p. (refl, (spot Committing n, refl, refl, p))) rs rest all q
 
--- what is left to do for one that has aborted
+-- what a transaction does once it has aborted
 
 rest_stamp_one : (t : ℕ) (work : List Event) (n left : ℕ) (xs : List (Event × Reply)) (r : Reply) (m : Position) → after_stamp true n r ≡ Some m → Leads t work m xs (end_at left)
     → ((r ≡ Nothing) × Leads t work (spot Ending n) xs (end_at left)) ⊎ (IsTrue (is_stamped r) × Leads t work (spot (Stamping true) n) xs (end_at left))

@@ -1,4 +1,4 @@
--- The reply to an event fits into the room that is made for it.
+-- The reply to an event fits into the room made for it.
 use Rattle.std.proofs.Common.{◌≡◌, ℕ, List, [], ◌∷◌, Option, Some, None, sym, subst}
 use Rattle.std.specs.Prelude.{◌==◌}
 use Rattle.std.proofs.lemmas.Bool.{cond_both}

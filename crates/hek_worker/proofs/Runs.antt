@@ -35,7 +35,7 @@ replies_in-push : (xs : List Entry) (x : Entry) → replies_in (xs ++ x ∷ []) 
 replies_in-push [] x = refl
 replies_in-push (y ∷ xs) x = ap (λ rs. y.reply ∷ rs) (replies_in-push xs x)
 
--- a machine that stands for a world of a run has the schedule's buckets
+-- a machine that represents a world of a run has the schedule's buckets
 pub bucket_count : (p : Plan) (es : List Event) (m : Engine) → StandsFor m (run (opening_of p 1) es) → length m.buckets ≡ p.buckets
 bucket_count p es m s = s.shows.buckets.count ∙ (fixed-run (opening_of p 1) es).buckets
 

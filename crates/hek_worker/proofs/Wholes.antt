@@ -19,7 +19,7 @@ good (Releasing cut) = not cut
 good (Stamping cut) = not cut
 good _ = true
 
--- a stage that it can stop at
+-- whether a transcript can stop at a stage
 abbrev pub may_stop : Stage → Bool
 may_stop Start = true
 may_stop (Working i) = true
@@ -31,7 +31,7 @@ may_stop _ = false
 abbrev pub spot : Stage → ℕ → Position
 spot s n = record { stage = s; turns = n }
 
--- these lead from p to q, and the transaction goes on all the way
+-- these events and replies lead from p to q, and the transaction goes on all the way
 abbrev pub Whole : ℕ → List Event → Position → List (Event × Reply) → Position → Type 0
 Whole t work p [] q = p ≡ q
 Whole t work p (x ∷ xs) q =
@@ -70,7 +70,7 @@ work_goes : (t : ℕ) (work : List Event) (i n : ℕ) (r : Reply) (m : Position)
 work_goes t work i n (Aborted c) m h = inr (inl (c, refl, lands (Releasing true) n m h, refl))
 work_goes t work i n r m h = inl (work_good (answers (event_at t work (Working i)) r) (nat_lt i (length work)) i n m h)
 
--- a wait, where there is a turn and where there is none
+-- a wait, with a turn left and without one
 pub waits_or : (b : Bool) (s : Stage) (n : ℕ) (m : Position) → (if b then at GivingUp 0 else at s (n - 1)) ≡ Some m
     → ((b ≡ true) × (m ≡ spot GivingUp 0)) ⊎ ((b ≡ false) × (m ≡ spot s (n - 1)))
 waits_or true s n m h = inl (refl, lands GivingUp 0 m h)
@@ -120,7 +120,7 @@ end_goes : (t : ℕ) (work : List Event) (n : ℕ) (r : Reply) (m : Position) �
 end_goes t work n Over m h = inl (goes Ended n m h refl)
 end_goes t work n r m h = absurd (cc)
 
--- from a good stage it goes on, aborts or tires
+-- from a good stage a transaction goes on, aborts or runs out of turns
 pub step_goes : (t : ℕ) (work : List Event) (s : Stage) (n : ℕ) (r : Reply) (m : Position) → IsTrue (good s) → position_after t work s n r ≡ Some m → Goes t work s n r m
 step_goes t work Start n r m g h = start_goes t work n r m h
 step_goes t work (Working i) n r m g h = work_goes t work i n r m h
@@ -135,7 +135,7 @@ step_goes t work (Stamping false) n r m g h = stamp_goes t work n r m h
 step_goes t work Ending n r m g h = end_goes t work n r m h
 step_goes t work Ended n r m g h = absurd (cc)
 
--- where it stops to go on
+-- where a transcript stops going on
 pub record Stops (t : ℕ) (work : List Event) (p : Position) (xs : List (Event × Reply)) (end : Position) : Type 0 where
   pub front : List (Event × Reply)
   pub x : Event × Reply
@@ -167,7 +167,7 @@ more t work p x xs q m here to fine (inr s) = inr (record {
   later = s.later;
 })
 
--- it goes on to the end, or stops somewhere
+-- a transcript goes on to the end, or stops somewhere
 pub whole_or_stops : (t : ℕ) (work : List Event) (p : Position) (xs : List (Event × Reply)) (q : Position) → IsTrue (good p.stage) → Leads t work p xs q
     → Whole t work p xs q ⊎ Stops t work p xs q
 whole_or_stops t work p [] q g h = inl h

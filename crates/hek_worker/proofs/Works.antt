@@ -15,7 +15,7 @@ use Rattle.hek_worker.specs.Forms.{look, is_search_reply}
 use Rattle.hek_worker.proofs.Wholes.{good, spot, Whole, lands, moved}
 use Rattle.hek_worker.proofs.Pieces.{no_end, went_on, one_turn, none_less, one_less}
 
--- the read or write that stands next, and what is left behind it
+-- the next read or write, and those left after it
 pub next_work : (work : List Event) (i : ℕ) (e : Event) (es : List Event) → drop i work ≡ e ∷ es → (slice_get work i ≡ Some e) × (i < length work) × (drop (suc i) work ≡ es)
 next_work [] zero e es h = absurd (cc)
 next_work [] (suc i) e es h = absurd (cc)
@@ -51,7 +51,7 @@ answered : (b : Bool) (o : Option Position) (m : Position) → (if b then o else
 answered true o m h = (refl, h)
 answered false o m h = absurd (cc)
 
--- a read or write of a transaction that goes on was answered with a reply of its kind
+-- a read or write of a transaction that goes on has a reply of its kind
 pub went_work : (t : ℕ) (work : List Event) (i n : ℕ) (r : Reply) (m : Position) → after_work t work i n r ≡ Some m → IsTrue (good m.stage)
     → (answers (event_at t work (Working i)) r ≡ true) × (worked work i n ≡ Some m)
 went_work t work i n (Aborted c) m h g = let bad : IsTrue (good (Releasing true)) = moved (λ (p : Position). IsTrue (good p.stage)) (Releasing true) n m h g in absurd (cc)

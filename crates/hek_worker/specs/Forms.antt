@@ -1,4 +1,4 @@
--- Transcripts in plain words: what stands in them in which order, their reads and writes, and how often they wait.
+-- Transcripts in plain words: the order of their events, their reads and writes, and how often they wait.
 use Rattle.std.specs.Prelude.{ℕ, ◌≡◌, ◌≢◌, ◌+◌, ◌≤◌, ◌⊎◌, ◌↔◌, Bool, true, false, IsTrue, List, [], ◌∷◌, ◌++◌, length, map, count_by}
 use Rattle.std.specs.List.{All, AllByRecursion, AllZip, zip, flat_map, list_any}
 use Rattle.hek_rules.specs.declared.event.Cause.{Cause}
@@ -9,7 +9,7 @@ use Rattle.hek_rules.specs.declared.reply.Reply.{Reply}
 use Rattle.hek_rules.specs.declared.reply.Reply.TheVariants.{Began, Ready, Waiting, Precommitted, ReleasedRead, ReleasedBucket, ReleasedWaiter, Nothing, Committed, WaitingCommits, Failed, StampedBegin, StampedEnd, Left, Over, NoCycle, Victim, Aborted, Refused}
 use Rattle.hek_worker.specs.Grammar.{answers, work_of}
 
--- one event again and again, with these replies
+-- one event repeated, with these replies
 abbrev pub each : Event → List Reply → List (Event × Reply)
 each e rs = map (λ r. (e, r)) rs
 
@@ -30,17 +30,18 @@ is_search_reply NoCycle = true
 is_search_reply (Victim t cycle) = true
 is_search_reply _ = false
 
--- a precommit that waits for so many, and then a search for a deadlock
+-- a precommit that must wait for x.0 things, and then a search for a deadlock
 abbrev pub look : ℕ → ℕ × Reply → List (Event × Reply)
 look t x = (Precommit t, Waiting x.0) ∷ (Detect, x.1) ∷ []
 
--- a commit that waits for so many
+-- a commit that must wait for k transactions
 abbrev pub pend : ℕ → ℕ → Event × Reply
 pend t k = (Commit t, WaitingCommits k)
 
--- nobody aborted: begin; the reads and writes, each with a reply of its kind; finish; searches for a deadlock, each after a
--- precommit that waits; the precommit; releases, the last and only the last Nothing; commits that wait; the commit; stamps, the
--- last and only the last Nothing; the end. No more of them wait than there are turns
+-- a full transcript, whose transaction does not abort: begin; the reads and writes, each with a reply of its kind;
+-- finish; searches for a deadlock, each after a precommit that waits; the precommit; releases, of which only the last
+-- answers Nothing; commits that wait; the commit; stamps, of which only the last answers Nothing; the end. At most
+-- `turns` of its events wait
 pub record IsFull (t : ℕ) (work : List Event) (turns : ℕ) (xs : List (Event × Reply)) : Type 0 where
   pub began : ℕ
   pub answered : List Reply
@@ -61,13 +62,13 @@ pub record IsFull (t : ℕ) (work : List Event) (turns : ℕ) (xs : List (Event 
   pub stamps : AllByRecursion (λ r. IsTrue (is_stamped r)) stamped
   pub within : length looks + length pending ≤ turns
 
--- the event stands next behind these in a full transcript
+-- event e comes next after these in some full transcript
 pub record StandsNext (t : ℕ) (work : List Event) (turns : ℕ) (xs : List (Event × Reply)) (e : Event) : Type 0 where
   pub reply : Reply
   pub later : List (Event × Reply)
   pub full : IsFull t work turns (xs ++ (e, reply) ∷ later)
 
--- what is left to do for one that has aborted: releases and stamps until there is nothing more, and the end
+-- what a transaction does once it has aborted: releases and stamps until each answers Nothing, and the end
 pub record IsRest (t : ℕ) (xs : List (Event × Reply)) : Type 0 where
   pub freed : List Reply
   pub stamped : List Reply
@@ -84,7 +85,8 @@ may_abort (Stamp t) = false
 may_abort (End t) = false
 may_abort e = true
 
--- somebody aborted it: the front of a full transcript, the event that stands next in it, answered Aborted, and what is left to do
+-- a transcript cut short by an abort: the front of a full one, the event that comes next in it, answered Aborted, and
+-- what an aborted transaction does
 pub record IsAborted (t : ℕ) (work : List Event) (turns : ℕ) (xs : List (Event × Reply)) : Type 0 where
   pub front : List (Event × Reply)
   pub next : Event
@@ -95,13 +97,13 @@ pub record IsAborted (t : ℕ) (work : List Event) (turns : ℕ) (xs : List (Eve
   pub early : IsTrue (may_abort next)
   pub left : IsRest t rest
 
--- the event waits
+-- whether a reply says that the event must wait
 abbrev pub waits_at : Event → Reply → Bool
 waits_at (Precommit t) (Waiting k) = true
 waits_at (Commit t) (WaitingCommits k) = true
 waits_at _ _ = false
 
--- how often it waited
+-- how many events of a transcript must wait
 abbrev pub wait_count : List (Event × Reply) → ℕ
 wait_count xs = count_by (λ x. waits_at x.0 x.1) xs
 
@@ -110,8 +112,8 @@ is_given_up Failed = true
 is_given_up (Aborted c) = true
 is_given_up _ = false
 
--- it had no turn left: the front of a full transcript that has used all turns, the precommit or commit that stands next in it,
--- which waits once more, then fail, and what is left to do
+-- a transcript given up without a turn: the front of a full one that has used all turns, the precommit or commit that
+-- comes next in it and must wait once more, then fail, and what an aborted transaction does
 pub record IsGivenUp (t : ℕ) (work : List Event) (turns : ℕ) (xs : List (Event × Reply)) : Type 0 where
   pub front : List (Event × Reply)
   pub next : Event
@@ -140,29 +142,29 @@ abbrev pub is_fail : Event → Bool
 is_fail (Fail t) = true
 is_fail _ = false
 
--- there is a fail in it
+-- some event is a fail
 abbrev pub fails : List (Event × Reply) → Bool
 fails xs = list_any (λ x. is_fail x.0) xs
 
--- begin stands first, and the end, answered Over, last; neither stands in between
+-- begin is the first event, and the end, answered Over, the last; neither occurs in between
 pub record BeginsAndEnds (t : ℕ) (xs : List (Event × Reply)) : Type 0 where
   pub reply : Reply
   pub between : List (Event × Reply)
   pub order : xs ≡ (Begin t, reply) ∷ between ++ (End t, Over) ∷ []
   pub once : AllByRecursion (λ x. (x.0 ≢ Begin t) × (x.0 ≢ End t)) between
 
--- the reads and writes are the first ones of the transaction's, in order, and all of them where it committed
+-- the reads and writes are the first ones of the transaction, in order; all of them, if it committed
 pub record KeepsOrder (t : ℕ) (work : List Event) (xs : List (Event × Reply)) : Type 0 where
   pub left : List Event
   pub order : work ≡ work_of t (events_in xs) ++ left
   pub all : IsTrue (has_commit xs) → left ≡ []
 
--- it waits once more than it has turns at most; where it does, it fails, and only there
+-- a transcript waits at most once more than it has turns; it has a fail exactly if it waits once more
 pub record KeepsTurns (turns : ℕ) (xs : List (Event × Reply)) : Type 0 where
   pub most : wait_count xs ≤ turns + 1
   pub gives_up : IsTrue (fails xs) ↔ (wait_count xs ≡ turns + 1)
 
--- full where it committed, and else cut short by others or for want of turns
+-- the three forms of a transcript: full, cut short by an abort, given up without a turn
 abbrev pub HasForm : ℕ → List Event → ℕ → List (Event × Reply) → Type 0
 HasForm t work turns xs = IsFull t work turns xs ⊎ (IsAborted t work turns xs ⊎ IsGivenUp t work turns xs)
 

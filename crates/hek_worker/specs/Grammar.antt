@@ -25,7 +25,7 @@ abbrev pub or_finish : ℕ → Option Event → Event
 or_finish t (Some e) = e
 or_finish t None = Finish t
 
--- the event that stands next
+-- the worker's next event
 abbrev pub event_at : ℕ → List Event → Stage → Event
 event_at t work Start = Begin t
 event_at t work (Working n) = or_finish t (slice_get work n)
@@ -41,7 +41,7 @@ event_at t work Ended = End t
 abbrev pub at : Stage → ℕ → Option Position
 at s n = Some (record { stage = s; turns = n })
 
--- the reply is one that this kind of event has
+-- whether an event of this kind can have the reply
 abbrev pub answers : Event → Reply → Bool
 answers (Read t key) (Found value) = true
 answers (Read t key) Absent = true
@@ -108,7 +108,7 @@ abbrev pub after_end : ℕ → Reply → Option Position
 after_end n Over = at Ended n
 after_end n _ = None
 
--- the position after a reply; None where the reply does not stand there
+-- the position after a reply; None if the next event cannot have this reply
 abbrev pub position_after : ℕ → List Event → Stage → ℕ → Reply → Option Position
 position_after t work Start n r = after_start n r
 position_after t work (Working i) n r = after_work t work i n r
@@ -138,7 +138,7 @@ end_at left = record { stage = Ended; turns = left }
 abbrev pub IsTranscript : ℕ → List Event → ℕ → List (Event × Reply) → Type 0
 IsTranscript t work turns xs = (left : ℕ) × Leads t work (begin_at turns) xs (end_at left)
 
--- the transaction at this place, from 0
+-- the ID of the transaction at a place, from 0
 abbrev pub worker_at : ℕ → ℕ
 worker_at i = i + 1
 

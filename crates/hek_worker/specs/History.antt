@@ -1,4 +1,4 @@
--- Histories: who made which event, and what was answered.
+-- Histories: which worker made which event, and what was answered.
 use Rattle.std.specs.Prelude.{ℕ, Bool, true, ◌==◌, IsTrue, Option, Some, None, List, length, map, filter}
 use Rattle.std.specs.List.{All}
 use Rattle.hek_rules.specs.declared.event.Event.{Event}
@@ -24,7 +24,7 @@ is_that t (Some u) = u == t
 abbrev pub is_own : ℕ → Event → Bool
 is_own t e = is_that t (txn_of e)
 
--- one of so many declared transactions made an event that it may make
+-- one of the declared transactions made an event that it may make
 abbrev pub IsEntry : ℕ → Entry → Type 0
 IsEntry txns x = IsDeclared txns x.worker × IsTrue (is_own x.worker x.event)
 
@@ -37,7 +37,7 @@ history_events xs = map (λ x. x.event) xs
 abbrev pub replies_in : List Entry → List Reply
 replies_in xs = map (λ x. x.reply) xs
 
--- what a checker is told of a history
+-- the transcript of a history, as a checker reads it
 abbrev pub recorded_by : Plan → List Entry → Recorded
 recorded_by p xs = record { buckets = p.buckets; rows = p.rows; levels = levels_of p; history = map (λ x. (x.event, x.reply)) xs }
 
@@ -53,7 +53,8 @@ MayStep p t e = IsDeclared (length p.txns) t × IsTrue (is_own t e) × IsPlaced 
 abbrev pub world_of : Kept → World
 world_of k = run (opening_of k.plan 1) (history_events k.history)
 
--- the history is well formed, its replies are those of the rule table, event by event, and the machine stands for the
+-- the history is well formed, its replies are those of the rule table, event by event, and the machine represents the
+-- table's world after it
 -- table's world after it
 pub record Replays (p : Plan) (machine : Engine) (history : List Entry) : Type 0 where
   pub plan : IsPlan p

@@ -11,9 +11,9 @@ use hek_rules::{Event, NoMemory, Reply, Schedule, TxnId};
 use std::alloc::Global;
 use std::marker::Model;
 
-/// A machine with the history of its events. Contracts see the schedule that it was loaded with, and the history; its type
-/// keeps that the history's replies are those of the rule table, and that the machine stands for the table's world after
-/// it.
+/// A machine with the history of its events. Contracts see the schedule that the machine was loaded with, and the
+/// history. The type keeps two facts: the replies in the history are those of the rule table, and the machine
+/// represents the table's world after it.
 #[derive(Drop)]
 pub struct Book<'a> {
     alloc: Global,
@@ -48,21 +48,22 @@ impl<'a> Book<'a> {
         })
     }
 
-    /// The machine, which stands for the table's world after the history.
+    /// The machine, which represents the table's world after the history.
     pub fn machine(&self) -> &Machine
         ensures { StandsFor result.now (world_of self.now) }
     {
         &self.machine
     }
 
-    /// What has been done.
+    /// The entries so far, in order.
     pub fn history(&self) -> &[Entry]
         ensures { result.now ≡ self.now.history }
     {
         self.history.as_slice()
     }
 
-    /// Whether this worker may make this event: it is declared, the event is its own or `Detect`, and a scan's bucket
+    /// Whether this worker may make this event: the worker is declared, the event is its own or `Detect`, and a scan's
+    /// bucket exists.
     /// exists.
     pub fn may_step(&self, worker: TxnId, event: Event) -> bool
         ensures { IsTrue result ↔ MayStep self.now.plan worker event }
@@ -73,7 +74,7 @@ impl<'a> Book<'a> {
         declared && own && placed
     }
 
-    /// Room for a copy of the machine's reply to this event: only a scan and a search for a deadlock want some.
+    /// Room for a copy of the machine's reply to this event: only a scan and a search for a deadlock need some.
     fn reply_room(&self, event: &Event) -> Result<ReplyRoom, NoMemory>
         ensures { IfOk result (λ room. room ≡ room_for (world_of self.now) event.now) }
     {
@@ -85,7 +86,8 @@ impl<'a> Book<'a> {
         ReplyRoom::new(self.alloc, pairs, members)
     }
 
-    /// One event of the machine, and one entry. The number is the entry's place, from 1. Without memory nothing has
+    /// Does one event of the machine and adds one entry. Answers the entry's place, counted from 1, and the reply. Out
+    /// of memory, nothing has happened.
     /// happened.
     pub fn step(&mut self, worker: TxnId, event: Event) -> Result<(u64, Reply), NoMemory>
         requires { MayStep self.old.plan worker event }
@@ -108,7 +110,7 @@ impl<'a> Book<'a> {
         Ok((self.history.len() as u64, reply))
     }
 
-    /// One event, where the worker may make it: Mismatch where it may not.
+    /// Does one event if the worker may make it; Mismatch if it may not.
     pub fn attempt(&mut self, worker: TxnId, event: Event) -> Result<(u64, Reply), ThreadFault>
         ensures plan { self.new.plan ≡ self.old.plan }
         ensures mismatch { (result ≡ Err (ThreadFault.Mismatch worker)) ↔ ¬ (MayStep self.old.plan worker event) }
@@ -141,7 +143,7 @@ impl<'a> Book<'a> {
         (machine, history)
     }
 
-    /// Whether it is a book of this schedule.
+    /// Whether the machine was loaded with this schedule.
     pub fn is_of(&self, schedule: &Schedule) -> bool
         ensures { IsTrue result ↔ (self.now.plan ≡ schedule.now) }
     {

@@ -7,7 +7,7 @@ use std::alloc::{AllocError, AllocFailed};
 use std::marker::Model;
 use thiserror::Error;
 
-/// One event, who made it, and what was answered.
+/// One event, the worker that made it, and the reply.
 #[derive(Drop, Debug)]
 pub struct Entry {
     pub worker: TxnId,
@@ -32,7 +32,7 @@ impl Model for Part {
 }
 
 impl Part {
-    /// These events and replies, in order.
+    /// The part with these events and replies, in this order.
     pub fn of(turns: Vec<(Event, Reply)>) -> Part
         ensures { result ≡ turns.items }
     {
@@ -55,7 +55,8 @@ pub enum ThreadFault {
     NoWorker,
     #[error("no memory")]
     NoMemory,
-    /// This worker may not make its event, or its transcript isn't what it should be. The ID 0 is that of no worker: the book is
+    /// This worker may not make its event, or its transcript is not what it should be. The ID 0 is no worker's: the
+    /// book is of another schedule.
     /// of another schedule.
     #[error("mismatch {number}", number = .0.number())]
     Mismatch(TxnId),

@@ -6,7 +6,7 @@ use hek_rules::{Members, NoMemory, Pairs, Reply, TxnId};
 use std::alloc::Global;
 use std::marker::Model;
 
-/// Room for the copy of one reply, with so many pairs or so many members of a cycle at most.
+/// Room for a copy of one reply: for how many pairs and how many members of a cycle.
 #[derive(Drop)]
 pub(crate) struct ReplyRoom {
     pairs: Vec<(u64, u64)>,
@@ -42,7 +42,7 @@ impl ReplyRoom {
         })
     }
 
-    // A copy of the pairs in this room.
+    // A copy of the pairs, in this room.
     fn fill_pairs(self, from: &Pairs) -> Pairs
         requires { length from.now ≤ self.pairs }
         ensures { result ≡ from.now }
@@ -59,7 +59,7 @@ impl ReplyRoom {
         Pairs::new(pairs)
     }
 
-    // A copy of the members in this room.
+    // A copy of the members, in this room.
     fn fill_members(self, from: &Members) -> Members
         requires { length from.now ≤ self.members }
         ensures { result ≡ from.now }
@@ -77,7 +77,7 @@ impl ReplyRoom {
     }
 }
 
-/// An equal reply, in room that was made before.
+/// A copy of a reply, in room that was made before.
 pub(crate) fn copy_into(reply: &Reply, room: ReplyRoom) -> Reply
     requires { Fits room reply.now }
     ensures { result ≡ reply.now }

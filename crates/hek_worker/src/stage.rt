@@ -4,12 +4,12 @@ ghost use Rattle.hek_worker.specs.Grammar.{position_after, answers, begin_at, ev
 
 use hek_rules::{Event, Reply, TxnId};
 
-/// What a worker does next. `true` says that its transaction has aborted.
+/// What a worker does next. A `true` means that its transaction has aborted.
 #[derive(Clone, Copy, PartialEq, Eq, Debug)]
 pub enum Stage {
     /// `begin`.
     Start,
-    /// The read or write of this place, from 0; past the last one `finish`.
+    /// The read or write at this place of the transaction's work, from 0; past the last one, `finish`.
     Working(usize),
     /// `precommit`.
     Preparing,
@@ -29,7 +29,7 @@ pub enum Stage {
     Ended,
 }
 
-/// A stage, and the turns that are left.
+/// A stage, and the number of turns left.
 #[derive(Clone, Copy, PartialEq, Eq, Debug)]
 pub struct Position {
     pub stage: Stage,
@@ -37,7 +37,7 @@ pub struct Position {
 }
 
 impl Position {
-    /// Before the first event.
+    /// The position before the first event.
     pub fn begin(turns: u64) -> Position
         ensures { result ≡ begin_at turns }
     {
@@ -47,7 +47,7 @@ impl Position {
         }
     }
 
-    /// The event that stands next.
+    /// The worker's next event.
     pub fn event(self, worker: TxnId, work: &[Event]) -> Event
         ensures { result ≡ event_at worker work.now self.stage }
     {
@@ -67,7 +67,7 @@ impl Position {
         }
     }
 
-    /// The position after a reply, if it may stand there.
+    /// The position after a reply, or None if the next event cannot have this reply.
     pub fn after(self, worker: TxnId, work: &[Event], reply: &Reply) -> Option<Position>
         ensures { result ≡ position_after worker work.now self.stage self.turns reply.now }
     {
@@ -166,7 +166,7 @@ fn to(stage: Stage, turns: u64) -> Option<Position>
     Some(Position { stage, turns })
 }
 
-// Whether the reply is one that this kind of event has.
+// Whether an event of this kind can have the reply.
 fn answers(event: Event, reply: &Reply) -> bool
     ensures { result ≡ answers event reply.now }
 {

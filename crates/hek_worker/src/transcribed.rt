@@ -6,7 +6,8 @@ use crate::entry::Entry;
 use hek_rules::{NoMemory, Schedule, Transcript};
 use std::alloc::Global;
 
-/// The transcript of a history over a schedule's rows and levels: its events and replies, without who made them.
+/// The transcript of a history over a schedule's rows and levels: its events and replies, without the workers that made
+/// them.
 pub fn transcript_of(
     alloc: Global,
     schedule: &Schedule,
