@@ -13,8 +13,8 @@ use hek_threads::{Entry, Part, Report, transcript_of};
 use std::alloc::Global;
 use std::io::Write;
 
-/// A run's outcome as text: each transaction by name, and how it ended; the committed rows; the checker's verdict on the
-/// history, which is `serial` since every history is.
+/// A run's outcome as text: each transaction by name, with how it ended; the committed rows; the checker's verdict on
+/// the history, which is always `serial`.
 pub(crate) fn outcome_text(
     alloc: Global,
     schedule: &Schedule,
