@@ -1,5 +1,4 @@
-//! The outcome of a run: which transactions committed, which aborted and why, the rows at the end, and the checker's
-//! verdict.
+//! The outcome of a run: which transactions committed, which aborted and why, the rows, and the checker's verdict.
 ghost use Rattle.std.specs.Prelude.{◌≡◌, ◌++◌, ℕ, List, IfOk};
 ghost use Rattle.hek_rules.specs.declared.serial.Verdict.TheVariants as verdict;
 ghost use Rattle.hek_worker.specs.History.{IsSerialHistory};
