@@ -1,4 +1,5 @@
-//! The program: main hands its arguments, its files and the standard streams to a function that answers the exit status.
+//! The program: `main` passes its arguments, its files and the standard streams to a function that answers the exit
+//! status.
 #![tactic(auto)]
 
 use hek_command_line::{SystemDisk, program};

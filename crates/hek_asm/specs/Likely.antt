@@ -1,5 +1,4 @@
--- The one event and the one reply that the words of a trace line can be of. Writing them shows whether the line is
--- theirs.
+-- The one event and the one reply that the words of a trace line can be of. Writing them shows if the line is theirs.
 use Rattle.std.specs.Prelude.{ℕ, ◌+◌, ◌==◌, Bool, List, [], ◌∷◌, codes, map, drop, take, Option, None, Some, unwrap_or, if◌then◌else◌}
 use Rattle.std.specs.List.{position_or_len}
 use Rattle.std.specs.Str.{bytes_eq}

@@ -1,5 +1,4 @@
-//! The one event and the one reply that the words of a trace line can be of. Writing them shows whether the line is
-//! theirs.
+//! The one event and the one reply that the words of a trace line can be of. Writing them shows if the line is theirs.
 ghost use Rattle.std.specs.Prelude.{◌≡◌, ◌≤◌, map, drop, length, IfOk, IfSome};
 ghost use Rattle.std.specs.List.{position_or_len};
 ghost use Rattle.hek_asm.specs.Likely.{number_else_zero, first_value, cause_named, refusal_named, is_equals, pair_of, of_one_word, of_two_words, of_three_words, of_few_words, likely_reply, step_named, likely_event, step_len};

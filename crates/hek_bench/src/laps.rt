@@ -11,8 +11,7 @@ pub struct Lap {
     nanoseconds: u64,
 }
 
-/// How often each phase is done in a row, and the least time of each so far, in the order in which they were first
-/// done.
+/// How often each phase is done in a row, and the least time of each so far, in the order of their first turns.
 #[derive(Drop)]
 pub struct Laps {
     times: u64,

@@ -13,7 +13,7 @@ use std::time::{Duration, Instant};
 /// Room for 8 words that are `APART` places apart.
 const WORDS: usize = 128;
 
-/// The places from the word of one thread to that of the next: 128 bytes, so that no two words share a cache line.
+/// How far the word of one thread is from that of the next: 128 bytes, so that no two words share a cache line.
 pub const APART: usize = 16;
 
 /// A seat, and the word whose read token it takes.
@@ -126,8 +126,7 @@ fn readers<'a>(
     Ok(all)
 }
 
-/// How many turns the threads made, and in what time, on words that are `apart` places apart, or on one word if that is
-/// 0.
+/// How many turns the threads made, and in what time, on words `apart` places apart, or on one word if that is 0.
 pub fn measure<R: Threads + Sync + Clock>(
     rt: &R,
     alloc: Global,

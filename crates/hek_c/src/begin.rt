@@ -1,4 +1,4 @@
-//! Begin words.
+//! What Begin words hold.
 ghost use Rattle.std.specs.Prelude.{◌≡◌, true, false};
 ghost use Rattle.hek_rules.specs.Words.{begin_time, begin_txn};
 ghost use Rattle.hek_rules.specs.declared.word.BeginRecord.{BeginRecord};

@@ -1,4 +1,4 @@
-//! The command `asm`.
+//! The command `asm`: a schedule's text as an image.
 ghost use Rattle.std.specs.Prelude.{◌≡◌, IfOk, MatchResult};
 ghost use Rattle.hek_image.specs.Schedules.{image};
 ghost use Rattle.hek_commands.specs.Commands.{Assembles, AsmFails};

@@ -1,4 +1,4 @@
-//! The command `check`.
+//! The command `check`: the verdict on a trace.
 ghost use Rattle.std.specs.Prelude.{◌≡◌, ◌++◌, ◌∷◌, [], codes, false, is_err, IsTrue, MatchResult, IfOk, IfErr, OnOk};
 ghost use Rattle.std.specs.Io.KnownBytes.{Appends};
 ghost use Rattle.hek_asm.specs.Reading.{IsTraceOf};

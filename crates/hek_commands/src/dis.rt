@@ -1,4 +1,4 @@
-//! The command `dis`.
+//! The command `dis`: the canonical text of a schedule.
 ghost use Rattle.std.specs.Prelude.{◌≡◌, MatchResult};
 ghost use Rattle.hek_commands.specs.Commands.{Disassembles, PrintFails};
 

@@ -1,4 +1,4 @@
-//! The command `release`.
+//! The command `release`: one read lock of an End word is given up.
 ghost use Rattle.std.specs.Option.{SomeIff};
 ghost use Rattle.std.specs.Str.Parse.{digits_value};
 ghost use Rattle.hek_commands.specs.WordText.{IsWordText};

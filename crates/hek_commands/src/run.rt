@@ -1,4 +1,4 @@
-//! The command `run`.
+//! The command `run`: the trace of a schedule's steps, and the state after them.
 ghost use Rattle.std.specs.Prelude.{◌≡◌, length, IfOk, IfErr, OnOk, MatchResult};
 ghost use Rattle.std.specs.List.{All, AllByRecursion};
 ghost use Rattle.std.specs.Io.KnownBytes.{Appends};

@@ -1,4 +1,4 @@
-//! The command `word`.
+//! The command `word`: what words say as Begin words and as End words.
 use crate::fault::{HekFault, read_fault};
 use crate::input::{INPUT, buffered};
 use crate::release::hex_number;

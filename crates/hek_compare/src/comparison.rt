@@ -110,8 +110,7 @@ fn compare_run(
     Ok(None)
 }
 
-/// Whether the checker gives the stored verdict on the steps with the reply of one line raised, if such a verdict is
-/// stored.
+/// Whether the checker gives the stored verdict on the steps with one reply raised, if that verdict is stored.
 fn is_judged_raised(
     alloc: Global,
     schedule: &Schedule,

@@ -21,8 +21,8 @@ pub struct Summary<'a> {
 }
 
 impl<'a> Summary<'a> {
-    /// The line `NAME STEPS VERDICT`, or `NAME STEPS VERDICT; line LINE raised by one: VERDICT`. A verdict is `serial` or
-    /// `not serial PLACE`.
+    /// The line `NAME STEPS VERDICT`, or `NAME STEPS VERDICT; line LINE raised by one: VERDICT`. A verdict is `serial`
+    /// or `not serial PLACE`.
     pub fn read(line: &'a str) -> Option<Summary<'a>> {
         let (name, rest) = line.split_once(' ')?;
         let (steps, verdicts) = rest.split_once(' ')?;

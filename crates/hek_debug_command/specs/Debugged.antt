@@ -113,7 +113,8 @@ CommandTextFails plan text (CommandLine number) = commands_of plan text ≡ Err 
 CommandTextFails plan text NoMemory = Unit {0}
 CommandTextFails plan text other = ⊥
 
--- why `hek debug` fails: bytes that aren't a text come before a fault of the file, and that before a fault of the commands
+-- why `hek debug` fails: bytes that aren't a text come before a fault of the file, which comes before a fault of the
+-- commands
 abbrev pub DebugFails : {R : Type 0} → (R → Option (List ℕ)) → ScheduleFile R → List ℕ → HekFault → Type 0
 DebugFails left said text CannotWrite = Unit {0}
 DebugFails left said text NoMemory = Unit {0}

@@ -1,4 +1,4 @@
-//! The command `debug`.
+//! The command `debug`, with commands from a text.
 ghost use Rattle.std.specs.Prelude.{◌≡◌, ◌++◌, Ok, OnOk, IfErr, MatchResult};
 ghost use Rattle.std.specs.Io.KnownBytes.{Appends};
 ghost use Rattle.hek_debug.specs.Lines.{commands_of};

@@ -16,8 +16,7 @@ pub(crate) fn is_short(fault: LoadFault) -> bool
     matches!(fault, LoadFault::Short)
 }
 
-// Takes bytes of the source once, after those that the buffer holds, up to `size` in all. Answers how many are held
-// then.
+// Takes bytes of the source once, after those in the buffer, up to `size` in all. Answers how many are held then.
 pub(crate) fn take_more<S: Source>(
     source: &mut S,
     buffer: &mut [u8],

@@ -1,4 +1,4 @@
-//! The command itself.
+//! The command `page`: writes the page of a run.
 ghost use Rattle.std.specs.Prelude.{◌≡◌, length, IfOk, IfErr, OnOk, MatchResult};
 ghost use Rattle.hek_commands.specs.Commands.{PrintFails, IsStop};
 ghost use Rattle.hek_page_command.specs.Pages.{Pages, IsAnswer, WritesPage, count_of, done_of, last_step};

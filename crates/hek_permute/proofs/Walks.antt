@@ -1,4 +1,4 @@
--- All orders, one after another.
+-- All orders of a schedule's moves, played one after another.
 use Rattle.std.proofs.Common.{◌≡◌, ℕ, suc, zero, ◌+◌, ◌<◌, ◌≤◌, Bool, true, false, List, [], ◌∷◌, ◌++◌, length, refl, ap, sym, subst, ◌∙◌, inl, inr, arith, replicate, take}
 use Rattle.std.specs.Prelude.{◌⊎◌, ◌-◌, min, slice_index}
 use Rattle.std.specs.List.{AllByRecursion}

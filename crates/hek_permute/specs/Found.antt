@@ -9,7 +9,7 @@ pub record Found : Type 0 where
   pub serial : Bool
   pub waited : Bool
 
--- the same outcome, whether or not a transaction had to wait
+-- two equal outcomes; whether a transaction had to wait does not count
 pub record IsSame (x y : Found) : Type 0 where
   pub ends : x.ends ≡ y.ends
   pub rows : x.rows ≡ y.rows

@@ -20,7 +20,7 @@ first_place = record { stage = Start; moves = 0; waits = false }
 abbrev pub standing_of : Place → Standing
 standing_of p = record { stage = p.stage; waits = p.waits }
 
--- a transaction goes no further: it waits, or its next event belongs to a later move
+-- a transaction goes no further: it waits, or no event of it belongs to a move that has come
 abbrev pub IsResting : Form → Work → Place → Type 0
 IsResting form w p = IsTrue p.waits ⊎ (may_go form w p.moves p.stage ≡ false)
 

@@ -17,7 +17,7 @@ use std::marker::Model;
 pub enum Ending {
     Committed,
     Aborted(Cause),
-    /// The transaction did neither.
+    /// The transaction neither committed nor aborted.
     Unended,
 }
 

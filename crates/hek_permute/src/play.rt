@@ -197,7 +197,8 @@ fn count_move(places: &mut [Place], mover: TxnId) -> Result<bool, OrderFault>
     Ok(runs)
 }
 
-/// Makes the events of a transaction as far as its moves have come, or until it must wait. Answers whether it made one.
+/// Makes the events of a transaction as far as its moves have come, or until it must wait. Answers whether one of them
+/// did not have to wait.
 fn go_on(
     book: &mut Book<'_>,
     moves: &[Moves],
@@ -219,8 +220,7 @@ fn go_on(
     Ok(got_on)
 }
 
-/// The place to which a transaction comes from this one, and whether it made an event on the way without having to
-/// wait.
+/// The place to which a transaction comes from this one, and whether it made an event that did not have to wait.
 fn go_from(
     book: &mut Book<'_>,
     of_one: &Moves,

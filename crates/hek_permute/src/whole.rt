@@ -1,4 +1,4 @@
-//! All orders, one after another.
+//! All orders of a schedule's moves, played one after another.
 ghost use Rattle.std.specs.Prelude.{◌≡◌, IfOk, MatchBool, OnOk};
 ghost use Rattle.hek_permute.specs.Found.{Found};
 ghost use Rattle.hek_permute.specs.Tallies.{Goes, IsNoted, IsPlayed, is_between};

@@ -31,8 +31,7 @@ pub fn part_of(text: &str) -> Option<(u64, u64)> {
     Some((which, many))
 }
 
-/// The orders of a part: the number of the first, from 0, and the number after the last. Two parts differ by one order
-/// at most.
+/// The orders of a part: the number of the first, from 0, and the number after the last. Parts differ by one at most.
 pub(crate) fn range_of(count: u64, part: (u64, u64)) -> (u64, u64) {
     let (which, many) = part;
     let before = which.saturating_sub(1);

@@ -1,4 +1,4 @@
-//! The command itself.
+//! The command `permute`: plays the orders that are asked for, and writes their outcomes.
 use crate::choice::{Choice, range_of};
 use crate::leveled::schedule_with;
 use crate::lines::{put_order, put_outcome, put_row, put_written};

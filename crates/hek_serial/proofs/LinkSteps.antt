@@ -134,6 +134,6 @@ near_back near new rest i n o is long =
     let same : n ≡ length new = long ∙ sym (near_long near i o) ∙ ap length (sym is) in
     ap (λ m. take m (new ++ rest)) same ∙ take-append_seam new rest ∙ is
 
--- the first place, as it is looked up
+-- the first place of t, as it is looked up
 pub first_is : (es : List Event) (near : List ℕ) (far : List (ℕ × ℕ)) (next : List ℕ) (t n : ℕ) → AreEventLinks es near far next → n ≡ linked_place near far (length next) t → IsNextOf t es 0 n
 first_is es near far next t n a is = subst (IsNextOf t es 0) (sym (is ∙ ap (λ m. linked_place near far m t) a.long)) (a.starts t)

@@ -53,7 +53,7 @@ impl NumberMap {
         self.map.remove(&key)
     }
 
-    /// Makes a change.
+    /// Makes a change: gives a key a value, or takes its value away.
     pub(crate) fn lay(&mut self, write: Write) -> Result<(), NoMemory>
         ensures ok { OnOk result (self.new ≡ laid write self.old) }
         ensures err { OnErr result (self.new ≡ self.old) }
@@ -76,7 +76,7 @@ impl NumberMap {
         self.map.get(&key).copied()
     }
 
-    /// Whether these are the keys with their values.
+    /// Whether these are all keys with their values, in rising order of keys.
     pub(crate) fn is(&self, pairs: &[(u64, u64)]) -> bool
         ensures { IsTrue result ↔ (pairs.now ≡ self.now) }
     {
@@ -90,7 +90,7 @@ impl NumberMap {
         seen == pairs.len()
     }
 
-    /// The keys with their values.
+    /// All keys with their values, in rising order of keys.
     pub(crate) fn pairs(&self, alloc: Global) -> Result<Vec<(u64, u64)>, NoMemory>
         ensures { IfOk result (λ pairs. pairs.items ≡ self.now) }
     {

@@ -49,7 +49,7 @@ impl Rows {
         Ok(Rows { parts })
     }
 
-    /// Makes a change.
+    /// Makes a change to the rows.
     pub(crate) fn lay(&mut self, write: Write) -> Result<(), NoMemory>
         ensures { OnOk result (self.new ≡ record self.old { rows = laid write self.old.rows }) }
     {

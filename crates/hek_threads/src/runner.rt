@@ -15,8 +15,8 @@ use std::sync::Wait;
 use std::thread;
 use std::thread::{Promise, PromisedHandle, Scope, Threads};
 
-/// What a run gives: the machine after it, all entries in the order in which they were made, and one transcript for each
-/// declared transaction, in order of their IDs.
+/// What a run gives: the machine after it, all entries in the order in which they were made, and one transcript for
+/// each declared transaction, in order of their IDs.
 #[derive(Drop)]
 pub struct Report {
     pub machine: Machine,

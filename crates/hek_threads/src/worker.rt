@@ -10,7 +10,8 @@ use std::sync::Wait;
 
 /// Holds workers back, for tests. No contract says when a gate is called, nor with what: tests alone show it.
 pub trait Gate {
-    /// A worker calls this before each of its events, outside the lock. `nth` counts that worker's events from 1, `detect` too.
+    /// A worker calls this before each of its events, outside the lock. `nth` counts that worker's events from 1,
+    /// `detect` too.
     fn before(&self, worker: TxnId, nth: u64);
 }
 

@@ -22,7 +22,6 @@ AreTableReplies plan history = replies_in history ≡ map (λ (x : Event × Repl
 
 -- a history of a schedule's workers: its events are detect or those of declared transactions, its replies are the
 -- table's, and no event is at fault
--- event is at fault
 pub record HasRun (plan : Plan) (history : List Entry) : Type 0 where
   pub formed : IsHistory (length plan.txns) history
   pub replies : AreTableReplies plan history

@@ -1,5 +1,4 @@
-//! The outcome of a run: which transactions committed, which aborted and why, the rows at the end, and the checker's
-//! verdict.
+//! The outcome of a run: which transactions committed, which aborted and why, the rows, and the checker's verdict.
 ghost use Rattle.std.specs.Prelude.{◌≡◌, ◌++◌, ℕ, List, IfOk};
 ghost use Rattle.hek_rules.specs.declared.serial.Verdict.TheVariants as verdict;
 ghost use Rattle.hek_worker.specs.History.{IsSerialHistory};
@@ -13,8 +12,8 @@ use hek_threads::{Entry, Part, Report, transcript_of};
 use std::alloc::Global;
 use std::io::Write;
 
-/// A run's outcome as text: each transaction by name, and how it ended; the committed rows; the checker's verdict on the
-/// history, which is `serial` since every history is.
+/// A run's outcome as text: each transaction by name, with how it ended; the committed rows; the checker's verdict on
+/// the history, which is always `serial`.
 pub(crate) fn outcome_text(
     alloc: Global,
     schedule: &Schedule,

@@ -1,5 +1,4 @@
--- The reasons of a reply: the versions that an event's walk goes over, where it is refused, and what a reply's reasons
--- are.
+-- The reasons of a reply: the versions that an event's walk goes over, where it is refused, and the reasons.
 use Rattle.std.specs.Prelude.{ℕ, ◌≡◌, true, List, [], ◌∷◌, Option, Some, None, IfSome, map}
 use Rattle.hek_rules.specs.declared.event.Cause.{Cause}
 use Rattle.hek_rules.specs.declared.event.Cause.TheVariants.{Cascade, Conflict}

@@ -73,7 +73,7 @@ impl Dooms {
     }
 }
 
-/// The transaction that an event aborted, if it did.
+/// The transaction that an event aborted, if it aborted one.
 fn aborted_by(before: &Machine, event: Event, reply: &Reply) -> Option<TxnId> {
     match reply {
         Reply::Victim(t, _) => Some(*t),

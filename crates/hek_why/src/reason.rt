@@ -35,7 +35,7 @@ impl TxnList {
     }
 }
 
-/// What a transaction met at the version where it was refused.
+/// What a transaction met at the version where it was stopped.
 #[derive(Clone, Copy, Debug, PartialEq, Eq)]
 pub enum Met {
     /// The writer of the version.
@@ -91,7 +91,7 @@ pub enum Reason {
         version: VersionId,
         sight: Sight,
     },
-    /// The walk was refused at this version, by this cause, and met this there.
+    /// The transaction was stopped at this version, by this cause, and met this there.
     Stopped {
         version: VersionId,
         cause: Cause,

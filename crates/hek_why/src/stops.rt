@@ -44,7 +44,7 @@ fn lock_refused(
     }
 }
 
-/// What refuses to make u wait, an Active transaction whose version t meets and does not see.
+/// The cause that refuses to make u wait. The Active u made a version that t meets and does not see.
 fn wait_refused(machine: &Machine, t: TxnId, u: TxnId) -> Result<Option<Cause>, NoMemory>
     requires { Declared machine.now.txns t }
     ensures { IfOk result (IsShown machine.now (λ w. refused_by (wait_judged w t u (txn_in w.txns t).level))) }

@@ -10,8 +10,8 @@ use hek_why::Dooms;
 use std::alloc::Global;
 
 /// Does the step after the first `place` ones of a schedule, on the machine after those. Appends its line of the trace,
-/// and what is asked for under it. If the transaction is doomed, runs the earlier steps again to see whose abort doomed
-/// it.
+/// and what is asked for under it. If the transaction is doomed, runs the earlier steps again to find whose abort
+/// doomed it.
 #[tactic(auto, using(hek_asm::proofs::RowLemmas::steps_declared, hek_machine::proofs::PlacedSteps::steps_placed))]
 pub fn explain_step(
     alloc: Global,
@@ -36,8 +36,7 @@ pub fn explain_step(
     tell_step(alloc, &mut telling, machine, &event, lines)
 }
 
-/// The transactions whose aborts, in the first steps of a schedule, doomed the transaction of an event, if it is
-/// doomed.
+/// The transactions whose aborts, in the first steps of a schedule, doomed an event's transaction, if it is doomed.
 fn dooms_before(
     alloc: Global,
     schedule: &Schedule,

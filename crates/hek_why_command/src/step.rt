@@ -47,8 +47,7 @@ pub(crate) fn tell_step(
     tell_from(alloc, telling, &before, machine, event, lines)
 }
 
-/// Does an event on the machine, given a copy of the machine before it. Appends its line, and what is asked for under
-/// it.
+/// Does an event on the machine, given a copy of it from before. Appends its line, and what is asked for under it.
 fn tell_from(
     alloc: Global,
     telling: &mut Telling<'_>,

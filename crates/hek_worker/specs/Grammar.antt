@@ -121,7 +121,7 @@ position_after t work (Stamping cut) n r = after_stamp cut n r
 position_after t work Ending n r = after_end n r
 position_after t work Ended n r = None
 
--- these events and replies lead from p to q
+-- these events and replies lead from position p to position q
 abbrev pub Leads : ℕ → List Event → Position → List (Event × Reply) → Position → Type 0
 Leads t work p [] q = p ≡ q
 Leads t work p (x ∷ xs) q =

@@ -55,7 +55,6 @@ world_of k = run (opening_of k.plan 1) (history_events k.history)
 
 -- the history is well formed, its replies are those of the rule table, event by event, and the machine represents the
 -- table's world after it
--- table's world after it
 pub record Replays (p : Plan) (machine : Engine) (history : List Entry) : Type 0 where
   pub plan : IsPlan p
   pub formed : IsHistory (length p.txns) history

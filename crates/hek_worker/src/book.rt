@@ -64,7 +64,6 @@ impl<'a> Book<'a> {
 
     /// Whether this worker may make this event: the worker is declared, the event is its own or `Detect`, and a scan's
     /// bucket exists.
-    /// exists.
     pub fn may_step(&self, worker: TxnId, event: Event) -> bool
         ensures { IsTrue result ↔ MayStep self.now.plan worker event }
     {
@@ -86,9 +85,8 @@ impl<'a> Book<'a> {
         ReplyRoom::new(self.alloc, pairs, members)
     }
 
-    /// Does one event of the machine and adds one entry. Answers the entry's place, counted from 1, and the reply. Out
-    /// of memory, nothing has happened.
-    /// happened.
+    /// Does one event and adds its entry. Answers the entry's place, counted from 1, and the reply. Out of memory,
+    /// nothing has happened.
     pub fn step(&mut self, worker: TxnId, event: Event) -> Result<(u64, Reply), NoMemory>
         requires { MayStep self.old.plan worker event }
         ensures plan { self.new.plan ≡ self.old.plan }

@@ -57,7 +57,6 @@ pub enum ThreadFault {
     NoMemory,
     /// This worker may not make its event, or its transcript is not what it should be. The ID 0 is no worker's: the
     /// book is of another schedule.
-    /// of another schedule.
     #[error("mismatch {number}", number = .0.number())]
     Mismatch(TxnId),
 }

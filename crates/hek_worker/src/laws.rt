@@ -18,7 +18,6 @@ pub fn begin_first_end_last()
 
 /// The reads and writes in a transcript are the first ones of the transaction in the schedule, in their order; all of
 /// them, if it committed.
-/// them where it committed.
 pub fn reads_and_writes_in_order()
     ensures { (t : ℕ) (steps : List Event) (turns : ℕ) (xs : List (Event × Reply)) → IsTranscript t (work_of t steps) turns xs → KeepsOrder t (work_of t steps) xs }
 {}

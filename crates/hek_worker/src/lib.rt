@@ -1,4 +1,5 @@
-//! What one worker of a transaction does, event by event, and the book that keeps a machine with the history of all. No threads.
+//! What one worker does for its transaction, event by event, and the book: a machine with the history of all workers.
+//! No threads.
 #![tactic(auto)]
 
 mod book;

@@ -25,7 +25,7 @@ pub enum Stage {
     Stamping(bool),
     /// `end`.
     Ending,
-    /// Nothing.
+    /// Nothing: the transcript is complete.
     Ended,
 }
 

@@ -6,8 +6,7 @@ use crate::entry::Entry;
 use hek_rules::{NoMemory, Schedule, Transcript};
 use std::alloc::Global;
 
-/// The transcript of a history over a schedule's rows and levels: its events and replies, without the workers that made
-/// them.
+/// The transcript of a history over a schedule's rows and levels: events and replies, without the workers.
 pub fn transcript_of(
     alloc: Global,
     schedule: &Schedule,
