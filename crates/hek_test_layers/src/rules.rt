@@ -35,16 +35,21 @@ fn events_have_kinds(rt: HostRuntime) {
         (Event::End(a), "end", 13, 0, 0, 0),
     ];
     for (event, word, opcode, operands, first, second) in rows {
-        let kind = event.kind();
+        let (is_of, has, same) = (event, event, event);
+        let kind = is_of.kind();
         is_at(&rt, word, kind.word(), word);
         is_at(&rt, word, EventKind::named(word.as_bytes()), Some(kind));
         is_at(&rt, word, kind.opcode(), opcode);
         is_at(&rt, word, EventKind::coded(opcode), Some(kind));
         is_at(&rt, word, kind.operand_count(), operands);
-        is_at(&rt, word, event.txn(), Some(a));
-        is_at(&rt, word, (event.first(), event.second()), (first, second));
-        is_at(&rt, word, kind.event(a, first, second), event);
+        assert_parts(&rt, &has, a, (first, second));
+        is_at(&rt, word, kind.event(a, first, second), same);
     }
+}
+
+fn assert_parts(rt: &impl Abort, event: &Event, txn: TxnId, operands: (u64, u64)) {
+    is(rt, (*event).txn(), Some(txn));
+    is(rt, ((*event).first(), (*event).second()), operands);
 }
 
 #[test]
