@@ -50,7 +50,7 @@ const TEXT: ArgumentText = ArgumentText {
 
 const LEVEL: ArgumentText = ArgumentText {
     name: "level",
-    help: "takes all transactions as serializable, repeatable or snapshot",
+    help: "judges or runs all transactions as serializable, repeatable or snapshot",
     form: Form::Value("L"),
 };
 
@@ -69,7 +69,7 @@ The word is write-locked by transaction 2 and has one reader, for which 2 waits.
         },
         ArgumentText {
             name: "WAITS",
-            help: "how many others the word's writer waits for",
+            help: "how many things the word's writer waits for",
             form: Form::Word,
         },
     ],
@@ -77,7 +77,7 @@ The word is write-locked by transaction 2 and has one reader, for which 2 waits.
 
 const WORD: CommandText = CommandText {
     name: "word",
-    about: "Says what words are, as Begin and as End words",
+    about: "Explains lock words, as Begin and as End words",
     example: r"Example:
   hek word 8040000000000002 0000000000000007
 prints
@@ -134,13 +134,13 @@ Where first.hek has the lines
 it prints
   1 a begin -> began 1
   2 a read 10 -> found 100
-With --state it goes on with the clock, the versions, the transactions and the locked buckets. With --why the reasons of each reply stand under its line, with --changes what it changed, each behind two spaces.",
+--state also prints the clock, the versions, the transactions and the locked buckets. --why prints the reasons of each reply under its line, --changes what the step changed, each after two spaces.",
     arguments: &[
         FILE,
         TEXT,
         ArgumentText {
             name: "state",
-            help: "prints the state of the machine behind the trace",
+            help: "prints the state of the machine after the trace",
             form: Form::Flag,
         },
         ArgumentText {
@@ -167,8 +167,8 @@ const CHANGES: ArgumentText = ArgumentText {
 
 const DRIVE: CommandText = CommandText {
     name: "drive",
-    about: "Does the events that are typed, one a line, and answers each at once",
-    example: r"Events are lines as the steps of a schedule, as `a read 10`; the rows and transactions are those of FILE, whose own steps play no part. A line that is no event is answered by `? line 2: 2 BadWord`, and changes nothing.
+    about: "Runs events as they are typed, one a line, and answers each at once",
+    example: r"Each line is an event, written as a step of a schedule: `a read 10`. The rows and transactions are those of FILE; its own steps are not run. A line that is not an event is answered with `? line 2: 2 BadWord`, and changes nothing.
 
 Example:
   hek drive --text first.hek
@@ -190,9 +190,9 @@ const CHECK: CommandText = CommandText {
     about: "Says whether a trace is serial",
     example: r"Example:
   hek check first.img trace.txt
-It prints `serial` where the committed transactions can stand one after another, by end time, and else
+It prints `serial` if the committed transactions could have run one after another, by end time, and otherwise
   not serial 2
-with the number of the first event at fault, and status 1. Each transaction is judged by its own level: of a repeatable one only the values and pairs that it found, so phantoms are serial there; of a snapshot one the reads as of its begin. `--level serializable` judges all as serializable.",
+with the number of the first event at fault, and status 1. Each transaction is judged by its own level: a repeatable one by the values and pairs that it found, so phantoms pass; a snapshot one by its reads as of its begin. `--level serializable` judges all as serializable.",
     arguments: &[
         FILE,
         ArgumentText {
@@ -204,7 +204,7 @@ with the number of the first event at fault, and status 1. Each transaction is j
         LEVEL,
         ArgumentText {
             name: "why",
-            help: "says what the first event at fault would have been answered",
+            help: "prints the reply that the first event at fault should have had",
             form: Form::Flag,
         },
     ],
@@ -212,7 +212,7 @@ with the number of the first event at fault, and status 1. Each transaction is j
 
 const DEBUG: CommandText = CommandText {
     name: "debug",
-    about: "Does the steps of a schedule one by one, up to breakpoints and watches, and back",
+    about: "Runs a schedule step by step, to breakpoints and watches, and back",
     example: r"Commands, one a line:
   step N             N steps
   run                steps until a breakpoint or a watch fits
@@ -221,7 +221,7 @@ const DEBUG: CommandText = CommandText {
   break event EVENT  stops after each event of a kind, as update
   break txn NAME     stops after each event of a transaction
   watch begin V      stops where the Begin word of version V changes
-  watch end V        the same for its End word
+  watch end V        stops where the End word of version V changes
   watch waits NAME   stops where the number that a transaction waits for changes
   clear              forgets all breakpoints and watches
 Without COMMANDS they are read from standard input, and each is answered at once; there `help` lists them, with the questions that only such a session has.
@@ -255,7 +255,7 @@ are answered with
 
 const THREADS: CommandText = CommandText {
     name: "threads",
-    about: "Runs each transaction of a schedule in a thread of its own, and prints the history",
+    about: "Runs each transaction of a schedule in its own thread, and prints the history",
     example: r"Example:
   hek threads --text first.hek --turns 5
 Where first.hek has the lines
@@ -269,7 +269,7 @@ it prints the trace of a whole run of a, from begin to end. What it prints is a 
         TEXT,
         ArgumentText {
             name: "turns",
-            help: "how often a transaction that waits looks again, 0 to 1000000",
+            help: "how many times a waiting transaction tries again, 0 to 1000000",
             form: Form::NeededNumber,
         },
         ArgumentText {
@@ -307,12 +307,12 @@ The verdict takes all transactions as serializable. `hek permute --text two.hek 
         LEVEL,
         ArgumentText {
             name: "split",
-            help: "finish and precommit are a move of their own",
+            help: "makes finish and precommit a separate move",
             form: Form::Flag,
         },
         ArgumentText {
             name: "limit",
-            help: "plays N orders at most, else none (100000)",
+            help: "plays nothing if there are more than N orders (100000)",
             form: Form::Number,
         },
         ArgumentText {
@@ -349,12 +349,12 @@ The page shows each step with its reply, and the versions, transactions and lock
         TEXT,
         ArgumentText {
             name: "from",
-            help: "begins at step N, else at the first",
+            help: "begins at step N, by default the first",
             form: Form::Number,
         },
         ArgumentText {
             name: "to",
-            help: "ends at step N, else at the last",
+            help: "ends at step N, by default the last",
             form: Form::Number,
         },
     ],
