@@ -36,7 +36,7 @@ const HELP: &str = "commands:
   break event EVENT   run stops after each event of a kind, as in break event update
   break txn NAME      run stops after each event of a transaction, as in break txn b
   watch begin V       run stops where the Begin word of a version changes, as in watch begin 1
-  watch end V         the same for its End word, as in watch end 0
+  watch end V         run stops where the End word of a version changes, as in watch end 0
   watch waits NAME    run stops where the number that a transaction waits for changes, as in watch waits b
   clear               no more breakpoints and watches
 questions:
