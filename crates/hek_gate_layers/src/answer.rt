@@ -1,7 +1,7 @@
 //! What a call answers, and its text.
 use crate::fault::LineFault;
-use hek_commands::put_reply;
-use hek_rules::{Reply, TxnId, VersionId, WriteEntry};
+use hek_asm::write_reply;
+use hek_rules::{FromWrite, Reply, State, TxnId, VersionId, WriteEntry};
 use std::alloc::Global;
 
 /// What a call answers.
@@ -57,12 +57,31 @@ pub(crate) fn txn_or_none(t: Option<TxnId>) -> Answer {
 
 /// A reply, as a trace has it.
 pub(crate) fn reply_text(alloc: Global, reply: &Reply) -> Result<String, LineFault> {
-    let mut bytes = Vec::new(alloc);
-    put_reply(alloc, reply, &mut bytes)?;
-    match String::from_utf8(bytes) {
+    let mut sink = FromWrite::new(Vec::new(alloc));
+    if write_reply(reply, &mut sink).is_err() {
+        return Err(LineFault::NoMemory);
+    }
+    match String::from_utf8(sink.into_inner()) {
         Ok(text) => Ok(text),
         Err(_) => Err(LineFault::Unread),
     }
+}
+
+/// Where a transaction is between its begin and its end; of one that has aborted, by which cause too.
+pub(crate) fn state_text(alloc: Global, state: State) -> Result<String, LineFault> {
+    let (word, cause) = match state {
+        State::NotBegun => ("not begun", None),
+        State::Active => ("active", None),
+        State::Preparing => ("preparing", None),
+        State::Committed => ("committed", None),
+        State::Terminated => ("terminated", None),
+        State::Aborted(cause) => ("aborted ", Some(cause)),
+    };
+    let mut text = String::from_str(alloc, word)?;
+    if let Some(cause) = cause {
+        text.push_str(cause.word())?;
+    }
+    Ok(text)
 }
 
 /// What a list of these is printed by.

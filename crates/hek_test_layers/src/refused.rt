@@ -74,7 +74,7 @@ fn assert_same_buckets(rt: &impl Abort, buckets: &Buckets, other: &Buckets) {
 fn lock(rt: &impl Abort, buckets: &mut Buckets, number: u64, t: u64) -> Result<(), NoMemory> {
     let b = bucket(rt, buckets, number);
     buckets.reserve(b)?;
-    let b = bucket(rt, buckets, number);
+    holds(rt, b < buckets.len());
     buckets.lock(b, TxnId::new(t));
     Ok(())
 }

@@ -1,5 +1,5 @@
 //! Calls of bucket locks, and of the waits that they bring.
-ghost use Rattle.std.specs.Prelude.{◌<◌, ◌×◌, length, IfOk, OnOk};
+ghost use Rattle.std.specs.Prelude.{◌<◌, length, IfOk, OnOk};
 ghost use Rattle.std.specs.List.{All};
 ghost use Rattle.hek_txn.specs.TxnTable.{Declared, waits_of, waiting_list_of};
 

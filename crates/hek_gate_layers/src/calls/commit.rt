@@ -1,5 +1,5 @@
 //! Calls of commit dependencies, phases and stamps.
-ghost use Rattle.std.specs.Prelude.{◌<◌, ◌×◌, length, slice_get, OnOk};
+ghost use Rattle.std.specs.Prelude.{◌<◌, length, slice_get, OnOk};
 ghost use Rattle.std.specs.List.{All};
 ghost use Rattle.hek_rules.specs.Words.{IsTime};
 ghost use Rattle.hek_rules.specs.World.{txn_in};

@@ -5,11 +5,10 @@ ghost use Rattle.hek_laws.specs.Runs.{IsFirstClock, IsPlaced};
 
 use crate::answer::{Answer, reply_text, truth};
 use crate::block::schedule;
-use crate::calls::machine_show::{MACHINE_CALLS, call_machine};
+use crate::calls::machine_show::{MACHINE_CALLS, call_machine, show_same};
 use crate::fault::{LineFault, only_if};
 use crate::stage::Stage;
 use crate::words::{Calls, named, operand, operand_at, operands, words};
-use hek_commands::{clock_line, state_lines};
 use hek_machine::{Machine, Trace, run, run_at};
 use hek_rules::{Event, EventKind, Reply, Schedule, Time, TxnId};
 use std::alloc::Global;
@@ -78,8 +77,7 @@ impl MachineScene {
             WholeCall::Keep => self.kept = self.now.copy()?,
             WholeCall::Swap => mem::swap(&mut self.now, &mut self.kept),
             WholeCall::Same => {
-                let same = shows_same(alloc, &self.schedule, &self.now, &self.kept)?;
-                return Ok(truth(same));
+                return Ok(truth(show_same(alloc, &self.now, &self.kept)?));
             }
         }
         Ok(Answer::Done)
@@ -91,7 +89,7 @@ impl MachineScene {
         if !are_same(trace.replies.as_slice(), self.replies.as_slice()) {
             return Ok(Answer::Word("other replies"));
         }
-        let same = shows_same(alloc, &self.schedule, &trace.machine, &self.now)?;
+        let same = show_same(alloc, &trace.machine, &self.now)?;
         Ok(Answer::Word(if same { "same" } else { "another end" }))
     }
 }
@@ -199,16 +197,4 @@ fn are_same(replies: &[Reply], others: &[Reply]) -> bool {
         }
     }
     replies.len() == others.len()
-}
-
-/// Whether two machines show the same clock, versions, transactions, locks and committed rows.
-fn shows_same(
-    alloc: Global,
-    schedule: &Schedule,
-    one: &Machine,
-    other: &Machine,
-) -> Result<bool, LineFault> {
-    let same_clock = clock_line(alloc, one.clock())? == clock_line(alloc, other.clock())?;
-    let same_state = state_lines(alloc, schedule, one)? == state_lines(alloc, schedule, other)?;
-    Ok(same_clock && same_state && one.rows()?.same(&other.rows()?))
 }

@@ -2,10 +2,11 @@
 ghost use Rattle.std.specs.Prelude.{◌<◌, length, IfOk};
 ghost use Rattle.hek_txn.specs.TxnTable.{Declared};
 
-use crate::answer::{Answer, bits_or_none, entries, list, number_or_none, pairs, truth};
+use crate::answer::{
+    Answer, bits_or_none, entries, list, number_or_none, pairs, state_text, truth,
+};
 use crate::fault::{LineFault, only_if};
 use crate::words::{Calls, Operands};
-use hek_commands::state_text;
 use hek_machine::Machine;
 use hek_rules::{TxnId, VersionId};
 use std::alloc::Global;
@@ -131,7 +132,7 @@ fn show_txn(
     let t = declared(machine, number)?;
     Ok(match call {
         MachineCall::Level => Answer::Word(machine.level(t).word()),
-        MachineCall::State => Answer::Word(state_text(machine.state(t))),
+        MachineCall::State => Answer::Text(state_text(alloc, machine.state(t))?),
         MachineCall::BeginTime => Answer::Number(machine.begin_time(t).number()),
         MachineCall::EndTime => Answer::Number(machine.end_time(t).number()),
         MachineCall::Waits => Answer::Number(machine.waits(t)),
@@ -158,4 +159,49 @@ fn show_list(
         MachineCall::Dependents => list(alloc, machine.dependents(t)?.as_slice()),
         _ => Err(LineFault::Unread),
     }
+}
+
+/// Whether a call with this operand answers the same on two machines.
+fn answers_same(
+    alloc: Global,
+    call: MachineCall,
+    number: u64,
+    one: &Machine,
+    other: &Machine,
+) -> Result<bool, LineFault> {
+    let operands = [number, 0, 0, 0];
+    match (
+        call_machine(alloc, call, one, operands),
+        call_machine(alloc, call, other, operands),
+    ) {
+        (Ok(answer), Ok(wanted)) => Ok(answer.text(alloc)? == wanted.text(alloc)?),
+        (Err(_), Err(_)) => Ok(true),
+        _ => Ok(false),
+    }
+}
+
+/// Whether two machines show the same of each version, transaction and bucket with this number, and of what has none.
+fn show_same_at(
+    alloc: Global,
+    number: u64,
+    one: &Machine,
+    other: &Machine,
+) -> Result<bool, LineFault> {
+    for (_, _, call) in MACHINE_CALLS {
+        if !answers_same(alloc, *call, number, one, other)? {
+            return Ok(false);
+        }
+    }
+    Ok(true)
+}
+
+/// Whether two machines show the same.
+pub(crate) fn show_same(alloc: Global, one: &Machine, other: &Machine) -> Result<bool, LineFault> {
+    let most = one.txns().max(one.versions() as u64).max(one.buckets());
+    for before in 0..most {
+        if !show_same_at(alloc, before, one, other)? {
+            return Ok(false);
+        }
+    }
+    show_same_at(alloc, most, one, other)
 }

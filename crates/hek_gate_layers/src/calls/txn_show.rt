@@ -2,10 +2,11 @@
 ghost use Rattle.std.specs.Prelude.{IfOk};
 ghost use Rattle.hek_txn.specs.TxnTable.{Declared};
 
-use crate::answer::{Answer, entries, list, number_or_none, push_number, truth, txn_or_none};
+use crate::answer::{
+    Answer, entries, list, number_or_none, push_number, state_text, truth, txn_or_none,
+};
 use crate::fault::{LineFault, only_if};
 use crate::words::{Calls, Operands};
-use hek_commands::state_text;
 use hek_rules::{TxnId, VersionId};
 use hek_txn::Txns;
 use std::alloc::Global;
@@ -99,6 +100,7 @@ pub(crate) fn call_show(
         ShowCall::BucketSet => Ok(Answer::Text(list(alloc, txns.bucket_set(t))?)),
         ShowCall::WaitingList => Ok(Answer::Text(list(alloc, txns.waiting_list(t))?)),
         ShowCall::FirstWrite => Ok(Answer::Text(first_write(alloc, txns, t)?)),
+        ShowCall::State => Ok(Answer::Text(state_text(alloc, txns.state(t))?)),
         ShowCall::Dependents => Ok(Answer::Text(list(alloc, txns.dependents(t))?)),
         shown => show_field(shown, txns, t, second),
     }
@@ -109,7 +111,6 @@ fn show_field(call: ShowCall, txns: &Txns, t: TxnId, second: u64) -> Result<Answ
 {
     Ok(match call {
         ShowCall::Level => Answer::Word(txns.level(t).word()),
-        ShowCall::State => Answer::Word(state_text(txns.state(t))),
         ShowCall::BeginTime => Answer::Number(txns.begin_time(t).number()),
         ShowCall::EndTime => Answer::Number(txns.end_time(t).number()),
         ShowCall::NoMoreWaits => truth(txns.no_more_waits(t)),
@@ -159,7 +160,7 @@ fn fields(alloc: Global, txns: &Txns, t: TxnId) -> Result<String, LineFault>
 {
     let mut text = String::from_str(alloc, txns.level(t).word())?;
     text.push_str("; ")?;
-    text.push_str(state_text(txns.state(t)))?;
+    text.push_str(state_text(alloc, txns.state(t))?.as_str())?;
     push_field(&mut text, "begin", txns.begin_time(t).number())?;
     push_field(&mut text, "end", txns.end_time(t).number())?;
     push_field(&mut text, "waits", txns.waits(t))?;

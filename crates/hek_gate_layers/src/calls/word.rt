@@ -1,5 +1,5 @@
 //! Calls of the words of a version, which are made on no scene.
-ghost use Rattle.std.specs.Prelude.{◌<◌, ◌^◌, ◌+◌, ◌×◌, IfOk};
+ghost use Rattle.std.specs.Prelude.{◌<◌, ◌^◌, ◌+◌, IfOk};
 ghost use Rattle.hek_rules.specs.Words.{IsTime, IsTxn};
 
 use crate::answer::{Answer, bits_or_none, number_or_none, push_number, truth, txn_or_none};
