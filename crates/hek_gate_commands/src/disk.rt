@@ -139,7 +139,7 @@ const PIECE: usize = 1_000;
 /// An output that takes bytes while there is room, and fails after that.
 #[derive(Drop)]
 pub(crate) struct Output {
-    pub(crate) taken: Vec<u8>,
+    taken: Vec<u8>,
     room: usize,
 }
 
@@ -149,6 +149,11 @@ impl Output {
             taken: Vec::new(alloc),
             room,
         }
+    }
+
+    /// The bytes that it took.
+    pub(crate) fn into_taken(self) -> Vec<u8> {
+        self.taken
     }
 }
 

@@ -1,10 +1,9 @@
 //! Whether a command line comes to what its case says.
 use crate::case::{Case, Check, Command, Want};
-use crate::content::number_of;
 use crate::disk::{Input, SceneFile};
 use crate::pages;
 use crate::parts::{under, without};
-use crate::run::{Ran, bytes_of, printed, run};
+use crate::run::{Ran, bytes_of, printed, run, text_of};
 use crate::system::System;
 use crate::tally::Tally;
 use std::io;
@@ -27,8 +26,7 @@ pub(crate) fn judge<R: System>(
 ) -> io::Result<Option<SceneFile>> {
     let ran = ran_for(scene, case, command)?;
     tally.cases = tally.cases.saturating_add(case.count());
-    judge_whole(scene, case, command, &ran, tally)?;
-    judge_wants(scene, case, &ran, tally)?;
+    compare(scene, case, command, &ran, tally)?;
     Ok(ran.made)
 }
 
@@ -37,61 +35,63 @@ fn ran_for<R: System>(scene: &Scene<'_, R>, case: &Case, command: &Command) -> i
         bytes: case.input.as_slice(),
         is_terminal: case.is_terminal,
     };
-    let mut ran = run(scene.rt, scene.files, &command.words, input, case.room)?;
+    let mut ran = run(scene.rt, scene.files, &command.words, input, case.room);
     if !case.without.is_empty() {
-        ran.out = without(scene.rt.alloc(), ran.out.as_str(), case.without.as_str())?;
+        let out = text_of(ran.out.as_slice());
+        ran.out = without(scene.rt.alloc(), out, case.without.as_str())?;
     }
     Ok(ran)
 }
 
-/// The status, and that nothing comes out that the case doesn't speak of.
-fn judge_whole<R: System>(
+/// Counts and prints each thing that came otherwise.
+fn compare<R: System>(
     scene: &Scene<'_, R>,
     case: &Case,
     command: &Command,
     ran: &Ran,
     tally: &mut Tally,
 ) -> io::Result<()> {
-    for (what, right) in [
-        ("another status", ran.status == command.status),
-        ("an output", case.wants_output() || ran.out.is_empty()),
-        ("a fault", case.wants_faults() || ran.faults.is_empty()),
-        ("a file", case.wants_file() == ran.made.is_some()),
-    ] {
-        if !right {
-            tally.wrong = tally.wrong.saturating_add(1);
-            println!(scene.rt; "{}:{}: {what}", scene.name, command.line)?;
-            print_ran(scene, ran)?;
-        }
+    let unsaid = unsaid_of(case, command, ran);
+    if unsaid != "" {
+        tally.add_wrong();
+        print_wrong(scene, command.line, unsaid, ran)?;
     }
-    Ok(())
-}
-
-/// Each thing that the case wants.
-fn judge_wants<R: System>(
-    scene: &Scene<'_, R>,
-    case: &Case,
-    ran: &Ran,
-    tally: &mut Tally,
-) -> io::Result<()> {
     for want in &case.wants {
         if !is_met(scene, want, ran)? {
-            tally.wrong = tally.wrong.saturating_add(1);
-            println!(scene.rt; "{}:{}: wanted {}", scene.name, want.line, want.words)?;
-            let wanted = String::from_utf8_lossy(scene.rt.alloc(), want.bytes.as_slice())?;
-            println!(scene.rt; "{wanted}")?;
-            print_ran(scene, ran)?;
+            tally.add_wrong();
+            print_wrong(scene, want.line, "something else is wanted", ran)?;
         }
     }
     Ok(())
 }
 
-/// What a command line came to.
-fn print_ran<R: System>(scene: &Scene<'_, R>, ran: &Ran) -> io::Result<()> {
-    println!(scene.rt;
-        "got status {}, output\n{}\nfaults\n{}",
-        ran.status, ran.out, ran.faults
-    )
+/// What came that the case doesn't speak of.
+fn unsaid_of(case: &Case, command: &Command, ran: &Ran) -> &'static str {
+    if ran.status != command.status {
+        "another status"
+    } else if !case.wants_output() && !ran.out.is_empty() {
+        "an output"
+    } else if !case.wants_faults() && !ran.faults.is_empty() {
+        "a fault"
+    } else if case.wants_file() != ran.made.is_some() {
+        "a file, or none"
+    } else {
+        ""
+    }
+}
+
+/// Prints a line of the case file, and what the command line came to.
+fn print_wrong<R: System>(
+    scene: &Scene<'_, R>,
+    line: usize,
+    what: &str,
+    ran: &Ran,
+) -> io::Result<()> {
+    let out = text_of(ran.out.as_slice());
+    let faults = text_of(ran.faults.as_slice());
+    let status = ran.status;
+    let name = scene.name;
+    println!(scene.rt; "{name}:{line}: {what}\nstatus {status}\n{out}\n{faults}")
 }
 
 /// Whether a want is met. One that names what isn't there is not met.
@@ -104,75 +104,99 @@ fn is_met<R: System>(scene: &Scene<'_, R>, want: &Want, ran: &Ran) -> io::Result
 
 fn meets<R: System>(scene: &Scene<'_, R>, want: &Want, ran: &Ran) -> io::Result<bool> {
     let words = want.words.as_str();
-    let out = ran.out.as_str();
+    let out = ran.out.as_slice();
     let bytes = want.bytes.as_slice();
     match want.check {
-        Check::Out => Ok(out.as_bytes() == bytes),
-        Check::Faults => Ok(ran.faults.as_str().as_bytes() == bytes),
-        Check::Has => Ok(out.contains(words)),
-        Check::Lacks => Ok(!out.contains(words)),
-        Check::Warns => Ok(ran.faults.as_str().contains(words)),
         Check::Under => is_under(scene, out, words, bytes),
-        Check::Equals | Check::Front => is_of_other(scene, want, out),
-        Check::Pipe => is_piped(scene, out, words, bytes),
-        Check::Same => Ok(out.as_bytes() == bytes_of(scene.files, words)?),
-        Check::Size => Ok(out.len() as u64 == number_of(words)?),
-        Check::Below => Ok((out.len() as u64) < number_of(words)?),
-        Check::Made => is_made(ran, words, bytes),
-        Check::Keeps => is_kept(ran, words),
-        Check::Pages => pages::agree(scene, out, words),
-        Check::Shows => pages::shows(scene, out, words),
+        Check::Equals => is_printed(scene, words, b"", out),
+        Check::Front => is_front(scene, words, out),
+        Check::Pipe => is_printed(scene, words, out, bytes),
+        Check::Same => is_same(scene, words, out),
+        Check::Pages => pages::agree(scene, text_of(out), words),
+        Check::Shows => pages::shows(scene, text_of(out), words),
+        _ => Ok(is_as_said(want, ran)),
+    }
+}
+
+/// Whether a want is met that only what came decides.
+fn is_as_said(want: &Want, ran: &Ran) -> bool {
+    let words = want.words.as_str();
+    let out = ran.out.as_slice();
+    match want.check {
+        Check::Out => out == want.bytes.as_slice(),
+        Check::Faults => ran.faults.as_slice() == want.bytes.as_slice(),
+        Check::Has => text_of(out).contains(words),
+        Check::Lacks => !text_of(out).contains(words),
+        Check::Warns => text_of(ran.faults.as_slice()).contains(words),
+        Check::Size => is_number(words, out.len()),
+        Check::Below => is_above(words, out.len()),
+        Check::Made => is_made(ran, words, want.bytes.as_slice()),
+        _ => is_kept(ran, words),
+    }
+}
+
+fn is_number(word: &str, number: usize) -> bool {
+    match word.parse::<usize>() {
+        Ok(said) => said == number,
+        Err(_) => false,
+    }
+}
+
+fn is_above(word: &str, number: usize) -> bool {
+    match word.parse::<usize>() {
+        Ok(said) => number < said,
+        Err(_) => false,
     }
 }
 
 /// Whether these lines are under the line of a step.
 fn is_under<R: System>(
     scene: &Scene<'_, R>,
-    out: &str,
+    out: &[u8],
     step: &str,
     bytes: &[u8],
 ) -> io::Result<bool> {
-    let lines = under(scene.rt.alloc(), out, step)?;
-    Ok(lines.as_str().as_bytes() == bytes)
+    let lines = under(scene.rt.alloc(), text_of(out), step)?;
+    Ok(lines.as_slice() == bytes)
 }
 
-/// Whether a command line prints these lines where the output is its input.
-fn is_piped<R: System>(
+/// Whether a command line prints these bytes over this input.
+fn is_printed<R: System>(
     scene: &Scene<'_, R>,
-    out: &str,
     words: &str,
+    input: &[u8],
     bytes: &[u8],
 ) -> io::Result<bool> {
-    let printed = printed(scene.rt, scene.files, words, out.as_bytes())?;
-    Ok(printed.as_str().as_bytes() == bytes)
+    let printed = printed(scene.rt, scene.files, words, input)?;
+    Ok(printed.as_slice() == bytes)
 }
 
-/// Whether the output is that of another command line, or the front of that.
-fn is_of_other<R: System>(scene: &Scene<'_, R>, want: &Want, out: &str) -> io::Result<bool> {
-    let other = printed(scene.rt, scene.files, want.words.as_str(), b"")?;
-    Ok(if want.check == Check::Front {
-        other.as_str().starts_with(out)
-    } else {
-        other.as_str() == out
-    })
+/// Whether the output is the front of what a command line prints.
+fn is_front<R: System>(scene: &Scene<'_, R>, words: &str, out: &[u8]) -> io::Result<bool> {
+    let printed = printed(scene.rt, scene.files, words, b"")?;
+    Ok(printed.as_slice().starts_with(out))
+}
+
+/// Whether the output has the bytes of a file.
+fn is_same<R: System>(scene: &Scene<'_, R>, name: &str, out: &[u8]) -> io::Result<bool> {
+    let bytes = bytes_of(scene.files, name)?;
+    Ok(bytes == out)
 }
 
 /// Whether a file of this name was made, with these bytes.
-fn is_made(ran: &Ran, name: &str, bytes: &[u8]) -> io::Result<bool> {
-    Ok(match &ran.made {
+fn is_made(ran: &Ran, name: &str, bytes: &[u8]) -> bool {
+    match &ran.made {
         Some(file) => file.name.as_str() == name && file.bytes.as_slice() == bytes,
         None => false,
-    })
+    }
 }
 
 /// Whether a file was made of the name and the length that the words say.
-fn is_kept(ran: &Ran, words: &str) -> io::Result<bool> {
-    let Some((name, length)) = words.split_once(' ') else {
-        return Ok(false);
-    };
-    let length = number_of(length)?;
-    Ok(match &ran.made {
-        Some(file) => file.name.as_str() == name && file.bytes.len() as u64 == length,
-        None => false,
-    })
+fn is_kept(ran: &Ran, words: &str) -> bool {
+    match (&ran.made, words.split_once(' ')) {
+        (Some(file), Some((name, length))) => {
+            file.name.as_str() == name && is_number(length, file.bytes.len())
+        }
+        _ => false,
+    }
 }

@@ -45,15 +45,18 @@ fn run_files<R: System + Files + Env>(rt: &R) -> io::Result<Tally> {
     Ok(all)
 }
 
-/// Runs the cases of a file. A line that can't be read is printed, and counts as wrong.
+/// Runs the cases of a file.
 fn run_file<R: System + Files>(rt: &R, name: &str) -> io::Result<Tally> {
     let text = fs::read_to_string(rt, name)?;
     let mut script = Script::new(rt.alloc(), name);
-    let mut number = 0usize;
-    for line in text.as_str().lines() {
-        number = number.saturating_add(1);
-        script.read(rt, number, line)?;
-    }
-    script.settle(rt)?;
+    read_lines(rt, text.as_str(), &mut script)?;
     Ok(script.tally)
+}
+
+/// Reads each line of a case file, and runs the last case.
+fn read_lines<R: System>(rt: &R, text: &str, script: &mut Script<'_>) -> io::Result<()> {
+    for (place, line) in text.lines().enumerate() {
+        script.read(rt, place.saturating_add(1), line)?;
+    }
+    script.settle(rt)
 }

@@ -1,7 +1,6 @@
 //! The data of a page beside what `hek run` prints.
-use crate::content::number_of;
 use crate::judge::Scene;
-use crate::run::printed;
+use crate::run::{printed, text_of};
 use crate::system::System;
 use serde_json::Value;
 use std::alloc::{AllocError, Global};
@@ -26,10 +25,7 @@ impl Shown {
     /// The lines that changed, and the buckets that have no line any more.
     fn change(&mut self, changed: &str, gone: &str) -> Result<(), AllocError> {
         for line in changed.lines() {
-            let kept = String::from_str(self.alloc, line)?;
-            if self.lines.insert(place_of(line), kept).is_err() {
-                return Err(AllocError);
-            }
+            self.put(line)?;
         }
         for line in gone.lines() {
             let _ = self.lines.remove(&place_of(line));
@@ -37,12 +33,20 @@ impl Shown {
         Ok(())
     }
 
+    fn put(&mut self, line: &str) -> Result<(), AllocError> {
+        let kept = String::from_str(self.alloc, line)?;
+        match self.lines.insert(place_of(line), kept) {
+            Ok(_) => Ok(()),
+            Err(_) => Err(AllocError),
+        }
+    }
+
     /// All lines.
-    fn text(&self) -> Result<String, AllocError> {
-        let mut text = String::new(self.alloc);
+    fn text(&self) -> Result<Vec<u8>, AllocError> {
+        let mut text = Vec::new(self.alloc);
         for line in self.lines.values() {
-            text.push_str(line.as_str())?;
-            text.push('\n')?;
+            text.extend_from_slice(line.as_str().as_bytes())?;
+            text.push(b'\n')?;
         }
         Ok(text)
     }
@@ -76,38 +80,45 @@ fn member<'a>(value: &'a Value, name: &str) -> &'a str {
 /// Whether the trace of a page is that of `hek run`, and its state at each step that of `hek run --state-at`.
 pub(crate) fn agree<R: System>(scene: &Scene<'_, R>, page: &str, name: &str) -> io::Result<bool> {
     let data = data_of(scene.rt.alloc(), page);
+    shows_run(scene, &data, name)
+}
+
+fn shows_run<R: System>(scene: &Scene<'_, R>, data: &Value, name: &str) -> io::Result<bool> {
     let Some(steps) = data.get("steps").and_then(Value::as_array) else {
         return Ok(false);
     };
-    let count = trace_steps(scene, &data, name)?;
-    let mut right = count == Some(steps.len());
+    let trace = trace_of(scene, name)?;
+    let trace = text_of(trace.as_slice());
+    if member(data, "trace") != trace || steps.len() != trace.lines().count() {
+        return Ok(false);
+    }
     let mut shown = Shown::new(scene.rt.alloc());
-    shown.change(member(&data, "opening"), "")?;
-    right = is_state(scene, name, 0, &shown)? && right;
+    shows_states(scene, data, steps.as_slice(), name, &mut shown)
+}
+
+fn shows_states<R: System>(
+    scene: &Scene<'_, R>,
+    data: &Value,
+    steps: &[Value],
+    name: &str,
+    shown: &mut Shown,
+) -> io::Result<bool> {
+    shown.change(member(data, "opening"), "")?;
+    let mut right = is_state(scene, name, 0, shown)?;
     for (place, step) in steps.iter().enumerate() {
         shown.change(member(step, "changed"), member(step, "gone"))?;
-        right = is_state(scene, name, place.saturating_add(1), &shown)? && right;
+        right = is_state(scene, name, place.saturating_add(1), shown)? && right;
     }
     Ok(right)
 }
 
-/// How many steps `hek run` does, where the trace of the page is that of the run.
-fn trace_steps<R: System>(
-    scene: &Scene<'_, R>,
-    data: &Value,
-    name: &str,
-) -> io::Result<Option<usize>> {
-    let trace = trace_of(scene, name)?;
-    let trace = trace.as_str();
-    Ok(if member(data, "trace") == trace {
-        Some(trace.lines().count())
-    } else {
-        None
-    })
+fn trace_of<R: System>(scene: &Scene<'_, R>, name: &str) -> io::Result<Vec<u8>> {
+    let words = format!(in scene.rt.alloc(); "run --text {name}")?;
+    printed(scene.rt, scene.files, words.as_str(), b"")
 }
 
-fn trace_of<R: System>(scene: &Scene<'_, R>, name: &str) -> io::Result<String> {
-    let words = format!(in scene.rt.alloc(); "run --text {name}")?;
+fn state_at<R: System>(scene: &Scene<'_, R>, name: &str, steps: usize) -> io::Result<Vec<u8>> {
+    let words = format!(in scene.rt.alloc(); "run --text {name} --state-at {steps}")?;
     printed(scene.rt, scene.files, words.as_str(), b"")
 }
 
@@ -118,29 +129,39 @@ fn is_state<R: System>(
     steps: usize,
     shown: &Shown,
 ) -> io::Result<bool> {
-    let words = format!(in scene.rt.alloc(); "run --text {name} --state-at {steps}")?;
-    let run = printed(scene.rt, scene.files, words.as_str(), b"")?;
+    let run = state_at(scene, name, steps)?;
     let state = shown.text()?;
-    Ok(match run.as_str().strip_suffix(state.as_str()) {
+    Ok(has_steps(run.as_slice(), state.as_slice(), steps))
+}
+
+/// Whether a run has so many lines, and then this state.
+fn has_steps(run: &[u8], state: &[u8], steps: usize) -> bool {
+    match text_of(run).strip_suffix(text_of(state)) {
         Some(trace) => trace.lines().count() == steps,
         None => false,
-    })
+    }
 }
 
 /// Whether a page shows a part of the trace of `hek run`, of as many steps and after as many as the words say: `DONE COUNT NAME`.
 pub(crate) fn shows<R: System>(scene: &Scene<'_, R>, page: &str, words: &str) -> io::Result<bool> {
-    let Some((done, rest)) = words.split_once(' ') else {
+    let Some((counts, name)) = words.rsplit_once(' ') else {
         return Ok(false);
     };
-    let Some((count, name)) = rest.split_once(' ') else {
-        return Ok(false);
-    };
-    let data = data_of(scene.rt.alloc(), page);
-    let part = member(&data, "trace");
     let trace = trace_of(scene, name)?;
-    Ok(
-        data.get("done").and_then(Value::as_u64) == Some(number_of(done)?)
-            && part.lines().count() as u64 == number_of(count)?
-            && trace.as_str().contains(part),
-    )
+    let data = data_of(scene.rt.alloc(), page);
+    Ok(is_part(&data, text_of(trace.as_slice()), counts))
+}
+
+/// Whether the data's trace is a part of a trace, of as many steps and after as many as the counts say.
+fn is_part(data: &Value, trace: &str, counts: &str) -> bool {
+    let part = member(data, "trace");
+    let done = data.get("done").and_then(Value::as_u64).unwrap_or(u64::MAX);
+    match counts.split_once(' ') {
+        Some((first, count)) => {
+            first.parse() == Ok(done)
+                && count.parse() == Ok(part.lines().count())
+                && trace.contains(part)
+        }
+        None => false,
+    }
 }

@@ -2,8 +2,8 @@
 use std::alloc::{AllocError, Global};
 
 /// The lines under the line of a step, each without the two spaces before it.
-pub(crate) fn under(alloc: Global, out: &str, step: &str) -> Result<String, AllocError> {
-    let mut lines = String::new(alloc);
+pub(crate) fn under(alloc: Global, out: &str, step: &str) -> Result<Vec<u8>, AllocError> {
+    let mut lines = Vec::new(alloc);
     let mut is_under = false;
     for line in out.lines() {
         match line.strip_prefix("  ") {
@@ -23,8 +23,8 @@ fn is_of_step(line: &str, step: &str) -> bool {
 }
 
 /// The lines that don't begin with a text.
-pub(crate) fn without(alloc: Global, out: &str, front: &str) -> Result<String, AllocError> {
-    let mut lines = String::new(alloc);
+pub(crate) fn without(alloc: Global, out: &str, front: &str) -> Result<Vec<u8>, AllocError> {
+    let mut lines = Vec::new(alloc);
     for line in out.lines() {
         if !line.starts_with(front) {
             put_line(&mut lines, line)?;
@@ -33,7 +33,8 @@ pub(crate) fn without(alloc: Global, out: &str, front: &str) -> Result<String, A
     Ok(lines)
 }
 
-fn put_line(lines: &mut String, line: &str) -> Result<(), AllocError> {
-    lines.push_str(line)?;
-    lines.push('\n')
+fn put_line(lines: &mut Vec<u8>, line: &str) -> Result<(), AllocError> {
+    lines.extend_from_slice(line.as_bytes())?;
+    lines.push(b'\n')?;
+    Ok(())
 }

@@ -4,17 +4,21 @@ use crate::disk::{Input, MemoryDisk, Output, SceneFile};
 use crate::system::System;
 use crate::words::Words;
 use hek_command_line::program;
-use std::alloc::Global;
 use std::cell::RefCell;
-use std::io;
+use std::{io, str};
 
 /// What came of a command line.
 #[derive(Drop)]
 pub(crate) struct Ran {
     pub(crate) status: u8,
-    pub(crate) out: String,
-    pub(crate) faults: String,
+    pub(crate) out: Vec<u8>,
+    pub(crate) faults: Vec<u8>,
     pub(crate) made: Option<SceneFile>,
+}
+
+/// The text of an output: what a command prints is ASCII.
+pub(crate) fn text_of(bytes: &[u8]) -> &str {
+    str::from_utf8(bytes).unwrap_or("(not text)")
 }
 
 /// Runs a command line over these files and this input, with an output that has so much room.
@@ -24,22 +28,18 @@ pub(crate) fn run<R: System>(
     words: &Words,
     input: Input<'_>,
     room: usize,
-) -> io::Result<Ran> {
+) -> Ran {
     let made = RefCell::new(None);
     let disk = MemoryDisk::new(rt.alloc(), files, &made);
     let mut out = Output::new(rt.alloc(), room);
     let mut faults = Vec::new(rt.alloc());
     let status = program(words, rt, &disk, input, &mut out, &mut faults);
-    Ok(Ran {
+    Ran {
         status,
-        out: text_of(rt.alloc(), out.taken.as_slice())?,
-        faults: text_of(rt.alloc(), faults.as_slice())?,
+        out: out.into_taken(),
+        faults,
         made: made.into_inner(),
-    })
-}
-
-fn text_of(alloc: Global, bytes: &[u8]) -> io::Result<String> {
-    Ok(String::from_utf8_lossy(alloc, bytes)?)
+    }
 }
 
 /// What a command line prints over this input.
@@ -48,14 +48,13 @@ pub(crate) fn printed<R: System>(
     files: &[SceneFile],
     text: &str,
     input: &[u8],
-) -> io::Result<String> {
+) -> io::Result<Vec<u8>> {
     let words = Words::read(rt.alloc(), text)?;
     let input = Input {
         bytes: input,
         is_terminal: false,
     };
-    let ran = run(rt, files, &words, input, usize::MAX)?;
-    Ok(ran.out)
+    Ok(run(rt, files, &words, input, usize::MAX).out)
 }
 
 /// The bytes of the last file of this name.

@@ -140,11 +140,14 @@ impl<'a> Script<'a> {
             return Err(unreadable());
         };
         let (from, changes) = rest.split_once(' ').unwrap_or((rest, ""));
-        let mut file = SceneFile::new(self.alloc, name, false)?;
-        file.bytes
-            .extend_from_slice(bytes_of(self.files.as_slice(), from)?)?;
-        change_bytes(&mut file.bytes, changes)?;
-        self.files.push(file)?;
+        let mut bytes = Vec::new(self.alloc);
+        put_patched(&mut bytes, bytes_of(self.files.as_slice(), from)?, changes)?;
+        let name = String::from_str(self.alloc, name)?;
+        self.files.push(SceneFile {
+            name,
+            bytes,
+            is_broken: false,
+        })?;
         Ok(())
     }
 
@@ -165,16 +168,27 @@ impl<'a> Script<'a> {
     }
 }
 
-fn change_bytes(bytes: &mut Vec<u8>, changes: &str) -> io::Result<()> {
+/// Appends bytes, and changes some.
+fn put_patched(to: &mut Vec<u8>, bytes: &[u8], changes: &str) -> io::Result<()> {
+    to.extend_from_slice(bytes)?;
     for change in changes.split(' ') {
-        let Some((place, byte)) = change.split_once('=') else {
-            return Err(unreadable());
-        };
-        let byte = hex_byte(byte)?;
-        match bytes.get_mut(number_of(place)? as usize) {
-            Some(old) => *old = byte,
-            None => return Err(unreadable()),
-        }
+        change_byte(to, change)?;
+    }
+    Ok(())
+}
+
+/// Changes the byte at a place: `PLACE=BYTE`, or nothing.
+fn change_byte(bytes: &mut Vec<u8>, change: &str) -> io::Result<()> {
+    if change.is_empty() {
+        return Ok(());
+    }
+    let Some((place, byte)) = change.split_once('=') else {
+        return Err(unreadable());
+    };
+    let byte = hex_byte(byte)?;
+    match bytes.get_mut(number_of(place)? as usize) {
+        Some(old) => *old = byte,
+        None => return Err(unreadable()),
     }
     Ok(())
 }

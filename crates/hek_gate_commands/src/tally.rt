@@ -13,6 +13,11 @@ impl Tally {
         Tally { cases: 0, wrong: 0 }
     }
 
+    /// One more thing was not as its case says.
+    pub(crate) fn add_wrong(&mut self) {
+        self.wrong = self.wrong.saturating_add(1);
+    }
+
     pub(crate) fn add(&mut self, other: &Tally) {
         self.cases = self.cases.saturating_add(other.cases);
         self.wrong = self.wrong.saturating_add(other.wrong);
