@@ -18,9 +18,10 @@ pub struct Trace {
 /// Runs these events, one after another, on the rows and transactions of a schedule. The clock begins at 1. The bucket
 /// of each scan must exist.
 ///
-/// However the events of different transactions are mixed, no event of a declared transaction is at fault in the serial
-/// order, and the committed rows of the machine at the end are those that the committed transactions leave, run one
-/// after another by end time.
+/// However the events of different transactions are mixed, no event of a declared transaction is at fault: each committed
+/// transaction was answered, as its level promises, over the rows that the committed transactions before it by end time
+/// wrote. The committed rows of the machine at the end are those that the writes of all committed transactions leave, laid
+/// one over another by end time. Where all are serializable, that is a run of one after another.
 pub fn run(alloc: Global, schedule: &Schedule, events: &[Event]) -> Result<Trace, NoMemory>
     requires placed { All (IsPlaced schedule.now.buckets) events.now }
     ensures run { IfOk result (λ trace. IsRun schedule.now 1 events.now trace.replies.items trace.machine) }
