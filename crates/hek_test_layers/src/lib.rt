@@ -1,5 +1,5 @@
-//! Tests of the rules and the layers that the lines of hek_gate_layers can't say: devices, models beside which a layer is held, and
-//! what is there after memory was refused.
+//! Tests of the rules and the layers that the lines of hek_gate_layers can't say: devices, values of types that no line names, and
+//! models beside which a layer is held.
 #![tactic(auto)]
 
 #[cfg(test)]
@@ -11,7 +11,7 @@ mod device;
 #[cfg(test)]
 mod flat;
 #[cfg(test)]
-mod refused;
+mod lists;
 #[cfg(test)]
 mod rules;
 #[cfg(test)]

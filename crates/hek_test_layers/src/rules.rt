@@ -1,11 +1,6 @@
-//! Events, replies, lists and transcripts.
+//! Events, and the lists of replies.
 use crate::asserts::{holds, is, is_at};
-use crate::schedule::made;
-use hek_rules::{
-    Cause, Event, EventKind, Level, Members, Pairs, Refusal, Reply, Time, Transcript, TxnId,
-    VersionId,
-};
-use std::alloc::{AllocError, Global};
+use hek_rules::{Event, EventKind, Level, Members, Pairs, Time, TxnId, VersionId};
 use std::process::Abort;
 use std::test::Fail;
 
@@ -62,40 +57,6 @@ fn a_detect_has_no_transaction(rt: HostRuntime) {
     is(&rt, EventKind::named(b"snapshot"), None);
 }
 
-fn replies(alloc: Global) -> Result<Vec<Reply>, AllocError> {
-    let pairs = vec![in alloc; (10, 100), (11, 110)]?;
-    let members = vec![in alloc; TxnId::new(2), TxnId::new(1)]?;
-    let version = VersionId::new(0);
-    Ok(vec![in alloc;
-        Reply::Began(Time::new(1)),
-        Reply::Precommitted(Time::new(1)),
-        Reply::Found(1),
-        Reply::Waiting(1),
-        Reply::WaitingCommits(1),
-        Reply::Rows(Pairs::new(pairs)),
-        Reply::Rows(Pairs::new(Vec::new(alloc))),
-        Reply::ReleasedRead(version, None),
-        Reply::ReleasedRead(version, Some(TxnId::new(2))),
-        Reply::Victim(TxnId::new(2), Members::new(Box::new(alloc, members)?)),
-        Reply::Aborted(Cause::Asked),
-        Reply::Aborted(Cause::Deadlock),
-        Reply::Refused(Refusal::NotBegun),
-        Reply::Over,
-    ]?)
-}
-
-#[test]
-fn replies_are_copied_and_compared(rt: HostRuntime) -> Result<(), Fail> {
-    let all = replies(rt.alloc())?;
-    for (i, reply) in all.iter().enumerate() {
-        let copy = reply.copy()?;
-        for (j, other) in all.iter().enumerate() {
-            is_at(&rt, (i, j), copy.same(other), i == j);
-        }
-    }
-    Ok(())
-}
-
 #[test]
 fn lists_give_their_items(rt: HostRuntime) -> Result<(), Fail> {
     let pairs = Pairs::new(vec![in rt.alloc(); (10, 100)]?);
@@ -104,37 +65,5 @@ fn lists_give_their_items(rt: HostRuntime) -> Result<(), Fail> {
     let members = Members::new(Box::new(rt.alloc(), victim)?);
     is(&rt, members.items(), [TxnId::new(2)].as_slice());
     holds(&rt, Level::Serializable != Level::Repeatable);
-    Ok(())
-}
-
-fn assert_opened(rt: &impl Abort, transcript: &Transcript) {
-    is(rt, transcript.buckets(), 3);
-    is(rt, transcript.rows(), [(10, 100)].as_slice());
-    is(rt, transcript.levels(), [Level::Repeatable].as_slice());
-    holds(rt, transcript.events().is_empty());
-}
-
-fn assert_counts(rt: &impl Abort, transcript: &Transcript) {
-    assert!(rt; transcript.row_count() == 1 && transcript.txn_count() == 1);
-    is(rt, transcript.row(0), (10, 100));
-    is(rt, transcript.level_of(TxnId::new(1)), Level::Repeatable);
-}
-
-#[test]
-fn a_transcript_keeps_events_with_replies(rt: HostRuntime) -> Result<(), Fail> {
-    let schedule = made(&rt, rt.alloc(), 3, &[(10, 100)], &[Level::Repeatable])?;
-    let mut transcript = Transcript::new(rt.alloc(), &schedule)?;
-    assert_opened(&rt, &transcript);
-    assert_counts(&rt, &transcript);
-    let begin = Event::Begin(TxnId::new(1));
-    transcript.push(begin, Reply::Began(Time::new(1)))?;
-    transcript.push(Event::Detect, Reply::NoCycle)?;
-    let events = [Event::Begin(TxnId::new(1)), Event::Detect];
-    is(&rt, transcript.events(), events.as_slice());
-    is(&rt, transcript.replies().len(), 2);
-    holds(
-        &rt,
-        matches!(transcript.replies().last(), Some(Reply::NoCycle)),
-    );
     Ok(())
 }

@@ -1,11 +1,11 @@
 //! A history that is given line by line, judged by the checker of serial order.
-use crate::answer::{Answer, reply_text};
+use crate::answer::{Answer, pairs, reply_text, truth};
 use crate::block::schedule;
 use crate::fault::{LineFault, only_if};
 use crate::stage::Stage;
 use crate::words::{Calls, named, operands, words};
 use hek_asm::{TraceFault, read_trace};
-use hek_rules::{Schedule, Transcript, Verdict};
+use hek_rules::{Reply, Schedule, Transcript, TxnId, Verdict};
 use hek_serial::{check, serial_reply};
 use std::alloc::Global;
 
@@ -23,11 +23,35 @@ pub(crate) struct History {
 enum HistoryCall {
     Check,
     SerialReply,
+    BucketCount,
+    RowCount,
+    TxnCount,
+    EventCount,
+    ReplyCount,
+    LevelCount,
+    Rows,
+    RowAt,
+    LevelOf,
+    KindAt,
+    ReplyAt,
+    RepliesDiffer,
 }
 
 const HISTORY_CALLS: Calls<HistoryCall> = &[
     ("check", 0, HistoryCall::Check),
     ("serial_reply", 1, HistoryCall::SerialReply),
+    ("bucket_count", 0, HistoryCall::BucketCount),
+    ("row_count", 0, HistoryCall::RowCount),
+    ("txn_count", 0, HistoryCall::TxnCount),
+    ("event_count", 0, HistoryCall::EventCount),
+    ("reply_count", 0, HistoryCall::ReplyCount),
+    ("level_count", 0, HistoryCall::LevelCount),
+    ("rows", 0, HistoryCall::Rows),
+    ("row_at", 1, HistoryCall::RowAt),
+    ("level_of", 1, HistoryCall::LevelOf),
+    ("kind_at", 1, HistoryCall::KindAt),
+    ("reply_at", 1, HistoryCall::ReplyAt),
+    ("replies_differ", 0, HistoryCall::RepliesDiffer),
 ];
 
 impl History {
@@ -82,6 +106,77 @@ impl History {
     }
 }
 
+/// What a history has of each kind, and how many.
+fn show(
+    alloc: Global,
+    call: HistoryCall,
+    history: &Transcript,
+    at: u64,
+) -> Result<Answer, LineFault> {
+    Ok(match call {
+        HistoryCall::BucketCount => Answer::Number(history.buckets()),
+        HistoryCall::RowCount => Answer::Number(history.row_count() as u64),
+        HistoryCall::TxnCount => Answer::Number(history.txn_count() as u64),
+        HistoryCall::EventCount => Answer::Number(history.events().len() as u64),
+        HistoryCall::ReplyCount => Answer::Number(history.replies().len() as u64),
+        HistoryCall::LevelCount => Answer::Number(history.levels().len() as u64),
+        HistoryCall::Rows => Answer::Text(pairs(alloc, history.rows())?),
+        HistoryCall::RepliesDiffer => truth(all_differ(history.replies())?),
+        one => return show_at(alloc, one, history, at),
+    })
+}
+
+/// What a history has at a place, or of a transaction.
+fn show_at(
+    alloc: Global,
+    call: HistoryCall,
+    history: &Transcript,
+    at: u64,
+) -> Result<Answer, LineFault> {
+    only_if(at < 1_000)?;
+    let place = at as usize;
+    match call {
+        HistoryCall::RowAt => {
+            only_if(place < history.row_count())?;
+            Ok(Answer::Text(pairs(alloc, &[history.row(place)])?))
+        }
+        HistoryCall::LevelOf => {
+            only_if(place > 0 && place <= history.txn_count())?;
+            Ok(Answer::Word(history.level_of(TxnId::new(at)).word()))
+        }
+        HistoryCall::KindAt => match history.events().get(place) {
+            Some(event) => Ok(Answer::Word((*event).kind().word())),
+            None => Ok(Answer::Word("none")),
+        },
+        HistoryCall::ReplyAt => match history.replies().get(place) {
+            Some(reply) => Ok(Answer::Text(reply_text(alloc, reply)?)),
+            None => Ok(Answer::Word("none")),
+        },
+        _ => Err(LineFault::Unread),
+    }
+}
+
+/// Whether the copy of each reply is the same as that reply, and as no other.
+fn all_differ(replies: &[Reply]) -> Result<bool, LineFault> {
+    for (i, reply) in replies.iter().enumerate() {
+        let copy = reply.copy()?;
+        if !is_only(&copy, i, replies) {
+            return Ok(false);
+        }
+    }
+    Ok(true)
+}
+
+/// Whether a reply is the same as that at a place, and as no other.
+fn is_only(reply: &Reply, place: usize, replies: &[Reply]) -> bool {
+    for (j, other) in replies.iter().enumerate() {
+        if reply.same(other) != (place == j) {
+            return false;
+        }
+    }
+    true
+}
+
 impl Stage for History {
     fn call(&mut self, alloc: Global, line: &str) -> Result<Answer, LineFault> {
         if let Some((event, reply)) = line.split_once(": ") {
@@ -92,6 +187,7 @@ impl Stage for History {
         match named(HISTORY_CALLS, words.as_slice()) {
             Some(HistoryCall::Check) => self.check(alloc),
             Some(HistoryCall::SerialReply) => self.serial_reply(alloc, place),
+            Some(shown) => show(alloc, shown, &self.transcript, place),
             None => Err(LineFault::Unread),
         }
     }

@@ -77,12 +77,14 @@ enum NameCall {
     IdOf,
     HasName,
     TxnFits,
+    Same,
 }
 
 const NAME_CALLS: Calls<NameCall> = &[
     ("id_of", 0, NameCall::IdOf),
     ("has_name", 0, NameCall::HasName),
     ("txn_fits", 0, NameCall::TxnFits),
+    ("same", 0, NameCall::Same),
 ];
 
 #[derive(Clone, Copy)]
@@ -127,12 +129,13 @@ impl PlanCalls {
         })
     }
 
-    fn call_name(&self, call: NameCall, name: &str) -> Answer {
-        match call {
+    fn call_name(&self, alloc: Global, call: NameCall, name: &str) -> Result<Answer, LineFault> {
+        Ok(match call {
             NameCall::IdOf => txn_or_none(self.schedule.id_of(name.as_bytes())),
             NameCall::HasName => truth(self.schedule.has_name(name)),
             NameCall::TxnFits => truth(self.schedule.txn_fits(name)),
-        }
+            NameCall::Same => truth(self.schedule.same(&schedule(alloc, name)?)),
+        })
     }
 
     fn call_plan(
@@ -165,7 +168,7 @@ impl Stage for PlanCalls {
             && let Some(call) = named(NAME_CALLS, &[name])
         {
             let texts = quoted(alloc, rest)?;
-            return Ok(self.call_name(call, text_at(texts.as_slice(), 0)));
+            return self.call_name(alloc, call, text_at(texts.as_slice(), 0));
         }
         let words = words(alloc, line)?;
         let [first, second, ..] = operands(words.as_slice())?;
