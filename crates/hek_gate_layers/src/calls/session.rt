@@ -25,6 +25,7 @@ enum SessionCall {
     Last,
     Mark,
     Look,
+    Copies,
 }
 
 const SESSION_CALLS: Calls<SessionCall> = &[
@@ -33,6 +34,7 @@ const SESSION_CALLS: Calls<SessionCall> = &[
     ("last", 0, SessionCall::Last),
     ("mark", 1, SessionCall::Mark),
     ("look", 1, SessionCall::Look),
+    ("copies", 0, SessionCall::Copies),
 ];
 
 fn opened(alloc: Global, text: &str) -> Result<Debugger, LineFault> {
@@ -157,6 +159,7 @@ impl Stage for Session {
             Some(SessionCall::Last) => self.last(alloc),
             Some(SessionCall::Mark) => self.mark(index),
             Some(SessionCall::Look) => self.look(index),
+            Some(SessionCall::Copies) => Ok(Answer::Number(self.debugger.copies() as u64)),
             None => Err(LineFault::Unread),
         }
     }
