@@ -4,4 +4,4 @@ use Rattle.hek_gate_layers.proofs.calls.commit.are_declared.Given as goal
 
 -- those before the index are declared
 abbrev pub invariant-loop-x : goal.invariant-loop-x
-invariant-loop-x g l = AllWithin (λ x. Declared l.txns x) l.x-items 0 l.x-index
+invariant-loop-x l = AllWithin (λ x. Declared l.txns x) l.x-items 0 l.x-index

@@ -4,4 +4,4 @@ use Rattle.hek_gate_layers.proofs.calls.machine.all_fit.Given as goal
 
 -- those before the index fit
 abbrev pub invariant-loop-event : goal.invariant-loop-event
-invariant-loop-event g l = AllWithin (IsPlaced l.schedule.buckets) l.events 0 l.event-index
+invariant-loop-event l = AllWithin (IsPlaced l.schedule.buckets) l.events 0 l.event-index
