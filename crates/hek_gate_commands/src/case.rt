@@ -88,6 +88,12 @@ pub(crate) struct Case {
     pub(crate) room: usize,
     pub(crate) without: String,
     pub(crate) wants: Vec<Want>,
+    /// Whether a want is about the output, about standard error, and about a file that is made.
+    pub(crate) wants_output: bool,
+    pub(crate) wants_faults: bool,
+    pub(crate) wants_file: bool,
+    /// How many steps are looked at.
+    steps: u64,
     /// Whether a line of another kind came after the command lines.
     is_closed: bool,
 }
@@ -102,6 +108,10 @@ impl Case {
             room: usize::MAX,
             without: String::new(alloc),
             wants: Vec::new(alloc),
+            wants_output: false,
+            wants_faults: false,
+            wants_file: false,
+            steps: 0,
             is_closed: false,
         }
     }
@@ -186,6 +196,7 @@ impl Case {
 
     fn add_want(&mut self, line: usize, check: Check, text: &str) -> io::Result<()> {
         self.is_closed = true;
+        self.note(check);
         let words = String::from_str(self.alloc, text)?;
         self.wants.push(Want {
             line,
@@ -196,39 +207,21 @@ impl Case {
         Ok(())
     }
 
-    /// Whether a want is about the output.
-    pub(crate) fn wants_output(&self) -> bool {
-        self.wants.iter().any(|want| is_of_output(want.check))
-    }
-
-    /// Whether a want is about standard error.
-    pub(crate) fn wants_faults(&self) -> bool {
-        self.wants.iter().any(|want| is_of_faults(want.check))
-    }
-
-    /// Whether a file must be made.
-    pub(crate) fn wants_file(&self) -> bool {
-        self.wants.iter().any(|want| is_of_files(want.check))
-    }
-
-    /// How many steps are looked at, at least one thing.
-    pub(crate) fn count(&self) -> u64 {
-        let mut steps = 0u64;
-        for want in &self.wants {
-            steps = steps.saturating_add(u64::from(want.check == Check::Under));
+    /// Notes what a want is about.
+    fn note(&mut self, check: Check) {
+        match check {
+            Check::Faults | Check::Warns => self.wants_faults = true,
+            Check::Made | Check::Keeps => self.wants_file = true,
+            Check::Under => {
+                self.wants_output = true;
+                self.steps = self.steps.saturating_add(1);
+            }
+            _ => self.wants_output = true,
         }
-        steps.max(1)
     }
-}
 
-fn is_of_faults(check: Check) -> bool {
-    matches!(check, Check::Faults | Check::Warns)
-}
-
-fn is_of_files(check: Check) -> bool {
-    matches!(check, Check::Made | Check::Keeps)
-}
-
-fn is_of_output(check: Check) -> bool {
-    !is_of_faults(check) && !is_of_files(check)
+    /// How many cases this is: one, or one for each step that is looked at.
+    pub(crate) fn count(&self) -> u64 {
+        self.steps.max(1)
+    }
 }

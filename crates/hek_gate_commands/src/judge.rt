@@ -52,28 +52,38 @@ fn compare<R: System>(
     tally: &mut Tally,
 ) -> io::Result<()> {
     let unsaid = unsaid_of(case, command, ran);
-    if unsaid != "" {
+    if !unsaid.is_empty() {
         tally.add_wrong();
         print_wrong(scene, command.line, unsaid, ran)?;
     }
     for want in &case.wants {
-        if !is_met(scene, want, ran)? {
-            tally.add_wrong();
-            print_wrong(scene, want.line, "something else is wanted", ran)?;
-        }
+        compare_want(scene, want, ran, tally)?;
     }
     Ok(())
+}
+
+fn compare_want<R: System>(
+    scene: &Scene<'_, R>,
+    want: &Want,
+    ran: &Ran,
+    tally: &mut Tally,
+) -> io::Result<()> {
+    if is_met(scene, want, ran)? {
+        return Ok(());
+    }
+    tally.add_wrong();
+    print_wrong(scene, want.line, "something else is wanted", ran)
 }
 
 /// What came that the case doesn't speak of.
 fn unsaid_of(case: &Case, command: &Command, ran: &Ran) -> &'static str {
     if ran.status != command.status {
         "another status"
-    } else if !case.wants_output() && !ran.out.is_empty() {
+    } else if !case.wants_output && !ran.out.is_empty() {
         "an output"
-    } else if !case.wants_faults() && !ran.faults.is_empty() {
+    } else if !case.wants_faults && !ran.faults.is_empty() {
         "a fault"
-    } else if case.wants_file() != ran.made.is_some() {
+    } else if case.wants_file != ran.made.is_some() {
         "a file, or none"
     } else {
         ""
