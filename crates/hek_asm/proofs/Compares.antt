@@ -1,15 +1,15 @@
--- What a comparing sink holds after a put, and what it tells of its text.
+-- What a comparing sink holds after a put, and what that says about its text.
 use Rattle.std.proofs.Common.{◌≡◌, ℕ, ◌+◌, List, [], ◌∷◌, ◌++◌, length, take, drop, sym, ap, ◌∙◌}
 use Rattle.std.proofs.lemmas.List.{take-append-drop, append_assoc, append-nil, append_cancel_left}
 use Rattle.std.proofs.Math.Seq.{take-add, take-length, take-append_seam}
 
--- a put of bytes that stand in the text behind those that were put
+-- a put of bytes that are the next ones of the text
 pub put_more : (text bytes : List ℕ) (place : ℕ) → take (length bytes) (drop place text) ≡ bytes → length text ∷ (text ++ take (place + length bytes) text) ≡ length text ∷ ((text ++ take place text) ++ take (length bytes) bytes)
 put_more text bytes place h =
     let more : take (place + length bytes) text ≡ take place text ++ take (length bytes) bytes = take-add place (length bytes) text ∙ ap (λ (xs : List ℕ). take place text ++ xs) (h ∙ sym (take-length bytes)) in
     ap (λ (xs : List ℕ). length text ∷ (text ++ xs)) more ∙ ap (λ (xs : List ℕ). length text ∷ xs) (sym (append_assoc text (take place text) (take (length bytes) bytes)))
 
--- the text is still the same, and what was put is its front
+-- the text is unchanged, and what was put is its front
 pub put_front : (text other line : List ℕ) (place : ℕ) → length other ∷ (other ++ take place other) ≡ (length text ∷ (text ++ [])) ++ line → text ≡ line ++ drop place other
 put_front text other line place h =
     let len : length other ≡ length text = cc in

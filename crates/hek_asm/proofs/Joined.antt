@@ -6,7 +6,7 @@ use Rattle.hek_rules.specs.Plan.{Plan}
 use Rattle.hek_rules.specs.Text.{lines_of, words_of, is_line_end, is_blank, is_comment, at_word}
 use Rattle.hek_asm.specs.declared.fault.AsmKind.{AsmKind}
 use Rattle.hek_asm.specs.Text.{has_foreign, line_after, lines_after, words_after, onward}
-use Rattle.hek_asm.specs.Lines.{spaced, joined, line_text}
+use Rattle.hek_asm.specs.Lines.{spaced, joined_words, line_text}
 
 -- a byte of a word: ASCII, no blank, no LF, no '#'
 abbrev pub IsPlain : ℕ → Type 0
@@ -48,7 +48,7 @@ words_of-spaced : (ws : List (List ℕ)) → AllByRecursion IsWord ws → words_
 words_of-spaced [] h = refl
 words_of-spaced (w ∷ ws) h = word_then w (spaced ws) h.0 (at_spaced ws) ∙ ap (λ (vs : List (List ℕ)). w ∷ vs) (words_of-spaced ws h.1)
 
-pub words_of-joined : (ws : List (List ℕ)) → AllByRecursion IsWord ws → words_of (joined ws) ≡ ws
+pub words_of-joined : (ws : List (List ℕ)) → AllByRecursion IsWord ws → words_of (joined_words ws) ≡ ws
 words_of-joined [] h = refl
 words_of-joined (w ∷ ws) h = word_then w (spaced ws) h.0 (at_spaced ws) ∙ ap (λ (vs : List (List ℕ)). w ∷ vs) (words_of-spaced ws h.1)
 
@@ -68,7 +68,7 @@ in_spaced : (ws : List (List ℕ)) → AllByRecursion IsWord ws → AllByRecursi
 in_spaced [] h = tt
 in_spaced (w ∷ ws) h = ((refl, refl, omega arith), all_append IsInLine w (spaced ws) (in_line w h.0.plain) (in_spaced ws h.1))
 
-pub in_joined : (ws : List (List ℕ)) → AllByRecursion IsWord ws → AllByRecursion IsInLine (joined ws)
+pub in_joined : (ws : List (List ℕ)) → AllByRecursion IsWord ws → AllByRecursion IsInLine (joined_words ws)
 in_joined [] h = tt
 in_joined (w ∷ ws) h = all_append IsInLine w (spaced ws) (in_line w h.0.plain) (in_spaced ws h.1)
 
@@ -80,9 +80,9 @@ none_foreign : (xs : List ℕ) → AllByRecursion IsInLine xs → has_foreign xs
 none_foreign [] h = refl
 none_foreign (x ∷ xs) h = rw (h.0.1, lt-leb 128 x h.0.2) (none_foreign xs h.1)
 
-pub line_is : (s : Option Plan) (ws : List (List ℕ)) → AllByRecursion IsWord ws → line_after s (joined ws) ≡ words_after s ws
+pub line_is : (s : Option Plan) (ws : List (List ℕ)) → AllByRecursion IsWord ws → line_after s (joined_words ws) ≡ words_after s ws
 unfolding line_after
-line_is s ws h = rw (none_foreign (joined ws) (in_joined ws h), words_of-joined ws h) refl
+line_is s ws h = rw (none_foreign (joined_words ws) (in_joined ws h), words_of-joined ws h) refl
 
 -- ---- one line written, and then the rest
 abbrev pub written_after : ℕ → Option Plan → List (List (List ℕ)) → Result Plan (ℕ × AsmKind)
@@ -91,6 +91,6 @@ written_after n s wss = lines_after n s (lines_of (flat_map line_text wss))
 pub written_step : (n : ℕ) (s t : Option Plan) (ws : List (List ℕ)) (more : List (List (List ℕ))) → AllByRecursion IsWord ws → words_after s ws ≡ Ok t → written_after n s (ws ∷ more) ≡ written_after (n + 1) t more
 unfolding lines_after
 written_step n s t ws more h e =
-    let text : flat_map line_text (ws ∷ more) ≡ joined ws ++ 10 ∷ flat_map line_text more = append_assoc (joined ws) (10 ∷ []) (flat_map line_text more) in
-    let lines : lines_of (flat_map line_text (ws ∷ more)) ≡ joined ws ∷ lines_of (flat_map line_text more) = ap lines_of text ∙ lines_then (joined ws) (flat_map line_text more) (in_joined ws h) in
+    let text : flat_map line_text (ws ∷ more) ≡ joined_words ws ++ 10 ∷ flat_map line_text more = append_assoc (joined_words ws) (10 ∷ []) (flat_map line_text more) in
+    let lines : lines_of (flat_map line_text (ws ∷ more)) ≡ joined_words ws ∷ lines_of (flat_map line_text more) = ap lines_of text ∙ lines_then (joined_words ws) (flat_map line_text more) (in_joined ws h) in
     ap (lines_after n s) lines ∙ ap (λ r. onward n r (λ next. lines_after (n + 1) next (lines_of (flat_map line_text more)))) (line_is s ws h ∙ e)

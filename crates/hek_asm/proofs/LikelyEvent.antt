@@ -49,7 +49,7 @@ event_again p (event.Stamp t) ws is d a b = named p t kind.Stamp ws is d refl
 event_again p (event.End t) ws is d a b = named p t kind.End ws is d refl
 event_again p event.Detect ws is d a b = refl
 
--- what stands behind a step and the arrow
+-- the words after a step and the arrow
 pub behind_step : (p : Plan) (e : Event) (arrow : List ℕ) (ws : List (List ℕ)) → drop (step_len e + 1) (step_words p e ++ arrow ∷ ws) ≡ ws
 behind_step p (event.Begin t) arrow ws = refl
 behind_step p (event.Read t k) arrow ws = refl

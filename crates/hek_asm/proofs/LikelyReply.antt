@@ -15,18 +15,18 @@ use Rattle.hek_rules.specs.declared.reply.Reply.{Reply}
 use Rattle.hek_rules.specs.declared.reply.Reply.TheVariants as reply
 use Rattle.hek_asm.specs.Trace.{refusal_words, pair_word, reply_words}
 use Rattle.hek_rules.specs.Names.{cause_word}
-use Rattle.hek_asm.specs.Likely.{value_of, cause_named, is_equals, pair_of, of_few_words, likely_reply}
+use Rattle.hek_asm.specs.Likely.{number_else_zero, cause_named, is_equals, pair_of, of_few_words, likely_reply}
 use Rattle.hek_asm.specs.Reading.{is_small, AreSmall, IsSmallReply}
 use Rattle.hek_asm.proofs.Joined.{IsPlain, IsWord, all_append}
 use Rattle.hek_asm.proofs.Again.{own, number_again, decimal_word}
 use Rattle.hek_asm.proofs.Fronts.{take_front}
 
-pub value_again : (n : ℕ) → is_small n → value_of (decimal n) ≡ n
+pub value_again : (n : ℕ) → is_small n → number_else_zero (decimal n) ≡ n
 value_again n h = ap (λ (o : Option ℕ). unwrap_or o 0) (number_again n h)
 
-values_again : (ns : List ℕ) → AllByRecursion is_small ns → map value_of (map decimal ns) ≡ ns
+values_again : (ns : List ℕ) → AllByRecursion is_small ns → map number_else_zero (map decimal ns) ≡ ns
 values_again [] h = refl
-values_again (n ∷ ns) h = ap (λ (m : ℕ). m ∷ map value_of (map decimal ns)) (value_again n h.0) ∙ ap (λ (ms : List ℕ). n ∷ ms) (values_again ns h.1)
+values_again (n ∷ ns) h = ap (λ (m : ℕ). m ∷ map number_else_zero (map decimal ns)) (value_again n h.0) ∙ ap (λ (ms : List ℕ). n ∷ ms) (values_again ns h.1)
 
 -- ---- pairs
 equals_after : (w rest : List ℕ) → all_ascii_digits w ≡ true → position_or_len is_equals (w ++ 61 ∷ rest) ≡ length w
@@ -45,9 +45,9 @@ pair_again p h =
     let place : position_or_len is_equals (pair_word p) ≡ length key = equals_after key value (digits_decimal own p.0 h.0) in
     let front : take (position_or_len is_equals (pair_word p)) (pair_word p) ≡ key = ap (λ (n : ℕ). take n (pair_word p)) place ∙ take_front key (61 ∷ value) in
     let back : drop (position_or_len is_equals (pair_word p)) (pair_word p) ≡ 61 ∷ value = ap (λ (n : ℕ). drop n (pair_word p)) place ∙ drop-append_seam key (61 ∷ value) in
-    let first : value_of (take (position_or_len is_equals (pair_word p)) (pair_word p)) ≡ p.0 = ap value_of front ∙ value_again p.0 h.0 in
-    let second : value_of (drop 1 (drop (position_or_len is_equals (pair_word p)) (pair_word p))) ≡ p.1 = ap (λ (w : List ℕ). value_of (drop 1 w)) back ∙ value_again p.1 h.1 in
-    ap (λ (n : ℕ). (n, value_of (drop 1 (drop (position_or_len is_equals (pair_word p)) (pair_word p))))) first ∙ ap (λ (n : ℕ). (p.0, n)) second
+    let first : number_else_zero (take (position_or_len is_equals (pair_word p)) (pair_word p)) ≡ p.0 = ap number_else_zero front ∙ value_again p.0 h.0 in
+    let second : number_else_zero (drop 1 (drop (position_or_len is_equals (pair_word p)) (pair_word p))) ≡ p.1 = ap (λ (w : List ℕ). number_else_zero (drop 1 w)) back ∙ value_again p.1 h.1 in
+    ap (λ (n : ℕ). (n, number_else_zero (drop 1 (drop (position_or_len is_equals (pair_word p)) (pair_word p))))) first ∙ ap (λ (n : ℕ). (p.0, n)) second
 
 pairs_again : (ps : List (ℕ × ℕ)) → AreSmall ps → map pair_of (map pair_word ps) ≡ ps
 pairs_again [] h = refl
@@ -84,7 +84,7 @@ reply_again reply.Ready h = refl
 reply_again (reply.Waiting count) h = ap (λ (n : ℕ). reply.Waiting n) (value_again count h)
 reply_again (reply.Precommitted time) h = ap (λ (n : ℕ). reply.Precommitted n) (value_again time h)
 reply_again (reply.ReleasedRead v None) h = ap (λ (n : ℕ). reply.ReleasedRead n None) (value_again v h)
-reply_again (reply.ReleasedRead v (Some u)) h = ap (λ (n : ℕ). reply.ReleasedRead n (Some (value_of (decimal u)))) (value_again v h.0) ∙ ap (λ (n : ℕ). reply.ReleasedRead v (Some n)) (value_again u h.1)
+reply_again (reply.ReleasedRead v (Some u)) h = ap (λ (n : ℕ). reply.ReleasedRead n (Some (number_else_zero (decimal u)))) (value_again v h.0) ∙ ap (λ (n : ℕ). reply.ReleasedRead v (Some n)) (value_again u h.1)
 reply_again (reply.ReleasedBucket b) h = ap (λ (n : ℕ). reply.ReleasedBucket n) (value_again b h)
 reply_again (reply.ReleasedWaiter u) h = ap (λ (n : ℕ). reply.ReleasedWaiter n) (value_again u h)
 reply_again reply.Nothing h = refl
@@ -96,7 +96,7 @@ reply_again (reply.StampedEnd v) h = ap (λ (n : ℕ). reply.StampedEnd n) (valu
 reply_again (reply.Left v) h = ap (λ (n : ℕ). reply.Left n) (value_again v h)
 reply_again reply.Over h = refl
 reply_again reply.NoCycle h = refl
-reply_again (reply.Victim t cycle) h = ap (λ (n : ℕ). reply.Victim n (map value_of (map decimal cycle))) (value_again t h.0) ∙ ap (λ (ns : List ℕ). reply.Victim t ns) (values_again cycle h.1)
+reply_again (reply.Victim t cycle) h = ap (λ (n : ℕ). reply.Victim n (map number_else_zero (map decimal cycle))) (value_again t h.0) ∙ ap (λ (ns : List ℕ). reply.Victim t ns) (values_again cycle h.1)
 reply_again (reply.Aborted c) h = ap (λ (d : Cause). reply.Aborted d) (cause_again c)
 reply_again (reply.Refused r) h = refusal_again r
 

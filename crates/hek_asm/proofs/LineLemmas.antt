@@ -5,7 +5,7 @@ use Rattle.hek_rules.specs.declared.event.Event.{Event}
 use Rattle.hek_rules.specs.declared.reply.Reply.{Reply}
 use Rattle.hek_rules.specs.declared.reply.Reply.TheVariants as reply
 use Rattle.hek_rules.specs.Plan.{Plan}
-use Rattle.hek_asm.specs.Lines.{spaced, joined}
+use Rattle.hek_asm.specs.Lines.{spaced, joined_words}
 use Rattle.hek_asm.specs.Canonical.{step_words}
 use Rattle.hek_asm.specs.Trace.{reply_words, line_front, line_rest, trace_line}
 
@@ -14,7 +14,7 @@ spaced_append [] ws = refl
 spaced_append (v ∷ vs) ws = ap (λ (bs : List ℕ). 32 ∷ (v ++ bs)) (spaced_append vs ws) ∙ ap (λ (bs : List ℕ). 32 ∷ bs) (sym (append_assoc v (spaced vs) (spaced ws)))
 
 -- a reply has words
-reply_spaced : (r : Reply) → spaced (reply_words r) ≡ 32 ∷ joined (reply_words r)
+reply_spaced : (r : Reply) → spaced (reply_words r) ≡ 32 ∷ joined_words (reply_words r)
 reply_spaced (reply.Began time) = refl
 reply_spaced (reply.Found value) = refl
 reply_spaced reply.Absent = refl
@@ -40,17 +40,17 @@ reply_spaced (reply.Victim t cycle) = refl
 reply_spaced (reply.Aborted cause) = refl
 reply_spaced (reply.Refused why) = refl
 
-pub line_parts : (p : Plan) (n : ℕ) (e : Event) (r : Reply) → trace_line p n e r ≡ decimal n ++ (spaced (step_words p e) ++ (codes " -> " ++ (joined (reply_words r) ++ 10 ∷ [])))
+pub line_parts : (p : Plan) (n : ℕ) (e : Event) (r : Reply) → trace_line p n e r ≡ decimal n ++ (spaced (step_words p e) ++ (codes " -> " ++ (joined_words (reply_words r) ++ 10 ∷ [])))
 line_parts p n e r =
     let steps = step_words p e in
-    let words : spaced (steps ++ codes "->" ∷ reply_words r) ≡ spaced steps ++ (codes " -> " ++ joined (reply_words r)) =
+    let words : spaced (steps ++ codes "->" ∷ reply_words r) ≡ spaced steps ++ (codes " -> " ++ joined_words (reply_words r)) =
     spaced_append steps (codes "->" ∷ reply_words r) ∙ ap (λ (bs : List ℕ). spaced steps ++ (codes " ->" ++ bs)) (reply_spaced r) in
     ap (λ (bs : List ℕ). (decimal n ++ bs) ++ 10 ∷ []) words
-    ∙ append_assoc (decimal n) (spaced steps ++ (codes " -> " ++ joined (reply_words r))) (10 ∷ [])
-    ∙ ap (λ (bs : List ℕ). decimal n ++ bs) (append_assoc (spaced steps) (codes " -> " ++ joined (reply_words r)) (10 ∷ []))
+    ∙ append_assoc (decimal n) (spaced steps ++ (codes " -> " ++ joined_words (reply_words r))) (10 ∷ [])
+    ∙ ap (λ (bs : List ℕ). decimal n ++ bs) (append_assoc (spaced steps) (codes " -> " ++ joined_words (reply_words r)) (10 ∷ []))
 
--- a released read lock, and then who waited for it
-pub released_parts : (old : List ℕ) (v : ℕ) (ws : List (List ℕ)) → (old ++ (codes "released read" ++ spaced (decimal v ∷ []))) ++ spaced ws ≡ old ++ joined (codes "released" ∷ codes "read" ∷ decimal v ∷ ws)
+-- a released read lock, and then the writer that waited for it
+pub released_parts : (old : List ℕ) (v : ℕ) (ws : List (List ℕ)) → (old ++ (codes "released read" ++ spaced (decimal v ∷ []))) ++ spaced ws ≡ old ++ joined_words (codes "released" ∷ codes "read" ∷ decimal v ∷ ws)
 released_parts old v ws =
     append_assoc old (codes "released read" ++ spaced (decimal v ∷ [])) (spaced ws)
     ∙ ap (λ (bs : List ℕ). old ++ (codes "released read" ++ 32 ∷ bs)) (append_assoc (decimal v) [] (spaced ws))

@@ -4,7 +4,7 @@ use Rattle.hek_rules.specs.Plan.{Plan}
 use Rattle.hek_asm.specs.declared.fault.AsmKind.{AsmKind}
 use Rattle.hek_asm.specs.declared.fault.LineFault.{LineFault}
 use Rattle.hek_asm.specs.declared.fault.LineFault.TheVariants as line
-use Rattle.hek_asm.specs.Text.{line_after, lines_after, whole}
+use Rattle.hek_asm.specs.Text.{line_after, lines_after, finished_plan}
 use Rattle.hek_asm.specs.Gives.{LineFails, TextFails, at_line}
 
 pub goes_on : (n : ℕ) (s t : Option Plan) (bytes : List ℕ) (lines : List (List ℕ)) → line_after s bytes ≡ Ok t → lines_after n s (bytes ∷ lines) ≡ lines_after (n + 1) t lines
@@ -15,7 +15,7 @@ pub stops : (n : ℕ) (s : Option Plan) (bytes : List ℕ) (lines : List (List �
 unfolding lines_after
 stops n s bytes lines k e = rw e refl
 
-pub ends : (n : ℕ) (s : Option Plan) → lines_after n s [] ≡ whole s
+pub ends : (n : ℕ) (s : Option Plan) → lines_after n s [] ≡ finished_plan s
 unfolding lines_after
 ends n s = refl
 

@@ -5,7 +5,7 @@ use Rattle.hek_rules.specs.declared.event.Event.TheVariants as event
 use Rattle.hek_rules.specs.declared.reply.Reply.{Reply}
 use Rattle.hek_rules.specs.Plan.{Plan, IsPlan, IsStep}
 use Rattle.hek_asm.specs.Likely.{likely_reply}
-use Rattle.hek_asm.specs.Reading.{IsSmallReply, IsFront, IsRest}
+use Rattle.hek_asm.specs.Reading.{IsSmallReply, IsFront, IsLineRest}
 use Rattle.hek_asm.specs.Trace.{line_front, line_rest}
 use Rattle.hek_asm.proofs.LineLemmas.{line_halves}
 use Rattle.hek_asm.proofs.RowLemmas.{step_declared}
@@ -29,7 +29,7 @@ step_small b n event.Detect few h = (zero_small, zero_small)
 
 -- a step's line, by its two parts
 pub step_front : (p : Plan) (n : ℕ) (e : Event) (r : Reply) (text rest after : List ℕ) → IsPlan p → IsStep p.buckets (length p.txns) e →
-    text ≡ line_front p n e ++ rest → IsRest r rest after → IsFront p n (e, r) text after
+    text ≡ line_front p n e ++ rest → IsLineRest r rest after → IsFront p n (e, r) text after
 step_front p n e r text rest after is step front back =
     let small = step_small p.buckets (length p.txns) e is.buckets.1 step in
     record {
@@ -41,5 +41,5 @@ step_front p n e r text rest after is step front back =
     }
 
 -- the reply that words say is small
-pub words_rest : (r : Reply) (ws : List (List ℕ)) (text after : List ℕ) → r ≡ likely_reply ws → text ≡ line_rest r ++ after → IsRest r text after
+pub words_rest : (r : Reply) (ws : List (List ℕ)) (text after : List ℕ) → r ≡ likely_reply ws → text ≡ line_rest r ++ after → IsLineRest r text after
 words_rest r ws text after reply is = record { small = subst IsSmallReply (sym reply) (reply_small ws); is = is }

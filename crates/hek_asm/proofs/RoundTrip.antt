@@ -140,7 +140,7 @@ no_number : operands_or_fault [] ≡ Ok (0, 0)
 unfolding operands_or_fault
 no_number = refl
 
--- what is said of a step
+-- the words of a step are words, and reading them adds the step
 abbrev IsSaid : Plan → Plan → Event → Type 0
 IsSaid q p e = AllByRecursion IsWord (step_words q e) × (words_after (Some p) (step_words q e) ≡ Ok (Some (with_event p e)))
 

@@ -9,7 +9,7 @@ use Rattle.hek_rules.specs.Plan.{Plan, IsPlan, IsStep}
 use Rattle.hek_asm.specs.Lines.{line_text}
 use Rattle.hek_asm.specs.Trace.{NamesDeclared}
 
--- what stands at a place, and what follows it
+-- the element at a place, and those after it
 pub at_place : {X : Type 0} (xs : List X) (i : ℕ) (x : X) → slice_get xs i ≡ Some x → drop i xs ≡ x ∷ drop (i + 1) xs
 at_place [] i x h = absurd (omega (arith, slice_get_within [] i x h))
 at_place (y ∷ ys) zero x h = cc

@@ -1,4 +1,4 @@
--- The numbers of what a line may be of are below 2^64.
+-- The numbers of an entry that a line can be of are below 2^64.
 use Rattle.std.proofs.Common.{◌≡◌, ℕ, ◌+◌, ◌^◌, Bool, true, false, List, [], ◌∷◌, length, map, drop, take, Option, Some, None, IfSome, refl, codes, subst, arith}
 use Rattle.std.specs.Prelude.{nat_lt, nat_le, ◌&&◌, unwrap_or, if◌then◌else◌}
 use Rattle.std.specs.List.{AllByRecursion, position_or_len}
@@ -14,7 +14,7 @@ use Rattle.hek_rules.specs.declared.reply.Reply.TheVariants as reply
 use Rattle.hek_rules.specs.Events.{kind_named, event_of, first_of, second_of}
 use Rattle.hek_rules.specs.Plan.{Plan, id_of}
 use Rattle.hek_rules.specs.Text.{is_number}
-use Rattle.hek_asm.specs.Likely.{◌>>=◌, value_of, first_value, cause_named, refusal_named, is_equals, pair_of, of_one_word, of_two_words, of_three_words, of_few_words, likely_reply, step_named, likely_event, step_len, likely_entry}
+use Rattle.hek_asm.specs.Likely.{◌>>=◌, number_else_zero, first_value, cause_named, refusal_named, is_equals, pair_of, of_one_word, of_two_words, of_three_words, of_few_words, likely_reply, step_named, likely_event, step_len, likely_entry}
 use Rattle.hek_asm.specs.Reading.{is_small, AreSmall, IsSmallReply}
 
 -- a choice of two that both have a property
@@ -27,14 +27,14 @@ number_or_zero : (w : List ℕ) (b : Bool) → is_number w ≡ b → is_small (u
 number_or_zero w true e = ltb-true (digits_value 10 w) (2 ^ 64) (and_parts ((nat_lt 0 (length w) && nat_le (length w) 20) && all_ascii_digits w) (nat_lt (digits_value 10 w) (2 ^ 64)) e).1
 number_or_zero w false e = omega arith
 
-value_small : (w : List ℕ) → is_small (value_of w)
+value_small : (w : List ℕ) → is_small (number_else_zero w)
 value_small w = number_or_zero w (is_number w) refl
 
 first_small : (ws : List (List ℕ)) → is_small (first_value ws)
 first_small [] = omega arith
 first_small (w ∷ ws) = value_small w
 
-values_small : (ws : List (List ℕ)) → AllByRecursion is_small (map value_of ws)
+values_small : (ws : List (List ℕ)) → AllByRecursion is_small (map number_else_zero ws)
 values_small [] = tt
 values_small (w ∷ ws) = (value_small w, values_small ws)
 
@@ -55,21 +55,21 @@ one_small w =
 
 two_small : (w v : List ℕ) → IsSmallReply (of_two_words w v)
 two_small w v =
-    pick IsSmallReply (bytes_eq w (codes "began")) (reply.Began (value_of v)) _ (value_small v)
-    (pick IsSmallReply (bytes_eq w (codes "found")) (reply.Found (value_of v)) _ (value_small v)
-    (pick IsSmallReply (bytes_eq w (codes "waiting")) (reply.Waiting (value_of v)) _ (value_small v)
-    (pick IsSmallReply (bytes_eq w (codes "precommitted")) (reply.Precommitted (value_of v)) _ (value_small v)
-    (pick IsSmallReply (bytes_eq w (codes "left")) (reply.Left (value_of v)) _ (value_small v)
+    pick IsSmallReply (bytes_eq w (codes "began")) (reply.Began (number_else_zero v)) _ (value_small v)
+    (pick IsSmallReply (bytes_eq w (codes "found")) (reply.Found (number_else_zero v)) _ (value_small v)
+    (pick IsSmallReply (bytes_eq w (codes "waiting")) (reply.Waiting (number_else_zero v)) _ (value_small v)
+    (pick IsSmallReply (bytes_eq w (codes "precommitted")) (reply.Precommitted (number_else_zero v)) _ (value_small v)
+    (pick IsSmallReply (bytes_eq w (codes "left")) (reply.Left (number_else_zero v)) _ (value_small v)
     (pick IsSmallReply (bytes_eq w (codes "aborted")) (reply.Aborted (cause_named v)) reply.NoCycle tt tt)))))
 
 three_small : (w v u : List ℕ) → IsSmallReply (of_three_words w v u)
 three_small w v u =
     pick IsSmallReply (bytes_eq w (codes "refused")) (reply.Refused (refusal_named u)) _ tt
-    (pick IsSmallReply (bytes_eq v (codes "bucket")) (reply.ReleasedBucket (value_of u)) _ (value_small u)
-    (pick IsSmallReply (bytes_eq v (codes "waiter")) (reply.ReleasedWaiter (value_of u)) _ (value_small u)
-    (pick IsSmallReply (bytes_eq v (codes "commits")) (reply.WaitingCommits (value_of u)) _ (value_small u)
-    (pick IsSmallReply (bytes_eq v (codes "begin")) (reply.StampedBegin (value_of u)) _ (value_small u)
-    (pick IsSmallReply (bytes_eq v (codes "end")) (reply.StampedEnd (value_of u)) (reply.ReleasedRead (value_of u) None) (value_small u) (value_small u))))))
+    (pick IsSmallReply (bytes_eq v (codes "bucket")) (reply.ReleasedBucket (number_else_zero u)) _ (value_small u)
+    (pick IsSmallReply (bytes_eq v (codes "waiter")) (reply.ReleasedWaiter (number_else_zero u)) _ (value_small u)
+    (pick IsSmallReply (bytes_eq v (codes "commits")) (reply.WaitingCommits (number_else_zero u)) _ (value_small u)
+    (pick IsSmallReply (bytes_eq v (codes "begin")) (reply.StampedBegin (number_else_zero u)) _ (value_small u)
+    (pick IsSmallReply (bytes_eq v (codes "end")) (reply.StampedEnd (number_else_zero u)) (reply.ReleasedRead (number_else_zero u) None) (value_small u) (value_small u))))))
 
 few_small : (ws : List (List ℕ)) → IsSmallReply (of_few_words ws)
 unfolding of_few_words
@@ -85,7 +85,7 @@ unfolding likely_reply
 reply_small [] = tt
 reply_small (w ∷ ws) =
     pick IsSmallReply (bytes_eq w (codes "rows")) (reply.Rows (map pair_of ws)) _ (pairs_small ws)
-    (pick IsSmallReply (bytes_eq w (codes "victim")) (reply.Victim (first_value ws) (map value_of (drop 2 ws))) (of_few_words (w ∷ ws)) (first_small ws, values_small (drop 2 ws)) (few_small (w ∷ ws)))
+    (pick IsSmallReply (bytes_eq w (codes "victim")) (reply.Victim (first_value ws) (map number_else_zero (drop 2 ws))) (of_few_words (w ∷ ws)) (first_small ws, values_small (drop 2 ws)) (few_small (w ∷ ws)))
 
 -- ---- events
 abbrev pub IsSmallEvent : Event → Type 0

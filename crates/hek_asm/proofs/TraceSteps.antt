@@ -8,9 +8,9 @@ use Rattle.hek_rules.specs.declared.reply.Reply.{Reply}
 use Rattle.hek_rules.specs.Plan.{Plan, levels_of}
 use Rattle.hek_rules.specs.Recorded.{Recorded}
 use Rattle.hek_asm.specs.Canonical.{step_words}
-use Rattle.hek_asm.specs.Lines.{joined}
+use Rattle.hek_asm.specs.Lines.{joined_words}
 use Rattle.hek_asm.specs.Trace.{reply_words, trace_line, trace_from}
-use Rattle.hek_asm.specs.Reading.{IsEntry, AreEntries, history_trace, IsFront}
+use Rattle.hek_asm.specs.Reading.{IsTraceEntry, AreEntries, history_trace, IsFront}
 
 -- the lines of a history from a number on
 abbrev pub lines_from : Plan → ℕ → List (Event × Reply) → List ℕ
@@ -28,7 +28,7 @@ all_more P [] x h k = (k, tt)
 all_more P (y ∷ ys) x h k = (h.0, all_more P ys x h.1 k)
 
 pub line_long : (p : Plan) (n : ℕ) (x : Event × Reply) → 0 < length (trace_line p n x.0 x.1)
-line_long p n x = omega (arith, length-append (joined (decimal n ∷ (step_words p x.0 ++ codes "->" ∷ reply_words x.1))) (10 ∷ []))
+line_long p n x = omega (arith, length-append (joined_words (decimal n ∷ (step_words p x.0 ++ codes "->" ∷ reply_words x.1))) (10 ∷ []))
 
 pub record Grown (p : Plan) (h : List (Event × Reply)) (x : Event × Reply) (text rest after : List ℕ) : Type 0 where
   pub entries : AreEntries p (h ++ x ∷ [])
@@ -43,7 +43,7 @@ grown p n h x text rest after count entries trace front =
     let here : rest ≡ line ++ after = front.is ∙ ap (λ (m : ℕ). trace_line p m x.0 x.1 ++ after) number in
     let len : length rest ≡ length line + length after = ap length here ∙ length-append line after in
     record {
-      entries = all_more (IsEntry (length p.txns)) h x entries front.entry;
+      entries = all_more (IsTraceEntry (length p.txns)) h x entries front.entry;
       trace = trace ∙ ap (λ (bs : List ℕ). history_trace p h ++ bs) here ∙ sym (append_assoc (history_trace p h) line after) ∙ ap (λ (bs : List ℕ). bs ++ after) (sym (lines_more p 1 h x));
       shorter = omega (arith, len, line_long p (1 + length h) x);
       count = length-append h (x ∷ []);

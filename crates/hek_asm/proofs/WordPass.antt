@@ -1,4 +1,4 @@
--- One pass over a line, for its words and for bytes that are no ASCII.
+-- One pass over a line, for its words and for bytes that are not ASCII.
 use Rattle.std.proofs.Common.{◌≡◌, ℕ, ◌+◌, ◌-◌, ◌<◌, ◌≤◌, Bool, true, false, ◌||◌, List, [], ◌∷◌, ◌++◌, map, Bor, length, take, drop, drop-drop, drop_of_length-le, get_or, refl, sym, ap, ◌∙◌, arith, inl, inr}
 use Rattle.std.specs.Prelude.{nat_le}
 use Rattle.std.specs.Int.Bits.{bit_or}
@@ -14,7 +14,7 @@ pub passed : (line : List ℕ) (i : ℕ) → i < length line → ends_word (get_
     → (i + 1) + position_or_len ends_word (drop (i + 1) line) ≡ i + position_or_len ends_word (drop i line)
 passed line i h e = rw (at_place line i h, e) (omega arith)
 
--- a byte that ends one, or follows an end
+-- a byte that ends a word, or follows the end of one
 pub ended : (line : List ℕ) (i : ℕ) → i < length line → ends_word (get_or line i 0) ≡ true → position_or_len ends_word (drop i line) ≡ 0
 ended line i h e = rw (at_place line i h, e) refl
 
@@ -25,7 +25,7 @@ word_read line start i h e =
     words_cut (drop start line) (i - start) (omega arith) e
     ∙ ap (λ (bs : List ℕ). take (i - start) (drop start line) ∷ words_of bs) (drop-drop (i - start) start line ∙ ap (λ n. drop n line) (omega arith))
 
--- a blank adds nothing
+-- a blank adds no word
 pub blank_read : (line : List ℕ) (i : ℕ) → i < length line → ends_word (get_or line i 0) ≡ true → is_comment (get_or line i 0) ≡ false
     → words_of (drop i line) ≡ words_of (drop (i + 1) line)
 blank_read line i h e none = elim (cases_Bool (is_blank (get_or line i 0))) [
@@ -33,11 +33,11 @@ blank_read line i h e none = elim (cases_Bool (is_blank (get_or line i 0))) [
   | inr other ↦ absurd (true≢false (sym e ∙ rw (other, none) refl))
 ]
 
--- a comment has none
+-- a comment has no words
 pub comment_read : (line : List ℕ) (i : ℕ) → i < length line → get_or line i 0 ≡ 35 → words_of (drop i line) ≡ []
 comment_read line i h e = rw (at_place line i h, e) refl
 
--- where a line ends, its last word does
+-- the last word ends where the line ends
 pub last_read : (line : List ℕ) (start : ℕ) → start < length line → length line ≡ start + position_or_len ends_word (drop start line)
     → words_of (drop start line) ≡ drop start line ∷ []
 last_read line start h e =
@@ -46,7 +46,7 @@ last_read line start h e =
     word_read line start (length line) h (omega (arith, e)) ∙ ap (λ (w : List ℕ). w ∷ words_of (drop (length line) line)) all
     ∙ ap (λ (bs : List ℕ). drop start line ∷ words_of bs) rest
 
--- the bits of two bytes tell of both
+-- the bits of two bytes show whether one of them is not ASCII
 above : (a b : ℕ) → nat_le 128 (bit_or a b) ≡ (nat_le 128 a || nat_le 128 b)
 above a b = elim (cases_Bool (nat_le 128 a)) [
   | inl high ↦ let below = leb-true 128 a high in let more = le_or_l a b in rw high (le-leb 128 (bit_or a b) (omega (arith, below, more)))
@@ -60,23 +60,23 @@ either : (x y z : Bool) → ((x || y) || z) ≡ (x || (y || z))
 either true y z = refl
 either false y z = refl
 
--- a byte that begins no comment is told by the bits from then on
+-- a byte that begins no comment counts in the bits from then on
 pub foreign_passed : (line : List ℕ) (i bits : ℕ) → i < length line → is_comment (get_or line i 0) ≡ false
     → (nat_le 128 (bit_or bits (get_or line i 0)) || has_foreign (drop (i + 1) line)) ≡ (nat_le 128 bits || has_foreign (drop i line))
 foreign_passed line i bits h none =
     rw (at_place line i h, none, above bits (get_or line i 0)) (either (nat_le 128 bits) (nat_le 128 (get_or line i 0)) (has_foreign (drop (i + 1) line)))
 
--- and a comment adds nothing
+-- the byte that begins a comment adds nothing to the bits
 pub foreign_done : (line : List ℕ) (i bits : ℕ) → i < length line → get_or line i 0 ≡ 35
     → nat_le 128 (bit_or bits (get_or line i 0)) ≡ (nat_le 128 bits || has_foreign (drop i line))
 foreign_done line i bits h e = rw (at_place line i h, e) (above bits 35)
 
--- a word more, behind those that are read
+-- one more word after those that are read
 pub word_put : (words : List (Bor (List ℕ))) (word : Bor (List ℕ)) (rest : List (List ℕ)) → map (λ w. w.now) (words ++ word ∷ []) ++ rest ≡ map (λ w. w.now) words ++ word.now ∷ rest
 word_put [] word rest = refl
 word_put (w ∷ ws) word rest = ap (λ (vs : List (List ℕ)). w.now ∷ vs) (word_put ws word rest)
 
--- the words before a place where one ends
+-- the words before a place where a word ends
 pub word_added : (line : List ℕ) (start i : ℕ) (words more : List (Bor (List ℕ))) (word : Bor (List ℕ)) → start < i
     → i + position_or_len ends_word (drop i line) ≡ start + position_or_len ends_word (drop start line) → position_or_len ends_word (drop i line) ≡ 0
     → map (λ w. w.now) words ++ words_of (drop start line) ≡ words_of line → word.now ≡ take (i - start) (drop start line) → more ≡ words ++ word ∷ []
@@ -88,7 +88,7 @@ word_added line start i words more word h same none so_far cut put =
     ∙ ap (λ (vs : List (List ℕ)). map (λ w. w.now) words ++ vs) (sym (word_read line start i h (omega (arith, same, none, h))))
     ∙ so_far
 
--- and where none stands before it
+-- no word is added where none lies between the start and a place
 pub none_added : (line : List ℕ) (start i : ℕ) (words : List (Bor (List ℕ))) → start ≤ i → i ≤ start
     → map (λ w. w.now) words ++ words_of (drop start line) ≡ words_of line → map (λ w. w.now) words ++ words_of (drop i line) ≡ words_of line
 none_added line start i words a b so_far = ap (λ (n : ℕ). map (λ w. w.now) words ++ words_of (drop n line)) (omega (arith, a, b)) ∙ so_far

@@ -6,7 +6,7 @@ pub record Compared : Type 0 where
   pub place : ℕ
   pub failed : Bool
 
--- What it counts as held: its text with the length before it, as if both had been put first, and then what was put. So
--- no writer that only appends can change the text.
+-- What the sink counts as held: the length of its text, the text, and the bytes that were put, as if the length and the
+-- text had been put first. A writer that only appends therefore cannot change the text.
 abbrev pub held : Compared → List ℕ
 held c = length c.text ∷ (c.text ++ take c.place c.text)

@@ -1,4 +1,4 @@
--- What canonical texts come to.
+-- What the definition of canonical texts means.
 use Rattle.std.specs.Prelude.{◌≡◌, ℕ, ◌<◌, false, List, length, get_or, Ok}
 use Rattle.std.specs.List.{AllByRecursion, flat_map}
 use Rattle.hek_rules.specs.Plan.{Plan, IsPlan}
@@ -7,7 +7,7 @@ use Rattle.hek_asm.specs.Lines.{line_text}
 use Rattle.hek_asm.specs.Text.{schedule_of}
 use Rattle.hek_asm.specs.Canonical.{canonical_text}
 
--- no blank, no '#', no LF
+-- a byte that is no blank, no '#' and no LF
 abbrev pub IsWordByte : ℕ → Type 0
 IsWordByte b = (ends_word b ≡ false) × (is_line_end b ≡ false)
 
@@ -21,13 +21,13 @@ pub record IsTidyWord (w : List ℕ) : Type 0 where
 abbrev pub IsTidyLine : List (List ℕ) → Type 0
 IsTidyLine ws = (0 < length ws) × AllByRecursion IsTidyWord ws
 
--- no comments, no empty lines, one space between words, no leading zeros, and LF at the end of each line
+-- a text without comments, empty lines and leading zeros, with one space between words and LF at the end of each line
 pub record IsTidy (text : List ℕ) : Type 0 where
   pub lines : List (List (List ℕ))
   pub form : AllByRecursion IsTidyLine lines
   pub written : text ≡ flat_map line_text lines
 
--- the canonical text of a schedule is a text of it and tidy, and no other tidy text is
+-- the canonical text of a schedule is a tidy text of it, and the only one
 pub record CanonicalIsExact : Type 0 where
   pub again : (p : Plan) → IsPlan p → schedule_of (canonical_text p) ≡ Ok p
   pub tidy : (p : Plan) → IsPlan p → IsTidy (canonical_text p)

@@ -1,4 +1,4 @@
--- The one event and the one reply that the words of a trace line may be of. Whether they are is told by writing them.
+-- The one event and the one reply that the words of a trace line can be of. Writing them shows if the line is theirs.
 use Rattle.std.specs.Prelude.{ℕ, ◌+◌, ◌==◌, Bool, List, [], ◌∷◌, codes, map, drop, take, Option, None, Some, unwrap_or, if◌then◌else◌}
 use Rattle.std.specs.List.{position_or_len}
 use Rattle.std.specs.Str.{bytes_eq}
@@ -20,13 +20,13 @@ None >>= f = None
 (Some x) >>= f = f x
 
 -- the number that a word is, or 0
-abbrev pub value_of : List ℕ → ℕ
-value_of word = unwrap_or (number_of word) 0
+abbrev pub number_else_zero : List ℕ → ℕ
+number_else_zero word = unwrap_or (number_of word) 0
 
--- that of the first word
+-- the number that the first word is, or 0
 abbrev pub first_value : List (List ℕ) → ℕ
 first_value [] = 0
-first_value (w ∷ ws) = value_of w
+first_value (w ∷ ws) = number_else_zero w
 
 abbrev pub cause_named : List ℕ → Cause
 cause_named w = if bytes_eq w (codes "cascade") then cause.Cascade
@@ -48,9 +48,9 @@ refusal_named w = if bytes_eq w (codes "UnknownTxn") then refusal.UnknownTxn
 abbrev pub is_equals : ℕ → Bool
 is_equals b = b == 61
 
--- the numbers before and behind the first '='
+-- the numbers before and after the first '='
 abbrev pub pair_of : List ℕ → ℕ × ℕ
-pair_of w = (value_of (take (position_or_len is_equals w) w), value_of (drop 1 (drop (position_or_len is_equals w) w)))
+pair_of w = (number_else_zero (take (position_or_len is_equals w) w), number_else_zero (drop 1 (drop (position_or_len is_equals w) w)))
 
 -- ---- replies, by how many words they have
 abbrev pub of_one_word : List ℕ → Reply
@@ -64,22 +64,22 @@ of_one_word w = if bytes_eq w (codes "done") then reply.Done
     else reply.Absent
 
 abbrev pub of_two_words : List ℕ → List ℕ → Reply
-of_two_words w v = if bytes_eq w (codes "began") then reply.Began (value_of v)
-    else if bytes_eq w (codes "found") then reply.Found (value_of v)
-    else if bytes_eq w (codes "waiting") then reply.Waiting (value_of v)
-    else if bytes_eq w (codes "precommitted") then reply.Precommitted (value_of v)
-    else if bytes_eq w (codes "left") then reply.Left (value_of v)
+of_two_words w v = if bytes_eq w (codes "began") then reply.Began (number_else_zero v)
+    else if bytes_eq w (codes "found") then reply.Found (number_else_zero v)
+    else if bytes_eq w (codes "waiting") then reply.Waiting (number_else_zero v)
+    else if bytes_eq w (codes "precommitted") then reply.Precommitted (number_else_zero v)
+    else if bytes_eq w (codes "left") then reply.Left (number_else_zero v)
     else if bytes_eq w (codes "aborted") then reply.Aborted (cause_named v)
     else reply.NoCycle
 
 abbrev pub of_three_words : List ℕ → List ℕ → List ℕ → Reply
 of_three_words w v u = if bytes_eq w (codes "refused") then reply.Refused (refusal_named u)
-    else if bytes_eq v (codes "bucket") then reply.ReleasedBucket (value_of u)
-    else if bytes_eq v (codes "waiter") then reply.ReleasedWaiter (value_of u)
-    else if bytes_eq v (codes "commits") then reply.WaitingCommits (value_of u)
-    else if bytes_eq v (codes "begin") then reply.StampedBegin (value_of u)
-    else if bytes_eq v (codes "end") then reply.StampedEnd (value_of u)
-    else reply.ReleasedRead (value_of u) None
+    else if bytes_eq v (codes "bucket") then reply.ReleasedBucket (number_else_zero u)
+    else if bytes_eq v (codes "waiter") then reply.ReleasedWaiter (number_else_zero u)
+    else if bytes_eq v (codes "commits") then reply.WaitingCommits (number_else_zero u)
+    else if bytes_eq v (codes "begin") then reply.StampedBegin (number_else_zero u)
+    else if bytes_eq v (codes "end") then reply.StampedEnd (number_else_zero u)
+    else reply.ReleasedRead (number_else_zero u) None
 
 unfoldable pub of_few_words : List (List ℕ) → Reply
 of_few_words [] = reply.Absent
@@ -87,12 +87,12 @@ of_few_words (a ∷ []) = of_one_word a
 of_few_words (a ∷ b ∷ []) = of_two_words a b
 of_few_words (a ∷ b ∷ c ∷ []) = of_three_words a b c
 of_few_words (a ∷ b ∷ c ∷ d ∷ []) = reply.Absent
-of_few_words (a ∷ b ∷ c ∷ d ∷ e ∷ ws) = reply.ReleasedRead (value_of c) (Some (value_of e))
+of_few_words (a ∷ b ∷ c ∷ d ∷ e ∷ ws) = reply.ReleasedRead (number_else_zero c) (Some (number_else_zero e))
 
 unfoldable pub likely_reply : List (List ℕ) → Reply
 likely_reply [] = reply.Absent
 likely_reply (w ∷ ws) = if bytes_eq w (codes "rows") then reply.Rows (map pair_of ws)
-    else if bytes_eq w (codes "victim") then reply.Victim (first_value ws) (map value_of (drop 2 ws))
+    else if bytes_eq w (codes "victim") then reply.Victim (first_value ws) (map number_else_zero (drop 2 ws))
     else of_few_words (w ∷ ws)
 
 -- ---- events

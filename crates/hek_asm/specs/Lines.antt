@@ -7,9 +7,9 @@ spaced [] = []
 spaced (w ∷ ws) = 32 ∷ (w ++ spaced ws)
 
 -- words with one space between them
-abbrev pub joined : List (List ℕ) → List ℕ
-joined [] = []
-joined (w ∷ ws) = w ++ spaced ws
+abbrev pub joined_words : List (List ℕ) → List ℕ
+joined_words [] = []
+joined_words (w ∷ ws) = w ++ spaced ws
 
 abbrev pub line_text : List (List ℕ) → List ℕ
-line_text ws = joined ws ++ 10 ∷ []
+line_text ws = joined_words ws ++ 10 ∷ []

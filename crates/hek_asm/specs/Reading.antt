@@ -45,15 +45,15 @@ IsSmallReply (reply.Victim t cycle) = is_small t × AllByRecursion is_small cycl
 IsSmallReply (reply.Aborted cause) = Unit {0}
 IsSmallReply (reply.Refused why) = Unit {0}
 
--- what a line may be of: an event of a declared transaction, or detect, and a reply, with numbers below 2^64
-pub record IsEntry (txns : ℕ) (x : Event × Reply) : Type 0 where
+-- an entry that a line can be of: an event of a declared transaction, or detect, and a reply, with numbers below 2^64
+pub record IsTraceEntry (txns : ℕ) (x : Event × Reply) : Type 0 where
   pub declared : NamesDeclared txns x.0
   pub first : is_small (first_of x.0)
   pub second : is_small (second_of x.0)
   pub reply : IsSmallReply x.1
 
 abbrev pub AreEntries : Plan → List (Event × Reply) → Type 0
-AreEntries p history = AllByRecursion (IsEntry (length p.txns)) history
+AreEntries p history = AllByRecursion (IsTraceEntry (length p.txns)) history
 
 abbrev pub history_trace : Plan → List (Event × Reply) → List ℕ
 history_trace p history = trace p (map (λ (x : Event × Reply). x.0) history) (map (λ (x : Event × Reply). x.1) history)
@@ -66,9 +66,9 @@ pub record IsTraceOf (p : Plan) (told : Recorded) (text : List ℕ) : Type 0 whe
 
 -- the text begins with no line of this number
 abbrev pub HasNoLine : Plan → ℕ → List ℕ → Type 0
-HasNoLine p n text = (x : Event × Reply) (after : List ℕ) → IsEntry (length p.txns) x → text ≡ trace_line p n x.0 x.1 ++ after → ⊥
+HasNoLine p n text = (x : Event × Reply) (after : List ℕ) → IsTraceEntry (length p.txns) x → text ≡ trace_line p n x.0 x.1 ++ after → ⊥
 
--- the text goes on behind the trace of some entries, and not with the next line of a trace
+-- the text begins with the trace of some entries, and no line of a trace follows them
 pub record StopsAt (p : Plan) (n : ℕ) (text : List ℕ) : Type 0 where
   pub before : List (Event × Reply)
   pub rest : List ℕ
@@ -84,16 +84,16 @@ TraceFails p text (fault.Line n) = StopsAt p n text
 
 -- the front of the text is the line of an entry
 pub record IsFront (p : Plan) (n : ℕ) (x : Event × Reply) (text after : List ℕ) : Type 0 where
-  pub entry : IsEntry (length p.txns) x
+  pub entry : IsTraceEntry (length p.txns) x
   pub is : text ≡ trace_line p n x.0 x.1 ++ after
 
 -- the front of the text is a reply, to the line's end
-pub record IsRest (r : Reply) (text after : List ℕ) : Type 0 where
+pub record IsLineRest (r : Reply) (text after : List ℕ) : Type 0 where
   pub small : IsSmallReply r
   pub is : text ≡ line_rest r ++ after
 
--- a text is the trace of one transcript at most, which reading it gives; a trace has no line at fault; and a text has one
--- first line at fault at most
+-- a text is the trace of at most one transcript, which reading it gives; a trace has no line at fault; a text has at
+-- most one first line at fault
 pub record TracesAreExact : Type 0 where
   pub one : (p : Plan) (told found : Recorded) (text : List ℕ) → IsPlan p → length text < 2 ^ 64 → IsTraceOf p told text → IsTraceOf p found text → found ≡ told
   pub no_fault : (p : Plan) (told : Recorded) (text : List ℕ) (n : ℕ) → IsPlan p → length text < 2 ^ 64 → IsTraceOf p told text → StopsAt p n text → ⊥

@@ -9,7 +9,7 @@ use Rattle.hek_rules.specs.declared.reply.Reply.TheVariants as reply
 use Rattle.hek_rules.specs.Events.{txn_of}
 use Rattle.hek_rules.specs.Names.{cause_word}
 use Rattle.hek_rules.specs.Plan.{Plan, IsDeclared}
-use Rattle.hek_asm.specs.Lines.{spaced, joined, line_text}
+use Rattle.hek_asm.specs.Lines.{spaced, joined_words, line_text}
 use Rattle.hek_asm.specs.Canonical.{step_words}
 
 abbrev pub refusal_words : Refusal → List (List ℕ)
@@ -62,14 +62,14 @@ NamesDeclared txns e = IfSome (txn_of e) (λ t. IsDeclared txns t)
 abbrev pub trace_line : Plan → ℕ → Event → Reply → List ℕ
 trace_line p n e r = line_text (decimal n ∷ (step_words p e ++ codes "->" ∷ reply_words r))
 
--- the same line in two parts: up to the reply, and from it on
+-- a trace line in two parts: up to the reply, and from it on
 abbrev pub line_front : Plan → ℕ → Event → List ℕ
 line_front p n e = decimal n ++ (spaced (step_words p e) ++ codes " -> ")
 
 abbrev pub line_rest : Reply → List ℕ
-line_rest r = joined (reply_words r) ++ 10 ∷ []
+line_rest r = joined_words (reply_words r) ++ 10 ∷ []
 
--- the lines of events with their replies, the first of which has this number
+-- the lines of events with their replies; the first line has number n
 abbrev pub trace_from : Plan → ℕ → List Event → List Reply → List ℕ
 trace_from p n [] rs = []
 trace_from p n (e ∷ es) [] = []

@@ -18,7 +18,7 @@ fn at_line(line: u64, fault: LineFault) -> AsmFault
     }
 }
 
-// The schedule after the lines of rest, of which the first has the next number.
+// The schedule after the lines of `rest`, the first of which has the number after `number`.
 fn body(alloc: Global, schedule: Schedule, number: u64, rest: &[u8]) -> Result<Schedule, AsmFault>
     requires { number + length rest.now < 2 ^ 64 }
     ensures { TextGives (λ s. s) result (lines_after (number + 1) (Some schedule) (lines_of rest.now)) }
@@ -37,7 +37,7 @@ fn body(alloc: Global, schedule: Schedule, number: u64, rest: &[u8]) -> Result<S
     Ok(schedule)
 }
 
-/// The schedule that a text is, else the first fault of the text, or NoMemory.
+/// The schedule that a text describes; otherwise the first fault of the text, or NoMemory.
 pub fn assemble_text(alloc: Global, text: &str) -> Result<Schedule, AsmFault>
     ensures { TextGives (λ s. s) result (schedule_of text.now) }
 {

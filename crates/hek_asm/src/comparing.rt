@@ -1,10 +1,10 @@
-//! A sink that keeps nothing: what is put has to stand in a text, piece behind piece.
+//! A sink that keeps nothing: each put must match the next bytes of a text.
 ghost use Rattle.std.specs.Prelude.{◌≡◌, false, drop};
 
 use hek_rules::{Sink, same_bytes};
 use std::marker::Model;
 
-/// A text, and how many of its bytes were put.
+/// A text, and how many of its bytes have been put.
 #[derive(Drop)]
 pub(crate) struct Comparing<'t> {
     text: &'t [u8],
@@ -24,7 +24,7 @@ impl<'t> Model for Comparing<'t> {
 }
 
 impl<'t> Comparing<'t> {
-    /// A sink that takes the text, from its first byte on.
+    /// A sink that compares with a text, from its first byte on.
     pub(crate) fn new(text: &'t [u8]) -> Comparing<'t>
         ensures { result ≡ record { text = text.now; place = 0; failed = false } }
     {
@@ -35,7 +35,7 @@ impl<'t> Comparing<'t> {
         }
     }
 
-    /// What follows the bytes that were put.
+    /// The part of the text after the bytes that were put.
     pub(crate) fn rest(&self) -> &'t [u8]
         ensures { result.now ≡ drop self.now.place self.now.text }
     {

@@ -13,7 +13,7 @@ pub enum AsmKind {
     /// The first line with words doesn't begin with `buckets`, or no line has words.
     #[error("1 NoBuckets")]
     NoBuckets,
-    /// A line that is none of the format's, or stands out of order.
+    /// The line is none of the format's, or is out of order.
     #[error("2 BadWord")]
     BadWord,
     #[error("3 BadNumber")]
@@ -25,18 +25,18 @@ pub enum AsmKind {
     NameTwice,
     #[error("6 KeyTwice")]
     KeyTwice,
-    /// A limit is passed.
+    /// A limit is exceeded.
     #[error("7 TooMany")]
     TooMany,
     /// A scan's bucket isn't below the number of buckets.
     #[error("8 BadBucket")]
     BadBucket,
-    /// A character past ASCII stands outside the comment.
+    /// A character that is not ASCII occurs outside the comment.
     #[error("9 NotAscii")]
     NotAscii,
 }
 
-/// Why a text isn't assembled: its first fault, or want of memory.
+/// Why a text isn't assembled: its first fault, or out of memory.
 #[derive(Clone, Copy, Debug, PartialEq, Eq, Error)]
 pub enum AsmFault {
     #[error("line {line}: {kind}")]
@@ -45,7 +45,7 @@ pub enum AsmFault {
     NoMemory,
 }
 
-/// Why a text isn't read as a trace: the first line that no trace of the schedule has there, or want of memory.
+/// Why a text isn't read as a trace: the first line that no trace of the schedule has there, or out of memory.
 #[derive(Clone, Copy, Debug, PartialEq, Eq, Error)]
 pub enum TraceFault {
     #[error("trace line {0}")]
@@ -62,7 +62,7 @@ impl From<NoMemory> for TraceFault {
     }
 }
 
-/// Why a line isn't taken.
+/// Why a line isn't read: its fault, or out of memory.
 #[derive(Clone, Copy, Debug, PartialEq, Eq)]
 pub(crate) enum LineFault {
     Fault(AsmKind),

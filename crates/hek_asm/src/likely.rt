@@ -1,8 +1,7 @@
-//! The one event and the one reply that the words of a trace line may be of. Whether the line is theirs is told by writing
-//! it.
+//! The one event and the one reply that the words of a trace line can be of. Writing them shows if the line is theirs.
 ghost use Rattle.std.specs.Prelude.{◌≡◌, ◌≤◌, map, drop, length, IfOk, IfSome};
 ghost use Rattle.std.specs.List.{position_or_len};
-ghost use Rattle.hek_asm.specs.Likely.{value_of, first_value, cause_named, refusal_named, is_equals, pair_of, of_one_word, of_two_words, of_three_words, of_few_words, likely_reply, step_named, likely_event, step_len};
+ghost use Rattle.hek_asm.specs.Likely.{number_else_zero, first_value, cause_named, refusal_named, is_equals, pair_of, of_one_word, of_two_words, of_three_words, of_few_words, likely_reply, step_named, likely_event, step_len};
 ghost use Rattle.hek_asm.specs.Trace.{NamesDeclared};
 
 use hek_rules::{
@@ -12,7 +11,7 @@ use hek_rules::{
 use std::alloc::Global;
 
 fn value(word: &[u8]) -> u64
-    ensures { result ≡ value_of word.now }
+    ensures { result ≡ number_else_zero word.now }
 {
     number(word).unwrap_or(0)
 }
@@ -26,7 +25,7 @@ fn first_value(words: &[&[u8]]) -> u64
     }
 }
 
-// The words behind so many.
+// The words after the first `count`.
 pub(crate) fn behind<'w, 't>(words: &'w [&'t [u8]], count: usize) -> &'w [&'t [u8]]
     ensures { map (λ w. w.now) result.now ≡ drop count (map (λ w. w.now) words.now) }
 {
@@ -112,7 +111,7 @@ fn pairs(alloc: Global, words: &[&[u8]]) -> Result<Vec<(u64, u64)>, NoMemory>
 }
 
 fn members(alloc: Global, words: &[&[u8]]) -> Result<Vec<TxnId>, NoMemory>
-    ensures { IfOk result (λ v. v.items ≡ map value_of (map (λ w. w.now) words.now)) }
+    ensures { IfOk result (λ v. v.items ≡ map number_else_zero (map (λ w. w.now) words.now)) }
 {
     let mut members = Vec::new(alloc);
     for word in words {

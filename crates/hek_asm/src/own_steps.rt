@@ -1,8 +1,8 @@
-//! Lines of a run of the schedule itself: the step that a line is of is the schedule's own step of the line's number. So its
-//! words need not be read, only compared with the text. A line of anything else is left to the words.
+//! Lines of a run of the schedule itself: the step of such a line is the schedule's own step of the line's number, so
+//! its words are not read, only compared with the text. All other lines are read by their words.
 ghost use Rattle.std.specs.Prelude.{◌≡◌, ◌++◌, length, IfOk, IfSome};
 ghost use Rattle.hek_rules.specs.Plan.{IsStep};
-ghost use Rattle.hek_asm.specs.Reading.{is_small, IsSmallReply, IsFront, IsRest};
+ghost use Rattle.hek_asm.specs.Reading.{is_small, IsSmallReply, IsFront, IsLineRest};
 ghost use Rattle.hek_asm.specs.Trace.{NamesDeclared, line_front, line_rest};
 
 use crate::comparing::Comparing;
@@ -12,7 +12,7 @@ use crate::trace::{write_front, write_rest};
 use hek_rules::{Event, NoMemory, Reply, Schedule, Time, VersionId, next_line};
 use std::alloc::Global;
 
-// The schedule's step of this number, counted from 1, if it has so many.
+// The schedule's step of this number, counted from 1, if there is one.
 fn own_step(schedule: &Schedule, number: u64) -> Option<Event>
     ensures { IfSome result (λ e. IsStep schedule.now.buckets (length schedule.now.txns) e) }
 {
@@ -24,7 +24,7 @@ fn own_step(schedule: &Schedule, number: u64) -> Option<Event>
     Some(steps[(number - 1) as usize])
 }
 
-// What follows the number, the step and the arrow, if the text begins with them. None tells nothing of the text.
+// The text after the number, the step and the arrow, if it begins with them. None says nothing about the text.
 fn behind_front<'t>(
     schedule: &Schedule,
     number: u64,
@@ -41,7 +41,7 @@ fn behind_front<'t>(
     }
 }
 
-// What follows the reply and the line's end, if the text begins with them. None tells nothing of the text.
+// The text after the reply and the line's end, if it begins with them. None says nothing about the text.
 fn behind_rest<'t>(reply: &Reply, text: &'t [u8]) -> Option<&'t [u8]>
     ensures { IfSome result (λ after. text.now ≡ line_rest reply.now ++ after.now) }
 {
@@ -52,7 +52,7 @@ fn behind_rest<'t>(reply: &Reply, text: &'t [u8]) -> Option<&'t [u8]>
     }
 }
 
-// The number that the digits behind these words write, or its last 64 bits.
+// The number that the digits after these words write, or its last 64 bits.
 fn number_behind(text: &[u8], words: &str) -> u64
     ensures { is_small result }
 {
@@ -66,7 +66,7 @@ fn number_behind(text: &[u8], words: &str) -> u64
     value
 }
 
-// The reply of a stamped word, by the first letter of its second word.
+// The reply `stamped ..`, by the first letter of its second word.
 fn stamped(text: &[u8]) -> Option<Reply>
     ensures { IfSome result IsSmallReply }
 {
@@ -77,7 +77,7 @@ fn stamped(text: &[u8]) -> Option<Reply>
     Some(Reply::StampedEnd(VersionId::new(number_behind(text, "stamped end "))))
 }
 
-// The reply of a lock let go that nobody waited for, by the first letter of its second word.
+// The reply `released ..` without a writer, by the first letter of its second word.
 fn released(text: &[u8]) -> Option<Reply>
     ensures { IfSome result IsSmallReply }
 {
@@ -89,7 +89,7 @@ fn released(text: &[u8]) -> Option<Reply>
     Some(Reply::ReleasedRead(version, None))
 }
 
-// A reply that the first letters stand for, of those that come often. Whether the text has it is told by writing it.
+// One of the frequent replies, by its first letters. Writing it shows whether the text has it.
 fn reply_by_letters(text: &[u8]) -> Option<Reply>
     ensures { IfSome result IsSmallReply }
 {
@@ -113,23 +113,22 @@ fn reply_by_letters(text: &[u8]) -> Option<Reply>
     }
 }
 
-// The reply that the first letters stand for, and what follows the line, if the text begins so. None tells nothing of the
-// text.
+// The reply by its first letters, and the text after the line, if the text begins so. None says nothing about the text.
 fn rest_by_letters<'t>(text: &'t [u8]) -> Option<(Reply, &'t [u8])>
-    ensures { IfSome result (λ x. IsRest x.0 text.now x.1.now) }
+    ensures { IfSome result (λ x. IsLineRest x.0 text.now x.1.now) }
 {
     let reply = reply_by_letters(text)?;
     let after = behind_rest(&reply, text)?;
     Some((reply, after))
 }
 
-// The reply that the words of the line's rest say, and what follows the line. None tells nothing of the text.
+// The reply that the words of the line's rest give, and the text after the line. None says nothing about the text.
 fn rest_by_words<'t>(
     alloc: Global,
     words: &mut Vec<&'t [u8]>,
     text: &'t [u8],
 ) -> Result<Option<(Reply, &'t [u8])>, NoMemory>
-    ensures { IfOk result (λ o. IfSome o (λ x. IsRest x.0 text.now x.1.now)) }
+    ensures { IfOk result (λ o. IfSome o (λ x. IsLineRest x.0 text.now x.1.now)) }
 {
     let Some((line, _)) = next_line(text) else {
         return Ok(None);
@@ -142,13 +141,13 @@ fn rest_by_words<'t>(
     Ok(Some((reply, after)))
 }
 
-// The reply at the front of what follows an arrow, and what follows the line. None tells nothing of the text.
+// The reply after an arrow, and the text after the line. None says nothing about the text.
 fn likely_rest<'t>(
     alloc: Global,
     words: &mut Vec<&'t [u8]>,
     text: &'t [u8],
 ) -> Result<Option<(Reply, &'t [u8])>, NoMemory>
-    ensures { IfOk result (λ o. IfSome o (λ x. IsRest x.0 text.now x.1.now)) }
+    ensures { IfOk result (λ o. IfSome o (λ x. IsLineRest x.0 text.now x.1.now)) }
 {
     if let Some(rest) = rest_by_letters(text) {
         return Ok(Some(rest));
@@ -156,8 +155,8 @@ fn likely_rest<'t>(
     rest_by_words(alloc, words, text)
 }
 
-/// The event and the reply of the line at the front, and what follows it, where the event is the schedule's step of the
-/// line's number. None tells nothing of the text. The room of the words is used again.
+/// The event and the reply of a text's first line, and the text after it, if the event is the schedule's step of the
+/// line's number. None says nothing about the text. The room of `words` is used again.
 pub(crate) fn entry_by_step<'t>(
     alloc: Global,
     schedule: &Schedule,

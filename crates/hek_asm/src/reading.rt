@@ -14,7 +14,7 @@ use crate::trace::write_line;
 use hek_rules::{Event, FromWrite, NoMemory, Reply, Schedule, Transcript, next_line};
 use std::alloc::Global;
 
-// The only event and reply that the line can be of, if it can be of any. The room of the words is used again.
+// The only event and reply that a line can be of, if there is one. The room of `words` is used again.
 #[tactic(auto, unfolding(crate::specs::Likely::likely_entry))]
 fn likely_entry<'t>(
     alloc: Global,
@@ -37,7 +37,7 @@ fn likely_entry<'t>(
     Ok(Some((event, reply)))
 }
 
-// What follows the line of an event and a reply, if the text begins with it. None tells nothing of the text.
+// The text after the line of an event and a reply, if it begins with that line. None says nothing about the text.
 fn behind_line<'t>(
     schedule: &Schedule,
     number: u64,
@@ -55,7 +55,7 @@ fn behind_line<'t>(
     }
 }
 
-// The line of an event and a reply, written into room for so many bytes.
+// The line of an event and a reply, written into room for `room` bytes.
 fn line_text(
     alloc: Global,
     room: usize,
@@ -74,7 +74,7 @@ fn line_text(
     }
 }
 
-// What follows the front, if the text has it.
+// The text after this front, if it begins with the front.
 fn without_front<'t>(text: &'t [u8], front: &[u8]) -> Option<&'t [u8]>
     ensures { MatchOption result ((after : List ℕ) → text.now ≡ front.now ++ after → ⊥) (λ after. text.now ≡ front.now ++ after.now) }
 {
@@ -88,7 +88,7 @@ fn without_front<'t>(text: &'t [u8], front: &[u8]) -> Option<&'t [u8]>
     Some(after)
 }
 
-// What follows the line of an event and a reply, if the text begins with it.
+// The text after the line of an event and a reply, if it begins with that line.
 fn without_line<'t>(
     alloc: Global,
     room: usize,
@@ -109,7 +109,7 @@ fn without_line<'t>(
     Ok(without_front(text, front.as_slice()))
 }
 
-// The event and the reply of the line at the front, as its words say them, and what follows it.
+// The event and the reply of a text's first line, by its words, and the text after it.
 fn entry_by_words<'t>(
     alloc: Global,
     schedule: &Schedule,
@@ -134,7 +134,7 @@ fn entry_by_words<'t>(
     }
 }
 
-// The event and the reply of the line at the front, which has this number, and what follows it.
+// The event and the reply of a text's first line, which has this number, and the text after it.
 fn next_entry<'t>(
     alloc: Global,
     schedule: &Schedule,
@@ -150,8 +150,8 @@ fn next_entry<'t>(
     entry_by_words(alloc, schedule, words, number, text)
 }
 
-/// The transcript over the schedule's rows and levels whose trace, with the schedule's names, the text is, else the first
-/// line that no such trace has there. A last line without LF is at fault.
+/// The transcript over the schedule's rows and levels whose trace, with the schedule's names, the text is; otherwise
+/// the first line that no such trace has there. A last line without LF is at fault.
 pub fn read_trace(alloc: Global, schedule: &Schedule, text: &str) -> Result<Transcript, TraceFault>
     ensures { MatchResult result (λ told. IsTraceOf schedule.now told text.now) (TraceFails schedule.now text.now) }
 {

@@ -1,14 +1,14 @@
 //! Replies as texts.
 ghost use Rattle.std.specs.Prelude.{◌≡◌, ◌++◌, ◌∷◌, [], false, map, IsTrue, OnOk, is_err};
 ghost use Rattle.std.specs.Fmt.{decimal};
-ghost use Rattle.hek_asm.specs.Lines.{spaced, joined};
+ghost use Rattle.hek_asm.specs.Lines.{spaced, joined_words};
 ghost use Rattle.hek_asm.specs.Trace.{pair_word, writer_words, refusal_words, reply_words};
 
 use crate::putting::{put_item, put_number, put_text};
 use hek_rules::{Refusal, Reply, Sink, TxnId, WriteFault};
 
 fn refusal_text(refusal: Refusal) -> &'static str
-    ensures { result.now ≡ joined (refusal_words refusal) }
+    ensures { result.now ≡ joined_words (refusal_words refusal) }
 {
     match refusal {
         Refusal::UnknownTxn => "1 UnknownTxn",
@@ -20,10 +20,10 @@ fn refusal_text(refusal: Refusal) -> &'static str
     }
 }
 
-// Words, the last of which has its space behind it, and a number.
+// Words, the last with a space after it, and a number.
 fn put_counted<S: Sink>(words: &str, number: u64, sink: &mut S) -> Result<(), WriteFault>
     requires { S.failed sink.old ≡ false }
-    ensures ok { OnOk result (IsTrue (S.tells sink.old) → S.holds sink.new ≡ S.holds sink.old ++ (words.now ++ joined (decimal number ∷ []))) }
+    ensures ok { OnOk result (IsTrue (S.tells sink.old) → S.holds sink.new ≡ S.holds sink.old ++ (words.now ++ joined_words (decimal number ∷ []))) }
     ensures tells { IsTrue (S.tells sink.old) → IsTrue (S.tells sink.new) }
     ensures fails { S.failed sink.new ≡ is_err result }
 {
@@ -31,7 +31,7 @@ fn put_counted<S: Sink>(words: &str, number: u64, sink: &mut S) -> Result<(), Wr
     put_number(number, sink)
 }
 
-// A word that words stand before.
+// Words, and a name directly after them.
 fn put_named<S: Sink>(words: &str, name: &str, sink: &mut S) -> Result<(), WriteFault>
     requires { S.failed sink.old ≡ false }
     ensures ok { OnOk result (IsTrue (S.tells sink.old) → S.holds sink.new ≡ S.holds sink.old ++ (words.now ++ name.now)) }
@@ -89,10 +89,10 @@ fn put_writer<S: Sink>(writer: Option<TxnId>, sink: &mut S) -> Result<(), WriteF
     }
 }
 
-/// Writes a reply as a trace has it. After a fault nothing is known of how much went out.
+/// Writes a reply as a trace has it. After a fault it is unknown how many bytes went out.
 pub fn write_reply<S: Sink>(reply: &Reply, sink: &mut S) -> Result<(), WriteFault>
     requires { S.failed sink.old ≡ false }
-    ensures ok { OnOk result (IsTrue (S.tells sink.old) → S.holds sink.new ≡ S.holds sink.old ++ joined (reply_words reply.now)) }
+    ensures ok { OnOk result (IsTrue (S.tells sink.old) → S.holds sink.new ≡ S.holds sink.old ++ joined_words (reply_words reply.now)) }
     ensures tells { IsTrue (S.tells sink.old) → IsTrue (S.tells sink.new) }
     ensures fails { S.failed sink.new ≡ is_err result }
 {

@@ -74,7 +74,7 @@ fn put_operands<S: Sink>(
     }
 }
 
-/// Writes a step as it stands in a trace, with a space before each word.
+/// Writes a step as a trace has it, with a space before each word.
 pub fn write_step<S: Sink>(
     schedule: &Schedule,
     event: &Event,
@@ -121,7 +121,7 @@ pub(crate) fn write_rest<S: Sink>(reply: &Reply, sink: &mut S) -> Result<(), Wri
     put_text("\n", sink)
 }
 
-/// Writes the line of the event that has this number, with its reply. After a fault nothing is known of how much went
+/// Writes the line of the event that has this number, with its reply. After a fault it is unknown how many bytes went
 /// out.
 pub fn write_line<S: Sink>(
     schedule: &Schedule,
@@ -140,7 +140,7 @@ pub fn write_line<S: Sink>(
     write_rest(reply, sink)
 }
 
-/// Writes the trace of events with their replies, a line each. After a fault nothing is known of how much went out.
+/// Writes the trace of events with their replies, a line each. After a fault it is unknown how many bytes went out.
 pub fn write_trace<S: Sink>(
     schedule: &Schedule,
     events: &[Event],

@@ -4,14 +4,14 @@ use std::alloc::Global;
 use std::io;
 use std::time::Instant;
 
-/// A phase, and the nanoseconds that it took at best.
+/// A phase, and the fewest nanoseconds that it took.
 #[derive(Clone, Copy)]
 pub struct Lap {
     phase: &'static str,
     nanoseconds: u64,
 }
 
-/// How often each phase is done in a row, and the least time of each so far, in the order in which they were done first.
+/// How often each phase is done in a row, and the least time of each so far, in the order of their first turns.
 #[derive(Drop)]
 pub struct Laps {
     times: u64,
@@ -30,7 +30,7 @@ impl Laps {
         self.times
     }
 
-    /// The phase that began then is done.
+    /// Notes that the phase that began at `start` is done.
     pub fn done(
         &mut self,
         rt: &HostRuntime,

@@ -1,7 +1,7 @@
-//! Times each phase of a schedule's way: from its text to an image and back, to a trace, and from the trace to a verdict. The
-//! schedule is a small one of its own, or the text on standard input where the argument is `-`; a second argument says how
-//! often each phase is done in a row, so that it finds its memory warm, and the best time counts. Times go to standard error,
-//! so that standard output says the same at any speed.
+//! Times each phase of a schedule's way: from its text to an image and back, to a trace, and from the trace to a
+//! verdict. The schedule is a small one of the program, or the text on standard input if the argument is `-`. A second
+//! argument says how often each phase is done in a row, so that it finds its memory warm; the best time counts. Times
+//! go to standard error, so that standard output is the same at any speed.
 #![tactic(auto)]
 
 mod laps;
@@ -16,7 +16,7 @@ use std::io::Read;
 use std::process::ExitCode;
 use std::{env, str};
 
-/// What is timed where no text is given.
+/// The schedule that is timed if no text is given.
 const SMALL: &str =
     "buckets 2\nrow 10 100\nrow 11 110\ntxn a serializable\ntxn b repeatable\na begin\nb begin\na read 10\nb read 11\na update 10 101\nb scan 1\na finish\nb finish\na precommit\nb precommit\na release\nb release\na commit\nb commit\n";
 
@@ -44,7 +44,7 @@ fn text_of<R: Read + Drop>(alloc: Global, is_given: bool, mut input: R) -> Resul
     Ok(text)
 }
 
-/// All phases, each so often, and of each the best time.
+/// Does all phases, each this many times, and keeps the best time of each.
 fn best_of(rt: &HostRuntime, text: &str, times: u64) -> Result<Passed, Fault> {
     let mut laps = Laps::new(rt.alloc(), times);
     let passed = pass(rt, rt.alloc(), text, &mut laps)?;

@@ -1,5 +1,5 @@
-//! The phases, one after another, each done so many times in a row, in a function of its own. What a phase makes is kept until it has been
-//! made anew.
+//! The phases, one after another, each done several times in a row, in a separate function. What a phase makes is kept
+//! until it has been made again.
 ghost use Rattle.std.specs.Prelude.{◌≡◌, length, IfOk};
 ghost use Rattle.std.specs.List.{All, AllByRecursion};
 ghost use Rattle.hek_laws.specs.Runs.{IsPlaced};
@@ -7,11 +7,11 @@ ghost use Rattle.hek_asm.specs.Trace.{NamesDeclared};
 
 use crate::laps::Laps;
 use hek_asm::{assemble_text, canonical, read_trace, write_trace};
+use hek_compare::Fault;
 use hek_image::{load_image, write_image};
 use hek_machine::Machine;
 use hek_rules::{Ending, FromWrite, MemorySource, NoMemory, Reply, Schedule, Transcript};
 use hek_serial::check;
-use hek_compare::Fault;
 use std::alloc::Global;
 use std::str;
 use std::time::Instant;
@@ -23,7 +23,7 @@ pub struct Passed {
     pub rows: usize,
 }
 
-/// All phases, over a text.
+/// Does all phases, over a text.
 pub fn pass(rt: &HostRuntime, alloc: Global, text: &str, laps: &mut Laps) -> Result<Passed, Fault> {
     let schedule = assemble(rt, alloc, text, laps)?;
     pass_schedule(rt, alloc, &schedule, laps)
@@ -54,7 +54,7 @@ fn assemble_once(
     Ok(schedule)
 }
 
-/// All phases but the first.
+/// Does all phases but the first.
 fn pass_schedule(
     rt: &HostRuntime,
     alloc: Global,
@@ -101,7 +101,7 @@ fn write_text_once(
     Ok(text)
 }
 
-/// Bytes for the longest image of so many rows, transactions and steps: docs/FORMATS.md has the sizes.
+/// How many bytes the longest image of this many rows, transactions and steps has: docs/FORMATS.md gives the sizes.
 fn image_room(schedule: &Schedule) -> usize {
     let rows = schedule.row_count().saturating_mul(16);
     let txns = schedule.txn_count().saturating_mul(34);
@@ -171,7 +171,7 @@ fn replies_of(
     replies_once(rt, alloc, schedule, laps)
 }
 
-/// All turns but the last one, and what the last of them made.
+/// Does all turns but the last one, and answers what the last of them made.
 fn replies_before(
     rt: &HostRuntime,
     alloc: Global,
@@ -185,7 +185,7 @@ fn replies_before(
     Ok(kept)
 }
 
-/// The machine is loaded, and does all steps.
+/// Loads the machine, and does all steps.
 #[tactic(auto, using(hek_machine::proofs::PlacedSteps::steps_placed))]
 fn replies_once(
     rt: &HostRuntime,
@@ -195,8 +195,8 @@ fn replies_once(
 ) -> Result<(Vec<Reply>, usize), Fault>
     ensures { IfOk result (λ told. length told.0.items ≡ length schedule.now.steps) }
 {
-    // There is a bucket.
-    let _ = schedule.buckets();
+    // `known` gives that the schedule has a bucket.
+    schedule.known();
     let mut machine = loaded(rt, alloc, schedule, laps)?;
     let replies = run(rt, alloc, schedule, &mut machine, laps)?;
     let rows = machine.rows()?.items().len();
@@ -269,7 +269,7 @@ fn trace_of(
     Ok(trace)
 }
 
-/// Bytes for a trace whose lines have 64 of them, as the plain machine asks for. A longer one grows.
+/// Room for a trace with 64 bytes in each line. A longer trace grows.
 fn trace_room(schedule: &Schedule) -> usize {
     schedule.steps().len().saturating_mul(64)
 }
@@ -284,8 +284,8 @@ fn trace_once(
 ) -> Result<Vec<u8>, Fault>
     requires { length replies.now ≡ length schedule.now.steps }
 {
-    // Each step is one of this schedule.
-    let _ = schedule.buckets();
+    // `known` gives that each step of the schedule is well formed.
+    schedule.known();
     let start = Instant::now(rt)?;
     let mut sink = FromWrite::new(Vec::with_capacity(alloc, trace_room(schedule))?);
     write_trace(schedule, schedule.steps(), replies, &mut sink)?;
@@ -293,7 +293,7 @@ fn trace_once(
     Ok(sink.into_inner())
 }
 
-/// A trace is read, and its transcript judged.
+/// Reads a trace, and judges its transcript.
 fn judge(
     rt: &HostRuntime,
     alloc: Global,

@@ -1,7 +1,7 @@
-//! One thread, beside a raw word.
+//! One thread on live words, compared with one on a raw word.
 ghost use Rattle.std.specs.Prelude.{◌≡◌, ◌<◌, ◌≤◌, false};
 ghost use Rattle.hek_live.specs.Tokens.{reads_at};
-ghost use Rattle.hek_live.specs.Ends.{words_of, table_of, seat_table, view_of};
+ghost use Rattle.hek_live.specs.Ends.{word_count_of, table_id_of, seat_table, view_of};
 
 use crate::rate::{least, report};
 use hek_live::{DropRead, LiveWords, Seat, TryRead};
@@ -14,10 +14,10 @@ use std::time::{Duration, Instant};
 /// How often both are measured, in turn. The best times count, since the system takes time away now and then.
 const ROUNDS: u32 = 5;
 
-/// How many of so many turns took and gave up the read token of word 0.
+/// How many of `turns` turns took and gave up the read token of word 0.
 fn turns_of_calls(words: &LiveWords, seat: &mut Seat, turns: u64) -> u64
-    requires own { seat_table seat.old ≡ table_of words.now }
-    requires word { 0 < words_of words.now }
+    requires own { seat_table seat.old ≡ table_id_of words.now }
+    requires word { 0 < word_count_of words.now }
     requires free { reads_at 0 (view_of seat.old) ≡ false }
     ensures { result ≤ turns }
 {
@@ -34,7 +34,7 @@ fn turns_of_calls(words: &LiveWords, seat: &mut Seat, turns: u64) -> u64
     done
 }
 
-/// How many of so many turns changed the word and changed it back, each time by a load and an exchange.
+/// How many of `turns` turns changed the word and changed it back, each time by a load and an exchange.
 fn turns_of_raw(word: &AtomicU64, turns: u64) -> u64
     ensures { result ≤ turns }
 {

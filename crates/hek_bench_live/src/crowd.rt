@@ -1,7 +1,7 @@
-//! More threads, on one word and on words of their own.
+//! Several threads, on one word and on a word for each.
 ghost use Rattle.std.specs.Prelude.{◌≡◌, ◌<◌, ◌≤◌, true, false};
 ghost use Rattle.hek_live.specs.Tokens.{newcomer, reads_at};
-ghost use Rattle.hek_live.specs.Ends.{words_of, table_of, seat_table, view_of};
+ghost use Rattle.hek_live.specs.Ends.{word_count_of, table_id_of, seat_table, view_of};
 
 use hek_live::{DropRead, LiveWords, Seat, TryRead, tokens_follow_replies};
 use std::alloc::{AllocError, Global};
@@ -10,10 +10,10 @@ use std::rt::Clock;
 use std::thread::{Threads, map_vec};
 use std::time::{Duration, Instant};
 
-/// Room for 8 words that are so far apart.
+/// Room for 8 words that are `APART` places apart.
 const WORDS: usize = 128;
 
-/// The places between the words of two threads, 128 bytes, so that no two share a line of a cache.
+/// How far the word of one thread is from that of the next: 128 bytes, so that no two words share a cache line.
 pub const APART: usize = 16;
 
 /// A seat, and the word whose read token it takes.
@@ -22,23 +22,23 @@ struct Reader<'a> {
     words: &'a LiveWords,
     seat: Seat,
     word: usize,
-    ghost own: { seat_table seat ≡ table_of words.now },
-    ghost exists: { word < words_of words.now },
+    ghost own: { seat_table seat ≡ table_id_of words.now },
+    ghost exists: { word < word_count_of words.now },
     ghost free: { reads_at word (view_of seat) ≡ false },
 }
 
 fn reading<'a>(words: &'a LiveWords, seat: Seat, word: usize) -> Reader<'a>
-    requires own { seat_table seat ≡ table_of words.now }
+    requires own { seat_table seat ≡ table_id_of words.now }
     requires new { view_of seat ≡ newcomer }
-    requires word { word < words_of words.now }
+    requires word { word < word_count_of words.now }
 {
     Reader { words, seat, word }
 }
 
 /// Tries to take the read token, and answers whether it is held.
 fn takes(words: &LiveWords, seat: &mut Seat, word: usize) -> bool
-    requires own { seat_table seat.old ≡ table_of words.now }
-    requires word { word < words_of words.now }
+    requires own { seat_table seat.old ≡ table_id_of words.now }
+    requires word { word < word_count_of words.now }
     requires free { reads_at word (view_of seat.old) ≡ false }
     ensures own { seat_table seat.new ≡ seat_table seat.old }
     ensures held { reads_at word (view_of seat.new) ≡ result }
@@ -52,10 +52,10 @@ fn takes(words: &LiveWords, seat: &mut Seat, word: usize) -> bool
     }
 }
 
-/// Tries to give the read token up, and answers whether it is held still.
+/// Tries to give the read token up, and answers whether it is still held.
 fn keeps(words: &LiveWords, seat: &mut Seat, word: usize) -> bool
-    requires own { seat_table seat.old ≡ table_of words.now }
-    requires word { word < words_of words.now }
+    requires own { seat_table seat.old ≡ table_id_of words.now }
+    requires word { word < word_count_of words.now }
     requires held { reads_at word (view_of seat.old) ≡ true }
     ensures own { seat_table seat.new ≡ seat_table seat.old }
     ensures held { reads_at word (view_of seat.new) ≡ result }
@@ -68,11 +68,11 @@ fn keeps(words: &LiveWords, seat: &mut Seat, word: usize) -> bool
     }
 }
 
-/// How many of so many turns took and gave up the read token, each tried until it succeeds. A try fails only where another
+/// How many of `turns` turns took and gave up the read token, each tried until it succeeds. A try fails only if another
 /// thread has changed the word, so 16 tries for each turn are enough for 8 threads.
 fn turns_among_others(words: &LiveWords, seat: &mut Seat, word: usize, turns: u64) -> u64
-    requires own { seat_table seat.old ≡ table_of words.now }
-    requires word { word < words_of words.now }
+    requires own { seat_table seat.old ≡ table_id_of words.now }
+    requires word { word < word_count_of words.now }
     requires free { reads_at word (view_of seat.old) ≡ false }
     requires turns { turns ≤ 1000000000 }
 {
@@ -105,7 +105,7 @@ fn turns_of_reader(reader: Reader<'_>, turns: u64) -> u64
     turns_among_others(words, &mut seat, word, turns)
 }
 
-/// The readers of so many words, each `apart` from the one before.
+/// A reader for each thread, with words that are `apart` places apart.
 fn readers<'a>(
     alloc: Global,
     words: &'a LiveWords,
@@ -113,9 +113,9 @@ fn readers<'a>(
     threads: usize,
     apart: usize,
 ) -> Result<Vec<Reader<'a>>, AllocError>
-    requires own { seat_table maker.old ≡ table_of words.now }
+    requires own { seat_table maker.old ≡ table_id_of words.now }
     requires makes { (view_of maker.old).makes ≡ true }
-    requires words { words_of words.now ≡ 128 }
+    requires words { word_count_of words.now ≡ 128 }
     requires few { (threads ≤ 8) × (apart ≤ 16) }
 {
     let mut all = Vec::new(alloc);
@@ -126,7 +126,7 @@ fn readers<'a>(
     Ok(all)
 }
 
-/// How many turns so many threads made on words that lie `apart`, or on one word where that is 0; and in what time.
+/// How many turns the threads made, and in what time, on words `apart` places apart, or on one word if that is 0.
 pub fn measure<R: Threads + Sync + Clock>(
     rt: &R,
     alloc: Global,

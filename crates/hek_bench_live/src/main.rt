@@ -1,6 +1,6 @@
-//! Prints how fast read tokens are taken and given up: by one thread, beside the same steps on raw words, and by more
-//! threads, on one word and on words of their own. Its argument is how often each thread does so. Times go to standard
-//! error, so that standard output says the same at any speed.
+//! Prints how fast read tokens are taken and given up: by one thread, compared with the same steps on raw words, and by
+//! several threads, on one word and on a word for each. Its argument is how often each thread does so. Times go to
+//! standard error, so that standard output is the same at any speed.
 #![tactic(auto)]
 
 ghost use Rattle.std.specs.Prelude.{◌≤◌, IfOk};
@@ -13,13 +13,13 @@ use rate::report;
 use std::env::Env;
 use std::{env, io};
 
-/// Enough for the gate.
+/// The turns of a thread if no argument is given: enough for the gate.
 const TURNS: u64 = 1_000;
 
-/// No thread makes more turns than so many.
+/// The most turns of a thread.
 const MOST_TURNS: u64 = 1_000_000_000;
 
-// The argument, if there is one.
+// The turns that the argument gives, or `TURNS`.
 fn given_turns<R: Env + Alloc>(rt: &R) -> io::Result<u64>
     ensures { IfOk result (λ turns. turns ≤ 1000000000) }
 {

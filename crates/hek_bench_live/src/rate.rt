@@ -7,7 +7,7 @@ pub fn least(one: Duration, other: Duration) -> Duration {
     if one < other { one } else { other }
 }
 
-/// So many turns in that time, by the second.
+/// How many turns a second are made, if this many are made in this time.
 fn per_second(turns: u64, time: Duration) -> u128 {
     let nanoseconds = time.as_nanos();
     if nanoseconds == 0 {

@@ -10,7 +10,7 @@ use Rattle.hek_txn.specs.TxnLemmas.{among_flipped, entry_at_set, length_set_at}
 use Rattle.hek_txn.proofs.EntryLemmas.{set_at-same, set_at-twice, entry_at-other, items-entry, items-set, among-appended}
 use Rattle.hek_buckets.specs.Waited.{Waiting, waiting_of, waiting_for, waiting_for_all, with_waiting, imposed_waits, IsReady, StaysReady}
 
--- t does not come to wait for h
+-- t is the holder h or waits for it already: nothing changes
 pub waits_already : (ts : TxnTable) (t h : ℕ) → (h == t || is_among (waiting_list_of ts h).items t) ≡ true → waiting_of ts t ≡ waiting_for t (waiting_of ts t) h
 waits_already ts t h e = sym (cond-true _ _ _ (ap (λ xs. h == t || is_among xs t) (items-entry ts.waiting_lists h) ∙ e))
 
@@ -20,7 +20,7 @@ frame-same ts t = ap (λ (ns : List ℕ). record ts { waits = ns }) (sym (set_at
 pub ready-same : (ts : TxnTable) (t : ℕ) → StaysReady ts ts t
 ready-same ts t = record { declared = λ h d. d; ready = λ h d r. r; even = λ e. e }
 
--- what a new wait of t for h leaves
+-- the tables before and after a new wait of t for h
 pub record Imposed (old new : TxnTable) (h t : ℕ) : Type 0 where
   pub even : IsEven old
   pub txn : Declared old t
@@ -91,18 +91,18 @@ waiting_for-waits t x h =
     cond_both (h == t || is_among (entry_at [] x.lists h) t) x (record { lists = set_at x.lists h (entry_at [] x.lists h ++ t ∷ []); waits = x.waits + 1 }) (λ (y : Waiting). y.waits ≤ x.waits + 1)
     (λ _. omega arith) (λ _. omega arith)
 
--- what t waits for grows by one at most
+-- the WaitForCounter of t grows by one at most
 pub waits-more : (old new : TxnTable) (t h : ℕ) → waiting_of new t ≡ waiting_for t (waiting_of old t) h → waits_of new t ≤ waits_of old t + 1
 waits-more old new t h e = subst (λ (n : ℕ). n ≤ waits_of old t + 1) (sym (ap (λ (x : Waiting). x.waits) e)) (waiting_for-waits t (waiting_of old t) h)
 
--- a frame of a frame
+-- two changes of waiting lists and of t's counter are one
 pub frame-frame : (first old new : TxnTable) (t : ℕ) → old ≡ with_waiting first t old → new ≡ with_waiting old t new → new ≡ with_waiting first t new
 frame-frame first old new t e f =
     f
     ∙ ap (λ (x : TxnTable). with_waiting x t new) e
     ∙ ap (λ (ns : List ℕ). record first { waits = ns; waiting_lists = new.waiting_lists }) (set_at-twice first.waits t (waits_of old t) (waits_of new t))
 
--- one more holder, where those that are left are next
+-- t waits for one more holder, if the holders from it on are left
 pub waiting-more : (hs : List ℕ) (i h t : ℕ) (x y z : Waiting) → waiting_for_all t x (drop i hs) ≡ z → i < length hs → h ≡ get_or hs i h → y ≡ waiting_for t x h → waiting_for_all t y (drop (i + 1) hs) ≡ z
 waiting-more hs i h t x y z so_far below at next =
     ap (λ v. waiting_for_all t v (drop (i + 1) hs)) (next ∙ ap (waiting_for t x) at) ∙ sym (ap (waiting_for_all t x) (drop_more hs i h below)) ∙ so_far

@@ -1,4 +1,4 @@
--- Who locks each bucket: one list for each, in order of entry.
+-- LockLists: for each bucket the transactions that lock it, in order of entry.
 use Rattle.std.specs.Prelude.{ℕ, List, slice_index_or, slice_set}
 use Rattle.hek_txn.specs.Entries.{Entries, no_entries}
 

@@ -1,4 +1,4 @@
-//! Who locks each bucket.
+//! The locks of each bucket.
 ghost use Rattle.std.specs.Prelude.{◌≡◌, ◌+◌, ◌<◌, ◌≤◌, ◌==◌, nat_eq, length, IfOk, OnOk};
 ghost use Rattle.std.specs.Set.{remove_key};
 ghost use Rattle.hek_txn.specs.Entries.{joined, AreEmpty, AreCopies};
@@ -25,7 +25,7 @@ impl Model for Buckets {
 }
 
 impl Buckets {
-    /// The buckets of a schedule, which nobody locks.
+    /// The buckets of a schedule, without holders.
     pub fn load(alloc: Global, schedule: &Schedule) -> Result<Buckets, NoMemory>
         ensures { IfOk result (λ buckets. AreEmpty schedule.now.buckets buckets) }
     {
@@ -48,7 +48,7 @@ impl Buckets {
         self.holders.is_empty()
     }
 
-    /// Makes room for one more holder of a bucket.
+    /// Makes room for another holder of a bucket.
     pub fn reserve(&mut self, bucket: u64) -> Result<(), NoMemory>
         requires { bucket < length self.old }
         ensures buckets { self.new ≡ with_holders self.old bucket (holders_of self.new bucket) }
@@ -60,27 +60,27 @@ impl Buckets {
         list.reserve(1)
     }
 
-    /// t locks a bucket, unless it does so already.
-    pub fn lock(&mut self, bucket: u64, t: TxnId)
+    /// `txn` locks a bucket, unless it locks the bucket already.
+    pub fn lock(&mut self, bucket: u64, txn: TxnId)
         requires bucket { bucket < length self.old }
         requires room { 0 < (holders_of self.old bucket).room }
         ensures buckets { self.new ≡ with_holders self.old bucket (holders_of self.new bucket) }
-        ensures items { (holders_of self.new bucket).items ≡ joined nat_eq (holders_of self.old bucket).items t }
+        ensures items { (holders_of self.new bucket).items ≡ joined nat_eq (holders_of self.old bucket).items txn }
         ensures room { (holders_of self.old bucket).room ≤ (holders_of self.new bucket).room + 1 }
     {
         let list = &mut self.holders[bucket as usize];
-        list.insert(t);
+        list.insert(txn);
     }
 
-    /// t locks a bucket no more.
-    pub fn unlock(&mut self, bucket: u64, t: TxnId)
+    /// `txn` gives up its lock of a bucket.
+    pub fn unlock(&mut self, bucket: u64, txn: TxnId)
         requires { bucket < length self.old }
         ensures buckets { self.new ≡ with_holders self.old bucket (holders_of self.new bucket) }
-        ensures items { (holders_of self.new bucket).items ≡ remove_key (nat_eq t) (holders_of self.old bucket).items }
+        ensures items { (holders_of self.new bucket).items ≡ remove_key (nat_eq txn) (holders_of self.old bucket).items }
         ensures room { (holders_of self.old bucket).room ≤ (holders_of self.new bucket).room }
     {
         let list = &mut self.holders[bucket as usize];
-        list.remove(t);
+        list.remove(txn);
     }
 
     /// LockList: the holders of a bucket, in order of entry.
@@ -91,7 +91,7 @@ impl Buckets {
         self.holders[bucket as usize].as_slice()
     }
 
-    /// LockCount: how many hold a bucket.
+    /// LockCount: how many transactions lock a bucket.
     pub fn count(&self, bucket: u64) -> u64
         requires { bucket < length self.now }
         ensures { result ≡ length (holders_of self.now bucket).items }
@@ -99,7 +99,7 @@ impl Buckets {
         self.holders[bucket as usize].as_slice().len() as u64
     }
 
-    /// Equal buckets, with room of their own.
+    /// Equal buckets, with separate room.
     pub fn copy(&self) -> Result<Buckets, NoMemory>
         ensures { IfOk result (AreCopies self.now) }
     {

@@ -1,4 +1,4 @@
-//! Bucket locks, and the waits that they bring.
+//! Bucket locks, and the waits that they cause.
 #![tactic(auto)]
 
 mod buckets;

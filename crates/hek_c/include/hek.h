@@ -1,8 +1,8 @@
 /* The two words of a version of MV/L, as hek_word reads and changes them.
  *
- * A function takes words as numbers and keeps nothing. None asks anything of its caller: of a number that is no word, or a
- * change that its lock doesn't allow, it says so. Changes aren't atomic: an engine loads a word, computes the new one, and
- * exchanges the two.
+ * A function takes words as numbers and keeps nothing. Its caller owes nothing: to a number that is not a word, and to a change
+ * that the lock does not allow, it answers 0 or a status. Changes are not atomic: an engine loads a word, computes the new
+ * one, and exchanges the two.
  */
 #ifndef HEK_H
 #define HEK_H
@@ -24,7 +24,7 @@ uint64_t hek_begin_time(uint64_t number); /* HEK_NO_TIME: none */
 uint64_t hek_begin_txn(uint64_t number);  /* 0: none */
 
 /* End words: a time, 0 to 2^63 - 1, or a record lock. The time 2^63 - 1 is infinity, the word of the latest version while
- * nobody holds it. Of a number that is no End word there is no time, reader, writer or flag. */
+ * no transaction holds it. A number that is not an End word has no time, reader, writer or flag. */
 
 bool hek_is_end(uint64_t number);
 uint64_t hek_end_time(uint64_t number);  /* HEK_NO_TIME: none */

@@ -1,4 +1,4 @@
-//! Begin words.
+//! What Begin words hold.
 ghost use Rattle.std.specs.Prelude.{◌≡◌, true, false};
 ghost use Rattle.hek_rules.specs.Words.{begin_time, begin_txn};
 ghost use Rattle.hek_rules.specs.declared.word.BeginRecord.{BeginRecord};
@@ -16,7 +16,7 @@ pub extern "C" fn hek_is_begin(number: u64) -> bool
     BeginWord::read(number).is_some()
 }
 
-/// The time of a Begin word, 0 to 2^63 - 1; 2^64 - 1 where it names a transaction, or the number is no Begin word.
+/// The time of a Begin word, 0 to 2^63 - 1; 2^64 - 1 if it names a transaction, or the number is no Begin word.
 #[unsafe(no_mangle)]
 pub extern "C" fn hek_begin_time(number: u64) -> u64
     ensures word { (r : BeginRecord) → IsBeginOf r number → result ≡ number_or 18446744073709551615 (begin_time r) }
@@ -31,7 +31,7 @@ pub extern "C" fn hek_begin_time(number: u64) -> u64
     }
 }
 
-/// The transaction that a Begin word names; 0 where it names none, or the number is no Begin word.
+/// The transaction that a Begin word names; 0 if it names none, or the number is no Begin word.
 #[unsafe(no_mangle)]
 pub extern "C" fn hek_begin_txn(number: u64) -> u64
     ensures word { (r : BeginRecord) → IsBeginOf r number → result ≡ number_or 0 (begin_txn r) }

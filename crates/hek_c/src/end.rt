@@ -1,4 +1,4 @@
-//! What End words say.
+//! What End words hold.
 ghost use Rattle.std.specs.Prelude.{◌≡◌, true, false};
 ghost use Rattle.hek_rules.specs.Words.{end_time, readers_of, writer_of, no_more_of};
 ghost use Rattle.hek_rules.specs.declared.word.EndRecord.{EndRecord};
@@ -16,7 +16,7 @@ pub extern "C" fn hek_is_end(number: u64) -> bool
     EndWord::read(number).is_some()
 }
 
-/// The time of an End word, 0 to 2^63 - 1; 2^64 - 1 where it is a lock, or the number is no End word.
+/// The time of an End word, 0 to 2^63 - 1; 2^64 - 1 if it is a lock, or the number is no End word.
 #[unsafe(no_mangle)]
 pub extern "C" fn hek_end_time(number: u64) -> u64
     ensures word { (r : EndRecord) → IsEndOf r number → result ≡ number_or 18446744073709551615 (end_time r) }
@@ -31,7 +31,7 @@ pub extern "C" fn hek_end_time(number: u64) -> u64
     }
 }
 
-/// ReadLockCount, 0 to 255, which is 0 where the word is a time; 0 too where the number is no End word.
+/// ReadLockCount of an End word, 0 to 255; 0 if the word is a time, or the number is no End word.
 #[unsafe(no_mangle)]
 pub extern "C" fn hek_readers(number: u64) -> u64
     ensures word { (r : EndRecord) → IsEndOf r number → result ≡ readers_of r }
@@ -43,7 +43,7 @@ pub extern "C" fn hek_readers(number: u64) -> u64
     u64::from(word.readers())
 }
 
-/// WriteLock: the writer; 0 where there is none, or the number is no End word.
+/// WriteLock of an End word, the writer's ID; 0 if there is none, or the number is no End word.
 #[unsafe(no_mangle)]
 pub extern "C" fn hek_writer(number: u64) -> u64
     ensures word { (r : EndRecord) → IsEndOf r number → result ≡ number_or 0 (writer_of r) }
@@ -58,7 +58,7 @@ pub extern "C" fn hek_writer(number: u64) -> u64
     }
 }
 
-/// NoMoreReadLocks, which is clear where the word is a time; clear too where the number is no End word.
+/// NoMoreReadLocks of an End word; clear if the word is a time, or the number is no End word.
 #[unsafe(no_mangle)]
 pub extern "C" fn hek_no_more_reads(number: u64) -> bool
     ensures word { (r : EndRecord) → IsEndOf r number → result ≡ no_more_of r }

@@ -1,6 +1,6 @@
-//! The two words of a version for engines in C: functions over numbers of 64 bits, each of which is one call of hek_word.
-//! None asks anything of its caller: of a number that is no word, or a change that its lock doesn't allow, it says so. The
-//! header is include/hek.h.
+//! The two words of a version for engines in C: functions over numbers of 64 bits, each of which is one call of
+//! hek_word. A caller may pass any number: a function reports a number that is no word, and a change that its lock
+//! doesn't allow. The header is include/hek.h.
 #![tactic(auto)]
 
 mod begin;
@@ -8,5 +8,5 @@ mod end;
 mod locks;
 mod release;
 
-/// Stands for no time.
+/// The answer if a word has no time.
 const NO_TIME: u64 = u64::MAX;

@@ -1,5 +1,5 @@
-//! The changes of a record lock (section 4 of the paper: record locks). Each answers the new word, which is never 0, and 0
-//! where the change isn't allowed.
+//! The changes of a record lock (section 4 of the paper: record locks). Each answers the new word, which is never 0, or
+//! 0 if the change isn't allowed.
 ghost use Rattle.std.specs.Prelude.{◌≡◌, ◌<◌, IsSome};
 ghost use Rattle.hek_rules.specs.Words.{IsTxn, infinity, end_number, readers_of, writer_of, CanAdd, CanTakeWriter, with_reader, without_reader, with_writer, without_writer};
 ghost use Rattle.hek_rules.specs.declared.word.EndRecord.{EndRecord};
@@ -19,7 +19,7 @@ pub extern "C" fn hek_infinity() -> u64
     EndWord::infinity().bits()
 }
 
-/// The word with one reader more; 0 where the number is no End word, is a time before infinity, has NoMoreReadLocks, or
+/// The word with one more reader; 0 if the number is no End word, is a time before infinity, has NoMoreReadLocks, or
 /// has 255 readers.
 #[unsafe(no_mangle)]
 pub extern "C" fn hek_add_reader(number: u64) -> u64
@@ -35,8 +35,8 @@ pub extern "C" fn hek_add_reader(number: u64) -> u64
     word.add_reader().bits()
 }
 
-/// The word with one reader less; 0 where the number is no End word, or has no reader. Where the last reader goes, the
-/// version is free, or its writer, which waits for no reader of it any more, stands alone under NoMoreReadLocks.
+/// The word with one reader less; 0 if the number is no End word, or has no reader. When the last reader goes, the
+/// version is free, or the word has its writer alone, which waits for no reader of it any more, with NoMoreReadLocks.
 #[unsafe(no_mangle)]
 pub extern "C" fn hek_drop_reader(number: u64) -> u64
     ensures word { (r : EndRecord) → IsEndOf r number → 0 < readers_of r → result ≡ end_number (without_reader r) }
@@ -51,8 +51,8 @@ pub extern "C" fn hek_drop_reader(number: u64) -> u64
     word.drop_reader().0.bits()
 }
 
-/// The word with this transaction as its writer; 0 where the number is no End word, is a time before infinity, or has a
-/// writer, and where `txn` isn't 1 to 2^54 - 2.
+/// The word with this transaction as its writer; 0 if the number is no End word, is a time before infinity, or has a
+/// writer, or if `txn` isn't 1 to 2^54 - 2.
 #[unsafe(no_mangle)]
 pub extern "C" fn hek_take_writer(number: u64, txn: u64) -> u64
     ensures word { (r : EndRecord) → IsEndOf r number → CanTakeWriter r → IsTxn txn → result ≡ end_number (with_writer r txn) }
@@ -67,7 +67,7 @@ pub extern "C" fn hek_take_writer(number: u64, txn: u64) -> u64
     word.take_writer(TxnId::new(txn)).bits()
 }
 
-/// The word without its writer and NoMoreReadLocks: infinity, where it has no reader either. 0 where the number is no End
+/// The word without its writer and NoMoreReadLocks; infinity if it has no reader either. 0 if the number is no End
 /// word, or has no writer.
 #[unsafe(no_mangle)]
 pub extern "C" fn hek_clear_writer(number: u64) -> u64

@@ -14,7 +14,7 @@ const BAD_WAITS: u32 = 2;
 
 const NO_WORD: u32 = 3;
 
-/// What a release answers: the new word and the new number of waits under status 0, else those that it was given.
+/// What a release answers: the new word and the new number of waits with status 0, otherwise those that it was given.
 #[repr(C)]
 #[derive(Clone, Copy)]
 pub struct HekRelease {
@@ -24,8 +24,8 @@ pub struct HekRelease {
 }
 
 /// Gives up one read lock of an End word whose writer waits for `waits` others. Status 0: released; 1: the word has no
-/// reader; 2: the last reader goes under a writer that is said to wait for nobody; 3: the number is no End word.
-/// (Section 4 of the paper: releasing read locks.)
+/// reader; 2: the last reader would go, and `waits` is 0 for the writer; 3: the number is no End word. (Section 4 of
+/// the paper: releasing read locks.)
 #[unsafe(no_mangle)]
 pub extern "C" fn hek_release(number: u64, waits: u64) -> HekRelease
     ensures released { (r : EndRecord) → IsEndOf r number → 0 < readers_of r → (IsLastUnderWriter r → 0 < waits) → result ≡ record { word = end_number (without_reader r); waits = waits_left r waits; status = 0 } }

@@ -3,7 +3,7 @@ use clap::{Arg, ArgAction, ArgMatches, Command, Error};
 use std::alloc::{AllocError, Global};
 use std::convert::AsStr;
 
-/// What a command is called, what it does, an example of it, and its arguments.
+/// The name of a command, what it does, an example of it, and its arguments.
 struct CommandText {
     name: &'static str,
     about: &'static str,
@@ -11,7 +11,7 @@ struct CommandText {
     arguments: &'static [ArgumentText],
 }
 
-/// What an argument is called, what it says, and how it is given.
+/// The name of an argument, what it means, and how it is given.
 struct ArgumentText {
     name: &'static str,
     help: &'static str,
@@ -20,19 +20,19 @@ struct ArgumentText {
 
 #[derive(Clone, Copy)]
 enum Form {
-    /// A word in its place.
+    /// A word at its place.
     Word,
-    /// A word in its place, or none.
+    /// A word at its place, or none.
     MaybeWord,
-    /// Words in their place, one at least.
+    /// Words at their place, at least one.
     Words,
     /// `--name`.
     Flag,
     /// `--name N`.
     Number,
-    /// `--name VALUE`, with the word that stands for the value.
+    /// `--name VALUE`, with the word that the help prints for the value.
     Value(&'static str),
-    /// `--name N`, which has to be there.
+    /// `--name N`, which is required.
     NeededNumber,
 }
 
@@ -50,14 +50,17 @@ const TEXT: ArgumentText = ArgumentText {
 
 const LEVEL: ArgumentText = ArgumentText {
     name: "level",
-    help: "takes all transactions as serializable, repeatable or snapshot",
+    help: "judges or runs all transactions as serializable, repeatable or snapshot",
     form: Form::Value("L"),
 };
 
 const RELEASE: CommandText = CommandText {
     name: "release",
     about: "Gives up one read lock of an End word",
-    example: "Example:\n  hek release 8040000000000002 1\nThe word is write-locked by transaction 2 and has one reader, for which 2 waits. It prints\n  C000000000000002 0",
+    example: r"Example:
+  hek release 8040000000000002 1
+The word is write-locked by transaction 2 and has one reader, for which 2 waits. It prints
+  C000000000000002 0",
     arguments: &[
         ArgumentText {
             name: "WORD",
@@ -66,7 +69,7 @@ const RELEASE: CommandText = CommandText {
         },
         ArgumentText {
             name: "WAITS",
-            help: "how many others the word's writer waits for",
+            help: "how many things the word's writer waits for",
             form: Form::Word,
         },
     ],
@@ -74,8 +77,12 @@ const RELEASE: CommandText = CommandText {
 
 const WORD: CommandText = CommandText {
     name: "word",
-    about: "Says what words are, as Begin and as End words",
-    example: "Example:\n  hek word 8040000000000002 0000000000000007\nprints\n  end lock readers 1 writer 2 no-more-reads clear\n  begin time 7; end time 7",
+    about: "Explains lock words, as Begin and as End words",
+    example: r"Example:
+  hek word 8040000000000002 0000000000000007
+prints
+  end lock readers 1 writer 2 no-more-reads clear
+  begin time 7; end time 7",
     arguments: &[ArgumentText {
         name: "WORD",
         help: "a word, as 16 hexadecimal digits, or - for standard input, one word a line",
@@ -86,7 +93,9 @@ const WORD: CommandText = CommandText {
 const ASM: CommandText = CommandText {
     name: "asm",
     about: "Makes the image of a schedule text",
-    example: "Example:\n  hek asm first.hek first.img\nWhere first.hek has the line `buckets 1`, first.img gets the 22 bytes of its image.",
+    example: r"Example:
+  hek asm first.hek first.img
+Where first.hek has the line `buckets 1`, first.img gets the 22 bytes of its image.",
     arguments: &[
         ArgumentText {
             name: "FILE",
@@ -104,20 +113,34 @@ const ASM: CommandText = CommandText {
 const DIS: CommandText = CommandText {
     name: "dis",
     about: "Prints the canonical text of a schedule",
-    example: "Example:\n  hek dis first.img\nWhere first.img is the image of a schedule with one bucket and nothing else, it prints\n  buckets 1",
+    example: r"Example:
+  hek dis first.img
+Where first.img is the image of a schedule with one bucket and nothing else, it prints
+  buckets 1",
     arguments: &[FILE, TEXT],
 };
 
 const RUN: CommandText = CommandText {
     name: "run",
     about: "Runs the steps of a schedule, and prints each with its reply",
-    example: "Example:\n  hek run --text first.hek\nWhere first.hek has the lines\n  buckets 1\n  row 10 100\n  txn a serializable\n  a begin\n  a read 10\nit prints\n  1 a begin -> began 1\n  2 a read 10 -> found 100\nWith --state it goes on with the clock, the versions, the transactions and the locked buckets. With --why the reasons of each reply stand under its line, with --changes what it changed, each behind two spaces.",
+    example: r"Example:
+  hek run --text first.hek
+Where first.hek has the lines
+  buckets 1
+  row 10 100
+  txn a serializable
+  a begin
+  a read 10
+it prints
+  1 a begin -> began 1
+  2 a read 10 -> found 100
+--state also prints the clock, the versions, the transactions and the locked buckets. --why prints the reasons of each reply under its line, --changes what the step changed, each after two spaces.",
     arguments: &[
         FILE,
         TEXT,
         ArgumentText {
             name: "state",
-            help: "prints the state of the machine behind the trace",
+            help: "prints the state of the machine after the trace",
             form: Form::Flag,
         },
         ArgumentText {
@@ -144,15 +167,32 @@ const CHANGES: ArgumentText = ArgumentText {
 
 const DRIVE: CommandText = CommandText {
     name: "drive",
-    about: "Does the events that are typed, one a line, and answers each at once",
-    example: "Events are lines as the steps of a schedule, as `a read 10`; the rows and transactions are those of FILE, whose own steps play no part. A line that is no event is answered by `? line 2: 2 BadWord`, and changes nothing.\n\nExample:\n  hek drive --text first.hek\nWhere first.hek has the lines\n  buckets 1\n  row 10 100\n  txn a serializable\nthe lines\n  a begin\n  a read 10\nare answered with\n  1 a begin -> began 1\n  2 a read 10 -> found 100",
+    about: "Runs events as they are typed, one a line, and answers each at once",
+    example: r"Each line is an event, written as a step of a schedule: `a read 10`. The rows and transactions are those of FILE; its own steps are not run. A line that is not an event is answered with `? line 2: 2 BadWord`, and changes nothing.
+
+Example:
+  hek drive --text first.hek
+Where first.hek has the lines
+  buckets 1
+  row 10 100
+  txn a serializable
+the lines
+  a begin
+  a read 10
+are answered with
+  1 a begin -> began 1
+  2 a read 10 -> found 100",
     arguments: &[FILE, TEXT, WHY, CHANGES],
 };
 
 const CHECK: CommandText = CommandText {
     name: "check",
     about: "Says whether a trace is serial",
-    example: "Example:\n  hek check first.img trace.txt\nIt prints `serial` where the committed transactions can stand one after another, by end time, and else\n  not serial 2\nwith the number of the first event at fault, and status 1. Each transaction is judged by its own level: of a repeatable one only the values and pairs that it found, so phantoms are serial there; of a snapshot one the reads as of its begin. `--level serializable` judges all as serializable.",
+    example: r"Example:
+  hek check first.img trace.txt
+It prints `serial` if the committed transactions could have run one after another, by end time, and otherwise
+  not serial 2
+with the number of the first event at fault, and status 1. Each transaction is judged by its own level: a repeatable one by the values and pairs that it found, so phantoms pass; a snapshot one by its reads as of its begin. `--level serializable` judges all as serializable.",
     arguments: &[
         FILE,
         ArgumentText {
@@ -164,7 +204,7 @@ const CHECK: CommandText = CommandText {
         LEVEL,
         ArgumentText {
             name: "why",
-            help: "says what the first event at fault would have been answered",
+            help: "prints the reply that the first event at fault should have had",
             form: Form::Flag,
         },
     ],
@@ -172,8 +212,36 @@ const CHECK: CommandText = CommandText {
 
 const DEBUG: CommandText = CommandText {
     name: "debug",
-    about: "Does the steps of a schedule one by one, up to breakpoints and watches, and back",
-    example: "Commands, one a line:\n  step N             N steps\n  run                steps until a breakpoint or a watch fits\n  back N             N steps back\n  break at N         stops after step N\n  break event EVENT  stops after each event of a kind, as update\n  break txn NAME     stops after each event of a transaction\n  watch begin V      stops where the Begin word of version V changes\n  watch end V        the same for its End word\n  watch waits NAME   stops where the number that a transaction waits for changes\n  clear              forgets all breakpoints and watches\nWithout COMMANDS they are read from standard input, and each is answered at once; there `help` lists them, with the questions that only such a session has.\n\nExample:\n  hek debug --text first.hek\nWhere first.hek has the lines\n  buckets 1\n  row 10 100\n  txn a serializable\n  a begin\n  a read 10\nthe commands\n  watch end 0\n  run\nare answered with\n  at 0 set 1\n  1 end 0 7FFFFFFFFFFFFFFF\n  at 2 break 1 -> found 100\n  1 end 0 807FFFFFFFFFFFFF",
+    about: "Runs a schedule step by step, to breakpoints and watches, and back",
+    example: r"Commands, one a line:
+  step N             N steps
+  run                steps until a breakpoint or a watch fits
+  back N             N steps back
+  break at N         stops after step N
+  break event EVENT  stops after each event of a kind, as update
+  break txn NAME     stops after each event of a transaction
+  watch begin V      stops where the Begin word of version V changes
+  watch end V        stops where the End word of version V changes
+  watch waits NAME   stops where the number that a transaction waits for changes
+  clear              forgets all breakpoints and watches
+Without COMMANDS they are read from standard input, and each is answered at once; there `help` lists them, with the questions that only such a session has.
+
+Example:
+  hek debug --text first.hek
+Where first.hek has the lines
+  buckets 1
+  row 10 100
+  txn a serializable
+  a begin
+  a read 10
+the commands
+  watch end 0
+  run
+are answered with
+  at 0 set 1
+  1 end 0 7FFFFFFFFFFFFFFF
+  at 2 break 1 -> found 100
+  1 end 0 807FFFFFFFFFFFFF",
     arguments: &[
         FILE,
         ArgumentText {
@@ -187,14 +255,21 @@ const DEBUG: CommandText = CommandText {
 
 const THREADS: CommandText = CommandText {
     name: "threads",
-    about: "Runs each transaction of a schedule in a thread of its own, and prints the history",
-    example: "Example:\n  hek threads --text first.hek --turns 5\nWhere first.hek has the lines\n  buckets 1\n  row 10 100\n  txn a repeatable\n  a read 10\nit prints the trace of a whole run of a, from begin to end. What it prints is a trace for hek check. With --repeat 100 it runs 100 times, and prints how many different outcomes there were, and each with how often it was seen.",
+    about: "Runs each transaction of a schedule in its own thread, and prints the history",
+    example: r"Example:
+  hek threads --text first.hek --turns 5
+Where first.hek has the lines
+  buckets 1
+  row 10 100
+  txn a repeatable
+  a read 10
+it prints the trace of a whole run of a, from begin to end. What it prints is a trace for hek check. With --repeat 100 it runs 100 times, and prints how many different outcomes there were, and each with how often it was seen.",
     arguments: &[
         FILE,
         TEXT,
         ArgumentText {
             name: "turns",
-            help: "how often a transaction that waits looks again, 0 to 1000000",
+            help: "how many times a waiting transaction tries again, 0 to 1000000",
             form: Form::NeededNumber,
         },
         ArgumentText {
@@ -208,19 +283,36 @@ const THREADS: CommandText = CommandText {
 const PERMUTE: CommandText = CommandText {
     name: "permute",
     about: "Plays every order of a schedule's moves, and counts the outcomes",
-    example: "A transaction's moves are its reads and writes, in the order of the file, and one last move that ends it. Each order of the moves of all transactions is run from the start.\n\nExample:\n  hek permute --text two.hek\nWhere two.hek has the lines\n  buckets 1\n  row 10 100\n  txn a repeatable\n  txn b repeatable\n  a update 10 1\n  b update 10 2\nit prints\n  orders 6 outcomes 4\n  2 a committed; b aborted conflict; rows 10=1; serial; waited 0; first a b a b\n  2 a aborted conflict; b committed; rows 10=2; serial; waited 0; first b a a b\n  1 a committed; b committed; rows 10=2; serial; waited 0; first a a b b\n  1 a committed; b committed; rows 10=1; serial; waited 0; first b b a a\nThe verdict takes all transactions as serializable. `hek permute --text two.hek --order \"a b a b\"` prints the events of that order as a schedule.",
+    example: r#"A transaction's moves are its reads and writes, in the order of the file, and one last move that ends it. Each order of the moves of all transactions is run from the start.
+
+Example:
+  hek permute --text two.hek
+Where two.hek has the lines
+  buckets 1
+  row 10 100
+  txn a repeatable
+  txn b repeatable
+  a update 10 1
+  b update 10 2
+it prints
+  orders 6 outcomes 4
+  2 a committed; b aborted conflict; rows 10=1; serial; waited 0; first a b a b
+  2 a aborted conflict; b committed; rows 10=2; serial; waited 0; first b a a b
+  1 a committed; b committed; rows 10=2; serial; waited 0; first a a b b
+  1 a committed; b committed; rows 10=1; serial; waited 0; first b b a a
+The verdict takes all transactions as serializable. `hek permute --text two.hek --order "a b a b"` prints the events of that order as a schedule."#,
     arguments: &[
         FILE,
         TEXT,
         LEVEL,
         ArgumentText {
             name: "split",
-            help: "finish and precommit are a move of their own",
+            help: "makes finish and precommit a separate move",
             form: Form::Flag,
         },
         ArgumentText {
             name: "limit",
-            help: "plays N orders at most, else none (100000)",
+            help: "plays nothing if there are more than N orders (100000)",
             form: Form::Number,
         },
         ArgumentText {
@@ -249,24 +341,26 @@ const PERMUTE: CommandText = CommandText {
 const PAGE: CommandText = CommandText {
     name: "page",
     about: "Writes a schedule's run as a page for a browser",
-    example: "Example:\n  hek page --text first.hek > first.html\nThe page shows each step with its reply, and the versions, transactions and locks at each position. It needs no network and no other file. It has at most 2000 steps; of a longer schedule --from and --to say which.",
+    example: r"Example:
+  hek page --text first.hek > first.html
+The page shows each step with its reply, and the versions, transactions and locks at each position. It needs no network and no other file. It has at most 2000 steps; of a longer schedule --from and --to say which.",
     arguments: &[
         FILE,
         TEXT,
         ArgumentText {
             name: "from",
-            help: "begins at step N, else at the first",
+            help: "begins at step N, by default the first",
             form: Form::Number,
         },
         ArgumentText {
             name: "to",
-            help: "ends at step N, else at the last",
+            help: "ends at step N, by default the last",
             form: Form::Number,
         },
     ],
 };
 
-/// What `hek --version` says behind the name.
+/// What `hek --version` prints after the name.
 const VERSION: &str = "0.2.0";
 
 const COMMANDS: &[CommandText] = &[
@@ -287,7 +381,17 @@ fn hek<'a>(alloc: Global) -> Result<Command<'a>, AllocError> {
         .version(VERSION)
         .about("The reference machine of pessimistic multiversion locking, step by step")
         .after_help(
-            "Examples:\n  hek run --text first.hek\nruns a schedule, and prints each step with its reply\n  hek release 8040000000000002 1\nprints the word and the waits that are left:\n  C000000000000002 0\n  hek asm first.hek first.img\n  hek dis first.img\nmake the image of a schedule's text, and print it as text again\n  hek check first.img trace.txt\nsays whether a trace over it is serial",
+            r"Examples:
+  hek run --text first.hek
+runs a schedule, and prints each step with its reply
+  hek release 8040000000000002 1
+prints the word and the waits that are left:
+  C000000000000002 0
+  hek asm first.hek first.img
+  hek dis first.img
+make the image of a schedule's text, and print it as text again
+  hek check first.img trace.txt
+says whether a trace over it is serial",
         )
         .subcommand_required(true)
         .subcommands(commands)
@@ -305,7 +409,7 @@ fn command<'a>(alloc: Global, text: &CommandText) -> Result<Command<'a>, AllocEr
         .args(arguments)
 }
 
-/// The arguments that an argument can't stand beside.
+/// The arguments that cannot be given together with this one.
 fn rivals_of(name: &str) -> &'static [&'static str] {
     match name {
         "order" => &["each", "levels", "part"],

@@ -1,4 +1,4 @@
-//! The command line: its words, and what is done for them.
+//! The command line: its words, and what the program does for them.
 use crate::arguments::read_words;
 use crate::disk::{Disk, InputFile, LateFile, open};
 use clap::error::ErrorKind as ClapKind;
@@ -9,9 +9,9 @@ use hek_commands::{
     release_command, report, run_command, state_command, word_command,
 };
 use hek_debug_command::{debug_command, debug_session};
+use hek_page_command::{Part, page_command};
 use hek_permute::Form;
 use hek_permute_command::{Choice, part_of, permute_command};
-use hek_page_command::{Part, page_command};
 use hek_rules::{Level, number};
 use hek_threads_command::{repeat_command, threads_command};
 use hek_why_command::{Extras, drive_command, explain_command};
@@ -23,8 +23,9 @@ use std::io::{BufReader, ErrorKind, IsTerminal, Read, Write};
 use std::sync::Wait;
 use std::thread::Threads;
 
-/// Does what the program's arguments ask for, with the files of `disk` and the threads of `system`, reads `input` where they
-/// say `-`, writes to `out` and `faults`, and answers the exit status: 0, or 1 after a fault, or 2 for a bad command line.
+/// Does what the program's arguments ask for, with the files of `disk` and the threads of `system`. Reads `input` for
+/// the argument `-`, writes to `out` and `faults`, and answers the exit status: 0; 1 after a fault; 2 for a bad command
+/// line.
 pub fn program<
     R: Env + Alloc<A = Global>,
     T: Threads + Wait + Sync,
@@ -53,7 +54,7 @@ fn words_of<'a, R: Env + Alloc<A = Global>>(rt: &R) -> Result<Vec<String>, HekFa
     words.collect(rt.alloc()).map_err(|_| HekFault::NoMemory)
 }
 
-/// Why the arguments can't be had: memory, or one of them isn't UTF-8.
+/// Why the arguments can't be read: out of memory, or one of them isn't UTF-8.
 fn fault_of<'a>(kind: ErrorKind) -> HekFault<'a> {
     match kind {
         ErrorKind::OutOfMemory => HekFault::NoMemory,
@@ -103,7 +104,7 @@ pub fn answer_in_threads<
     }
 }
 
-/// Writes what the reader of the command line says: help on standard output, else why it refuses.
+/// Writes what the parser of the command line says: help on standard output, otherwise why it refuses the words.
 fn refuse<W: Write, E: Write>(error: &Error, out: &mut W, faults: &mut E) -> u8 {
     if error.kind() == ClapKind::OutOfMemory {
         return report(HekFault::NoMemory, faults);
@@ -194,7 +195,7 @@ fn run_schedule<'a, D: Disk, I: Read + Drop, W: Write>(
     }
 }
 
-/// What the words ask for under each line.
+/// What the words ask for under each line of a trace.
 fn extras_of(found: &ArgMatches<'_>) -> Extras {
     Extras {
         why: found.get_flag("why"),
@@ -215,7 +216,7 @@ fn drive<'a, D: Disk, I: Read + Drop, W: Write>(
     drive_command(alloc, file, events, extras_of(found), out)
 }
 
-/// The number that the words give with an option, if they do.
+/// The number that an option has, if the words have the option.
 fn number_of<'a>(found: &ArgMatches<'a>, name: &str) -> Result<Option<u64>, HekFault<'a>> {
     match found.get_str(name) {
         None => Ok(None),
@@ -266,7 +267,7 @@ fn page<'a, D: Disk, I: Read + Drop, W: Write, E: Write>(
     page_command(alloc, file, part, out, faults)
 }
 
-/// The number of a step that the words give with an option, if they do: from 1.
+/// The number of a step, from 1, that an option has, if the words have the option.
 fn step_of<'a>(found: &ArgMatches<'a>, name: &str) -> Result<Option<u64>, HekFault<'a>> {
     match number_of(found, name)? {
         Some(0) => Err(HekFault::BadArgument),
@@ -290,7 +291,7 @@ fn check<'a, D: Disk, I: Read + Drop, W: Write>(
     check_command(alloc, file, trace.as_slice(), level, why, out)
 }
 
-/// The most orders, where the words give none.
+/// How many orders are played at most, if the words give no limit.
 const MOST_ORDERS: u64 = 100_000;
 
 fn permute<'a, D: Disk, I: Read + Drop, W: Write, E: Write>(
@@ -348,7 +349,7 @@ fn parts_of<'a>(found: &ArgMatches<'a>) -> Result<(u64, u64), HekFault<'a>> {
     }
 }
 
-/// The most turns, and the most runs.
+/// The greatest number of turns, and of runs.
 const MOST: u64 = 1_000_000;
 
 fn threads<'a, T: Threads + Wait + Sync, D: Disk, I: Read + Drop, W: Write>(
@@ -372,7 +373,7 @@ fn threads<'a, T: Threads + Wait + Sync, D: Disk, I: Read + Drop, W: Write>(
     }
 }
 
-/// The number that a text says, from `least` to 1,000,000.
+/// The number that a text gives, from `least` to 1,000,000.
 fn count_from<'a>(text: &str, least: u64) -> Result<u64, HekFault<'a>> {
     match number(text.as_bytes()) {
         Some(count) if least <= count && count <= MOST => Ok(count),
@@ -383,7 +384,7 @@ fn count_from<'a>(text: &str, least: u64) -> Result<u64, HekFault<'a>> {
 /// A file that is read in small pieces.
 type Buffered<I, F> = BufReader<InputFile<I, F>>;
 
-/// The schedule file that the words name, a text where they say `--text`.
+/// The schedule file that the words name: a text with `--text`, otherwise an image.
 fn schedule_file<'a, D: Disk, I: Read + Drop>(
     alloc: Global,
     found: &ArgMatches<'a>,

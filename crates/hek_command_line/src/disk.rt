@@ -7,13 +7,13 @@ use std::io::{Read, Write};
 use std::rt::Files;
 use std::{fs, io};
 
-/// What opens files by their names.
+/// Opens files by their names.
 pub trait Disk {
     type Reader: Read + Drop;
 
     type Writer: Write + Drop;
 
-    /// Opens a file that is there, to read it.
+    /// Opens an existing file to read it.
     fn open(&self, name: &str) -> io::Result<Self::Reader>;
 
     /// Opens a file to write it, made or emptied first.
@@ -63,7 +63,7 @@ impl<I: Read + Drop, F: Read + Drop> Read for InputFile<I, F> {
     }
 }
 
-/// Opens a file to read it. `-` is the input, which is there once.
+/// Opens a file to read it. `-` is the input, which can be opened once.
 pub fn open<'a, I: Read + Drop, D: Disk>(
     disk: &D,
     input: &mut Option<I>,
@@ -92,7 +92,7 @@ pub struct LateFile<'a, D: Disk> {
 }
 
 impl<'a, D: Disk> LateFile<'a, D> {
-    /// A file of this name that isn't made yet.
+    /// A file with this name that isn't made yet.
     pub fn new(disk: &'a D, name: &'a str) -> LateFile<'a, D> {
         LateFile {
             disk,

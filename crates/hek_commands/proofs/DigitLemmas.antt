@@ -11,7 +11,7 @@ digit_below radix [] i digits below = absurd (omega arith)
 digit_below radix (c ∷ cs) zero digits below = digits.0
 digit_below radix (c ∷ cs) (suc i) digits below = digit_below radix cs i digits.1 (omega arith)
 
--- what stands before the last of 16 digits is below 16 ^ 15
+-- the number that the digits before the last of 16 write is below 16 ^ 15
 pub small : (text : List ℕ) (i : ℕ) → AllDigits 16 (take i text) → i < length text → length text ≡ 16 → digits_value 16 (take i text) < 16 ^ 15
 small text i digits below long =
     let size : length (take i text) ≡ i = length-take-le i text (omega arith) in

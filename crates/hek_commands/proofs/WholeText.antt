@@ -1,4 +1,4 @@
--- A reader that gave less than it was limited to gave all that it had.
+-- A reader that gave less than its limit gave all that it had.
 use Rattle.std.proofs.Common.{◌≡◌, ℕ, ◌<◌, ◌≤◌, List, [], ◌++◌, length, take, min, Option, Some, None, IfSome, ◌∙◌, subst, ap, arith}
 use Rattle.std.specs.Option.{option_map}
 use Rattle.std.specs.Io.Take.{take_limit, take_inner, take_remaining}

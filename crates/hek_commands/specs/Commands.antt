@@ -1,4 +1,4 @@
--- What commands make of files.
+-- What commands do with files.
 use Rattle.std.specs.Prelude.{◌≡◌, ◌⊎◌, ℕ, ◌-◌, Bool, true, false, List, [], ◌∷◌, ◌++◌, codes, Option, Some, None, Ok, Err, IfSome, slice_get}
 use Rattle.std.specs.Str.{IsUtf8}
 use Rattle.std.specs.Io.KnownBytes.{Appends}
@@ -11,7 +11,7 @@ use Rattle.hek_rules.specs.Faults.{IsVerdict}
 use Rattle.hek_rules.specs.Plan.{Plan}
 use Rattle.hek_rules.specs.Recorded.{Recorded}
 use Rattle.hek_asm.specs.Reading.{IsTraceOf, StopsAt}
-use Rattle.hek_asm.specs.Lines.{joined}
+use Rattle.hek_asm.specs.Lines.{joined_words}
 use Rattle.hek_asm.specs.Text.{schedule_of}
 use Rattle.hek_asm.specs.Trace.{reply_words}
 use Rattle.hek_asm.specs.Canonical.{canonical_text}
@@ -25,39 +25,39 @@ use Rattle.hek_commands.specs.declared.fault.HekFault.TheVariants.{Line, Image, 
 use Rattle.hek_commands.specs.declared.schedule_file.ScheduleFile.{ScheduleFile}
 use Rattle.hek_commands.specs.declared.schedule_file.ScheduleFile.TheVariants as file
 
--- why the file of a name isn't read
+-- why the file with this name isn't read
 abbrev pub ReadFails : List ℕ → HekFault → Type 0
 ReadFails name (CannotRead file) = file.now ≡ name
 ReadFails name NoMemory = Unit {0}
 ReadFails name other = ⊥
 
--- why bytes aren't a schedule's text: a fault only where it is theirs
-abbrev pub TextFails : List ℕ → HekFault → Type 0
-TextFails text NotText = ¬ (IsUtf8 text)
-TextFails text (Line number kind) = schedule_of text ≡ Err (number, kind)
-TextFails text NoMemory = Unit {0}
-TextFails text other = ⊥
+-- why bytes aren't a schedule's text; a fault of a text is the first fault of these bytes
+abbrev pub ScheduleTextFails : List ℕ → HekFault → Type 0
+ScheduleTextFails text NotText = ¬ (IsUtf8 text)
+ScheduleTextFails text (Line number kind) = schedule_of text ≡ Err (number, kind)
+ScheduleTextFails text NoMemory = Unit {0}
+ScheduleTextFails text other = ⊥
 
--- a schedule from the bytes that a reader has left, where they are known
+-- the schedule whose image a reader has left, if its bytes are known
 abbrev pub ImageGives : Option (List ℕ) → Plan → Type 0
 ImageGives left plan = IfSome left (λ bytes. loading bytes ≡ Ok plan)
 
--- why they aren't the image of one
+-- why the bytes that a reader has left aren't an image
 abbrev pub ImageFails : Option (List ℕ) → HekFault → Type 0
 ImageFails left (Image fault) = IfSome left (λ bytes. LoadFails fault (loading bytes))
 ImageFails left NoMemory = Unit {0}
 ImageFails left other = ⊥
 
--- a text and an image
+-- the schedule in a file: in a text, or in an image
 abbrev pub FileGives : {R : Type 0} → (R → Option (List ℕ)) → ScheduleFile R → Plan → Type 0
 FileGives left (file.Text text) plan = schedule_of text.items ≡ Ok plan
 FileGives left (file.Image reader) plan = ImageGives (left reader) plan
 
 abbrev pub FileFails : {R : Type 0} → (R → Option (List ℕ)) → ScheduleFile R → HekFault → Type 0
-FileFails left (file.Text text) fault = TextFails text.items fault
+FileFails left (file.Text text) fault = ScheduleTextFails text.items fault
 FileFails left (file.Image reader) fault = ImageFails (left reader) fault
 
--- the image of the schedule that a text is was written behind the bytes that a writer held, where they are known
+-- the image of the schedule that a text describes was written after the bytes that a writer held, if these are known
 pub record Assembles (text : List ℕ) (before after : Option (List ℕ)) : Type 0 where
   pub plan : Plan
   pub is : schedule_of text ≡ Ok plan
@@ -65,15 +65,15 @@ pub record Assembles (text : List ℕ) (before after : Option (List ℕ)) : Type
 
 abbrev pub AsmFails : List ℕ → HekFault → Type 0
 AsmFails text CannotWrite = Unit {0}
-AsmFails text fault = TextFails text fault
+AsmFails text fault = ScheduleTextFails text fault
 
--- the canonical text of the schedule that a file says was written behind them
+-- the canonical text of the schedule in a file was written after the bytes that a writer held, if these are known
 pub record Disassembles {R : Type 0} (left : R → Option (List ℕ)) (said : ScheduleFile R) (before after : Option (List ℕ)) : Type 0 where
   pub plan : Plan
   pub is : FileGives left said plan
   pub written : Appends before after (canonical_text plan)
 
--- why what is to be printed of the schedule that a file says isn't, or not to its end
+-- why a text about the schedule in a file isn't written, or not to its end
 abbrev pub PrintFails : {R : Type 0} → (R → Option (List ℕ)) → ScheduleFile R → HekFault → Type 0
 PrintFails left said CannotWrite = Unit {0}
 PrintFails left said fault = FileFails left said fault
@@ -84,7 +84,6 @@ IsStop NoMemory = Unit {0}
 IsStop CannotWrite = Unit {0}
 IsStop other = ⊥
 
--- why a text isn't a trace over a schedule
 -- why a text isn't the trace of a transcript over a schedule
 abbrev pub TraceTextFails : Plan → List ℕ → HekFault → Type 0
 TraceTextFails plan text (TraceLine number) = StopsAt plan number text
@@ -101,24 +100,25 @@ verdict_status (NotSerial number) = 1
 
 abbrev pub reply_text : Option Reply → List ℕ
 reply_text None = codes "none"
-reply_text (Some r) = joined (reply_words r)
+reply_text (Some r) = joined_words (reply_words r)
 
--- what the event with this number would have been answered in the serial order, on a line of its own
+-- a line with the reply that the event with number n would have had in the serial order
 abbrev pub serial_line : Recorded → ℕ → List ℕ
 serial_line told n = codes "serial reply: " ++ reply_text (reply_at told (n - 1) (slice_get told.history (n - 1))) ++ 10 ∷ []
 
--- that line where it is asked for, and an event is at fault
+-- the line with the serial reply, if it is asked for and an event is at fault
 abbrev pub why_text : Bool → Recorded → Verdict → List ℕ
 why_text false told verdict = []
 why_text true told Serial = []
 why_text true told (NotSerial number) = serial_line told number
 
--- a transcript by each transaction's own level, or with all taken as of one
+-- a transcript with each transaction's own level, or with one level for all
 abbrev pub judged_as : Option Level → Recorded → Recorded
 judged_as None told = told
 judged_as (Some level) told = at_level level told
 
--- the right verdict at that level on the transcript whose trace a text is was written behind them, and why; it is the exit status
+-- the right verdict at a level, on the transcript whose trace a text is, was written after the bytes that a writer
+-- held, with the serial reply if it is asked for; the verdict gives the exit status
 pub record Checks {R : Type 0} (left : R → Option (List ℕ)) (said : ScheduleFile R) (text : List ℕ) (level : Option Level) (why : Bool) (before after : Option (List ℕ)) (status : ℕ) : Type 0 where
   pub plan : Plan
   pub is : FileGives left said plan

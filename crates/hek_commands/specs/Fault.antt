@@ -8,7 +8,7 @@ use Rattle.hek_image.specs.declared.fault.LoadFault.TheVariants as load
 use Rattle.hek_commands.specs.declared.fault.HekFault.{HekFault}
 use Rattle.hek_commands.specs.declared.fault.HekFault.TheVariants.{BadArgument, NotAWord, NoReader, BadWaits, Line, Image, TraceLine, CommandLine, NoWorker, Mismatch, NotText, CannotRead, CannotWrite, NoMemory}
 
--- the exit status at a fault
+-- the exit status of a command with this fault
 abbrev pub status_of : HekFault → ℕ
 status_of BadArgument = 2
 status_of NotAWord = 1

@@ -1,4 +1,4 @@
--- What the command `run` makes of a file.
+-- What the command `run` does with a file.
 use Rattle.std.specs.Prelude.{ℕ, List, [], ◌∷◌, ◌++◌, codes, Option, Some, None, map, take}
 use Rattle.std.specs.Fmt.{decimal}
 use Rattle.std.specs.Io.KnownBytes.{Appends}
@@ -24,18 +24,18 @@ trace_of p es = trace p es (replies_to p es)
 abbrev pub trace_of_steps : Plan → List ℕ
 trace_of_steps p = trace_of p p.steps
 
--- it was written behind the bytes that a writer held, where they are known; and no event of a declared transaction in it is at fault
--- where the committed ones run one after another, by end time
+-- the trace of all steps was written after the bytes that a writer held, if these are known; and no event of a declared
+-- transaction in it is at fault if the committed transactions run one after another, by end time
 pub record Runs {R : Type 0} (left : R → Option (List ℕ)) (said : ScheduleFile R) (before after : Option (List ℕ)) : Type 0 where
   pub plan : Plan
   pub is : FileGives left said plan
   pub written : Appends before after (trace_of_steps plan)
   pub serial : HasNoFaults plan plan.steps (replies_to plan plan.steps)
 
--- so many steps at the front, or all of them
-abbrev pub first_of : Option ℕ → List Event → List Event
-first_of None es = es
-first_of (Some n) es = take n es
+-- the first steps, as many as the limit or all of them
+abbrev pub first_events : Option ℕ → List Event → List Event
+first_events None es = es
+first_events (Some n) es = take n es
 
 -- the world after these steps
 abbrev pub world_after : Plan → List Event → World
@@ -44,17 +44,18 @@ world_after p es = run (opening_of p 1) es
 abbrev pub clock_text : ℕ → List ℕ
 clock_text clock = codes "clock " ++ decimal clock ++ 10 ∷ []
 
--- the line of a clock was written behind them, and then some bytes
+-- the line of a clock, and then some bytes, were written after the bytes that a writer held
 pub record TellsClock (clock : ℕ) (before after : Option (List ℕ)) : Type 0 where
   pub more : List ℕ
   pub written : Appends before after (clock_text clock ++ more)
 
--- the trace of a schedule's first steps was written behind them, then the line of the clock after these, and then some bytes
+-- the trace of a schedule's first steps, then the line of the clock after them, and then some bytes, were written after
+-- the bytes that a writer held
 pub record ShowsState (plan : Plan) (limit : Option ℕ) (before after : Option (List ℕ)) : Type 0 where
   pub more : List ℕ
-  pub written : Appends before after (trace_of plan (first_of limit plan.steps) ++ (clock_text (world_after plan (first_of limit plan.steps)).clock ++ more))
+  pub written : Appends before after (trace_of plan (first_events limit plan.steps) ++ (clock_text (world_after plan (first_events limit plan.steps)).clock ++ more))
 
--- so it was for the schedule that a file says
+-- the trace and the state were written for the schedule in a file
 pub record RunsTo {R : Type 0} (left : R → Option (List ℕ)) (said : ScheduleFile R) (limit : Option ℕ) (before after : Option (List ℕ)) : Type 0 where
   pub plan : Plan
   pub is : FileGives left said plan

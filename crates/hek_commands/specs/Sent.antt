@@ -1,7 +1,8 @@
--- What a writer holds, and the lines that are gathered to go out behind it.
+-- What a writer holds, and the lines that are gathered to go out after it.
 use Rattle.std.specs.Prelude.{◌≡◌, ℕ, List, ◌++◌, Option, Some, None}
 
--- where it is known what was held: that with the bytes behind it is what is held now with those that are still to come
+-- if it is known what a writer held: that and the bytes to be written after it are what the writer holds now and the
+-- bytes still to come
 abbrev pub Passes : Option (List ℕ) → List ℕ → Option (List ℕ) → List ℕ → Type 0
 Passes None behind now left = Unit {0}
 Passes (Some held) behind None left = ⊥

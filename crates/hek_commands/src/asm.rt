@@ -1,4 +1,4 @@
-//! The command `asm`.
+//! The command `asm`: a schedule's text as an image.
 ghost use Rattle.std.specs.Prelude.{◌≡◌, IfOk, MatchResult};
 ghost use Rattle.hek_image.specs.Schedules.{image};
 ghost use Rattle.hek_commands.specs.Commands.{Assembles, AsmFails};
@@ -10,8 +10,8 @@ use hek_rules::{FromWrite, NoMemory, Schedule};
 use std::alloc::Global;
 use std::io::Write;
 
-/// Writes the image of the schedule that a text is. Nothing is written before the text is known to be one. The answer is
-/// the exit status.
+/// Writes the image of the schedule that a text describes. Nothing is written before the whole text is known to
+/// describe one. Answers the exit status.
 pub fn asm_command<'a, W: Write>(
     alloc: Global,
     text: &[u8],

@@ -1,4 +1,4 @@
-//! The command `check`.
+//! The command `check`: the verdict on a trace.
 ghost use Rattle.std.specs.Prelude.{◌≡◌, ◌++◌, ◌∷◌, [], codes, false, is_err, IsTrue, MatchResult, IfOk, IfErr, OnOk};
 ghost use Rattle.std.specs.Io.KnownBytes.{Appends};
 ghost use Rattle.hek_asm.specs.Reading.{IsTraceOf};
@@ -17,9 +17,9 @@ use std::alloc::Global;
 use std::io::{Read, Write};
 use std::str;
 
-/// Writes the verdict on the transcript whose trace over a file's schedule a text is, and where `why` asks for it what the
-/// event at fault would have been answered in the serial order. A `level` stands in place of each transaction's own. The
-/// answer is the exit status: 1 where the transcript isn't serial. Bytes that aren't a text are told before a fault of the file.
+/// Writes the verdict on the transcript whose trace, over the schedule in a file, a text is; with `why`, also the reply
+/// that the event at fault would have had in the serial order. A `level` replaces each transaction's own level. Answers
+/// the exit status: 1 if the transcript isn't serial. Bytes that aren't a text are reported before a fault of the file.
 pub fn check_command<'a, R: Read + Drop, W: Write>(
     alloc: Global,
     file: ScheduleFile<R>,
@@ -56,7 +56,7 @@ fn transcript_of_text<'a>(
     }
 }
 
-/// The verdict at a level, or at each transaction's own.
+/// The verdict with `level` as the level of every transaction, or with each one's own level.
 fn verdict_of(
     alloc: Global,
     transcript: &Transcript,
@@ -84,7 +84,7 @@ fn write_verdict<'a, W: Write>(verdict: Verdict, out: &mut W) -> Result<u8, HekF
     }
 }
 
-/// What the event at fault would have been answered, where that is asked for.
+/// The line with the reply that the event at fault would have had in the serial order, if `why` is set.
 fn reason(
     alloc: Global,
     why: bool,
@@ -103,7 +103,7 @@ fn reason(
     }
 }
 
-/// The line that says what the event with a number would have been answered.
+/// The line with the reply that the event with this number would have had in the serial order.
 fn serial_line(
     alloc: Global,
     transcript: &Transcript,

@@ -1,4 +1,4 @@
-//! The command `dis`.
+//! The command `dis`: the canonical text of a schedule.
 ghost use Rattle.std.specs.Prelude.{◌≡◌, MatchResult};
 ghost use Rattle.hek_commands.specs.Commands.{Disassembles, PrintFails};
 
@@ -8,7 +8,7 @@ use hek_asm::canonical;
 use std::alloc::Global;
 use std::io::{Read, Write};
 
-/// Writes the canonical text of the schedule that a file says. The answer is the exit status.
+/// Writes the canonical text of the schedule in a file. Answers the exit status.
 pub fn dis_command<'a, R: Read + Drop, W: Write>(
     alloc: Global,
     file: ScheduleFile<R>,

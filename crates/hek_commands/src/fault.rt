@@ -1,4 +1,4 @@
-//! What can go wrong, one line and one exit status each.
+//! What can go wrong: each fault has one line and one exit status.
 ghost use Rattle.std.specs.Prelude.{◌≡◌};
 ghost use Rattle.hek_commands.specs.declared.fault.HekFault.TheVariants as hek;
 ghost use Rattle.hek_commands.specs.Fault.{status_of, text_fault, image_fault, trace_fault};
@@ -27,21 +27,21 @@ pub enum HekFault<'a> {
     Line { line: u64, kind: AsmKind },
     #[error("hek: image: {0}")]
     Image(LoadFault),
-    /// The first line that no trace has there, by its number.
+    /// The number of the first line that cannot appear there in any trace.
     #[error("hek: trace line {0}")]
     TraceLine(u64),
-    /// The first line that is no command of the debugger, by its number.
+    /// The number of the first line that is not a command of the debugger.
     #[error("hek: command line {0}")]
     CommandLine(u64),
-    /// A worker's thread that can't be started.
+    /// A worker's thread cannot be started.
     #[error("hek: threads: no worker")]
     NoWorker,
-    /// A worker, by its number, whose replies don't fit.
+    /// The number of a worker whose replies are not what they should be.
     #[error("hek: threads: mismatch {0}")]
     Mismatch(u64),
     #[error("hek: not text")]
     NotText,
-    /// A file, by its name on the command line, that can't be opened or read.
+    /// The name, on the command line, of a file that cannot be opened or read.
     #[error("hek: cannot read {0}")]
     CannotRead(&'a str),
     #[error("hek: cannot write")]
@@ -51,7 +51,7 @@ pub enum HekFault<'a> {
 }
 
 impl HekFault<'_> {
-    /// The exit status of the program at this fault: 2 for a bad command line, else 1.
+    /// The exit status of the program with this fault: 2 for a bad command line, otherwise 1.
     pub fn status(self) -> u8
         ensures { result ≡ status_of self.entry }
     {
@@ -134,7 +134,7 @@ pub fn read_fault<'a>(kind: ErrorKind, name: &'a str) -> HekFault<'a>
     }
 }
 
-/// Writes a fault as its line, and answers its exit status.
+/// Writes the line of a fault, and answers its exit status.
 pub fn report<E: Write>(fault: HekFault<'_>, faults: &mut E) -> u8
     ensures { result ≡ status_of fault.entry }
 {

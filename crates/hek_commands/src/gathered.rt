@@ -1,6 +1,6 @@
 //! Lines and replies, gathered in memory.
 ghost use Rattle.std.specs.Prelude.{◌≡◌, ◌++◌, length, OnOk};
-ghost use Rattle.hek_asm.specs.Lines.{joined};
+ghost use Rattle.hek_asm.specs.Lines.{joined_words};
 ghost use Rattle.hek_asm.specs.Trace.{NamesDeclared, reply_words, trace_line};
 
 use hek_asm::{write_line, write_reply};
@@ -8,7 +8,7 @@ use hek_rules::{Event, FromWrite, NoMemory, Reply, Schedule};
 use std::alloc::Global;
 use std::mem;
 
-/// The line of an event and its reply in a trace comes behind the lines. After NoMemory nothing of them is left.
+/// Appends the line of an event and its reply, as a trace has it. After NoMemory nothing is left of the lines.
 pub fn put_line(
     alloc: Global,
     schedule: &Schedule,
@@ -30,9 +30,9 @@ pub fn put_line(
     }
 }
 
-/// The words of a reply come behind the text. After NoMemory nothing of the text is left.
+/// Appends the words of a reply. After NoMemory nothing is left of the text.
 pub fn put_reply(alloc: Global, reply: &Reply, lines: &mut Vec<u8>) -> Result<(), NoMemory>
-    ensures { OnOk result (lines.new.items ≡ lines.old.items ++ joined (reply_words reply.now)) }
+    ensures { OnOk result (lines.new.items ≡ lines.old.items ++ joined_words (reply_words reply.now)) }
 {
     let mut sink = FromWrite::new(mem::replace(lines, Vec::new(alloc)));
     match write_reply(reply, &mut sink) {

@@ -1,4 +1,4 @@
-//! What a command reads beside files.
+//! What a command reads besides files.
 ghost use Rattle.std.specs.Prelude.{◌≡◌, IfErr};
 ghost use Rattle.hek_commands.specs.declared.fault.HekFault.TheVariants as hek;
 
@@ -6,10 +6,10 @@ use crate::fault::HekFault;
 use std::alloc::Global;
 use std::io::{BufReader, Read};
 
-/// The name that stands for standard input where a file or words are read.
+/// The name of standard input, on the command line, where a file or words are read.
 pub const INPUT: &str = "-";
 
-/// An input that is read line by line, by way of a buffer.
+/// An input that is read line by line, through a buffer.
 pub fn buffered<'a, I: Read + Drop>(alloc: Global, input: I) -> Result<BufReader<I>, HekFault<'a>>
     ensures refused { IfErr result (λ fault. fault ≡ hek.NoMemory) }
 {

@@ -1,4 +1,4 @@
-//! The commands of the program, over words, readers and writers that are handed in.
+//! The commands of the program, over words, readers and writers that the caller passes.
 #![tactic(auto)]
 
 mod asm;

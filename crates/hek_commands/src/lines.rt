@@ -7,10 +7,10 @@ ghost use Rattle.hek_commands.specs.Sent.{Passes};
 use crate::fault::HekFault;
 use std::io::Write;
 
-/// So many bytes of lines go out at once.
+/// How many bytes of lines go out at once.
 const MANY: usize = 1 << 16;
 
-/// Writes the lines, and has none any more.
+/// Writes the lines, and empties the list.
 pub fn send<'a, W: Write>(lines: &mut Vec<u8>, out: &mut W) -> Result<(), HekFault<'a>>
     ensures written { OnOk result (Appends (W.contents out.old) (W.contents out.new) lines.old.items) }
     ensures none { OnOk result (lines.new.items ≡ []) }
@@ -23,7 +23,7 @@ pub fn send<'a, W: Write>(lines: &mut Vec<u8>, out: &mut W) -> Result<(), HekFau
     Ok(())
 }
 
-/// Writes the lines once they have many bytes; until then nothing happens.
+/// Writes the lines once they have many bytes; until then does nothing.
 pub fn send_if_many<'a, W: Write>(lines: &mut Vec<u8>, out: &mut W) -> Result<(), HekFault<'a>>
     ensures kept { OnOk result (Passes (W.contents out.old) lines.old.items (W.contents out.new) lines.new.items) }
     ensures stops { IfErr result IsStop }

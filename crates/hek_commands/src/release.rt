@@ -1,4 +1,4 @@
-//! The command `release`.
+//! The command `release`: one read lock of an End word is given up.
 ghost use Rattle.std.specs.Option.{SomeIff};
 ghost use Rattle.std.specs.Str.Parse.{digits_value};
 ghost use Rattle.hek_commands.specs.WordText.{IsWordText};
@@ -8,8 +8,8 @@ use hek_rules::number;
 use hek_word::{EndWord, release_word};
 use std::io::Write;
 
-/// Gives up one read lock of the End word with these 16 hexadecimal digits, whose writer waits for `waits` others, and
-/// writes the word and the waits that are left. The answer is the exit status.
+/// Gives up one read lock of the End word with these 16 hexadecimal digits, whose writer waits for `waits` others.
+/// Writes the word and the waits that are left. Answers the exit status.
 pub fn release_command<'a, W: Write>(
     word: &str,
     waits: &str,
@@ -24,7 +24,7 @@ pub fn release_command<'a, W: Write>(
     Ok(0)
 }
 
-/// The number that exactly 16 hexadecimal digits of either case write.
+/// The number that exactly 16 hexadecimal digits, of either case, write; None for any other text.
 pub fn hex_number(text: &str) -> Option<u64>
     ensures { SomeIff result (IsWordText text.now) (digits_value 16 text.now) }
 {

@@ -1,4 +1,4 @@
-//! The command `run`.
+//! The command `run`: the trace of a schedule's steps, and the state after them.
 ghost use Rattle.std.specs.Prelude.{◌≡◌, length, IfOk, IfErr, OnOk, MatchResult};
 ghost use Rattle.std.specs.List.{All, AllByRecursion};
 ghost use Rattle.std.specs.Io.KnownBytes.{Appends};
@@ -10,7 +10,7 @@ ghost use Rattle.hek_machine.specs.Stands.{StandsFor};
 ghost use Rattle.hek_machine.specs.Observed.{opening_of};
 ghost use Rattle.hek_machine.specs.Steps.{HasNoFaults};
 ghost use Rattle.hek_commands.specs.Commands.{PrintFails, IsStop};
-ghost use Rattle.hek_commands.specs.Ran.{Runs, RunsTo, ShowsState, TellsClock, trace_of, trace_of_steps, replies_to, first_of};
+ghost use Rattle.hek_commands.specs.Ran.{Runs, RunsTo, ShowsState, TellsClock, trace_of, trace_of_steps, replies_to, first_events};
 
 use crate::fault::HekFault;
 use crate::gathered::put_line;
@@ -22,9 +22,9 @@ use hek_rules::{Event, Schedule};
 use std::alloc::Global;
 use std::io::{Read, Write};
 
-/// Runs the steps of the schedule that a file says, and writes their trace as it goes. The answer is the exit status. The
-/// replies are serial: the committed transactions could have run one after another, by end time.
-/// After a fault the lines of the steps before it may have been written.
+/// Runs the steps of the schedule in a file, and writes their trace while it runs. Answers the exit status. The replies
+/// are serial: the committed transactions could have run one after another, by end time. After a fault the lines of the
+/// steps before it may have been written.
 pub fn run_command<'a, R: Read + Drop, W: Write>(
     alloc: Global,
     file: ScheduleFile<R>,
@@ -37,7 +37,7 @@ pub fn run_command<'a, R: Read + Drop, W: Write>(
     Ok(0)
 }
 
-/// Runs the steps of a schedule, and writes their trace as it goes.
+/// Runs the steps of a schedule, and writes their trace while it runs.
 #[tactic(auto, using(hek_asm::proofs::RowLemmas::steps_declared, hek_machine::proofs::PlacedSteps::steps_placed, hek_machine::proofs::RunRules::run_has_no_faults))]
 fn write_run<'a, W: Write>(
     alloc: Global,
@@ -48,14 +48,14 @@ fn write_run<'a, W: Write>(
     ensures serial { OnOk result (HasNoFaults schedule.now schedule.now.steps (replies_to schedule.now schedule.now.steps)) }
     ensures stops { IfErr result IsStop }
 {
-    // There is a bucket, and each step is one of this schedule.
-    let _ = schedule.buckets();
+    // `known` gives that the schedule has a bucket, and that each of its steps is well formed.
+    schedule.known();
     let mut machine = Machine::load(alloc, schedule)?;
     write_steps(alloc, schedule, &mut machine, schedule.steps(), out)
 }
 
-/// Runs the first steps of the schedule that a file says, as many as `limit` says or all of them, and writes their trace, the
-/// clock of the machine after them, and the rest of its state (`state_lines`). The answer is the exit status.
+/// Runs the first steps of the schedule in a file, as many as `limit` or all of them. Writes their trace, the clock of
+/// the machine after them, and the rest of its state (`state_lines`). Answers the exit status.
 pub fn state_command<'a, R: Read + Drop, W: Write>(
     alloc: Global,
     file: ScheduleFile<R>,
@@ -79,8 +79,8 @@ fn write_state<'a, W: Write>(
     ensures written { OnOk result (ShowsState schedule.now limit (W.contents out.old) (W.contents out.new)) }
     ensures stops { IfErr result IsStop }
 {
-    // There is a bucket, and each step is one of this schedule.
-    let _ = schedule.buckets();
+    // `known` gives that the schedule has a bucket, and that each of its steps is well formed.
+    schedule.known();
     let steps = first_steps(schedule.steps(), limit);
     let mut machine = Machine::load(alloc, schedule)?;
     write_steps(alloc, schedule, &mut machine, steps, out)?;
@@ -104,9 +104,9 @@ fn write_machine<'a, W: Write>(
     send(&mut lines, out)
 }
 
-/// So many steps at the front, or all of them.
+/// The first steps, as many as `limit` or all of them.
 fn first_steps(steps: &[Event], limit: Option<u64>) -> &[Event]
-    ensures { result.now ≡ first_of limit steps.now }
+    ensures { result.now ≡ first_events limit steps.now }
 {
     match limit {
         None => steps,
@@ -120,7 +120,7 @@ fn first_steps(steps: &[Event], limit: Option<u64>) -> &[Event]
     }
 }
 
-/// Does steps on a machine that stands before the first event, and writes their trace.
+/// Does steps on a machine that has done none, and writes their trace.
 fn write_steps<'a, W: Write>(
     alloc: Global,
     schedule: &Schedule,

@@ -1,7 +1,7 @@
 //! Schedules from files: from a text or from an image.
 ghost use Rattle.std.specs.Prelude.{◌≡◌, MatchResult, IfSome, Ok};
 ghost use Rattle.hek_asm.specs.Text.{schedule_of};
-ghost use Rattle.hek_commands.specs.Commands.{ReadFails, TextFails, ImageGives, ImageFails, FileGives, FileFails};
+ghost use Rattle.hek_commands.specs.Commands.{ReadFails, ScheduleTextFails, ImageGives, ImageFails, FileGives, FileFails};
 
 use crate::fault::{HekFault, read_fault};
 use hek_asm::assemble_text;
@@ -11,10 +11,10 @@ use std::alloc::Global;
 use std::io::Read;
 use std::str;
 
-/// The most bytes that a text has.
+/// How many bytes a text has at most.
 const MAX_TEXT: u64 = 1 << 28;
 
-/// A file that says a schedule: a text that was read, or an image that is still to be read.
+/// A file with a schedule: a text that has been read, or an image that is still to be read.
 #[derive(Drop)]
 pub enum ScheduleFile<R: Read + Drop> {
     Text(Vec<u8>),
@@ -40,9 +40,9 @@ pub fn read_text<'a, R: Read + Drop>(
     Ok(text)
 }
 
-/// The schedule that a text is.
+/// The schedule that a text describes.
 pub fn schedule_of_text<'a>(alloc: Global, text: &[u8]) -> Result<Schedule, HekFault<'a>>
-    ensures { MatchResult result (λ schedule. schedule_of text.now ≡ Ok schedule) (TextFails text.now) }
+    ensures { MatchResult result (λ schedule. schedule_of text.now ≡ Ok schedule) (ScheduleTextFails text.now) }
 {
     let Ok(text) = str::from_utf8(text) else {
         return Err(HekFault::NotText);
@@ -53,7 +53,7 @@ pub fn schedule_of_text<'a>(alloc: Global, text: &[u8]) -> Result<Schedule, HekF
     }
 }
 
-/// The schedule whose image a reader gives to its end.
+/// The schedule whose image a reader gives, to its end.
 pub fn schedule_of_image<'a, R: Read + Drop>(
     alloc: Global,
     reader: R,
@@ -67,7 +67,7 @@ pub fn schedule_of_image<'a, R: Read + Drop>(
     }
 }
 
-/// The schedule that a file says.
+/// The schedule in a file.
 pub fn schedule_in<'a, R: Read + Drop>(
     alloc: Global,
     file: ScheduleFile<R>,

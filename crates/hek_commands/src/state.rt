@@ -22,7 +22,7 @@ pub fn clock_line(alloc: Global, clock: Time) -> Result<Vec<u8>, NoMemory>
     }
 }
 
-/// The versions of a machine, the transactions of its schedule and its locked buckets, a line each.
+/// A line for each version of a machine, each transaction of its schedule and each locked bucket.
 pub fn state_lines(
     alloc: Global,
     schedule: &Schedule,
@@ -55,7 +55,7 @@ fn put_all_buckets(machine: &Machine, lines: &mut Vec<u8>) -> Result<(), NoMemor
     Ok(())
 }
 
-// Writing to a list of bytes fails only where there is no memory.
+// Writing to a list of bytes fails only if there is no memory.
 fn put(written: io::Result<()>) -> Result<(), NoMemory> {
     match written {
         Ok(()) => Ok(()),
@@ -63,7 +63,7 @@ fn put(written: io::Result<()>) -> Result<(), NoMemory> {
     }
 }
 
-/// The line of a version comes behind the lines: its row and what its two words say.
+/// Appends the line of a version: its row and what its two words say.
 pub fn put_version(machine: &Machine, v: VersionId, lines: &mut Vec<u8>) -> Result<(), NoMemory> {
     let index = v.index();
     if let Some(key) = machine.key_of(v) {
@@ -83,7 +83,7 @@ pub fn put_version(machine: &Machine, v: VersionId, lines: &mut Vec<u8>) -> Resu
     put(writeln!(lines))
 }
 
-/// The line of a transaction comes behind the lines: its fields and lists.
+/// Appends the line of a transaction: its fields and lists.
 pub fn put_txn(
     schedule: &Schedule,
     machine: &Machine,
@@ -111,7 +111,7 @@ fn put_name(schedule: &Schedule, t: TxnId, lines: &mut Vec<u8>) -> Result<(), No
     put(write!(lines, "txn {number} {name}: {level}"))
 }
 
-// Where it stands, and the times that it drew.
+// The state of a transaction, and the times that it drew.
 fn put_phase(machine: &Machine, t: TxnId, lines: &mut Vec<u8>) -> Result<(), NoMemory>
     requires { Declared machine.now.txns t }
 {
@@ -121,7 +121,7 @@ fn put_phase(machine: &Machine, t: TxnId, lines: &mut Vec<u8>) -> Result<(), NoM
     put_time("end", machine.end_time(t), lines)
 }
 
-/// Where a transaction stands, as its line says it; of one that has aborted, by which cause.
+/// The state of a transaction, as its line has it; for an aborted one, with the cause.
 pub fn state_text(state: State) -> &'static str {
     match state {
         State::NotBegun => "not begun",
@@ -139,7 +139,7 @@ pub fn state_text(state: State) -> &'static str {
     }
 }
 
-// Drawn times begin at 1.
+// Writes a time, or `none` for 0: drawn times begin at 1.
 fn put_time(label: &str, time: Time, lines: &mut Vec<u8>) -> Result<(), NoMemory> {
     match time.number() {
         0 => put(write!(lines, "; {label} none")),
@@ -162,7 +162,7 @@ fn put_flag(label: &str, is_set: bool, lines: &mut Vec<u8>) -> Result<(), NoMemo
     put(write!(lines, "; {label} {flag}"))
 }
 
-// What it holds: read locks, versions to stamp, bucket locks.
+// What a transaction holds: read locks, versions to stamp, bucket locks.
 fn put_held(machine: &Machine, t: TxnId, lines: &mut Vec<u8>) -> Result<(), NoMemory>
     requires { Declared machine.now.txns t }
 {
@@ -171,7 +171,7 @@ fn put_held(machine: &Machine, t: TxnId, lines: &mut Vec<u8>) -> Result<(), NoMe
     put_buckets(machine.bucket_list(t)?.as_slice(), lines)
 }
 
-// Who waits for it.
+// The transactions that wait for this one, and those that depend on it.
 fn put_others(machine: &Machine, t: TxnId, lines: &mut Vec<u8>) -> Result<(), NoMemory>
     requires { Declared machine.now.txns t }
 {
@@ -223,7 +223,7 @@ fn put_txns(label: &str, txns: &[TxnId], lines: &mut Vec<u8>) -> Result<(), NoMe
     Ok(())
 }
 
-/// The line of a bucket comes behind the lines: its locks and who holds them. A bucket that nobody locks has no line.
+/// Appends the line of a bucket: its LockCount, and the transactions that lock it. A bucket without locks has no line.
 pub fn put_bucket(machine: &Machine, bucket: u64, lines: &mut Vec<u8>) -> Result<(), NoMemory>
     requires { bucket < length machine.now.buckets }
 {

@@ -1,4 +1,4 @@
-//! The command `word`.
+//! The command `word`: what words say as Begin words and as End words.
 use crate::fault::{HekFault, read_fault};
 use crate::input::{INPUT, buffered};
 use crate::release::hex_number;
@@ -6,8 +6,8 @@ use hek_word::{BeginWord, EndWord};
 use std::alloc::Global;
 use std::io::{BufRead, ErrorKind, Read, Write};
 
-/// Decodes words of 16 hexadecimal digits, and in place of `-` those of the input, one a line, and writes a line for
-/// each. The answer is the exit status: 1 if any was not a word.
+/// Decodes words of 16 hexadecimal digits, and in place of `-` those of the input, one on each line. Writes a line for
+/// each. Answers the exit status: 1 if any was not a word.
 pub fn word_command<'a, I: Read + Drop, W: Write>(
     alloc: Global,
     words: &[&'a str],
@@ -32,7 +32,7 @@ pub fn word_command<'a, I: Read + Drop, W: Write>(
     Ok(if are_words { 0 } else { 1 })
 }
 
-/// Decodes each line, without the blanks round it. A line of blanks is passed over.
+/// Decodes each line, without the blanks around it. A blank line is skipped.
 fn word_lines<'a, B: BufRead, W: Write>(
     alloc: Global,
     lines: &mut B,

@@ -1,4 +1,4 @@
--- What commit dependencies change: dependents and their counters change together.
+-- Commit dependencies: dependents and their counters change together.
 -- (Section 2 of the paper: commit dependencies.)
 use Rattle.std.specs.Prelude.{ℕ, ◌+◌, ◌-◌, ◌<◌, List, [], ◌∷◌, if◌then◌else◌}
 use Rattle.hek_rules.specs.declared.event.State.{State}
@@ -9,31 +9,31 @@ use Rattle.hek_rules.specs.World.{Txn, txn_in, set_txn}
 use Rattle.hek_rules.specs.Table.{doom}
 use Rattle.hek_txn.specs.TxnTable.{TxnTable, entry_at, set_at, commit_deps_of, with_commit_deps, dependents_of}
 
--- the counter of t, which comes to depend on u: one more, unless it depends on u already
+-- the CommitDepCounter of t after t depends on u: one more, unless it depended on u before
 abbrev pub depended_deps : TxnTable → ℕ → ℕ → TxnTable
 depended_deps ts t u = if is_among (dependents_of ts u).items t then ts else with_commit_deps ts t (commit_deps_of ts t + 1)
 
--- each of these depends on one transaction less
+-- the counters after each of these transactions depends on one less
 abbrev pub lowered : List ℕ → List ℕ → List ℕ
 lowered commit_deps [] = commit_deps
 lowered commit_deps (x ∷ xs) = lowered (set_at commit_deps x (entry_at 0 commit_deps x - 1)) xs
 
--- each of them depends on something when its turn comes, so that no counter goes below 0
+-- each of these counters is above 0 when it falls
 abbrev pub AreCounted : List ℕ → List ℕ → Type 0
 AreCounted commit_deps [] = Unit {0}
 AreCounted commit_deps (x ∷ xs) = (0 < entry_at 0 commit_deps x) × AreCounted (set_at commit_deps x (entry_at 0 commit_deps x - 1)) xs
 
--- t is in this state from now on
+-- the transactions after t gets this state
 abbrev pub in_state : List Txn → ℕ → State → List Txn
 in_state ts t s = set_txn ts t (record (txn_in ts t) { state = s })
 
--- t has committed, and none depends on it any more
-abbrev pub committed : TxnTable → ℕ → TxnTable
-committed ts t = record ts { cores = in_state ts.cores t Committed; commit_deps = lowered ts.commit_deps (dependents_of ts t).items }
+-- the table after the commit of t: no transaction depends on t
+abbrev pub table_after_commit : TxnTable → ℕ → TxnTable
+table_after_commit ts t = record ts { cores = in_state ts.cores t Committed; commit_deps = lowered ts.commit_deps (dependents_of ts t).items }
 
--- t is aborted, and those that depended on it are to abort too
-abbrev pub aborted : TxnTable → ℕ → Cause → TxnTable
-aborted ts t cause = record ts {
+-- the table after the abort of t: each transaction that depended on t has AbortNow
+abbrev pub table_after_abort : TxnTable → ℕ → Cause → TxnTable
+table_after_abort ts t cause = record ts {
   cores = doom (in_state ts.cores t (Aborted cause)) (dependents_of ts t).items;
   commit_deps = lowered ts.commit_deps (dependents_of ts t).items;
 }

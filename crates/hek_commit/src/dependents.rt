@@ -9,24 +9,24 @@ ghost use Rattle.hek_commit.specs.Committed.{AreCounted, depended_deps, lowered}
 use hek_rules::TxnId;
 use hek_txn::Txns;
 
-/// t depends on u, unless it does so already.
-pub fn depend(txns: &mut Txns, t: TxnId, u: TxnId)
-    requires txn { Declared txns.old t }
-    requires depended { Declared txns.old u }
-    requires room { 0 < (dependents_of txns.old u).room }
-    requires counted { commit_deps_of txns.old t + 1 < 2 ^ 64 }
-    ensures txns { txns.new ≡ with_dependents (depended_deps txns.old t u) u (dependents_of txns.new u) }
-    ensures items { (dependents_of txns.new u).items ≡ joined nat_eq (dependents_of txns.old u).items t }
-    ensures room { (dependents_of txns.old u).room ≤ (dependents_of txns.new u).room + 1 }
+/// `txn` depends on `other`, unless it does already.
+pub fn depend(txns: &mut Txns, txn: TxnId, other: TxnId)
+    requires txn { Declared txns.old txn }
+    requires depended { Declared txns.old other }
+    requires room { 0 < (dependents_of txns.old other).room }
+    requires counted { commit_deps_of txns.old txn + 1 < 2 ^ 64 }
+    ensures txns { txns.new ≡ with_dependents (depended_deps txns.old txn other) other (dependents_of txns.new other) }
+    ensures items { (dependents_of txns.new other).items ≡ joined nat_eq (dependents_of txns.old other).items txn }
+    ensures room { (dependents_of txns.old other).room ≤ (dependents_of txns.new other).room + 1 }
 {
-    if !txns.has_dependent(u, t) {
-        let commit_deps = txns.commit_deps(t);
-        txns.set_commit_deps(t, commit_deps + 1);
+    if !txns.has_dependent(other, txn) {
+        let commit_deps = txns.commit_deps(txn);
+        txns.set_commit_deps(txn, commit_deps + 1);
     }
-    txns.push_dependent(u, t);
+    txns.push_dependent(other, txn);
 }
 
-/// Each that depends on t depends on one transaction less.
+/// Each transaction that depends on t depends on one less.
 pub(crate) fn lower_dependents(txns: &mut Txns, t: TxnId)
     requires txn { Declared txns.old t }
     requires dependents { All (λ x. Declared txns.old x) (dependents_of txns.old t).items }
@@ -40,7 +40,7 @@ pub(crate) fn lower_dependents(txns: &mut Txns, t: TxnId)
     }
 }
 
-/// Each that depends on t is to abort: AbortNow.
+/// Sets AbortNow of each transaction that depends on t.
 pub(crate) fn doom_dependents(txns: &mut Txns, t: TxnId)
     requires txn { Declared txns.old t }
     requires dependents { All (λ x. Declared txns.old x) (dependents_of txns.old t).items }

@@ -1,5 +1,5 @@
-//! The phases of a transaction after its reads and writes: commit dependencies, precommit, commit, abort, stamps, end. No
-//! call takes memory: room in a transaction's lists is reserved before.
+//! The phases of a transaction after its reads and writes: commit dependencies, precommit, commit, abort, stamps, end.
+//! No call takes memory: callers reserve room in a transaction's lists before.
 #![tactic(auto)]
 
 mod dependents;

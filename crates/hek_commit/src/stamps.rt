@@ -1,5 +1,5 @@
-//! Stamps (section 2 of the paper: postprocessing): a transaction that is committed or aborted takes its ID out of the
-//! words that it wrote, one entry of its write set at a time.
+//! Stamps (section 2 of the paper: postprocessing): a committed or aborted transaction takes its ID out of the words
+//! that it wrote, one entry of its write set at a time.
 ghost use Rattle.std.specs.Prelude.{◌≡◌, ◌<◌, ◌≤◌, length, slice_get};
 ghost use Rattle.hek_rules.specs.Words.{IsTime};
 ghost use Rattle.hek_rules.specs.World.{txn_in};
@@ -21,7 +21,7 @@ fn is_written_by(t: TxnId, word: EndWord) -> bool
     word.writer() == Some(t)
 }
 
-/// The end time of a committed transaction replaces it in the word.
+/// The end time of a committed transaction replaces its ID in the word of an entry.
 fn stamp_committed(store: &mut Store, end: Time, entry: WriteEntry) -> Reply
     requires time { IsTime end }
     requires version { version_of entry < length store.old.versions }
@@ -40,7 +40,7 @@ fn stamp_committed(store: &mut Store, end: Time, entry: WriteEntry) -> Reply
     }
 }
 
-/// A version of an aborted transaction never begins. Where it is still the writer, it is so no more.
+/// A version that an aborted transaction made never begins. A word that it still writes gets rid of its ID.
 fn stamp_aborted(store: &mut Store, txns: &mut Txns, t: TxnId, entry: WriteEntry) -> Reply
     requires version { version_of entry < length store.old.versions }
     requires counted { CanFree txns.old (version_at store.old (version_of entry)).end }
@@ -64,26 +64,26 @@ fn stamp_aborted(store: &mut Store, txns: &mut Txns, t: TxnId, entry: WriteEntry
     }
 }
 
-/// Stamps the first entry of the write set of t, which is committed or aborted, and takes it out of the set. The answer
-/// is Nothing where the set is empty, and Left where another transaction has taken the word over since t was aborted.
-pub fn stamp_next(store: &mut Store, txns: &mut Txns, t: TxnId) -> Reply
-    requires txn { Declared txns.old t }
-    requires end { IsTime (txn_in txns.old.cores t).end }
-    requires entry { CanStamp store.old txns.old (slice_get (write_set_of txns.old t).items 0) }
-    ensures store { store.new ≡ stamped_store store.old txns.old.cores t (slice_get (write_set_of txns.old t).items 0) }
-    ensures txns { txns.new ≡ with_write_set (stamped_txns store.old txns.old t (slice_get (write_set_of txns.old t).items 0)) t (write_set_of txns.new t) }
-    ensures writes { (write_set_of txns.new t).items ≡ rest_of (write_set_of txns.old t).items }
-    ensures room { (write_set_of txns.old t).room ≤ (write_set_of txns.new t).room }
-    ensures reply { result ≡ stamp_reply store.old txns.old.cores t (slice_get (write_set_of txns.old t).items 0) }
+/// Stamps the first entry of the write set of `txn`, which is Committed or Aborted, and takes the entry out of the set.
+/// Returns Nothing if the set is empty, and Left if another transaction has taken the word over from an aborted `txn`.
+pub fn stamp_next(store: &mut Store, txns: &mut Txns, txn: TxnId) -> Reply
+    requires txn { Declared txns.old txn }
+    requires end { IsTime (txn_in txns.old.cores txn).end }
+    requires entry { CanStamp store.old txns.old (slice_get (write_set_of txns.old txn).items 0) }
+    ensures store { store.new ≡ stamped_store store.old txns.old.cores txn (slice_get (write_set_of txns.old txn).items 0) }
+    ensures txns { txns.new ≡ with_write_set (stamped_txns store.old txns.old txn (slice_get (write_set_of txns.old txn).items 0)) txn (write_set_of txns.new txn) }
+    ensures writes { (write_set_of txns.new txn).items ≡ rest_of (write_set_of txns.old txn).items }
+    ensures room { (write_set_of txns.old txn).room ≤ (write_set_of txns.new txn).room }
+    ensures reply { result ≡ stamp_reply store.old txns.old.cores txn (slice_get (write_set_of txns.old txn).items 0) }
 {
-    let Some(entry) = txns.first_write(t) else {
+    let Some(entry) = txns.first_write(txn) else {
         return Reply::Nothing;
     };
     let stamped = entry;
-    txns.remove_write(t, stamped);
-    if txns.state(t) == State::Committed {
-        stamp_committed(store, txns.end_time(t), entry)
+    txns.remove_write(txn, stamped);
+    if txns.state(txn) == State::Committed {
+        stamp_committed(store, txns.end_time(txn), entry)
     } else {
-        stamp_aborted(store, txns, t, entry)
+        stamp_aborted(store, txns, txn, entry)
     }
 }

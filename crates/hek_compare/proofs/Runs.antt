@@ -1,4 +1,4 @@
--- The steps of a schedule with their replies, one more at a time.
+-- The steps of a schedule with their replies, one at a time.
 use Rattle.std.proofs.Common.{◌≡◌, ℕ, zero, suc, ◌+◌, ◌<◌, List, [], ◌∷◌, ◌++◌, ◌∙◌, ap, arith, length, take, get_or}
 use Rattle.std.specs.List.{zip}
 use Rattle.hek_rules.specs.declared.event.Event.{Event}

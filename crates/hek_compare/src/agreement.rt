@@ -1,10 +1,10 @@
-//! The checker beside the plain one.
+//! The checker compared with the plain one.
 use hek_plain::plain_check;
 use hek_rules::{NoMemory, Pairs, Reply, Schedule, Time, Transcript};
 use hek_serial::check;
 use std::alloc::Global;
 
-/// So many replies of a run are changed, each alone: all of a short one.
+/// How many replies of a run are changed at most, one at a time. In a shorter run each reply is.
 const CHANGES: usize = 32;
 
 /// Whether both checkers give a transcript the same verdict.
@@ -12,7 +12,8 @@ fn agree(alloc: Global, transcript: &Transcript) -> Result<bool, NoMemory> {
     Ok(check(alloc, transcript)? == plain_check(alloc, transcript)?)
 }
 
-/// Whether they agree on the steps of a schedule with these replies, and on the same with one reply changed, here and there.
+/// Whether both checkers agree on the steps of a schedule with these replies, and again with one reply changed, for up
+/// to `CHANGES` replies.
 pub fn checkers_agree(
     alloc: Global,
     schedule: &Schedule,
@@ -28,8 +29,8 @@ pub fn checkers_agree(
     Ok(true)
 }
 
-/// The steps of a schedule with these replies, where the one at a place, if there is one, is another: of a value that was
-/// found, one more.
+/// The steps of a schedule with these replies. The one at `place`, if there is one, is replaced: a value that was
+/// found, by the next value.
 pub fn changed_at(
     alloc: Global,
     schedule: &Schedule,
@@ -50,7 +51,7 @@ pub fn changed_at(
     Ok(transcript)
 }
 
-/// Another reply.
+/// The reply that is tried in place of this one.
 fn another(alloc: Global, reply: &Reply) -> Result<Reply, NoMemory> {
     Ok(match reply {
         Reply::Found(value) => Reply::Found(value.wrapping_add(1)),
@@ -65,7 +66,7 @@ fn another(alloc: Global, reply: &Reply) -> Result<Reply, NoMemory> {
     })
 }
 
-/// The pairs with other values, or one where there is none.
+/// These pairs with other values; one pair if there is none.
 fn other_pairs(alloc: Global, pairs: &Pairs) -> Result<Pairs, NoMemory> {
     let mut others = Vec::new(alloc);
     for pair in pairs.items() {

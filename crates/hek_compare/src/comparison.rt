@@ -1,4 +1,4 @@
-//! A vector beside what is stored of it.
+//! A vector compared with what is stored of it.
 ghost use Rattle.std.specs.Prelude.{◌≡◌, ◌↔◌, length, IfOk, IsTrue};
 ghost use Rattle.hek_asm.specs.Trace.{trace};
 ghost use Rattle.hek_machine.specs.Steps.{recorded_of};
@@ -16,24 +16,24 @@ use hek_serial::check;
 use std::alloc::Global;
 use thiserror::Error;
 
-/// In what a vector first differs from what is stored of it.
+/// The first difference between a vector and what is stored of it.
 #[derive(Clone, Copy, Debug, PartialEq, Eq, Error)]
 pub enum Difference {
     #[error("the number of steps differs")]
     Steps,
     #[error("the image differs")]
     Image,
-    /// The schedule that the stored image is isn't that of the text.
+    /// The stored image gives another schedule than the text.
     #[error("the schedule of the image differs")]
     Schedule,
     #[error("the trace differs")]
     Trace,
     #[error("the verdict differs")]
     Verdict,
-    /// That of the trace with a value raised.
+    /// The verdict on the trace with one value raised differs.
     #[error("the verdict on the raised trace differs")]
     Raised,
-    /// The checker and the plain one, on that trace or on it with a reply changed.
+    /// The verdicts of the checker and the plain one differ, on the trace or on the trace with one reply changed.
     #[error("the verdicts of two checkers differ")]
     Checkers,
 }
@@ -59,25 +59,25 @@ pub fn compare(
     compare_run(alloc, &schedule, stored.trace.as_slice(), summary)
 }
 
-/// Where the version of an image stands: its low byte.
+/// The offset of an image's version: its low byte.
 const VERSION_AT: usize = 5;
 
-/// Whether these bytes are the image of a schedule, of version 2 as it is written, or of version 1, which differs in the
-/// version alone.
+/// Whether these bytes are an image of a schedule: of version 2, as images are written, or of version 1, which differs
+/// in the version alone.
 fn is_image_of(alloc: Global, bytes: &[u8], schedule: &Schedule) -> Result<bool, WriteFault> {
     let mut sink = MemorySink::new(alloc, usize::MAX, usize::MAX);
     write_image(schedule, &mut sink)?;
     Ok(sink.bytes() == bytes || is_older(bytes, sink.bytes()))
 }
 
-/// Whether an image of version 1 is the other one but for the version.
+/// Whether an image is of version 1 and otherwise equal to the newer one.
 fn is_older(bytes: &[u8], newer: &[u8]) -> bool {
     bytes.get(VERSION_AT) == Some(&1)
         && bytes.get(..VERSION_AT) == newer.get(..VERSION_AT)
         && bytes.get(VERSION_AT + 1..) == newer.get(VERSION_AT + 1..)
 }
 
-/// Whether a schedule is loaded from these bytes whose canonical text is that of this one. They come a few at a time.
+/// Whether these bytes load, a few at a time, as a schedule with the same canonical text as this one.
 fn loads_as(alloc: Global, bytes: &[u8], schedule: &Schedule) -> Result<bool, Fault> {
     let mut source = MemorySource::new(bytes, 61, Ending::Ends);
     let loaded = load_image(alloc, &mut source)?;
@@ -110,7 +110,7 @@ fn compare_run(
     Ok(None)
 }
 
-/// Whether the checker says what is stored of the steps with the reply of a line raised, if that is stored.
+/// Whether the checker gives the stored verdict on the steps with one reply raised, if that verdict is stored.
 fn is_judged_raised(
     alloc: Global,
     schedule: &Schedule,

@@ -1,4 +1,4 @@
-//! Why a stored run can't be compared, or the phases of a run can't be timed.
+//! Why a stored run cannot be compared, or the phases of a run cannot be timed.
 use hek_asm::{AsmFault, TraceFault};
 use hek_image::LoadFault;
 use hek_rules::{NoMemory, WriteFault};
@@ -6,7 +6,7 @@ use std::alloc::{AllocError, AllocFailed};
 use std::io;
 use thiserror::Error;
 
-/// Why what a program has read can't be compared or timed.
+/// Why something that a program has read cannot be compared or timed.
 #[derive(Debug, Drop, Error)]
 pub enum Fault {
     #[error("{0}")]
@@ -17,7 +17,7 @@ pub enum Fault {
     Image(LoadFault),
     #[error("trace: {0}")]
     Trace(TraceFault),
-    /// A line of SUMMARY, by its number.
+    /// A faulty line of SUMMARY, by its number.
     #[error("SUMMARY: line {0}")]
     Summary(usize),
     #[error("{0}")]
@@ -56,7 +56,7 @@ impl From<NoMemory> for Fault {
     }
 }
 
-// A sink of memory fails only where memory is refused.
+// A sink in memory fails only if it gets no memory.
 impl From<WriteFault> for Fault {
     fn from(_error: WriteFault) -> Fault {
         Fault::NoMemory

@@ -2,15 +2,16 @@
 use hek_rules::Verdict;
 use std::fmt;
 
-/// A line of a trace, from 1, and what the checker says of the trace where the value found there is one more.
+/// The number of a trace's line, from 1, and the checker's verdict on the trace with the value found in that line
+/// raised by one.
 #[derive(Clone, Copy, Debug, PartialEq, Eq)]
 pub struct Raised {
     pub line: usize,
     pub verdict: Verdict,
 }
 
-/// A line of SUMMARY: the vector's name, its number of steps, what the checker says of its trace, and for some also what it
-/// says of the trace with one value raised.
+/// A line of SUMMARY: the vector's name, its number of steps, the checker's verdict on its trace, and for some vectors
+/// also the verdict on the trace with one value raised.
 #[derive(Clone, Copy, Debug, PartialEq, Eq)]
 pub struct Summary<'a> {
     pub name: &'a str,
@@ -20,8 +21,8 @@ pub struct Summary<'a> {
 }
 
 impl<'a> Summary<'a> {
-    /// The line `NAME STEPS VERDICT`, or `NAME STEPS VERDICT; line LINE raised by one: VERDICT`. A verdict is `serial` or
-    /// `not serial PLACE`.
+    /// The line `NAME STEPS VERDICT`, or `NAME STEPS VERDICT; line LINE raised by one: VERDICT`. A verdict is `serial`
+    /// or `not serial PLACE`.
     pub fn read(line: &'a str) -> Option<Summary<'a>> {
         let (name, rest) = line.split_once(' ')?;
         let (steps, verdicts) = rest.split_once(' ')?;
@@ -83,7 +84,7 @@ fn read_verdict(text: &str) -> Option<Verdict> {
     Some(Verdict::NotSerial(place.parse().ok()?))
 }
 
-/// The files of a vector: the schedule's text, the trace of its steps, and its image where there is one.
+/// The files of a vector: the schedule's text, the trace of its steps, and its image if there is one.
 #[derive(Drop)]
 pub struct Stored {
     pub text: String,

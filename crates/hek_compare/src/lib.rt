@@ -1,5 +1,5 @@
-//! Stored runs: a schedule assembled, run and checked, beside what is stored of it. The checker is compared with a plain
-//! one that shares no code with it.
+//! Stored runs: a schedule is assembled, run and checked, and compared with what is stored of it. The checker is
+//! compared with a plain one that shares no code with it.
 #![tactic(auto)]
 
 mod agreement;

@@ -12,11 +12,11 @@ use Rattle.hek_store.specs.Stored.{Stored}
 use Rattle.hek_txn.specs.TxnTable.{TxnTable}
 use Rattle.hek_deadlock.specs.Edges.{is_node, is_edge}
 use Rattle.hek_deadlock.specs.Places.{id_at, AreOfPlaces}
-use Rattle.hek_deadlock.specs.Rows.{waits, row_in, IsInRange}
+use Rattle.hek_deadlock.specs.Rows.{waits_by_rows, row_in, IsInRange}
 use Rattle.hek_deadlock.proofs.Marks.{waits-row}
 use Rattle.hek_deadlock.proofs.Ready.{among_below}
 
--- who waits is a node, and so is whom it waits for
+-- both ends of an edge are nodes
 pub first_of : (a b c d : Bool) → (a && b && c && d) ≡ true → a ≡ true
 first_of true b c d e = refl
 first_of false b c d e = cc
@@ -34,7 +34,7 @@ pub edge_to : (s : Stored) (x : TxnTable) (u t : ℕ) → is_edge s x u t ≡ tr
 unfolding is_edge
 edge_to s x u t e = second_of (is_node x u) (is_node x t) _ _ e
 
--- no waiter is past the last transaction
+-- an ID past the last transaction is not a node
 past_is_none : (ts : List Txn) (i : ℕ) → slice_get ts i ≡ None → is_active (txn_in ts (suc i)).state ≡ false
 past_is_none ts i e = rw e refl
 
@@ -52,7 +52,7 @@ node_below x u e = active_below x.cores u (and_parts _ _ (and_parts _ _ e).0).0
 pub among_at : (xs : List ℕ) (i d : ℕ) → i < length xs → is_among xs (get_or xs i d) ≡ true
 among_at xs i d lt = list_any_at (λ (m : ℕ). eqb m (get_or xs i d)) xs i d lt (eq-eqb (get_or xs i d) (get_or xs i d) refl)
 
--- a row of places: those of the numbers that wait for the one at place j
+-- the row of place j: the places of the numbers that wait for the number there
 pub record IsRow (edge : ℕ → ℕ → Bool) (ids : List ℕ) (j : ℕ) (row : List ℕ) : Type 0 where
   pub range : All (λ i. i < length ids) row
   pub edges : (i : ℕ) → i < length ids → is_among row i ≡ edge (id_at ids i) (id_at ids j)
@@ -98,19 +98,19 @@ rows_done edge ids rows long are = record {
   edges = λ i j li lj. at i j li (omega (arith, lj, long)) (slice_get rows j) refl;
 }
   where
-    at : (i j : ℕ) → i < length ids → j < length rows → (o : Option (Vec ℕ Global)) → slice_get rows j ≡ o → waits rows i j ≡ edge (id_at ids i) (id_at ids j)
+    at : (i j : ℕ) → i < length ids → j < length rows → (o : Option (Vec ℕ Global)) → slice_get rows j ≡ o → waits_by_rows rows i j ≡ edge (id_at ids i) (id_at ids j)
     at i j li lj (Some row) e = waits-row rows j i row e ∙ (are.each j row e).edges i li
     at i j li lj None e = absurd (within_none rows j lj e)
 
--- only places wait, and for places
-pub rows_join : (rows : List (Vec ℕ Global)) (n : ℕ) → length rows ≡ n → IsInRange rows → JoinsBelow (waits rows) n
-unfolding waits
-rows_join rows n long range = subst (λ (m : ℕ). JoinsBelow (waits rows) m) long (record {
+-- edges between rows join places
+pub rows_join : (rows : List (Vec ℕ Global)) (n : ℕ) → length rows ≡ n → IsInRange rows → JoinsBelow (waits_by_rows rows) n
+unfolding waits_by_rows
+rows_join rows n long range = subst (λ (m : ℕ). JoinsBelow (waits_by_rows rows) m) long (record {
   from = λ u t e. (at u t e (slice_get rows t) refl).0;
   to = λ u t e. (at u t e (slice_get rows t) refl).1;
 })
   where
-    at : (u t : ℕ) → waits rows u t ≡ true → (o : Option (Vec ℕ Global)) → slice_get rows t ≡ o → (u < length rows) × (t < length rows)
+    at : (u t : ℕ) → waits_by_rows rows u t ≡ true → (o : Option (Vec ℕ Global)) → slice_get rows t ≡ o → (u < length rows) × (t < length rows)
     at u t k (Some row) e =
         let lt : t < length rows = slice_get-within rows t row e in
         let below : All (λ x. x < length rows) row.items = subst (λ (r : Vec ℕ Global). All (λ x. x < length rows) r.items) (get_or-slice_get rows t row e) (range t row lt) in

@@ -1,4 +1,4 @@
--- Fewer than two nodes: none waits for another, and there is no victim.
+-- Fewer than two nodes have no edge between them, and there is no victim.
 use Rattle.std.proofs.Common.{ℕ, ◌≡◌, ◌+◌, ◌<◌, Bool, true, false, not, ◌&&◌, eqb, List, [], ◌∷◌, length, None, sym, ap, ◌∙◌, arith}
 use Rattle.std.proofs.lemmas.Bool.{eq-eqb}
 use Rattle.hek_rules.specs.Cycles.{IsClosedWalk}
@@ -12,7 +12,7 @@ use Rattle.hek_deadlock.proofs.GraphRows.{edge_from, edge_to}
 use Rattle.hek_deadlock.proofs.Placed.{IsPlace, place_of}
 use Rattle.hek_deadlock.proofs.Waiting.{joins}
 
--- all the nodes, fewer than two
+-- all nodes, which are fewer than two
 pub record AreLone (x : TxnTable) (ids : List ℕ) : Type 0 where
   pub nodes : (u : ℕ) → is_among ids u ≡ is_node x u
   pub few : length ids < 2
@@ -29,7 +29,7 @@ only_one ids few u t has_u has_t =
 third_fails : (a b c d : Bool) → c ≡ true → (a && b && not c && d) ≡ false
 third_fails a b c d e = grind arith
 
--- none waits for itself
+-- no transaction waits for itself
 edge_to_itself : (s : Stored) (x : TxnTable) (u t : ℕ) → u ≡ t → is_edge s x u t ≡ false
 unfolding is_edge
 edge_to_itself s x u t same = third_fails (is_node x u) (is_node x t) (eqb u t) _ (eq-eqb u t same)

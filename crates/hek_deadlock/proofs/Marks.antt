@@ -1,9 +1,9 @@
--- One more of a row is marked.
+-- One more member of a row is marked.
 use Rattle.std.proofs.Common.{ℕ, zero, suc, ◌≡◌, ◌+◌, ◌<◌, Bool, true, false, ◌&&◌, ◌||◌, not, is_some, eqb, List, [], ◌∷◌, ◌++◌, length, get_or, set, take, slice_get, Vec, Global, Option, Some, None, refl, sym, ap, ◌∙◌, subst, inl, inr, get_or-set_other, get_or-set_same}
 use Rattle.std.proofs.lemmas.Bool.{cases_eq, ne_eqb, eq-eqb}
 use Rattle.std.proofs.lemmas.List.Folds.{list_any_more, list_any-append}
 use Rattle.hek_rules.specs.Listing.{is_among}
-use Rattle.hek_deadlock.specs.Rows.{row_in, waits, reaches, level_at, marked, is_unmarked}
+use Rattle.hek_deadlock.specs.Rows.{row_in, waits_by_rows, reaches, level_at, marked, is_unmarked}
 
 marked_hit : (b : Bool) (level : ℕ) (o : Option ℕ) → marked b level o ≡ None → marked (b || true) level o ≡ Some level
 marked_hit b level (Some m) e = cc
@@ -22,7 +22,7 @@ or_false false = refl
 pub among_more : (row : List ℕ) (i y x : ℕ) → i < length row → y ≡ get_or row i 0 → is_among (take (i + 1) row) x ≡ (is_among (take i row) x || eqb y x)
 among_more row i y x lt e = list_any_more (λ (y : ℕ). eqb y x) row i 0 lt ∙ ap (λ (v : ℕ). is_among (take i row) x || eqb v x) (sym e)
 
--- the levels, where y had none
+-- the levels after a member y that had none
 pub levels_unmarked : (row : List ℕ) (old cur : List (Option ℕ)) (i y x level : ℕ) → i < length row → y ≡ get_or row i 0 → y < length cur → level_at cur y ≡ None → level_at cur x ≡ marked (is_among (take i row) x) level (level_at old x) → level_at (set cur y (Some level)) x ≡ marked (is_among (take (i + 1) row) x) level (level_at old x)
 levels_unmarked row old cur i y x level lt e within none inv =
     elim (cases_eq y x) [
@@ -36,7 +36,7 @@ levels_unmarked row old cur i y x level lt e within none inv =
           (get_or-set_other cur y x (Some level) None ne' ∙ inv)
     ]
 
--- the levels, where y had one
+-- the levels after a member y that had one
 pub levels_marked : (row : List ℕ) (old cur : List (Option ℕ)) (i y x m level : ℕ) → i < length row → y ≡ get_or row i 0 → level_at cur y ≡ Some m → level_at cur x ≡ marked (is_among (take i row) x) level (level_at old x) → level_at cur x ≡ marked (is_among (take (i + 1) row) x) level (level_at old x)
 levels_marked row old cur i y x m level lt e some inv =
     elim (cases_eq y x) [
@@ -66,7 +66,7 @@ again q false level m None e = cc
 pub among_push : (xs : List ℕ) (y x : ℕ) → is_among (xs ++ y ∷ []) x ≡ (is_among xs x || eqb y x)
 among_push xs y x = list_any-append (λ (v : ℕ). eqb v x) xs (y ∷ []) ∙ ap (λ (b : Bool). is_among xs x || b) (or_false (eqb y x))
 
--- who was added, where y had no level
+-- the members added after a member y that had no level
 pub next_unmarked : (row next0 next : List ℕ) (old cur : List (Option ℕ)) (i y x level : ℕ) → i < length row → y ≡ get_or row i 0 → level_at cur y ≡ None → level_at cur y ≡ marked (is_among (take i row) y) level (level_at old y) → is_among next x ≡ (is_among next0 x || (is_among (take i row) x && is_unmarked (level_at old x))) → is_among (next ++ y ∷ []) x ≡ (is_among next0 x || (is_among (take (i + 1) row) x && is_unmarked (level_at old x)))
 next_unmarked row next0 next old cur i y x level lt e none levels inv =
     elim (cases_eq y x) [
@@ -78,7 +78,7 @@ next_unmarked row next0 next old cur i y x level lt e none levels inv =
           rw (among_push next y x, among_more row i y x lt e, ne_eqb y x ne, or_false (is_among next x), or_false (is_among (take i row) x)) inv
     ]
 
--- who was added, where y had one
+-- the members added after a member y that had a level
 pub next_marked : (row next0 next : List ℕ) (old cur : List (Option ℕ)) (i y x m level : ℕ) → i < length row → y ≡ get_or row i 0 → level_at cur y ≡ Some m → level_at cur y ≡ marked (is_among (take i row) y) level (level_at old y) → is_among next x ≡ (is_among next0 x || (is_among (take i row) x && is_unmarked (level_at old x))) → is_among next x ≡ (is_among next0 x || (is_among (take (i + 1) row) x && is_unmarked (level_at old x)))
 next_marked row next0 next old cur i y x m level lt e some levels inv =
     elim (cases_eq y x) [
@@ -113,15 +113,15 @@ unmarked_twice true false level None = refl
 unmarked_twice false true level None = refl
 unmarked_twice false false level None = refl
 
-reaches-more : (rows : List (Vec ℕ Global)) (ys : List ℕ) (i x : ℕ) → i < length ys → reaches rows (take (i + 1) ys) x ≡ (reaches rows (take i ys) x || waits rows x (get_or ys i 0))
+reaches-more : (rows : List (Vec ℕ Global)) (ys : List ℕ) (i x : ℕ) → i < length ys → reaches rows (take (i + 1) ys) x ≡ (reaches rows (take i ys) x || waits_by_rows rows x (get_or ys i 0))
 unfolding reaches
-reaches-more rows ys i x lt = list_any_more (λ (y : ℕ). waits rows x y) ys i 0 lt
+reaches-more rows ys i x lt = list_any_more (λ (y : ℕ). waits_by_rows rows x y) ys i 0 lt
 
-pub waits-row : (rows : List (Vec ℕ Global)) (y x : ℕ) (row : Vec ℕ Global) → slice_get rows y ≡ Some row → waits rows x y ≡ is_among row.items x
-unfolding waits
+pub waits-row : (rows : List (Vec ℕ Global)) (y x : ℕ) (row : Vec ℕ Global) → slice_get rows y ≡ Some row → waits_by_rows rows x y ≡ is_among row.items x
+unfolding waits_by_rows
 waits-row rows y x row e = ap (λ (o : Option (Vec ℕ Global)). is_among (row_in o) x) e
 
--- one more of the frontier
+-- the levels after one more number of the frontier
 pub levels_reached : (rows : List (Vec ℕ Global)) (row : Vec ℕ Global) (ys : List ℕ) (old cur new : Option ℕ) (i x level : ℕ) → i < length ys → slice_get rows (get_or ys i 0) ≡ Some row → cur ≡ marked (reaches rows (take i ys) x) level old → new ≡ marked (is_among row.items x) level cur → new ≡ marked (reaches rows (take (i + 1) ys) x) level old
 levels_reached rows row ys old cur new i x level lt e inv step =
     step

@@ -1,4 +1,4 @@
--- The victim among places is that among the numbers at these places.
+-- The victim among places is the victim among the numbers at these places.
 use Rattle.std.proofs.Common.{ℕ, suc, ◌≡◌, ◌<◌, ◌≤◌, ◌||◌, Bool, true, false, eqb, List, [], ◌∷◌, ◌++◌, length, map, Some, None, refl, sym, ap, ◌∙◌, subst, inl, inr, arith}
 use Rattle.std.proofs.lemmas.Bool.{cases_Bool, cases_lt, eqb-true}
 use Rattle.std.proofs.lemmas.List.{length-map}
@@ -12,7 +12,7 @@ pub record IsPlace (ids : List ℕ) (u i : ℕ) : Type 0 where
   pub within : i < length ids
   pub is : id_at ids i ≡ u
 
--- whoever is in the list has a place there
+-- a number in the list has a place there
 pub place_of : (ids : List ℕ) (u : ℕ) → is_among ids u ≡ true → (i : ℕ) × IsPlace ids u i
 place_of [] u e = cc
 place_of (x ∷ xs) u e =
@@ -28,7 +28,7 @@ place_of (x ∷ xs) u e =
     rest_of true b e k = cc
     rest_of false b e k = k
 
--- order is kept both ways
+-- places and the numbers there have the same order
 pub kept : (ids : List ℕ) → IsRising ids → (i j : ℕ) → i ≤ j → j < length ids → id_at ids i ≤ id_at ids j
 kept ids r i j le lt =
     elim (cases_lt i j) [
@@ -50,7 +50,7 @@ same_place ids r i j li lj e =
           ]
     ]
 
--- edges between places, and those between the numbers there
+-- the edges between places are those between the numbers there
 pub record IsPlaced (edge small : ℕ → ℕ → Bool) (ids : List ℕ) : Type 0 where
   pub rising : IsRising ids
   pub from : (u t : ℕ) → edge u t ≡ true → is_among ids u ≡ true
@@ -86,7 +86,7 @@ pub closed_below : (small : ℕ → ℕ → Bool) (n : ℕ) → JoinsBelow small
 closed_below small n j u [] c = tt
 closed_below small n j u (x ∷ ys) c = (starts_below small n j x ys u c.1, follows_below small n j x ys u c.1)
 
--- the places of a walk between numbers
+-- the places of a walk between numbers are a walk
 record IsLowered (small : ℕ → ℕ → Bool) (ids : List ℕ) (x : ℕ) (ys : List ℕ) (t : ℕ) (zs : List ℕ) : Type 0 where
   follows : Follows small x (zs ++ t ∷ [])
   image : map (id_at ids) zs ≡ ys
@@ -108,7 +108,7 @@ ends_among : (edge small : ℕ → ℕ → Bool) (ids : List ℕ) → IsPlaced e
 ends_among edge small ids p x [] t f = p.to x t f.0
 ends_among edge small ids p x (y ∷ ys) t f = ends_among edge small ids p y ys t f.1
 
--- a closed walk between numbers is that of places
+-- the places of a closed walk between numbers are a closed walk
 record HasPlaces (small : ℕ → ℕ → Bool) (ids : List ℕ) (v : ℕ) (walk : List ℕ) (i : ℕ) (zs : List ℕ) : Type 0 where
   place : IsPlace ids v i
   closed : IsClosedWalk small i zs
@@ -131,7 +131,7 @@ lowered_closed edge small ids p v (x ∷ ys) c =
       },
     )
 
--- a walk back to the number at place u, as one back to u
+-- a closed walk from the number at place u has a closed walk of places from u
 lowered_at : (edge small : ℕ → ℕ → Bool) (ids : List ℕ) → IsPlaced edge small ids → (u : ℕ) → u < length ids → (walk : List ℕ) → IsClosedWalk edge (id_at ids u) walk → (zs : List ℕ) × HasPlaces small ids (id_at ids u) walk u zs
 lowered_at edge small ids p u lt walk c =
     let l : (i : ℕ) × (zs : List ℕ) × HasPlaces small ids (id_at ids u) walk i zs = lowered_closed edge small ids p (id_at ids u) walk c in
@@ -191,7 +191,7 @@ pub record HaveVictimPlaces (ids : List ℕ) (u : ℕ) (cycle : List ℕ) : Type
   pub first : u < length ids
   pub members : AreBelow (length ids) cycle
 
--- an answer names places
+-- the victim and its cycle are places
 pub victim_places : (small : ℕ → ℕ → Bool) (ids : List ℕ) → JoinsBelow small (length ids) → (u : ℕ) (cycle : List ℕ) → victim_of small (length ids) ≡ Some (u, cycle) → HaveVictimPlaces ids u cycle
 victim_places small ids j u cycle e =
     let v : IsVictim small u cycle = victim_found small (length ids) j u cycle e in

@@ -1,20 +1,20 @@
--- Level by level, each number gets its fewest members in between.
+-- Level by level, each number gets the fewest members between it and the target.
 use Rattle.std.proofs.Common.{ℕ, zero, suc, ◌≡◌, ◌+◌, ◌-◌, ◌<◌, ◌≤◌, Bool, true, false, ◌&&◌, ◌||◌, cond, eqb, List, [], ◌∷◌, length, get_or, Vec, Global, Option, Some, None, refl, sym, ap, ◌∙◌, subst, inl, inr, arith, add-one}
 use Rattle.std.specs.List.{list_any, All}
 use Rattle.std.proofs.lemmas.Bool.{both_ways, and_parts, and_from, or_cases, or_left, or_right, eqb-true, eq-eqb}
 use Rattle.std.specs.Option.{option_or}
 use Rattle.hek_rules.specs.Victim.{least, leads, fewest}
 use Rattle.hek_rules.specs.Listing.{is_among}
-use Rattle.hek_deadlock.specs.Rows.{waits, reaches, marked, is_unmarked}
+use Rattle.hek_deadlock.specs.Rows.{waits_by_rows, reaches, marked, is_unmarked}
 use Rattle.std.proofs.lemmas.List.Elements.{All-nil}
 use Rattle.hek_deadlock.proofs.Marks.{none_reached, marked_by_none}
 use Rattle.hek_rules.proofs.Least.{IsLeast, IsLeast-least, least_none}
 use Rattle.hek_rules.proofs.Leads.{Next, leads_next, leads_from}
 
--- who waits for the frontier gets level k
+-- the numbers that wait for the frontier are those that get level k
 abbrev pub IsReady : List (Vec ℕ Global) → ℕ → ℕ → List ℕ → Type 0
 IsReady rows t k frontier =
-    (x : ℕ) → x < length rows → marked (reaches rows frontier x) k (fewest (waits rows) (length rows) t k x) ≡ fewest (waits rows) (length rows) t (k + 1) x
+    (x : ℕ) → x < length rows → marked (reaches rows frontier x) k (fewest (waits_by_rows rows) (length rows) t k x) ≡ fewest (waits_by_rows rows) (length rows) t (k + 1) x
 
 pub fewest-zero : (edge : ℕ → ℕ → Bool) (n t x : ℕ) → fewest edge n t 0 x ≡ None
 unfolding fewest least
@@ -30,7 +30,7 @@ or_false false = refl
 
 pub ready_first : (rows : List (Vec ℕ Global)) (t : ℕ) → IsReady rows t 0 (t ∷ [])
 unfolding reaches fewest least leads
-ready_first rows t x lt = ap (λ (b : Bool). marked b 0 None) (or_false (waits rows x t))
+ready_first rows t x lt = ap (λ (b : Bool). marked b 0 None) (or_false (waits_by_rows rows x t))
 
 same_bool : (a b : Bool) → (a ≡ true → b ≡ true) → (b ≡ true → a ≡ true) → a ≡ b
 same_bool true b f g = sym (f refl)
@@ -88,31 +88,31 @@ new_hit false b k (Some m) on none e = cc
 new_hit false true k None on none e = cc
 new_hit false false k None on none e = cc
 
--- the step in the form of the recursion
-step_at : (rows : List (Vec ℕ Global)) (t k : ℕ) (frontier : List ℕ) → IsReady rows t k frontier → (x : ℕ) → x < length rows → marked (reaches rows frontier x) k (fewest (waits rows) (length rows) t k x) ≡ option_or (fewest (waits rows) (length rows) t k x) (cond (leads (waits rows) (length rows) k x t) (Some k) None)
+-- the step of the levels, in the form of the recursion
+step_at : (rows : List (Vec ℕ Global)) (t k : ℕ) (frontier : List ℕ) → IsReady rows t k frontier → (x : ℕ) → x < length rows → marked (reaches rows frontier x) k (fewest (waits_by_rows rows) (length rows) t k x) ≡ option_or (fewest (waits_by_rows rows) (length rows) t k x) (cond (leads (waits_by_rows rows) (length rows) k x t) (Some k) None)
 step_at rows t k frontier ready x lt =
-    ready x lt ∙ ap (λ (i : ℕ). fewest (waits rows) (length rows) t i x) (add-one k) ∙ fewest-suc (waits rows) (length rows) t k x
+    ready x lt ∙ ap (λ (i : ℕ). fewest (waits_by_rows rows) (length rows) t i x) (add-one k) ∙ fewest-suc (waits_by_rows rows) (length rows) t k x
 
--- who stands in the next frontier
+-- the numbers of the next frontier
 abbrev pub IsNext : List (Vec ℕ Global) → ℕ → ℕ → List ℕ → List ℕ → Type 0
 IsNext rows t k frontier next =
-    (x : ℕ) → x < length rows → is_among next x ≡ (reaches rows frontier x && is_unmarked (fewest (waits rows) (length rows) t k x))
+    (x : ℕ) → x < length rows → is_among next x ≡ (reaches rows frontier x && is_unmarked (fewest (waits_by_rows rows) (length rows) t k x))
 
--- only those from whom k members lead to t stand here, and all of them that nothing shorter leads from
+-- the frontier of level k: k members lead from each of its numbers to t, and it has each number without a lower level
 pub record IsFrontier (rows : List (Vec ℕ Global)) (t k : ℕ) (next : List ℕ) : Type 0 where
-  pub leads_from_here : (x : ℕ) → x < length rows → is_among next x ≡ true → leads (waits rows) (length rows) k x t ≡ true
-  pub is_here : (x : ℕ) → x < length rows → is_unmarked (fewest (waits rows) (length rows) t k x) ≡ true → leads (waits rows) (length rows) k x t ≡ true → is_among next x ≡ true
+  pub leads_from_here : (x : ℕ) → x < length rows → is_among next x ≡ true → leads (waits_by_rows rows) (length rows) k x t ≡ true
+  pub is_here : (x : ℕ) → x < length rows → is_unmarked (fewest (waits_by_rows rows) (length rows) t k x) ≡ true → leads (waits_by_rows rows) (length rows) k x t ≡ true → is_among next x ≡ true
 
-next_leads : (rows : List (Vec ℕ Global)) (t k : ℕ) (frontier next : List ℕ) → IsReady rows t k frontier → IsNext rows t k frontier next → (x : ℕ) → x < length rows → is_among next x ≡ true → leads (waits rows) (length rows) k x t ≡ true
+next_leads : (rows : List (Vec ℕ Global)) (t k : ℕ) (frontier next : List ℕ) → IsReady rows t k frontier → IsNext rows t k frontier next → (x : ℕ) → x < length rows → is_among next x ≡ true → leads (waits_by_rows rows) (length rows) k x t ≡ true
 next_leads rows t k frontier next ready is x lt e =
-    let parts : (reaches rows frontier x ≡ true) × (is_unmarked (fewest (waits rows) (length rows) t k x) ≡ true) = and_parts _ _ (sym (is x lt) ∙ e) in
-    new_leads (reaches rows frontier x) (leads (waits rows) (length rows) k x t) k (fewest (waits rows) (length rows) t k x) parts.0 parts.1 (step_at rows t k frontier ready x lt)
+    let parts : (reaches rows frontier x ≡ true) × (is_unmarked (fewest (waits_by_rows rows) (length rows) t k x) ≡ true) = and_parts _ _ (sym (is x lt) ∙ e) in
+    new_leads (reaches rows frontier x) (leads (waits_by_rows rows) (length rows) k x t) k (fewest (waits_by_rows rows) (length rows) t k x) parts.0 parts.1 (step_at rows t k frontier ready x lt)
 
-leads_next_in : (rows : List (Vec ℕ Global)) (t k : ℕ) (frontier next : List ℕ) → IsReady rows t k frontier → IsNext rows t k frontier next → (x : ℕ) → x < length rows → is_unmarked (fewest (waits rows) (length rows) t k x) ≡ true → leads (waits rows) (length rows) k x t ≡ true → is_among next x ≡ true
+leads_next_in : (rows : List (Vec ℕ Global)) (t k : ℕ) (frontier next : List ℕ) → IsReady rows t k frontier → IsNext rows t k frontier next → (x : ℕ) → x < length rows → is_unmarked (fewest (waits_by_rows rows) (length rows) t k x) ≡ true → leads (waits_by_rows rows) (length rows) k x t ≡ true → is_among next x ≡ true
 leads_next_in rows t k frontier next ready is x lt none on =
-    is x lt ∙ and_from _ _ (new_hit (reaches rows frontier x) (leads (waits rows) (length rows) k x t) k (fewest (waits rows) (length rows) t k x) on none (step_at rows t k frontier ready x lt)) none
+    is x lt ∙ and_from _ _ (new_hit (reaches rows frontier x) (leads (waits_by_rows rows) (length rows) k x t) k (fewest (waits_by_rows rows) (length rows) t k x) on none (step_at rows t k frontier ready x lt)) none
 
--- where nothing shorter leads from x, nothing shorter leads from the next member
+-- if no shorter walk leads from x, none leads from its next member
 unmarked_on : (edge : ℕ → ℕ → Bool) (n t k x y : ℕ) → fewest edge n t (suc k) x ≡ None → y < n → edge x y ≡ true → is_unmarked (fewest edge n t k y) ≡ true
 unfolding fewest
 unmarked_on edge n t k x y none lt e = at (least (λ m. leads edge n m y t) k) refl
@@ -131,63 +131,63 @@ next_frontier rows t k frontier next ready is =
       is_here = (λ x lt none on. leads_next_in rows t k frontier next ready is x lt none on);
     }
 
-reaches_leads : (rows : List (Vec ℕ Global)) (t k : ℕ) (next : List ℕ) → IsFrontier rows t k next → All (λ y. y < length rows) next → (x : ℕ) → reaches rows next x ≡ true → leads (waits rows) (length rows) (suc k) x t ≡ true
+reaches_leads : (rows : List (Vec ℕ Global)) (t k : ℕ) (next : List ℕ) → IsFrontier rows t k next → All (λ y. y < length rows) next → (x : ℕ) → reaches rows next x ≡ true → leads (waits_by_rows rows) (length rows) (suc k) x t ≡ true
 unfolding reaches
 reaches_leads rows t k next is range x e =
-    let s : (y : ℕ) × (is_among next y ≡ true) × (waits rows x y ≡ true) = any_member (λ (y : ℕ). waits rows x y) next e in
+    let s : (y : ℕ) × (is_among next y ≡ true) × (waits_by_rows rows x y ≡ true) = any_member (λ (y : ℕ). waits_by_rows rows x y) next e in
     let lt : s.0 < length rows = among_below (length rows) s.0 next range s.1 in
-    leads_from (waits rows) (length rows) k x t s.0 lt s.2 (is.leads_from_here s.0 lt s.1)
+    leads_from (waits_by_rows rows) (length rows) k x t s.0 lt s.2 (is.leads_from_here s.0 lt s.1)
 
-leads_reaches : (rows : List (Vec ℕ Global)) (t k : ℕ) (next : List ℕ) → IsFrontier rows t k next → (x : ℕ) → fewest (waits rows) (length rows) t (suc k) x ≡ None → leads (waits rows) (length rows) (suc k) x t ≡ true → reaches rows next x ≡ true
+leads_reaches : (rows : List (Vec ℕ Global)) (t k : ℕ) (next : List ℕ) → IsFrontier rows t k next → (x : ℕ) → fewest (waits_by_rows rows) (length rows) t (suc k) x ≡ None → leads (waits_by_rows rows) (length rows) (suc k) x t ≡ true → reaches rows next x ≡ true
 unfolding reaches
 leads_reaches rows t k next is x none e =
-    let s : (y : ℕ) × Next (waits rows) (length rows) k x t y = leads_next (waits rows) (length rows) k x t e in
+    let s : (y : ℕ) × Next (waits_by_rows rows) (length rows) k x t y = leads_next (waits_by_rows rows) (length rows) k x t e in
     let lt : s.0 < length rows = s.1.least.below in
-    any_from (λ (y : ℕ). waits rows x y) s.0 next
-    (is.is_here s.0 lt (unmarked_on (waits rows) (length rows) t k x s.0 none lt s.1.joined) s.1.on)
+    any_from (λ (y : ℕ). waits_by_rows rows x y) s.0 next
+    (is.is_here s.0 lt (unmarked_on (waits_by_rows rows) (length rows) t k x s.0 none lt s.1.joined) s.1.on)
     s.1.joined
 
 -- a frontier of level k is ready for the next level
 pub ready_from : (rows : List (Vec ℕ Global)) (t k : ℕ) (next : List ℕ) → IsFrontier rows t k next → All (λ y. y < length rows) next → IsReady rows t (suc k) next
 ready_from rows t k next is range x lt =
-    at (fewest (waits rows) (length rows) t (suc k) x) refl
-    ∙ sym (fewest-suc (waits rows) (length rows) t (suc k) x)
-    ∙ ap (λ (i : ℕ). fewest (waits rows) (length rows) t i x) (sym (add-one (suc k)))
+    at (fewest (waits_by_rows rows) (length rows) t (suc k) x) refl
+    ∙ sym (fewest-suc (waits_by_rows rows) (length rows) t (suc k) x)
+    ∙ ap (λ (i : ℕ). fewest (waits_by_rows rows) (length rows) t i x) (sym (add-one (suc k)))
   where
-    at : (o : Option ℕ) → fewest (waits rows) (length rows) t (suc k) x ≡ o → marked (reaches rows next x) (suc k) (fewest (waits rows) (length rows) t (suc k) x) ≡ option_or (fewest (waits rows) (length rows) t (suc k) x) (cond (leads (waits rows) (length rows) (suc k) x t) (Some (suc k)) None)
+    at : (o : Option ℕ) → fewest (waits_by_rows rows) (length rows) t (suc k) x ≡ o → marked (reaches rows next x) (suc k) (fewest (waits_by_rows rows) (length rows) t (suc k) x) ≡ option_or (fewest (waits_by_rows rows) (length rows) t (suc k) x) (cond (leads (waits_by_rows rows) (length rows) (suc k) x t) (Some (suc k)) None)
     at (Some m) some = rw some refl
     at None none =
         rw none
         (ap (λ (b : Bool). marked b (suc k) None)
-        (same_bool (reaches rows next x) (leads (waits rows) (length rows) (suc k) x t) (reaches_leads rows t k next is range x) (leads_reaches rows t k next is x none)))
+        (same_bool (reaches rows next x) (leads (waits_by_rows rows) (length rows) (suc k) x t) (reaches_leads rows t k next is range x) (leads_reaches rows t k next is x none)))
 
 pub ready_next : (rows : List (Vec ℕ Global)) (t k : ℕ) (frontier next : List ℕ) → IsReady rows t k frontier → IsNext rows t k frontier next → All (λ y. y < length rows) next → IsReady rows t (k + 1) next
 ready_next rows t k frontier next ready is range =
     subst (λ (i : ℕ). IsReady rows t i next) (sym (add-one k)) (ready_from rows t k next (next_frontier rows t k frontier next ready is) range)
 
--- the step of the levels
-pub levels_next : (rows : List (Vec ℕ Global)) (t k : ℕ) (frontier : List ℕ) (old new : Option ℕ) → IsReady rows t k frontier → (x : ℕ) → x < length rows → old ≡ fewest (waits rows) (length rows) t k x → new ≡ marked (reaches rows frontier x) k old → new ≡ fewest (waits rows) (length rows) t (k + 1) x
+-- the levels after a step
+pub levels_next : (rows : List (Vec ℕ Global)) (t k : ℕ) (frontier : List ℕ) (old new : Option ℕ) → IsReady rows t k frontier → (x : ℕ) → x < length rows → old ≡ fewest (waits_by_rows rows) (length rows) t k x → new ≡ marked (reaches rows frontier x) k old → new ≡ fewest (waits_by_rows rows) (length rows) t (k + 1) x
 levels_next rows t k frontier old new ready x lt inv step =
     step ∙ ap (λ (o : Option ℕ). marked (reaches rows frontier x) k o) inv ∙ ready x lt
 
 ready_empty : (rows : List (Vec ℕ Global)) (t k : ℕ) → IsReady rows t k [] → IsReady rows t (k + 1) []
 ready_empty rows t k ready =
     ready_next rows t k [] [] ready
-    (λ x lt. none_reached rows [] x (fewest (waits rows) (length rows) t k x) refl)
+    (λ x lt. none_reached rows [] x (fewest (waits_by_rows rows) (length rows) t k x) refl)
     (All-nil (λ y. y < length rows))
 
--- after an empty frontier the levels stay
-stays_on : (rows : List (Vec ℕ Global)) (t d k : ℕ) → IsReady rows t k [] → (x : ℕ) → x < length rows → fewest (waits rows) (length rows) t (k + d) x ≡ fewest (waits rows) (length rows) t k x
-stays_on rows t zero k ready x lt = let same : k + 0 ≡ k = omega arith in ap (λ (i : ℕ). fewest (waits rows) (length rows) t i x) same
+-- the levels stay after an empty frontier
+stays_on : (rows : List (Vec ℕ Global)) (t d k : ℕ) → IsReady rows t k [] → (x : ℕ) → x < length rows → fewest (waits_by_rows rows) (length rows) t (k + d) x ≡ fewest (waits_by_rows rows) (length rows) t k x
+stays_on rows t zero k ready x lt = let same : k + 0 ≡ k = omega arith in ap (λ (i : ℕ). fewest (waits_by_rows rows) (length rows) t i x) same
 stays_on rows t (suc d) k ready x lt =
     let same : k + suc d ≡ k + 1 + d = omega arith in
-    ap (λ (i : ℕ). fewest (waits rows) (length rows) t i x) same
+    ap (λ (i : ℕ). fewest (waits_by_rows rows) (length rows) t i x) same
     ∙ stays_on rows t d (k + 1) (ready_empty rows t k ready) x lt
     ∙ sym (ready x lt)
-    ∙ sym (marked_by_none rows x k (fewest (waits rows) (length rows) t k x))
+    ∙ sym (marked_by_none rows x k (fewest (waits_by_rows rows) (length rows) t k x))
 
-pub levels_stay : (rows : List (Vec ℕ Global)) (t k n : ℕ) (frontier : List ℕ) → frontier ≡ [] → k ≤ n → IsReady rows t k frontier → (x : ℕ) → x < length rows → fewest (waits rows) (length rows) t k x ≡ fewest (waits rows) (length rows) t n x
+pub levels_stay : (rows : List (Vec ℕ Global)) (t k n : ℕ) (frontier : List ℕ) → frontier ≡ [] → k ≤ n → IsReady rows t k frontier → (x : ℕ) → x < length rows → fewest (waits_by_rows rows) (length rows) t k x ≡ fewest (waits_by_rows rows) (length rows) t n x
 levels_stay rows t k n frontier empty le ready x lt =
     let same : k + (n - k) ≡ n = omega arith in
     sym (stays_on rows t (n - k) k (subst (λ (ys : List ℕ). IsReady rows t k ys) empty ready) x lt)
-    ∙ ap (λ (i : ℕ). fewest (waits rows) (length rows) t i x) same
+    ∙ ap (λ (i : ℕ). fewest (waits_by_rows rows) (length rows) t i x) same

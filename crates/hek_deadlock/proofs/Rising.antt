@@ -1,4 +1,4 @@
--- One more number is looked at, and is listed where it is that of a node.
+-- One more ID is looked at, and listed if it is a node.
 use Rattle.std.proofs.Common.{ℕ, zero, suc, ◌≡◌, ◌+◌, ◌<◌, Bool, true, false, ◌||◌, List, [], ◌∷◌, ◌++◌, length, get_or, refl, sym, ap, ◌∙◌, subst, inl, inr, arith}
 use Rattle.std.proofs.Math.Seq.{get_or-append_seam}
 use Rattle.std.proofs.lemmas.Bool.{cases_Bool, cases_eq, cases_lt, ne_eqb, eq-eqb}
@@ -10,7 +10,7 @@ use Rattle.hek_deadlock.specs.Places.{id_at, IsRising}
 use Rattle.hek_deadlock.proofs.GraphRows.{node_below, among_at}
 use Rattle.hek_deadlock.proofs.Marks.{among_push, or_true, or_false}
 
--- the nodes up to number n
+-- the nodes among the IDs up to n
 pub record AreNodes (x : TxnTable) (n : ℕ) (ids : List ℕ) : Type 0 where
   pub rising : IsRising ids
   pub below : (u : ℕ) → is_among ids u ≡ true → u < n + 1

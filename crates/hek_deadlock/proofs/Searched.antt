@@ -1,4 +1,4 @@
--- One more waiter is searched for, and its place is noted where it has one.
+-- One more waiter is searched for, and its place is noted if it has one.
 use Rattle.std.proofs.Common.{ℕ, ◌≡◌, ◌+◌, ◌<◌, ◌≤◌, Bool, ◌||◌, eqb, List, [], ◌∷◌, ◌++◌, length, take, get_or, sym, ap, ◌∙◌, subst, inl, inr, arith, Result, Ok, Err}
 use Rattle.std.specs.List.Sorted.{IsBinarySearchResult}
 use Rattle.std.specs.Ordering.{nat_cmp}
@@ -10,7 +10,7 @@ use Rattle.hek_deadlock.specs.Places.{id_at, IsRising}
 use Rattle.hek_deadlock.proofs.Marks.{among_push, among_more, or_false}
 use Rattle.hek_deadlock.proofs.Placed.{same_place, kept}
 
--- the places noted are those of the waiters so far
+-- the noted places are those of the waiters so far
 abbrev pub AreNoted : List ℕ → List ℕ → List ℕ → Type 0
 AreNoted ids waiters places = (i : ℕ) → i < length ids → is_among places i ≡ is_among waiters (id_at ids i)
 
@@ -36,7 +36,7 @@ place_missed ids waiters old k u lt at absent inv i li =
     ∙ ap (λ (b : Bool). is_among (take k waiters) (id_at ids i) || b) (sym (ne_eqb u (id_at ids i) (absent i li)))
     ∙ sym (among_more waiters k u (id_at ids i) lt at)
 
--- what the search says of a list that rises
+-- the result of a binary search in a rising list
 pub search_says : (ids : List ℕ) (u : ℕ) (result r : Result ℕ ℕ) → result ≡ r → IsRising ids → IsBinarySearchResult (λ y. nat_cmp y u) ids result → MatchResult r (λ p. (p < length ids) × (id_at ids p ≡ u)) (λ p. (i : ℕ) → i < length ids → u ≡ id_at ids i → ⊥)
 search_says ids u result r is rising position =
     at r (searched ids u r (subst (λ (v : Result ℕ ℕ). IsBinarySearchResult (λ y. nat_cmp y u) ids v) is position) (kept ids rising))

@@ -1,5 +1,5 @@
--- A cycle of waits has at most as many members as there are transactions: numbers from 1 on are numbers below the count,
--- each one less.
+-- A cycle of waits has at most as many members as there are transactions: IDs from 1 up, each less one, are numbers
+-- below the count.
 use Rattle.std.proofs.Common.{ℕ, zero, suc, ◌≡◌, ◌+◌, ◌<◌, ◌≤◌, Bool, true, List, [], ◌∷◌, ◌++◌, length, map, Option, Some, None, refl, sym, subst, arith}
 use Rattle.std.proofs.lemmas.List.{length-map}
 use Rattle.std.specs.Option.{IfSome}
@@ -17,7 +17,7 @@ pub record JoinsNamed (edge : ℕ → ℕ → Bool) (n : ℕ) : Type 0 where
   pub named : (u t : ℕ) → edge u t ≡ true → 0 < t
   pub below : JoinsBelow edge (n + 1)
 
--- the same edges, each number one less
+-- the edges between numbers that are one less
 abbrev lowered : (ℕ → ℕ → Bool) → ℕ → ℕ → Bool
 lowered edge u t = edge (suc u) (suc t)
 

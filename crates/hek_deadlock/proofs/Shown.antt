@@ -1,4 +1,4 @@
--- Where a store and a table of transactions show a world's waits, their victim is the world's.
+-- If a store and a table of transactions show a world's waits, their victim is the world's.
 use Rattle.std.proofs.Common.{ℕ, zero, suc, ◌≡◌, ◌+◌, Bool, ◌&&◌, ◌||◌, not, eqb, List, [], ◌∷◌, length, Some, None, refl, ap, ◌∙◌, inl, inr}
 use Rattle.std.specs.Prelude.{nat_lt}
 use Rattle.std.specs.List.{list_any}
@@ -16,7 +16,7 @@ use Rattle.hek_txn.specs.TxnTable.{TxnTable, waits_of, read_set_of, waiting_list
 use Rattle.hek_deadlock.specs.Edges.{is_node, is_named, writes_one, is_edge, victim_in}
 use Rattle.hek_deadlock.specs.Shown.{ShowsWaits}
 
--- the writer of a word is that of the version
+-- the writer of a word is the writer of its version
 named_holds : (count u : ℕ) (e : Ender) → is_named (writer_of (end_word_by count e)) u ≡ is_held_by u e
 named_holds count u (EndedAt time) = refl
 named_holds zero u (Held None no_more) = refl

@@ -1,4 +1,4 @@
--- The victim is a declared transaction that has finished and waits, and the one of closed walks.
+-- The victim is a declared transaction that has finished and waits, and it is the victim of closed walks.
 use Rattle.std.proofs.Common.{ℕ, zero, suc, ◌≡◌, ◌+◌, ◌<◌, true, List, [], ◌∷◌, length, Option, Some, None, refl, sym, subst, arith}
 use Rattle.std.specs.Option.{IfSome}
 use Rattle.std.proofs.lemmas.Bool.{and_parts, ltb-true}

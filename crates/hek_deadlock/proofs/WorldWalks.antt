@@ -1,4 +1,4 @@
--- In each world only transactions that there are wait for one another, so that its victim is the one of closed walks.
+-- In each world only existing transactions wait for one another, so its victim is the one of closed walks.
 use Rattle.std.proofs.Common.{ℕ, ◌≡◌, ◌+◌, ◌<◌, true, length}
 use Rattle.std.proofs.lemmas.Bool.{and_parts}
 use Rattle.hek_rules.specs.Cycles.{JoinsBelow}

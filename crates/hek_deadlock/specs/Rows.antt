@@ -1,4 +1,4 @@
--- A wait graph kept as a list for each number: who waits for it.
+-- A wait graph as a row for each number: the numbers that wait for it.
 use Rattle.std.specs.Prelude.{ℕ, ◌≡◌, ◌<◌, Bool, true, false, ◌==◌, if◌then◌else◌, List, [], Option, Some, None, Vec, length, slice_get, slice_index_or}
 use Rattle.std.specs.List.{list_any, All}
 use Rattle.hek_rules.specs.Listing.{is_among}
@@ -9,22 +9,22 @@ abbrev pub row_in : Option (Vec ℕ Global) → List ℕ
 row_in None = []
 row_in (Some row) = row.items
 
--- who waits for t
+-- the numbers that wait for t
 abbrev pub waiters_of : List (Vec ℕ Global) → ℕ → List ℕ
 waiters_of rows t = row_in (slice_get rows t)
 
 -- u waits for t
-unfoldable pub waits : List (Vec ℕ Global) → ℕ → ℕ → Bool
-waits rows u t = is_among (waiters_of rows t) u
+unfoldable pub waits_by_rows : List (Vec ℕ Global) → ℕ → ℕ → Bool
+waits_by_rows rows u t = is_among (waiters_of rows t) u
 
--- only numbers that have a list of their own wait
+-- each number that waits has a row
 abbrev pub IsInRange : List (Vec ℕ Global) → Type 0
 IsInRange rows = All (λ row. All (λ x. x < length rows) row.items) rows
 
 abbrev pub level_at : List (Option ℕ) → ℕ → Option ℕ
 level_at levels x = slice_index_or levels x None
 
--- a level stays, and what has none gets this one where it is hit
+-- the level of a number: an old level stays, and a number without one gets this level if it is hit
 abbrev pub marked : Bool → ℕ → Option ℕ → Option ℕ
 marked hit level (Some m) = Some m
 marked hit level None = if hit then Some level else None
@@ -37,11 +37,11 @@ abbrev pub is_level : Option ℕ → ℕ → Bool
 is_level (Some m) level = m == level
 is_level None level = false
 
--- x waits for one of these
+-- x waits for one of the numbers ys
 unfoldable pub reaches : List (Vec ℕ Global) → List ℕ → ℕ → Bool
-reaches rows ys x = list_any (λ (y : ℕ). waits rows x y) ys
+reaches rows ys x = list_any (λ (y : ℕ). waits_by_rows rows x y) ys
 
--- of each number, the fewest members between it and the target
+-- the level of each number: the fewest members between it and the target
 pub record AreLevels (rows : List (Vec ℕ Global)) (target : ℕ) (levels : List (Option ℕ)) : Type 0 where
   pub long : length levels ≡ length rows
-  pub least : (x : ℕ) → x < length rows → level_at levels x ≡ fewest (waits rows) (length rows) target (length rows) x
+  pub least : (x : ℕ) → x < length rows → level_at levels x ≡ fewest (waits_by_rows rows) (length rows) target (length rows) x

@@ -1,4 +1,4 @@
--- When a store and a table of transactions show who waits for whom in a world, and that their victim is then the world's.
+-- A store and a table of transactions that show the waits of a world; their victim is then the world's.
 use Rattle.std.specs.Prelude.{ℕ, ◌≡◌}
 use Rattle.hek_rules.specs.Shown.{end_word, read_set, waiting_list}
 use Rattle.hek_rules.specs.Waits.{waits}

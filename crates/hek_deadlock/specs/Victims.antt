@@ -1,4 +1,4 @@
--- The victim in the words of walks: what an answer says, and that the victim of a world is this one, with no premise.
+-- The victim in terms of walks: what an answer means, and the same of the victim of any world.
 use Rattle.std.specs.Prelude.{ℕ, ◌≡◌, ◌↔◌, Bool, List, Option, Some, None}
 use Rattle.hek_rules.specs.Cycles.{IsClosedWalk, IsVictim}
 use Rattle.hek_rules.specs.WaitGraph.{is_edge, victim}
@@ -7,7 +7,7 @@ use Rattle.hek_rules.specs.World.{World}
 abbrev pub HasNoClosedWalk : (ℕ → ℕ → Bool) → Type 0
 HasNoClosedWalk edge = (u : ℕ) (walk : List ℕ) → IsClosedWalk edge u walk → ⊥
 
--- an answer: the victim with its cycle, or none where no walk is closed
+-- an answer: a victim with its cycle, or none if no walk is closed
 abbrev pub IsVictimOrNone : (ℕ → ℕ → Bool) → Option (ℕ × List ℕ) → Type 0
 IsVictimOrNone edge None = HasNoClosedWalk edge
 IsVictimOrNone edge (Some found) = IsVictim edge found.0 found.1

@@ -1,4 +1,4 @@
-//! The victim among transactions that wait for one another.
+//! The search for the victim among transactions that wait for one another.
 ghost use Rattle.std.specs.Prelude.{◌≡◌, ◌≤◌, length, IfOk, IfSome};
 ghost use Rattle.hek_deadlock.specs.Edges.{is_edge, victim_in, IsWaiting};
 ghost use Rattle.hek_deadlock.specs.Victims.{IsVictimOrNone};
@@ -11,14 +11,13 @@ use hek_store::Store;
 use hek_txn::Txns;
 use std::alloc::Global;
 
-/// A cycle has so many members at least, since none waits for itself.
+/// The fewest members of a cycle, since no transaction waits for itself.
 const SHORTEST_CYCLE: usize = 2;
 
-/// The victim among the transactions that have finished and wait, and its cycle: the greatest on any cycle, with the
-/// shortest cycle through it, from it, the least member next at each place (section 4 of the paper: deadlock detection).
-/// It looks at each transaction once, and ends there where fewer than two wait. Then only those that wait count: the graph
-/// takes time linear in their read sets and waiting lists, but for a search by halves for each waiter, and the search for a
-/// cycle at most nodes times waits.
+/// The victim among the finished transactions that wait, with its cycle: the greatest ID on any cycle, and the shortest
+/// cycle from it, with the least next member at each place (section 4 of the paper: deadlock detection). The search
+/// looks at each transaction once, and stops if fewer than two wait. The graph takes time linear in the read sets and
+/// waiting lists of those that wait, and a binary search for each edge; the cycle takes at most nodes times edges.
 pub fn detect(
     alloc: Global,
     store: &Store,

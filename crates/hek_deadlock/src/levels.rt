@@ -1,4 +1,4 @@
-//! How far each transaction is from a target, level by level.
+//! The distance of each transaction from a target, level by level.
 ghost use Rattle.std.specs.Prelude.{◌≡◌, ◌<◌, ℕ, ◌||◌, ◌&&◌, length, vec_len, IfOk, OnOk};
 ghost use Rattle.std.specs.List.{All};
 ghost use Rattle.hek_rules.specs.Listing.{is_among};
@@ -7,7 +7,7 @@ ghost use Rattle.hek_deadlock.specs.Rows.{IsInRange, level_at, marked, is_unmark
 use hek_rules::NoMemory;
 use std::alloc::Global;
 
-/// Gives those of the row that have no level this one, and adds them to `next`.
+/// Gives this level to the members of the row that have none, and adds them to `next`.
 fn mark(
     levels: &mut [Option<usize>],
     next: &mut Vec<usize>,
@@ -31,7 +31,7 @@ fn mark(
     Ok(())
 }
 
-/// Marks those who wait for the frontier and have no level yet, and answers them.
+/// Marks the numbers that wait for the frontier and have no level yet, and returns them.
 pub(crate) fn level_after(
     alloc: Global,
     waiters: &[Vec<usize>],
@@ -55,7 +55,7 @@ pub(crate) fn level_after(
     Ok(next)
 }
 
-/// No level for so many.
+/// A list of this length in which no number has a level.
 pub(crate) fn unmarked(alloc: Global, count: usize) -> Result<Vec<Option<usize>>, NoMemory>
     ensures length { IfOk result (λ levels. vec_len levels ≡ count) }
     ensures none { IfOk result (λ levels. (x : ℕ) → level_at levels.items x ≡ None) }
@@ -67,7 +67,7 @@ pub(crate) fn unmarked(alloc: Global, count: usize) -> Result<Vec<Option<usize>>
     Ok(levels)
 }
 
-/// How many members stand between each transaction and the target, at least.
+/// The fewest members between each transaction and the target, or None if no walk leads there.
 pub(crate) fn levels_to(
     alloc: Global,
     waiters: &[Vec<usize>],

@@ -1,4 +1,4 @@
-//! Deadlock detection: who waits for whom, the victim on a cycle of waits, and that cycle.
+//! Deadlock detection: the wait graph, its victim, and the victim's cycle.
 #![tactic(auto)]
 
 mod detector;

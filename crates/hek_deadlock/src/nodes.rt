@@ -1,4 +1,4 @@
-//! Those that can wait for one another, listed: each has a number, and a place in the list.
+//! The nodes of the wait graph as a list: each has an ID, and a place in the list.
 ghost use Rattle.std.specs.Prelude.{◌≡◌, ◌<◌, ℕ, IfOk, IfSome, length, map};
 ghost use Rattle.std.specs.List.{All};
 ghost use Rattle.hek_rules.specs.Listing.{is_among};
@@ -10,7 +10,7 @@ use hek_rules::{Members, NoMemory, TxnId};
 use hek_txn::Txns;
 use std::alloc::Global;
 
-/// The nodes, in ascending order.
+/// The nodes, by ascending ID.
 pub(crate) fn nodes(alloc: Global, txns: &Txns) -> Result<Vec<TxnId>, NoMemory>
     ensures rising { IfOk result (λ ids. IsRising ids.items) }
     ensures nodes { IfOk result (λ ids. (u : ℕ) → is_among ids.items u ≡ is_node txns.now u) }
@@ -25,7 +25,7 @@ pub(crate) fn nodes(alloc: Global, txns: &Txns) -> Result<Vec<TxnId>, NoMemory>
     Ok(ids)
 }
 
-/// The places of those that are in the list.
+/// The places of those waiters that are nodes.
 pub(crate) fn places(
     alloc: Global,
     ids: &[TxnId],
@@ -44,7 +44,7 @@ pub(crate) fn places(
     Ok(places)
 }
 
-/// Those at these places.
+/// The nodes at these places.
 fn members_at(alloc: Global, ids: &[TxnId], places: &[usize]) -> Result<Members, NoMemory>
     requires { All (λ i. i < length ids.now) places.now }
     ensures { IfOk result (λ members. members ≡ map (id_at ids.now) places.now) }
@@ -56,7 +56,7 @@ fn members_at(alloc: Global, ids: &[TxnId], places: &[usize]) -> Result<Members,
     Ok(Members::new(Box::new(alloc, members)?))
 }
 
-/// The victim and its cycle by number, where they are given by place.
+/// The victim and its cycle as IDs, from their places.
 pub(crate) fn answer_at(
     alloc: Global,
     ids: &[TxnId],

@@ -1,16 +1,16 @@
-//! The search over a wait graph: candidates from the greatest down, with marks level by level. Its numbers are the places of
-//! the rows.
+//! The search for a victim: candidates from the greatest down, with marks level by level. Its numbers are places of
+//! rows.
 ghost use Rattle.std.specs.Prelude.{◌≡◌, ◌&&◌, ◌∷◌, ◌<◌, ℕ, length, IfOk, Some};
 ghost use Rattle.hek_rules.specs.Victim.{least, between, victim_of};
 ghost use Rattle.hek_rules.specs.Listing.{is_among};
 ghost use Rattle.hek_deadlock.specs.Places.{by_place};
-ghost use Rattle.hek_deadlock.specs.Rows.{waits, IsInRange, AreLevels, level_at, is_level};
+ghost use Rattle.hek_deadlock.specs.Rows.{waits_by_rows, IsInRange, AreLevels, level_at, is_level};
 
 use crate::levels::levels_to;
 use hek_rules::NoMemory;
 use std::alloc::Global;
 
-/// Whether `x` is in the row, and the row's number stands at the wanted level.
+/// Whether `x` is in the row, and the level of the row's number is the wanted one.
 fn is_next(row: &[usize], x: usize, level: Option<usize>, wanted: usize) -> bool
     ensures { result ≡ (is_among row.now x && is_level level wanted) }
 {
@@ -20,7 +20,7 @@ fn is_next(row: &[usize], x: usize, level: Option<usize>, wanted: usize) -> bool
     }
 }
 
-/// The least that `x` waits for and that stands at this level.
+/// The least number of this level that `x` waits for.
 fn next_member(
     waiters: &[Vec<usize>],
     levels: &[Option<usize>],
@@ -28,7 +28,7 @@ fn next_member(
     level: usize,
 ) -> Option<usize>
     requires { length levels.now ≡ length waiters.now }
-    ensures { result ≡ least (λ y. waits waiters.now x y && is_level (level_at levels.now y) level) (length waiters.now) }
+    ensures { result ≡ least (λ y. waits_by_rows waiters.now x y && is_level (level_at levels.now y) level) (length waiters.now) }
 {
     for y in 0..waiters.len() {
         if is_next(&waiters[y], x, levels[y], level) {
@@ -38,7 +38,7 @@ fn next_member(
     None
 }
 
-/// The cycle from the victim: at each place the least that keeps it shortest.
+/// The cycle from the victim on: at each place the least number that keeps it shortest.
 fn cycle(
     alloc: Global,
     waiters: &[Vec<usize>],
@@ -50,7 +50,7 @@ fn cycle(
     requires victim { victim < length waiters.now }
     requires count { level_at levels.now victim ≡ Some count }
     ensures { IfOk result (λ members.
-        members.items ≡ victim ∷ between (waits waiters.now) (length waiters.now) count victim victim) }
+        members.items ≡ victim ∷ between (waits_by_rows waiters.now) (length waiters.now) count victim victim) }
 {
     let mut members = vec![in alloc; victim]?;
     let mut x = victim;
@@ -68,13 +68,13 @@ fn cycle(
     Ok(members)
 }
 
-/// The victim and its cycle, or none, by their rows' places.
+/// The victim and its cycle as places of rows, or None if there is no cycle.
 pub(crate) fn find_victim(
     alloc: Global,
     waiters: &[Vec<usize>],
 ) -> Result<Option<(usize, Vec<usize>)>, NoMemory>
     requires { IsInRange waiters.now }
-    ensures { IfOk result (λ answer. by_place answer ≡ victim_of (waits waiters.now) (length waiters.now)) }
+    ensures { IfOk result (λ answer. by_place answer ≡ victim_of (waits_by_rows waiters.now) (length waiters.now)) }
 {
     let mut candidate = waiters.len();
     while candidate > 0 {

@@ -1,4 +1,4 @@
-//! The step debugger: the steps of a schedule are done one by one or up to a mark, and undone.
+//! The step debugger: it does the steps of a schedule one by one or up to a mark, and undoes them.
 #![tactic(auto)]
 
 mod command;

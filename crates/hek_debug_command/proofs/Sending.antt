@@ -4,7 +4,7 @@ use Rattle.std.proofs.lemmas.List.{append-nil}
 use Rattle.std.specs.Io.KnownBytes.{Appends}
 use Rattle.hek_commands.specs.Sent.{Passes}
 
--- the next of the lines that are still to come goes out
+-- the next of the lines to come goes out
 pub passes-next : (b n m : Option (List ℕ)) (whole line rest : List ℕ) → Passes b whole n (line ++ rest) → Appends n m line → Passes b whole m rest
 passes-next None n m whole line rest p q = tt
 passes-next (Some held) None m whole line rest p q = absurd p
@@ -12,7 +12,7 @@ passes-next (Some held) (Some now) None whole line rest p q = absurd q
 passes-next (Some held) (Some now) (Some then) whole line rest p q =
     ap (λ (xs : List ℕ). xs ++ rest) q ∙ append_assoc now line rest ∙ p
 
--- no line is still to come
+-- no line is to come
 pub passes-over : (b n : Option (List ℕ)) (whole : List ℕ) → Passes b whole n [] → Appends b n whole
 passes-over None n whole p = tt
 passes-over (Some held) None whole p = absurd p

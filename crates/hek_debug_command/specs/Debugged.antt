@@ -6,7 +6,7 @@ use Rattle.std.specs.Str.{IsUtf8}
 use Rattle.hek_rules.specs.declared.reply.Reply.{Reply}
 use Rattle.hek_rules.specs.Plan.{Plan, names_of}
 use Rattle.hek_rules.specs.World.{World}
-use Rattle.hek_asm.specs.Lines.{joined}
+use Rattle.hek_asm.specs.Lines.{joined_words}
 use Rattle.hek_asm.specs.Trace.{reply_words}
 use Rattle.hek_debug.specs.declared.command.Command.{Command}
 use Rattle.hek_debug.specs.declared.command.Reason.{Reason}
@@ -18,7 +18,7 @@ use Rattle.hek_debug.specs.declared.reading.CommandFault.{CommandFault}
 use Rattle.hek_debug.specs.declared.reading.CommandFault.TheVariants as read
 use Rattle.hek_debug.specs.Lines.{commands_of}
 use Rattle.hek_debug.specs.Marks.{looked_at}
-use Rattle.hek_debug.specs.Sessions.{Session, opened, after, stop_of, world_at}
+use Rattle.hek_debug.specs.Sessions.{Session, opened, session_after, stop_of, world_at}
 use Rattle.hek_commands.specs.declared.fault.HekFault.{HekFault}
 use Rattle.hek_commands.specs.declared.fault.HekFault.TheVariants.{NotText, CommandLine, CannotWrite, NoMemory}
 use Rattle.hek_commands.specs.declared.schedule_file.ScheduleFile.{ScheduleFile}
@@ -37,7 +37,7 @@ reason_text reason.Cleared = codes " cleared"
 -- the reply to the last step, if there is one
 abbrev pub answer_text : Option Reply → List ℕ
 answer_text None = []
-answer_text (Some r) = codes " -> " ++ joined (reply_words r)
+answer_text (Some r) = codes " -> " ++ joined_words (reply_words r)
 
 -- at NUMBER REASON -> REPLY
 abbrev pub stop_line : Stop → List ℕ
@@ -45,21 +45,21 @@ stop_line s = codes "at " ++ (decimal s.at ++ (reason_text s.reason ++ (answer_t
 
 -- ---- watches
 
--- upper-case hexadecimal
+-- an upper-case hexadecimal digit
 abbrev pub hex_digit : ℕ → ℕ
 hex_digit n = if nat_lt n 10 then 48 + n else 55 + n
 
--- so many digits, the last of a number
+-- the last digits of a number in hexadecimal, as many as asked for
 abbrev pub hex_text : ℕ → ℕ → List ℕ
 hex_text zero n = []
 hex_text (suc k) n = hex_text k (n / 16) ++ hex_digit (n % 16) ∷ []
 
--- a word
+-- a word that a watch looks at
 unfoldable pub seen_text : Option ℕ → List ℕ
 seen_text None = codes "none"
 seen_text (Some n) = hex_text 16 n
 
--- a counter
+-- a counter that a watch looks at
 abbrev pub count_text : Option ℕ → List ℕ
 count_text None = codes "none"
 count_text (Some n) = decimal n
@@ -78,7 +78,7 @@ watch_line p w index (WatchBegin v) = decimal index ++ (codes " begin " ++ (deci
 watch_line p w index (WatchEnd v) = decimal index ++ (codes " end " ++ (decimal v ++ 32 ∷ (seen_text (looked_at (WatchEnd v) w) ++ 10 ∷ [])))
 watch_line p w index (WatchWaits t) = decimal index ++ (codes " waits " ++ (name_text p t ++ 32 ∷ (count_text (looked_at (WatchWaits t) w) ++ 10 ∷ [])))
 
--- the marks from this index on
+-- the lines of the marks; the first mark has this index
 abbrev pub watch_lines : Plan → World → ℕ → List Mark → List ℕ
 watch_lines p w index [] = []
 watch_lines p w index (m ∷ ms) = watch_line p w index m ++ watch_lines p w (index + 1) ms
@@ -89,12 +89,12 @@ watch_lines p w index (m ∷ ms) = watch_line p w index m ++ watch_lines p w (in
 abbrev pub told_text : Session → Stop → List ℕ
 told_text s stop = stop_line stop ++ watch_lines s.plan (world_at s.plan s.at) 1 s.marks
 
--- what these commands are answered
+-- what the debugger writes after these commands
 abbrev pub session_text : Session → List Command → List ℕ
 session_text s [] = []
-session_text s (c ∷ cs) = told_text (after s c) (stop_of s c) ++ session_text (after s c) cs
+session_text s (c ∷ cs) = told_text (session_after s c) (stop_of s c) ++ session_text (session_after s c) cs
 
--- so it was written behind what a writer held, for the commands that a text says over the schedule that a file says
+-- the answers to the commands in a text, over the schedule in a file, were written after the bytes that a writer held
 pub record Debugs {R : Type 0} (left : R → Option (List ℕ)) (said : ScheduleFile R) (text : List ℕ) (before after : Option (List ℕ)) : Type 0 where
   pub plan : Plan
   pub is : FileGives left said plan
@@ -107,14 +107,16 @@ abbrev pub command_fault : CommandFault → HekFault
 command_fault (read.Line number) = CommandLine number
 command_fault read.NoMemory = NoMemory
 
--- why a text isn't one of commands: a line only where it is the first at fault
+-- why a text has no commands: a fault that names a line names the first one at fault
 abbrev pub CommandTextFails : Plan → List ℕ → HekFault → Type 0
-CommandTextFails plan text NotText = ¬ (IsUtf8 text)
 CommandTextFails plan text (CommandLine number) = commands_of plan text ≡ Err number
 CommandTextFails plan text NoMemory = Unit {0}
 CommandTextFails plan text other = ⊥
 
+-- why `hek debug` fails: bytes that aren't a text come before a fault of the file, which comes before a fault of the
+-- commands
 abbrev pub DebugFails : {R : Type 0} → (R → Option (List ℕ)) → ScheduleFile R → List ℕ → HekFault → Type 0
 DebugFails left said text CannotWrite = Unit {0}
 DebugFails left said text NoMemory = Unit {0}
-DebugFails left said text fault = FileFails left said fault ⊎ ((plan : Plan) × FileGives left said plan × CommandTextFails plan text fault)
+DebugFails left said text fault =
+    (¬ (IsUtf8 text) × (fault ≡ NotText)) ⊎ (IsUtf8 text × (FileFails left said fault ⊎ ((plan : Plan) × FileGives left said plan × CommandTextFails plan text fault)))

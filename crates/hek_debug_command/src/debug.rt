@@ -1,8 +1,8 @@
-//! The command `debug`.
+//! The command `debug`, with commands from a text.
 ghost use Rattle.std.specs.Prelude.{◌≡◌, ◌++◌, Ok, OnOk, IfErr, MatchResult};
 ghost use Rattle.std.specs.Io.KnownBytes.{Appends};
 ghost use Rattle.hek_debug.specs.Lines.{commands_of};
-ghost use Rattle.hek_debug.specs.Sessions.{opened, after, stop_of};
+ghost use Rattle.hek_debug.specs.Sessions.{opened, session_after, stop_of};
 ghost use Rattle.hek_commands.specs.Commands.{IsStop};
 ghost use Rattle.hek_debug_command.specs.Debugged.{told_text, session_text, command_fault, CommandTextFails, Debugs, DebugFails};
 
@@ -14,9 +14,10 @@ use std::alloc::Global;
 use std::io::{Read, Write};
 use std::str;
 
-/// Does the commands that a text says with the steps of the schedule that a file says, and writes after each of them where
-/// the debugger stands, why, and what each watch looks at. The answer is the exit status. No command is done before all are
-/// known to be some; after a fault the lines of the commands before it may have been written.
+/// Does the commands in a text with the steps of the schedule in a file. After each command, writes where the debugger
+/// is, why it stopped there, and what each watch looks at. Answers the exit status. No command is done before all lines
+/// are known to be commands; after a fault the lines of the commands before it may have been written. Bytes that aren't
+/// a text are reported before a fault of the file.
 pub fn debug_command<'a, R: Read + Drop, W: Write>(
     alloc: Global,
     file: ScheduleFile<R>,
@@ -25,13 +26,16 @@ pub fn debug_command<'a, R: Read + Drop, W: Write>(
 ) -> Result<u8, HekFault<'a>>
     ensures { MatchResult result (λ status. (status ≡ 0) × Debugs R.remaining file commands.now (W.contents out.old) (W.contents out.new)) (DebugFails R.remaining file commands.now) }
 {
+    let Ok(commands) = str::from_utf8(commands) else {
+        return Err(HekFault::NotText);
+    };
     let schedule = schedule_in(alloc, file)?;
     let commands = commands_of_text(alloc, &schedule, commands)?;
     debug(alloc, schedule, commands.as_slice(), out)?;
     Ok(0)
 }
 
-/// Does commands from the start of a schedule on.
+/// Does commands from the start of a schedule.
 fn debug<'a, W: Write>(
     alloc: Global,
     schedule: Schedule,
@@ -45,17 +49,14 @@ fn debug<'a, W: Write>(
     do_all(alloc, &mut debugger, commands, out)
 }
 
-/// The commands that a text says, over the names of a schedule.
+/// The commands in a text, with the names that a schedule gives.
 fn commands_of_text<'a>(
     alloc: Global,
     schedule: &Schedule,
-    text: &[u8],
+    text: &str,
 ) -> Result<Vec<Command>, HekFault<'a>>
     ensures { MatchResult result (λ commands. commands_of schedule.now text.now ≡ Ok commands.items) (CommandTextFails schedule.now text.now) }
 {
-    let Ok(text) = str::from_utf8(text) else {
-        return Err(HekFault::NotText);
-    };
     match read_commands(alloc, schedule, text) {
         Ok(commands) => Ok(commands),
         Err(fault) => Err(fault_of(fault)),
@@ -87,15 +88,15 @@ fn do_all<'a, W: Write>(
     Ok(())
 }
 
-/// Does a command, and writes where the debugger stands then.
+/// Does a command, and writes where the debugger is then.
 pub(crate) fn do_one<'a, W: Write>(
     alloc: Global,
     debugger: &mut Debugger,
     command: Command,
     out: &mut W,
 ) -> Result<(), HekFault<'a>>
-    ensures stands { OnOk result (debugger.new ≡ after debugger.old command) }
-    ensures written { OnOk result (Appends (W.contents out.old) (W.contents out.new) (told_text (after debugger.old command) (stop_of debugger.old command))) }
+    ensures stands { OnOk result (debugger.new ≡ session_after debugger.old command) }
+    ensures written { OnOk result (Appends (W.contents out.old) (W.contents out.new) (told_text (session_after debugger.old command) (stop_of debugger.old command))) }
     ensures stops { IfErr result IsStop }
 {
     let Ok(stop) = debugger.command(command) else {

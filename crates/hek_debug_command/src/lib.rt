@@ -1,4 +1,4 @@
-//! The command `debug`: commands of the step debugger from a text, and sessions in which they are typed.
+//! The command `debug`: commands of the step debugger from a text, or typed in a session.
 #![tactic(auto)]
 
 mod debug;

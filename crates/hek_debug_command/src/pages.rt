@@ -15,7 +15,7 @@ use std::alloc::Global;
 use std::io::Write;
 use std::mem;
 
-/// So many steps are listed before the position, and behind it.
+/// How many steps are listed before the position, and how many after it.
 const ROUND: u64 = 5;
 
 const WHY: Extras = Extras {
@@ -36,7 +36,7 @@ const HELP: &str = "commands:
   break event EVENT   run stops after each event of a kind, as in break event update
   break txn NAME      run stops after each event of a transaction, as in break txn b
   watch begin V       run stops where the Begin word of a version changes, as in watch begin 1
-  watch end V         the same for its End word, as in watch end 0
+  watch end V         run stops where the End word of a version changes, as in watch end 0
   watch waits NAME    run stops where the number that a transaction waits for changes, as in watch waits b
   clear               no more breakpoints and watches
 questions:
@@ -52,7 +52,7 @@ questions:
   quit                the end of the session
 ";
 
-/// The answer to a question comes behind the lines. `quit` has none.
+/// Appends the answer to a question. `quit` has none.
 pub(crate) fn put_answer(
     alloc: Global,
     debugger: &Debugger,
@@ -103,7 +103,7 @@ fn put_one_version(machine: &Machine, v: VersionId, lines: &mut Vec<u8>) -> Resu
     put_none("version ", v.index(), lines)
 }
 
-/// That there is nothing of this number.
+/// Says that nothing has this number.
 fn put_none(label: &str, number: u64, lines: &mut Vec<u8>) -> Result<(), NoMemory> {
     put_text(label, lines)?;
     put_number(number, lines)?;
@@ -129,12 +129,12 @@ fn put_key(machine: &Machine, key: u64, lines: &mut Vec<u8>) -> Result<(), NoMem
 #[tactic(auto, using(hek_asm::proofs::RowLemmas::steps_declared))]
 fn put_steps(alloc: Global, debugger: &Debugger, lines: &mut Vec<u8>) -> Result<(), NoMemory> {
     let schedule = debugger.schedule();
-    // Each step is one of this schedule.
-    let _ = schedule.buckets();
+    // `known` gives that each step of the schedule is well formed.
+    schedule.known();
     put_round(alloc, schedule, schedule.steps(), debugger.at(), lines)
 }
 
-/// The steps round a position, each with its number, and a mark at the one that is next.
+/// The steps around a position, each with its number, and a mark at the next one.
 fn put_round(
     alloc: Global,
     schedule: &Schedule,
@@ -156,7 +156,7 @@ fn put_round(
     Ok(())
 }
 
-/// A step behind its number.
+/// A step, after its number.
 fn put_step(
     alloc: Global,
     schedule: &Schedule,
@@ -197,7 +197,7 @@ fn put_last(
     )
 }
 
-/// Each breakpoint and watch, as the command that set it says it.
+/// Each breakpoint and watch, as the command that sets it.
 fn put_marks(debugger: &Debugger, lines: &mut Vec<u8>) -> Result<(), NoMemory> {
     let marks = debugger.marks();
     if marks.is_empty() {

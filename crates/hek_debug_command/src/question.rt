@@ -1,7 +1,7 @@
-//! What a session is asked beside the debugger's commands.
+//! What a session answers besides the debugger's commands.
 use hek_rules::{Schedule, TxnId, VersionId, next_word, number};
 
-/// A question to a session. None of them changes where the debugger stands.
+/// A question to a session. No question changes the debugger's position.
 #[derive(Clone, Copy, Debug, PartialEq, Eq)]
 pub(crate) enum Question {
     /// The whole state of the machine.
@@ -10,20 +10,20 @@ pub(crate) enum Question {
     Version(VersionId),
     /// The versions of a key.
     Key(u64),
-    /// The steps round the position.
+    /// The steps around the position.
     Steps,
-    /// Why the last step was answered as it was.
+    /// Why the last step has its reply.
     Why,
     /// What the last step changed.
     Changes,
     /// The breakpoints and watches.
     Marks,
     Help,
-    /// Whether that's all.
+    /// Ends the session.
     Quit,
 }
 
-/// The question that a line is, over the names of a schedule, if it is one.
+/// The question that a line is, with the names that a schedule gives, if it is one.
 pub(crate) fn read_question(schedule: &Schedule, line: &[u8]) -> Option<Question> {
     let (word, rest) = next_word(line)?;
     if word == b"show".as_slice() {
@@ -36,7 +36,7 @@ pub(crate) fn read_question(schedule: &Schedule, line: &[u8]) -> Option<Question
     }
 }
 
-/// The question that is one word.
+/// The question that is one word, if there is such a question.
 fn alone(word: &[u8]) -> Option<Question> {
     if word == b"list".as_slice() {
         return Some(Question::Steps);
@@ -59,7 +59,7 @@ fn alone(word: &[u8]) -> Option<Question> {
     None
 }
 
-/// What the words behind `show` ask for.
+/// What the words after `show` ask for.
 fn shown(schedule: &Schedule, line: &[u8]) -> Option<Question> {
     let Some((what, rest)) = next_word(line) else {
         return Some(Question::State);

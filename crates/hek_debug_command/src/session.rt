@@ -1,4 +1,4 @@
-//! Sessions of the command `debug` with somebody who types its commands.
+//! Sessions of the command `debug`, in which its commands are typed.
 use crate::debug::do_one;
 use crate::pages::put_answer;
 use crate::question::{Question, read_question};
@@ -10,21 +10,22 @@ use hek_rules::next_line;
 use std::alloc::Global;
 use std::io::{BufRead, Read, Write};
 
-/// What stands before each line that is typed.
+/// The prompt before each line that is typed.
 const PROMPT: &[u8] = b"hek> ";
 
 /// Whether a session goes on after a line.
 #[derive(Clone, Copy, PartialEq, Eq)]
 enum Onward {
     Next,
-    /// The line is no command.
+    /// The line is not a command.
     Unknown,
     Over,
 }
 
-/// Reads commands, one a line, does each with the steps of the schedule that a file says, and answers it before the next is
-/// read; where `prompts` holds, as at a terminal, each is asked for. A line that is none, or for which there is no memory, is
-/// told among the faults, and the session goes on. The answer is the exit status: 1 if there was such a line.
+/// Reads commands, one on each line, does each with the steps of the schedule in a file, and answers it before the next
+/// is read. With `prompts`, as at a terminal, writes a prompt before each line. A line that isn't a command, or that
+/// runs out of memory, is reported in `faults`, and the session goes on. Answers the exit status: 1 if there was such a
+/// line.
 pub fn debug_session<'a, R: Read + Drop, I: Read + Drop, W: Write, E: Write>(
     alloc: Global,
     file: ScheduleFile<R>,
@@ -42,7 +43,7 @@ pub fn debug_session<'a, R: Read + Drop, I: Read + Drop, W: Write, E: Write>(
     answer_lines(alloc, &mut debugger, &mut lines, prompts, out, faults)
 }
 
-/// Says what there is to step through, and where to begin.
+/// Says how many steps there are, and how to list the commands.
 fn greet<'a, W: Write>(debugger: &Debugger, out: &mut W) -> Result<(), HekFault<'a>> {
     let steps = debugger.schedule().steps().len();
     match writeln!(out, "{steps} steps; help lists the commands") {
@@ -51,7 +52,7 @@ fn greet<'a, W: Write>(debugger: &Debugger, out: &mut W) -> Result<(), HekFault<
     }
 }
 
-/// Answers each line that is typed, to the end of the input or to `quit`.
+/// Answers each line that is typed, until the input ends or `quit`.
 fn answer_lines<'a, B: BufRead, W: Write, E: Write>(
     alloc: Global,
     debugger: &mut Debugger,
@@ -86,7 +87,7 @@ fn answer_lines<'a, B: BufRead, W: Write, E: Write>(
     Ok(status)
 }
 
-/// A terminal gets a line of its own for what comes behind the session.
+/// At a terminal, ends the line of the prompt, so that what follows the session begins on a new one.
 fn end<'a, W: Write>(prompts: bool, status: u8, out: &mut W) -> Result<u8, HekFault<'a>> {
     if prompts {
         show(b"\n", out)?;
@@ -100,7 +101,7 @@ fn hint<E: Write>(prompts: bool, faults: &mut E) {
     }
 }
 
-/// Writes bytes, and lets them be seen.
+/// Writes bytes and flushes them.
 fn show<'a, W: Write>(bytes: &[u8], out: &mut W) -> Result<(), HekFault<'a>> {
     if out.write_all(bytes).is_err() || out.flush().is_err() {
         return Err(HekFault::CannotWrite);
@@ -108,7 +109,7 @@ fn show<'a, W: Write>(bytes: &[u8], out: &mut W) -> Result<(), HekFault<'a>> {
     Ok(())
 }
 
-/// Does what a line says, and lets the answer be seen.
+/// Does what a line asks for, and flushes the answer.
 fn answer_line<'a, W: Write>(
     alloc: Global,
     debugger: &mut Debugger,
@@ -129,7 +130,7 @@ fn answer_line<'a, W: Write>(
     }
 }
 
-/// Answers what only a session is asked.
+/// Answers a question.
 fn answer_question<'a, W: Write>(
     alloc: Global,
     debugger: &Debugger,

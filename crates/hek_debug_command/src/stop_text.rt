@@ -1,7 +1,7 @@
-//! What a debugger tells, as text.
+//! What a debugger answers, as text.
 ghost use Rattle.std.specs.Prelude.{◌≡◌, ◌<◌, ◌++◌, ◌∷◌, [], codes, OnOk};
 ghost use Rattle.std.specs.Fmt.{decimal};
-ghost use Rattle.hek_asm.specs.Lines.{joined};
+ghost use Rattle.hek_asm.specs.Lines.{joined_words};
 ghost use Rattle.hek_asm.specs.Trace.{reply_words};
 ghost use Rattle.hek_debug.specs.Sessions.{world_at};
 ghost use Rattle.hek_debug_command.specs.Debugged.{reason_text, answer_text, stop_line, hex_digit, hex_text, seen_text, count_text, name_text, watch_line, watch_lines, told_text};
@@ -12,7 +12,7 @@ use hek_rules::{NoMemory, Reply, Schedule, TxnId};
 use std::alloc::Global;
 use std::io::Write;
 
-/// Where a debugger stands, and what each of its watches looks at there.
+/// Where a debugger is, and what each of its watches looks at there.
 pub(crate) fn put_told(
     alloc: Global,
     debugger: &Debugger,
@@ -142,7 +142,7 @@ fn put_seen(seen: Option<u64>, lines: &mut Vec<u8>) -> Result<(), NoMemory>
     }
 }
 
-/// The last digits of a number in upper-case hexadecimal, so many of them.
+/// The last `count` digits of a number in upper-case hexadecimal.
 fn put_hex(count: u64, number: u64, lines: &mut Vec<u8>) -> Result<(), NoMemory>
     ensures { OnOk result (lines.new.items ≡ lines.old.items ++ hex_text count number) }
 {

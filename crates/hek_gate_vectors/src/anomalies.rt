@@ -3,9 +3,9 @@
 use crate::folder::Count;
 use crate::sessions::read;
 use hek_commands::{ScheduleFile, report};
+use hek_compare::Fault;
 use hek_permute::Form;
 use hek_permute_command::{Choice, permute_command};
-use hek_compare::Fault;
 use std::alloc::Global;
 use std::{fs, io};
 

@@ -1,4 +1,4 @@
--- What is new at its place in a list of distinct items.
+-- An item is new at its place in a list of distinct items.
 use Rattle.std.proofs.Common.{◌≡◌, ℕ, Bool, false, eqb, List, [], ◌∷◌, ◌++◌, map, refl, sym, ap, nat_eq}
 use Rattle.std.specs.List.{AllByRecursion, IsDistinct, list_any}
 use Rattle.std.specs.Str.{bytes_eq}

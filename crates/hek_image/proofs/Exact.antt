@@ -1,4 +1,4 @@
--- Readers that take just so many bytes.
+-- Readers that take an exact number of bytes.
 use Rattle.std.proofs.Common.{◌≡◌, ℕ, ◌+◌, ◌<◌, Bool, length, take, drop, Err, refl, sym, ap, ◌∙◌, arith, inl, inr, length-drop}
 use Rattle.std.specs.Int.{Width, w8, w16, w32, w64, byte_len, from_be_bytes}
 use Rattle.std.proofs.lemmas.Bool.{cases_lt, lt-ltb, le-ltb}
@@ -8,8 +8,8 @@ use Rattle.hek_image.specs.declared.fault.LoadFault.{LoadFault}
 use Rattle.hek_image.specs.declared.fault.LoadFault.TheVariants.{Short}
 use Rattle.hek_image.specs.declared.item.Item.{Item}
 use Rattle.hek_image.specs.declared.item.Item.TheVariants as item
-use Rattle.hek_image.specs.Loading.{Place, Reader, both, required, checked, bytes_at, value, number_at, number_within, row_at, kind_at, step_at, magic_at, version_at, header_at}
-use Rattle.hek_image.specs.Taking.{name_at, item_at, item_size, ItemsFit, HasGrown}
+use Rattle.hek_image.specs.Loading.{Place, Reader, both, required, checked_read, bytes_at, value, number_at, number_within, row_at, kind_at, step_at, magic_at, image_version, header_at}
+use Rattle.hek_image.specs.Taking.{named_txn_at, item_at, item_size, ItemsFit, HasGrown}
 use Rattle.hek_image.proofs.Steady.{IsSteady, Any, wider, bytes_steady, value_steady, both_steady, checked_steady}
 use Rattle.hek_image.proofs.Taken.{gave, gave_is, both_ok, checked_ok, required_ok}
 use Rattle.hek_image.proofs.Whole.{row_steady, step_steady}
@@ -51,7 +51,7 @@ both_exact m n r f h k = record {
       (omega (arith, one, two), omega (arith, one, two));
 }
 
-checked_exact : {A : Type 0} (n : ℕ) (r : Reader A) (test : A → Bool) → IsExact n r → IsExact n (checked r test)
+checked_exact : {A : Type 0} (n : ℕ) (r : Reader A) (test : A → Bool) → IsExact n r → IsExact n (checked_read r test)
 checked_exact n r test h = record { exact = λ p x q e. h.exact p x q (checked_ok r test p x q e).0 }
 
 required_exact : {A : Type 0} (n : ℕ) (r : Reader A) (test : A → Bool) (fault : LoadFault) → IsExact n r → IsExact n (required r test fault)
@@ -69,7 +69,7 @@ row_exact : (plan : Plan) → IsExact 16 (row_at plan)
 unfolding row_at
 row_exact plan = both_exact 8 8 _ _ (checked_exact 8 (number_at w64) _ (number_exact w64)) (λ key. both_exact 8 0 _ _ (number_exact w64) (λ v. value_exact _))
 
-name_exact : (level : Level) (len : ℕ) (plan : Plan) → IsExact (len + 0) (name_at level len plan)
+name_exact : (level : Level) (len : ℕ) (plan : Plan) → IsExact (len + 0) (named_txn_at level len plan)
 name_exact level len plan = both_exact len 0 _ _ (checked_exact len (bytes_at len) _ (bytes_exact len)) (λ name. value_exact _)
 
 kind_exact : IsExact 1 kind_at
@@ -87,8 +87,8 @@ magic_exact : IsExact 4 magic_at
 unfolding magic_at
 magic_exact = required_exact 4 (bytes_at 4) _ _ (bytes_exact 4)
 
-version_exact : IsExact 2 version_at
-unfolding version_at
+version_exact : IsExact 2 image_version
+unfolding image_version
 version_exact = required_exact 2 (number_at w16) _ _ (number_exact w16)
 
 pub header_exact : IsExact 22 header_at
@@ -106,15 +106,15 @@ same_exact m n r e h = record { exact = λ p x q g. let it = h.exact p x q g in 
 
 pub item_exact : (i : Item) (plan : Plan) → IsExact (item_size i) (item_at i plan)
 item_exact item.Row plan = row_exact plan
-item_exact (item.Name level len) plan = same_exact (len + 0) len (name_at level len plan) (omega arith) (name_exact level len plan)
+item_exact (item.Name level len) plan = same_exact (len + 0) len (named_txn_at level len plan) (omega arith) (name_exact level len plan)
 item_exact item.Step plan = step_exact plan
 
-name_steady : (level : Level) (len : ℕ) (plan : Plan) → IsSteady Any (len + 0) (name_at level len plan)
+name_steady : (level : Level) (len : ℕ) (plan : Plan) → IsSteady Any (len + 0) (named_txn_at level len plan)
 name_steady level len plan = both_steady Any Any len 0 _ _ (checked_steady Any Any len _ _ (λ w any e. tt) (bytes_steady len)) (λ name any. value_steady Any _ tt)
 
 pub item_steady : (i : Item) (plan : Plan) → IsSteady Any (item_size i) (item_at i plan)
 item_steady item.Row plan = row_steady plan
-item_steady (item.Name level len) plan = wider Any (len + 0) len (name_at level len plan) (omega arith) (name_steady level len plan)
+item_steady (item.Name level len) plan = wider Any (len + 0) len (named_txn_at level len plan) (omega arith) (name_steady level len plan)
 item_steady item.Step plan = step_steady plan
 
 -- ---- how many there are

@@ -17,7 +17,7 @@ use Rattle.hek_rules.specs.Events.{event_of, opcode_of, kind_coded}
 use Rattle.hek_rules.specs.Plan.{Plan, IsPlan, IsRow, IsStep, IsDeclared, names_of, has_key, has_name}
 use Rattle.hek_image.specs.declared.fault.LoadFault.TheVariants.{BadMagic, BadVersion}
 use Rattle.hek_image.specs.Schedules.{magic, front_bytes, count_bytes, row_bytes, txn_bytes, level_byte, step_bytes, image, image_in, HasNoSnapshot}
-use Rattle.hek_image.specs.Loading.{Header, both, checked, bytes_at, value, number_at, number_within, is_within, row_at, txn_at, is_new_name, level_coded, kind_at, is_opcode, step_at, txn_fits, first_fits, second_fits, times, magic_at, is_version, version_at, header_at, plan_at, ended, loading}
+use Rattle.hek_image.specs.Loading.{Header, both, checked_read, bytes_at, value, number_at, number_within, is_within, row_at, txn_at, is_new_name, level_coded, kind_at, is_opcode, step_at, step_txn_fits, first_fits, second_fits, times, magic_at, is_version, image_version, header_at, plan_at, ended, loading}
 use Rattle.hek_image.proofs.Wide.{wide16, wide32, wide64}
 use Rattle.hek_image.proofs.Readers.{Reads, here, bytes_reads, both_reads, then_reads, checked_reads, required_reads, number_reads, byte_reads, within_reads, times_reads, AllGood, added}
 use Rattle.hek_image.proofs.Levels.{LevelFits, LevelsFit, few_versions, level_again, levels_fit_new, levels_fit_old}
@@ -72,14 +72,14 @@ len_within w h =
 txn_reads : (version : ℕ) (p : Plan) (t : List ℕ × Level) → GoodTxn version p t → Reads (txn_at version p) (txn_bytes t) (with_txn p t)
 unfolding txn_at
 txn_reads version p t h =
-    let name : Reads (checked (bytes_at (length t.0)) (is_new_name p)) t.0 t.0 = checked_reads (bytes_at (length t.0)) (is_new_name p) t.0 t.0 (rw (h.form, h.fresh) refl) (bytes_reads t.0) in
+    let name : Reads (checked_read (bytes_at (length t.0)) (is_new_name p)) t.0 t.0 = checked_reads (bytes_at (length t.0)) (is_new_name p) t.0 t.0 (rw (h.form, h.fresh) refl) (bytes_reads t.0) in
     let level : record p { txns = p.txns ++ (t.0, level_coded (level_byte t.1)) ∷ [] } ≡ with_txn p t = ap (λ (l : Level). record p { txns = p.txns ++ (t.0, l) ∷ [] }) (level_again t.1) in
     subst (λ (q : Plan). Reads (txn_at version p) (txn_bytes t) q) level
     (both_reads _ _ (level_byte t.1 ∷ []) (length t.0 ∷ t.0) (level_byte t.1) _
     (within_reads 1 (version + 1) w8 (level_byte t.1 ∷ []) (level_byte t.1) h.level (byte_reads (level_byte t.1)))
     (both_reads _ _ (length t.0 ∷ []) t.0 (length t.0) _
     (within_reads 1 32 w8 (length t.0 ∷ []) (length t.0) (len_within t.0 h.form) (byte_reads (length t.0)))
-    (then_reads (checked (bytes_at (length t.0)) (is_new_name p)) (λ w. record p { txns = p.txns ++ (w, level_coded (level_byte t.1)) ∷ [] }) t.0 t.0 name)))
+    (then_reads (checked_read (bytes_at (length t.0)) (is_new_name p)) (λ w. record p { txns = p.txns ++ (w, level_coded (level_byte t.1)) ∷ [] }) t.0 t.0 name)))
 
 good_txns : (version : ℕ) (p : Plan) (ts : List (List ℕ × Level)) → LevelsFit version ts → AllByRecursion (λ w. IsTrue (is_name w)) (keys_of ts) → IsDistinct bytes_eq (keys_of (p.txns ++ ts)) → AllGood (txn_at version) txn_bytes with_txn (GoodTxn version) (txn_reads version) p ts
 good_txns version p [] l h d = tt
@@ -107,17 +107,17 @@ unfolding kind_at
 kind_reads k e =
     let known : is_opcode (opcode_of k) ≡ true = rw e refl in
     let same : unwrap_or (kind_coded (opcode_of k)) kind.Detect ≡ k = rw e refl in
-    subst (λ (l : EventKind). Reads (both (checked (number_at w8) is_opcode) (λ n. value (unwrap_or (kind_coded n) kind.Detect))) (opcode_of k ∷ []) l) same
-    (then_reads (checked (number_at w8) is_opcode) (λ n. unwrap_or (kind_coded n) kind.Detect) (opcode_of k ∷ []) (opcode_of k) (checked_reads (number_at w8) is_opcode (opcode_of k ∷ []) (opcode_of k) known (byte_reads (opcode_of k))))
+    subst (λ (l : EventKind). Reads (both (checked_read (number_at w8) is_opcode) (λ n. value (unwrap_or (kind_coded n) kind.Detect))) (opcode_of k ∷ []) l) same
+    (then_reads (checked_read (number_at w8) is_opcode) (λ n. unwrap_or (kind_coded n) kind.Detect) (opcode_of k ∷ []) (opcode_of k) (checked_reads (number_at w8) is_opcode (opcode_of k ∷ []) (opcode_of k) known (byte_reads (opcode_of k))))
 
-coded : (p : Plan) (k : EventKind) (t a b : ℕ) → kind_coded (opcode_of k) ≡ Some k → txn_fits p k t ≡ true → first_fits p k a ≡ true → second_fits k b ≡ true → t < 2 ^ 32 → a < 2 ^ 64 → b < 2 ^ 64 →
+coded : (p : Plan) (k : EventKind) (t a b : ℕ) → kind_coded (opcode_of k) ≡ Some k → step_txn_fits p k t ≡ true → first_fits p k a ≡ true → second_fits k b ≡ true → t < 2 ^ 32 → a < 2 ^ 64 → b < 2 ^ 64 →
     Reads (step_at p) (opcode_of k ∷ to_be_bytes w32 t ++ (to_be_bytes w64 a ++ to_be_bytes w64 b)) (with_event p (event_of k t a b))
 unfolding step_at
 coded p k t a b known txn first second x y z =
     both_reads _ _ (opcode_of k ∷ []) (to_be_bytes w32 t ++ (to_be_bytes w64 a ++ to_be_bytes w64 b)) k _ (kind_reads k known)
-    (both_reads _ _ (to_be_bytes w32 t) (to_be_bytes w64 a ++ to_be_bytes w64 b) t _ (checked_reads (number_at w32) (txn_fits p k) (to_be_bytes w32 t) t txn (number_reads w32 (2 ^ 32) wide32 t x))
+    (both_reads _ _ (to_be_bytes w32 t) (to_be_bytes w64 a ++ to_be_bytes w64 b) t _ (checked_reads (number_at w32) (step_txn_fits p k) (to_be_bytes w32 t) t txn (number_reads w32 (2 ^ 32) wide32 t x))
     (both_reads _ _ (to_be_bytes w64 a) (to_be_bytes w64 b) a _ (checked_reads (number_at w64) (first_fits p k) (to_be_bytes w64 a) a first (number_reads w64 (2 ^ 64) wide64 a y))
-    (then_reads (checked (number_at w64) (second_fits k)) (λ c. with_event p (event_of k t a c)) (to_be_bytes w64 b) b (checked_reads (number_at w64) (second_fits k) (to_be_bytes w64 b) b second (number_reads w64 (2 ^ 64) wide64 b z)))))
+    (then_reads (checked_read (number_at w64) (second_fits k)) (λ c. with_event p (event_of k t a c)) (to_be_bytes w64 b) b (checked_reads (number_at w64) (second_fits k) (to_be_bytes w64 b) b second (number_reads w64 (2 ^ 64) wide64 b z)))))
 
 declared_fits : (q p : Plan) (t : ℕ) → p.txns ≡ q.txns → IsDeclared (length q.txns) t → (nat_lt 0 t && nat_le t (length p.txns)) ≡ true
 declared_fits q p t same h = and_from (nat_lt 0 t) (nat_le t (length p.txns)) (lt-ltb 0 t h.0) (le-leb t (length p.txns) (omega (arith, ap length same, h.1)))
@@ -163,8 +163,8 @@ magic_reads : Reads magic_at magic magic
 unfolding magic_at
 magic_reads = required_reads (bytes_at 4) (λ m. bytes_eq m magic) BadMagic magic magic refl (bytes_reads magic)
 
-version_reads : (version : ℕ) → is_version version ≡ true → Reads version_at (to_be_bytes w16 version) version
-unfolding version_at
+version_reads : (version : ℕ) → is_version version ≡ true → Reads image_version (to_be_bytes w16 version) version
+unfolding image_version
 version_reads version e =
     let small : version < 2 ^ 16 = omega (arith, few_versions version e) in
     required_reads (number_at w16) is_version BadVersion (to_be_bytes w16 version) version e (number_reads w16 (2 ^ 16) wide16 version small)

@@ -17,7 +17,7 @@ use Rattle.hek_image.specs.declared.fault.LoadFault.{LoadFault}
 use Rattle.hek_image.specs.declared.fault.LoadFault.TheVariants.{BadMagic, BadVersion, Trailing}
 use Rattle.hek_image.specs.Laws.{IsBytes}
 use Rattle.hek_image.specs.Schedules.{magic, front_bytes, count_bytes, row_bytes, txn_bytes, level_byte, step_bytes, image, image_in, HasNoSnapshot}
-use Rattle.hek_image.specs.Loading.{Place, Header, checked, bytes_at, number_at, number_within, is_within, row_at, txn_at, is_new_name, level_coded, kind_at, is_opcode, step_at, txn_fits, first_fits, second_fits, times, magic_at, is_version, version_at, header_at, plan_at, ended, loading}
+use Rattle.hek_image.specs.Loading.{Place, Header, checked_read, bytes_at, number_at, number_within, is_within, row_at, txn_at, is_new_name, level_coded, kind_at, is_opcode, step_at, step_txn_fits, first_fits, second_fits, times, magic_at, is_version, image_version, header_at, plan_at, ended, loading}
 use Rattle.hek_image.proofs.Wide.{wide16, wide32, wide64}
 use Rattle.hek_image.proofs.Levels.{LevelFits, LevelsFit, two_versions, level_back, old_levels_fit}
 use Rattle.hek_image.proofs.Steady.{Any}
@@ -30,7 +30,7 @@ with_row p r = record p { rows = p.rows ++ r ∷ [] }
 row_ok : (plan : Plan) (p : Place) (after : Plan) (q : Place) → IsBytes p.rest → row_at plan p ≡ gave after q → (r : ℕ × ℕ) × (after ≡ with_row plan r) × Took p (row_bytes r) q × Any r
 unfolding row_at
 row_ok plan p after q fits e =
-    let k = both_ok (checked (number_at w64) (λ k. not (has_key plan k))) _ p after q e in
+    let k = both_ok (checked_read (number_at w64) (λ k. not (has_key plan k))) _ p after q e in
     let key = number_ok w64 (2 ^ 64) wide64 p k.0 k.1 fits (checked_ok (number_at w64) _ p k.0 k.1 k.2).0 in
     let v = both_ok (number_at w64) _ k.1 after q k.3 in
     let val = number_ok w64 (2 ^ 64) wide64 k.1 v.0 v.1 key.bytes v.2 in
@@ -53,7 +53,7 @@ txn_ok version known plan p after q fits e =
     let level = byte_ok p l.0 l.1 fits lw.0 in
     let n = both_ok (number_within 1 32 w8) _ l.1 after q l.3 in
     let len = byte_ok l.1 n.0 n.1 level.bytes (within_ok 1 32 w8 l.1 n.0 n.1 n.2).0 in
-    let w = both_ok (checked (bytes_at n.0) (is_new_name plan)) _ n.1 after q n.3 in
+    let w = both_ok (checked_read (bytes_at n.0) (is_new_name plan)) _ n.1 after q n.3 in
     let name = bytes_ok n.0 n.1 w.0 w.1 len.bytes (checked_ok (bytes_at n.0) (is_new_name plan) n.1 w.0 w.1 w.2).0 in
     let t : List ℕ × Level = (w.0, level_coded l.0) in
     let back : level_byte (level_coded l.0) ≡ l.0 = level_back version l.0 known lw.1 in
@@ -140,7 +140,7 @@ code_back n k e0 =
 kind_ok : (p : Place) (k : EventKind) (q : Place) → IsBytes p.rest → kind_at p ≡ gave k q → Took p (opcode_of k ∷ []) q
 unfolding kind_at
 kind_ok p k q fits e =
-    let b = both_ok (checked (number_at w8) is_opcode) _ p k q e in
+    let b = both_ok (checked_read (number_at w8) is_opcode) _ p k q e in
     let c = checked_ok (number_at w8) is_opcode p b.0 b.1 b.2 in
     let same = gave_is (unwrap_or (kind_coded b.0) kind.Detect) k b.1 q b.3 in
     let code : opcode_of k ≡ b.0 = code_back b.0 k (known (kind_coded b.0) k c.1 same.0) in
@@ -157,7 +157,7 @@ record Parts (k : EventKind) (t a b : ℕ) : Type 0 where
   pub first : first_of (event_of k t a b) ≡ a
   pub second : second_of (event_of k t a b) ≡ b
 
-parts : (plan : Plan) (k : EventKind) (t a b : ℕ) → txn_fits plan k t ≡ true → first_fits plan k a ≡ true → second_fits k b ≡ true → Parts k t a b
+parts : (plan : Plan) (k : EventKind) (t a b : ℕ) → step_txn_fits plan k t ≡ true → first_fits plan k a ≡ true → second_fits k b ≡ true → Parts k t a b
 parts plan kind.Begin t a b x y z = record { kind = refl; txn = refl; first = sym (eqb-true a 0 y); second = sym (eqb-true b 0 z) }
 parts plan kind.Read t a b x y z = record { kind = refl; txn = refl; first = refl; second = sym (eqb-true b 0 z) }
 parts plan kind.Scan t a b x y z = record { kind = refl; txn = refl; first = refl; second = sym (eqb-true b 0 z) }
@@ -178,13 +178,13 @@ unfolding step_at
 step_ok plan p after q fits e =
     let k = both_ok kind_at _ p after q e in
     let code = kind_ok p k.0 k.1 fits k.2 in
-    let t = both_ok (checked (number_at w32) (txn_fits plan k.0)) _ k.1 after q k.3 in
-    let tc = checked_ok (number_at w32) (txn_fits plan k.0) k.1 t.0 t.1 t.2 in
+    let t = both_ok (checked_read (number_at w32) (step_txn_fits plan k.0)) _ k.1 after q k.3 in
+    let tc = checked_ok (number_at w32) (step_txn_fits plan k.0) k.1 t.0 t.1 t.2 in
     let txn = number_ok w32 (2 ^ 32) wide32 k.1 t.0 t.1 code.bytes tc.0 in
-    let a = both_ok (checked (number_at w64) (first_fits plan k.0)) _ t.1 after q t.3 in
+    let a = both_ok (checked_read (number_at w64) (first_fits plan k.0)) _ t.1 after q t.3 in
     let ac = checked_ok (number_at w64) (first_fits plan k.0) t.1 a.0 a.1 a.2 in
     let first = number_ok w64 (2 ^ 64) wide64 t.1 a.0 a.1 txn.bytes ac.0 in
-    let b = both_ok (checked (number_at w64) (second_fits k.0)) _ a.1 after q a.3 in
+    let b = both_ok (checked_read (number_at w64) (second_fits k.0)) _ a.1 after q a.3 in
     let bc = checked_ok (number_at w64) (second_fits k.0) a.1 b.0 b.1 b.2 in
     let second = number_ok w64 (2 ^ 64) wide64 a.1 b.0 b.1 first.bytes bc.0 in
     let event : Event = event_of k.0 t.0 a.0 b.0 in
@@ -212,8 +212,8 @@ magic_ok p m q fits e =
     let c = required_ok (bytes_at 4) (λ w. bytes_eq w magic) BadMagic p m q e in
     subst (λ (w : List ℕ). Took p w q) ((bytes_eq-Decides m magic).0 c.1) (bytes_ok 4 p m q fits c.0).0
 
-version_ok : (p : Place) (n : ℕ) (q : Place) → IsBytes p.rest → version_at p ≡ gave n q → Took p (to_be_bytes w16 n) q × (is_version n ≡ true)
-unfolding version_at
+version_ok : (p : Place) (n : ℕ) (q : Place) → IsBytes p.rest → image_version p ≡ gave n q → Took p (to_be_bytes w16 n) q × (is_version n ≡ true)
+unfolding image_version
 version_ok p n q fits e =
     let c = required_ok (number_at w16) is_version BadVersion p n q e in
     (number_ok w16 (2 ^ 16) wide16 p n q fits c.0, c.1)
@@ -232,7 +232,7 @@ unfolding header_at
 header_ok p h q fits e =
     let m = both_ok magic_at _ p h q e in
     let m_took = magic_ok p m.0 m.1 fits m.2 in
-    let v = both_ok version_at _ m.1 h q m.3 in
+    let v = both_ok image_version _ m.1 h q m.3 in
     let version = version_ok m.1 v.0 v.1 m_took.bytes v.2 in
     let v_took = version.0 in
     let b = both_ok (number_within 1 1024 w32) _ v.1 h q v.3 in
@@ -258,7 +258,7 @@ header_ok p h q fits e =
     subst (λ (z : Plan × Header). Took p (head_bytes z) q × (z.0 ≡ begun z.0.buckets) × (is_version z.1.version ≡ true)) same.0 (subst (λ (z : Place). Took p (head_bytes head) z) same.1 taken, refl, version.1)
 
 -- ---- the whole
--- bytes up to q are an image of the plan, which has no other levels than the image's version
+-- the bytes up to q are an image of the plan, and the image's version has all levels of the plan
 record IsImage (p : Place) (plan : Plan) (q : Place) : Type 0 where
   pub version : ℕ
   pub known : is_version version ≡ true

@@ -1,4 +1,4 @@
--- What is known of a source's bytes when all but their end was read is what the bytes come to.
+-- What is certain of a source's bytes once all but their end is read is what loading them gives.
 use Rattle.std.proofs.Common.{◌≡◌, ℕ, ◌<◌, false, List, [], ◌++◌, length, Result, Ok, Err, refl, sym, ap, subst, ◌∙◌, arith, inl, inr, ◌⊎◌}
 use Rattle.std.specs.Prelude.{◌==◌}
 use Rattle.std.proofs.lemmas.Bool.{ne_eqb}
@@ -39,7 +39,7 @@ module _ {X : Type 0} (view : X → Plan × ℕ) (size : ℕ) (whole rest : List
   pub fault_loads : {Y : Type 0} (see : Y → Plan) (e : LoadFault) (result : Result Y LoadFault) → result ≡ Err e → Takes view plan_at 0 size (Err e) whole rest → LoadGives see result (loading whole)
   fault_loads {Y = Y} see e result is t = subst (λ (s : Result Y LoadFault). LoadGives see s (loading whole)) (sym is) (fault_holds e whole t.text rest t.parts t.holds)
 
-  -- the source failed within them
+  -- the source failed within the fields
   pub fault_is_open : (e : LoadFault) → e ≡ load.Read → Takes view plan_at 0 size (Err e) whole rest → IsOpen (loading (given_between whole rest))
   fault_is_open e is t =
       let ends : FaultHolds load.Read plan_at 0 t.text rest = subst (λ (d : LoadFault). FaultHolds d plan_at 0 t.text rest) is t.holds in
@@ -49,22 +49,22 @@ module _ {X : Type 0} (view : X → Plan × ℕ) (size : ℕ) (whole rest : List
     all_read : loading t.text ≡ Ok (view x).0
     all_read = ap loading (sym (append-nil t.text)) ∙ text_is (t.text ++ []) (gave (view x).0 (here (view x).1 [])) (t.holds [])
 
-    -- nothing follows
+    -- no byte follows the fields
     pub loads : rest ≡ [] → loading whole ≡ Ok (view x).0
     loads none = ap loading (t.parts ∙ ap (λ (bs : List ℕ). t.text ++ bs) none ∙ append-nil t.text) ∙ all_read
 
-    -- a byte follows
+    -- a byte follows the fields
     pub trails : 0 < length rest → loading whole ≡ Err load.Trailing
     trails some =
         let more : (length rest == 0) ≡ false = ne_eqb (length rest) 0 (λ h. absurd (omega (arith, h, some))) in
         let end : ended (gave (view x).0 (here (view x).1 rest)) ≡ Err load.Trailing = rw more refl in
         of_text whole t.text rest (gave (view x).0 (here (view x).1 rest)) t.parts (t.holds rest) ∙ end
 
-    -- the source failed where the end was looked for
+    -- the source failed after the fields, where the end was looked for
     pub is_open : IsOpen (loading (given_between whole rest))
     is_open = subst (λ (bs : List ℕ). IsOpen (loading bs)) (sym (given_is whole t.text rest t.parts)) (subst IsOpen (sym all_read) tt)
 
-    -- one of both
+    -- a fault at the end: a byte follows, or the source failed
     pub end_loads : {Y : Type 0} (see : Y → Plan) (e : LoadFault) (result : Result Y LoadFault) → result ≡ Err e → (e ≡ load.Trailing) ⊎ (e ≡ load.Read) → (e ≡ load.Trailing → 0 < length rest) → LoadGives see result (loading whole)
     end_loads {Y = Y} see e result is which some = elim which [
       | inl trailing ↦

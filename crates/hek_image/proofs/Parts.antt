@@ -1,4 +1,4 @@
--- What is written in parts, and one more of several.
+-- Texts that are written in parts, and one more item of several.
 use Rattle.std.proofs.Common.{◌≡◌, ℕ, zero, suc, ◌+◌, ◌<◌, List, [], ◌∷◌, ◌++◌, length, map, drop, get_or, Some, refl, sym, ap, ◌∙◌, append_assoc, arith, slice_get, add-one, drop-cons}
 use Rattle.std.specs.List.{flat_map}
 use Rattle.std.specs.Map.{keys_of}
@@ -16,7 +16,7 @@ four_parts a b c d e v w x y p q r s = two_parts a b e v (w ++ (x ++ y)) p (thre
 pub five_parts : (a b c d e f v w x y z : List ℕ) → b ≡ a ++ v → c ≡ b ++ w → d ≡ c ++ x → e ≡ d ++ y → f ≡ e ++ z → f ≡ a ++ (v ++ (w ++ (x ++ (y ++ z))))
 five_parts a b c d e f v w x y z p q r s t = two_parts a b f v (w ++ (x ++ (y ++ z))) p (four_parts b c d e f w x y z q r s t)
 
--- what stands at a place, and what follows it
+-- the element at a place, and those after it
 pub at_place : {X : Type 0} (xs : List X) (i : ℕ) (x : X) → slice_get xs i ≡ Some x → drop i xs ≡ x ∷ drop (i + 1) xs
 at_place [] i x h = absurd (omega (arith, slice_get_within [] i x h))
 at_place (y ∷ ys) zero x h = cc

@@ -7,7 +7,7 @@ use Rattle.std.proofs.lemmas.List.{take_at, drop_at}
 use Rattle.hek_rules.specs.Plan.{Plan}
 use Rattle.hek_image.specs.declared.fault.LoadFault.{LoadFault}
 use Rattle.hek_image.specs.declared.fault.LoadFault.TheVariants.{BadField}
-use Rattle.hek_image.specs.Loading.{Place, Reader, then_read, both, checked_from, required, checked, bytes_at, value, number_at, number_within, is_within, times}
+use Rattle.hek_image.specs.Loading.{Place, Reader, then_read, both, checked_from, required, checked_read, bytes_at, value, number_at, number_within, is_within, times}
 use Rattle.hek_image.proofs.Wide.{IsWide, byte_again}
 
 abbrev pub here : ℕ → List ℕ → Place
@@ -31,13 +31,13 @@ both_reads {A = A} {B = B} r f s t x y h k = record {
       ∙ ap (λ (n : ℕ). Ok (y, here n more)) size;
 }
 
--- a value of what was read
+-- a value made of what was read
 pub then_reads : {A B : Type 0} (r : Reader A) (g : A → B) (s : List ℕ) (x : A) → Reads r s x → Reads (both r (λ a. value (g a))) s (g x)
 unfolding both
 then_reads {A = A} r g s x h = record { reads = λ at more. ap (λ (res : Result (A × Place) LoadFault). then_read res (λ a. value (g a))) (h.reads at more) }
 
-pub checked_reads : {A : Type 0} (r : Reader A) (test : A → Bool) (s : List ℕ) (x : A) → test x ≡ true → Reads r s x → Reads (checked r test) s x
-unfolding checked
+pub checked_reads : {A : Type 0} (r : Reader A) (test : A → Bool) (s : List ℕ) (x : A) → test x ≡ true → Reads r s x → Reads (checked_read r test) s x
+unfolding checked_read
 checked_reads {A = A} r test s x e h = record {
   reads = λ at more.
       let passed : checked_from (Ok (x, here (at + length s) more)) test (BadField at) ≡ Ok (x, here (at + length s) more) = rw e refl in

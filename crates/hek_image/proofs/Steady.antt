@@ -1,4 +1,4 @@
--- More bytes behind change no value and no fault but Short, and Short comes of few bytes.
+-- More bytes at the end change no value and no fault but Short, and Short means that the bytes are too few.
 use Rattle.std.proofs.Common.{◌≡◌, ℕ, zero, suc, ◌+◌, ◌*◌, ◌<◌, ◌≤◌, Bool, true, List, ◌++◌, length, Result, Ok, Err, refl, ap, subst, arith, inl, inr, length-append, length-drop}
 use Rattle.std.specs.Prelude.{nat_le}
 use Rattle.std.specs.Int.{Width, byte_len}
@@ -8,12 +8,12 @@ use Rattle.std.proofs.lemmas.List.{take-append-le, drop-append-le}
 use Rattle.hek_rules.specs.Plan.{Plan}
 use Rattle.hek_image.specs.declared.fault.LoadFault.{LoadFault}
 use Rattle.hek_image.specs.declared.fault.LoadFault.TheVariants as load
-use Rattle.hek_image.specs.Loading.{Place, Reader, then_read, both, checked_from, required, checked, bytes_at, value, number_at, number_within, is_within, times}
+use Rattle.hek_image.specs.Loading.{Place, Reader, then_read, both, checked_from, required, checked_read, bytes_at, value, number_at, number_within, is_within, times}
 
 abbrev pub longer : Place → List ℕ → Place
 longer p more = record { at = p.at; rest = p.rest ++ more }
 
--- what is said of Short, and of each other fault
+-- one fact for Short, and another for every other fault
 abbrev pub FaultAgrees : LoadFault → Type 0 → Type 0 → Type 0
 FaultAgrees load.Short short other = short
 FaultAgrees load.BadMagic short other = other
@@ -32,12 +32,12 @@ fault_agrees load.Trailing f g h = g h
 fault_agrees load.Read f g h = g h
 fault_agrees load.NoMemory f g h = g h
 
--- what r gives at p, and at p with more behind it
+-- what r gives at p, and at p with more bytes after it
 abbrev pub Agrees : {A : Type 0} → (A → Type 0) → Place → List ℕ → ℕ → Result (A × Place) LoadFault → Result (A × Place) LoadFault → Type 0
 Agrees P p more size (Ok x) s = (s ≡ Ok (x.0, longer x.1 more)) × (length p.rest ≤ size + length x.1.rest) × P x.0
 Agrees P p more size (Err e) s = FaultAgrees e (length p.rest < size) (s ≡ Err e)
 
--- it takes at most so many bytes, its values have P, and more bytes behind change only Short
+-- r takes at most `size` bytes, its values have P, and more bytes change no fault but Short
 pub record IsSteady {A : Type 0} (P : A → Type 0) (size : ℕ) (r : Reader A) : Type 0 where
   pub agrees : (p : Place) (more : List ℕ) → Agrees P p more size (r p) (r (longer p more))
 
@@ -63,7 +63,7 @@ bytes_steady n = record {
 pub value_steady : {A : Type 0} (P : A → Type 0) (x : A) → P x → IsSteady P 0 (value x)
 value_steady P x h = record { agrees = λ p more. (refl, omega arith, h) }
 
--- one after the other
+-- one reader after another
 after_agrees : {B : Type 0} (Q : B → Type 0) (p q : Place) (more : List ℕ) (m n : ℕ) (r s : Result (B × Place) LoadFault) → length p.rest ≤ m + length q.rest → Agrees Q q more n r s → Agrees Q p more (m + n) r s
 after_agrees Q p q more m n (Ok y) s le g = (g.0, omega (arith, g.1), g.2)
 after_agrees Q p q more m n (Err e) s le g = fault_agrees e (λ (lt : length q.rest < n). omega arith) (λ (same : s ≡ Err e). same) g
@@ -84,8 +84,8 @@ checked_agrees P Q p more m test fault (Ok x) s other keeps g = elim (cases_Bool
   | inr e ↦ rw (g.0, e) (other _ _ refl)
 ]
 
-pub checked_steady : {A : Type 0} (P Q : A → Type 0) (m : ℕ) (r : Reader A) (test : A → Bool) → ((x : A) → P x → test x ≡ true → Q x) → IsSteady P m r → IsSteady Q m (checked r test)
-unfolding checked
+pub checked_steady : {A : Type 0} (P Q : A → Type 0) (m : ℕ) (r : Reader A) (test : A → Bool) → ((x : A) → P x → test x ≡ true → Q x) → IsSteady P m r → IsSteady Q m (checked_read r test)
+unfolding checked_read
 checked_steady P Q m r test keeps h = record { agrees = λ p more. checked_agrees P Q p more m test (load.BadField p.at) (r p) (r (longer p more)) (λ C D d. d) keeps (h.agrees p more) }
 
 pub required_steady : {A : Type 0} (P Q : A → Type 0) (m : ℕ) (r : Reader A) (test : A → Bool) (fault : LoadFault) → ((C D : Type 0) → D → FaultAgrees fault C D) → ((x : A) → P x → test x ≡ true → Q x) → IsSteady P m r → IsSteady Q m (required r test fault)

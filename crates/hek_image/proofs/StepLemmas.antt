@@ -10,12 +10,12 @@ use Rattle.hek_rules.specs.declared.kind.EventKind.TheVariants as kind
 use Rattle.hek_rules.specs.Name.{is_name, is_name_byte, begins_with_letter, is_reserved}
 use Rattle.hek_rules.specs.Events.{event_of, txn_of}
 use Rattle.hek_rules.specs.Plan.{Plan, IsPlan, IsDeclared, IsStep, StepFits, names_of}
-use Rattle.hek_image.specs.Loading.{txn_fits, first_fits}
+use Rattle.hek_image.specs.Loading.{step_txn_fits, first_fits}
 
 declared : (n t : ℕ) → IsTrue (nat_lt 0 t && nat_le t n) → IsDeclared n t
 declared n t h = let both = and_parts (nat_lt 0 t) (nat_le t n) h in (ltb-true 0 t both.0, leb-true t n both.1)
 
-step_coded : (p : Plan) (k : EventKind) (t a b : ℕ) → IsTrue (txn_fits p k t) → IsTrue (first_fits p k a) → a < 2 ^ 64 → b < 2 ^ 64 → IsStep p.buckets (length p.txns) (event_of k t a b)
+step_coded : (p : Plan) (k : EventKind) (t a b : ℕ) → IsTrue (step_txn_fits p k t) → IsTrue (first_fits p k a) → a < 2 ^ 64 → b < 2 ^ 64 → IsStep p.buckets (length p.txns) (event_of k t a b)
 step_coded p kind.Begin t a b h g x y = declared (length p.txns) t h
 step_coded p kind.Read t a b h g x y = (declared (length p.txns) t h, x)
 step_coded p kind.Scan t a b h g x y = (declared (length p.txns) t h, ltb-true a p.buckets g)
@@ -31,7 +31,7 @@ step_coded p kind.Stamp t a b h g x y = declared (length p.txns) t h
 step_coded p kind.End t a b h g x y = declared (length p.txns) t h
 step_coded p kind.Detect t a b h g x y = tt
 
-pub coded_step : (p : Plan) (k : EventKind) (t a b : ℕ) → IsTrue (txn_fits p k t) → IsTrue (first_fits p k a) → a < 2 ^ 64 → b < 2 ^ 64 → length p.steps < 1000000 → StepFits p (event_of k t a b)
+pub coded_step : (p : Plan) (k : EventKind) (t a b : ℕ) → IsTrue (step_txn_fits p k t) → IsTrue (first_fits p k a) → a < 2 ^ 64 → b < 2 ^ 64 → length p.steps < 1000000 → StepFits p (event_of k t a b)
 coded_step p k t a b h g x y room = (room, step_coded p k t a b h g x y)
 
 short_name : (w : List ℕ) → IsTrue (is_name w) → length w ≤ 32

@@ -8,7 +8,7 @@ use Rattle.hek_rules.specs.Plan.{Plan}
 use Rattle.hek_image.specs.declared.fault.LoadFault.{LoadFault}
 use Rattle.hek_image.specs.declared.fault.LoadFault.TheVariants.{BadField, Short}
 use Rattle.hek_image.specs.Laws.{IsBytes}
-use Rattle.hek_image.specs.Loading.{Place, Reader, then_read, both, checked_from, required, checked, bytes_at, value, number_at, number_within, is_within, times}
+use Rattle.hek_image.specs.Loading.{Place, Reader, then_read, both, checked_from, required, checked_read, bytes_at, value, number_at, number_within, is_within, times}
 use Rattle.hek_image.proofs.Wide.{IsWide, IsBytes-take, IsBytes-drop, byte_back}
 
 pub record Took (p : Place) (text : List ℕ) (q : Place) : Type 0 where
@@ -21,7 +21,7 @@ took_then p m q s t h k = record { parts = h.parts ∙ ap (λ (bs : List ℕ). s
 pub took_none : (p : Place) → IsBytes p.rest → Took p [] p
 took_none p h = record { parts = refl; bytes = h }
 
--- a value and a place, as they were given
+-- a reader's answer: a value and a place
 abbrev pub gave : {A : Type 0} → A → Place → Result (A × Place) LoadFault
 gave x q = Ok (x, q)
 
@@ -30,7 +30,7 @@ gave_is {A = A} x y p q e =
     let both : (x, p) ≡ (y, q) = cc in
     (ap (λ (z : A × Place). z.0) both, ap (λ (z : A × Place). z.1) both)
 
--- what came before, where what follows it did not fail
+-- if two readers in a row give a value, the first gives one
 pub then_ok : {A B : Type 0} (r : Result (A × Place) LoadFault) (f : A → Reader B) (y : B) (q : Place) → then_read r f ≡ gave y q → (x : A) × (m : Place) × (r ≡ gave x m) × (f x m ≡ gave y q)
 then_ok (Ok x) f y q e = (x.0, x.1, refl, e)
 then_ok (Err d) f y q e = absurd cc
@@ -49,8 +49,8 @@ checked_from_ok {A = A} (Ok x) test fault y q e =
     (g.1, subst (λ (z : A). test z ≡ true) (gave_is x.0 y x.1 q g.1).0 g.0)
 checked_from_ok (Err d) test fault y q e = absurd cc
 
-pub checked_ok : {A : Type 0} (r : Reader A) (test : A → Bool) (p : Place) (y : A) (q : Place) → checked r test p ≡ gave y q → (r p ≡ gave y q) × (test y ≡ true)
-unfolding checked
+pub checked_ok : {A : Type 0} (r : Reader A) (test : A → Bool) (p : Place) (y : A) (q : Place) → checked_read r test p ≡ gave y q → (r p ≡ gave y q) × (test y ≡ true)
+unfolding checked_read
 checked_ok r test p y q e = checked_from_ok (r p) test (BadField p.at) y q e
 
 pub required_ok : {A : Type 0} (r : Reader A) (test : A → Bool) (fault : LoadFault) (p : Place) (y : A) (q : Place) → required r test fault p ≡ gave y q → (r p ≡ gave y q) × (test y ≡ true)

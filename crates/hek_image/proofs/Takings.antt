@@ -1,4 +1,4 @@
--- What is known of a source's bytes, field by field: whatever stands behind them changes nothing.
+-- What is certain of a source's bytes, field by field: no bytes after them change it.
 use Rattle.std.proofs.Common.{◌≡◌, ℕ, suc, ◌+◌, ◌-◌, ◌*◌, ◌<◌, ◌≤◌, List, [], ◌∷◌, ◌++◌, length, take, Result, Ok, Err, refl, sym, ap, subst, ◌∙◌, append_assoc, arith, inl, inr, ◌⊎◌, length-append}
 use Rattle.std.proofs.Math.Nat.{mul-le-mul_right}
 use Rattle.std.proofs.Math.Seq.{take-append-add}
@@ -8,7 +8,7 @@ use Rattle.hek_image.specs.declared.fault.LoadFault.{LoadFault}
 use Rattle.hek_image.specs.declared.fault.LoadFault.TheVariants as load
 use Rattle.hek_image.specs.Gives.{FieldFails}
 use Rattle.std.specs.Int.{w8}
-use Rattle.hek_image.specs.Loading.{Place, Reader, then_read, both, checked, bytes_at, number_at, number_within, times}
+use Rattle.hek_image.specs.Loading.{Place, Reader, then_read, both, checked_read, bytes_at, number_at, number_within, times}
 use Rattle.hek_image.specs.Taking.{FaultHolds, Holds, Takes}
 use Rattle.hek_image.proofs.Steady.{IsSteady, Agrees}
 use Rattle.hek_image.proofs.Taken.{gave}
@@ -20,7 +20,7 @@ nothing : (xs : List ℕ) → length xs ≡ 0 → xs ≡ []
 nothing [] h = refl
 nothing (y ∷ ys) h = absurd (omega arith)
 
--- ---- one take behind the bytes that a buffer holds
+-- ---- one take after the bytes that a buffer holds
 pub gave_more : (held size count : ℕ) (buffer front back rest old new : List ℕ) → held ≤ size → front ≡ take held (take size buffer) → length front ≡ held → count ≤ length back → old ≡ take count back ++ new → take held buffer ++ old ≡ take (held + count) ((front ++ back) ++ rest) ++ new
 gave_more held size count buffer front back rest old new le is len few gave =
     let kept : front ≡ take held buffer = is ∙ take-take held size buffer le in
@@ -39,7 +39,7 @@ module _ {Y : Type 0} (P : Y → Type 0) (size : ℕ) (r : Reader Y) (steady : I
   agrees : (s : Result (Y × Place) LoadFault) (more : List ℕ) → r (here at text) ≡ s → Agrees P (here at text) more size s (r (here at (text ++ more)))
   agrees s more e = subst (λ (t : Result (Y × Place) LoadFault). Agrees P (here at text) more size t (r (here at (text ++ more)))) e (steady.agrees (here at text) more)
 
-  -- bytes that end too early are fewer
+  -- bytes that end too early are fewer than `size`
   pub short_is_less : r (here at text) ≡ Err load.Short → length text < size
   short_is_less e = agrees (Err load.Short) [] e
 
@@ -65,7 +65,7 @@ module _ {Y : Type 0} (P : Y → Type 0) (size : ℕ) (r : Reader Y) (steady : I
         holds = λ more. (agrees (gave (view x).0 q) more h).0 ∙ ap (λ (bs : List ℕ). gave (view x).0 (here q.at (bs ++ more))) none ∙ ap (λ (n : ℕ). gave (view x).0 (here n more)) next;
       }
 
-  -- the source failed, or has no more
+  -- the source failed, or has no more bytes
   pub took_end : {X : Type 0} (view : X → Y × ℕ) (e : LoadFault) (whole rest : List ℕ) → (e ≡ load.Short) ⊎ (e ≡ load.Read) → (e ≡ load.Short → rest ≡ []) → r (here at text) ≡ Err load.Short → whole ≡ text ++ rest → Takes view r at size (Err e) whole rest
   took_end {X = X} view e whole rest which ends h parts =
       let few : length text < size = short_is_less h in
@@ -79,19 +79,19 @@ module _ {Y : Type 0} (P : Y → Type 0) (size : ℕ) (r : Reader Y) (steady : I
         ];
       }
 
--- a fault behind which the source failed, or has no more, where nothing was asked of it before
+-- the source failed, or has no more bytes, and gave none
 pub took_nothing : {X Y : Type 0} (view : X → Y × ℕ) (P : Y → Type 0) (size : ℕ) (r : Reader Y) (at : ℕ) (e : LoadFault) (whole rest : List ℕ) → IsSteady P size r → (e ≡ load.Short) ⊎ (e ≡ load.Read) → (e ≡ load.Short → rest ≡ []) → r (here at []) ≡ Err load.Short → whole ≡ rest → Takes view r at size (Err e) whole rest
 took_nothing view P size r at e whole rest steady which ends h same = took_end P size r steady at [] view e whole rest which ends h same
 
 pub nothing_within : (low high at : ℕ) → number_within low high w8 (here at []) ≡ Err load.Short
-unfolding number_within checked number_at both bytes_at
+unfolding number_within checked_read number_at both bytes_at
 nothing_within low high at = refl
 
--- a text that is all of a buffer
+-- a text that fills a buffer
 pub all_held : (n : ℕ) (buffer whole rest : List ℕ) → length buffer ≤ n → whole ≡ take n buffer ++ rest → whole ≡ buffer ++ rest
 all_held n buffer whole rest le e = e ∙ ap (λ (bs : List ℕ). bs ++ rest) (take_all n buffer le)
 
--- ---- one after the other
+-- ---- one reader after another
 fault_first : {A B : Type 0} (e : LoadFault) (r : Reader A) (f : A → Reader B) (at : ℕ) (text rest : List ℕ) → FaultHolds e r at text rest → FaultHolds e (both r f) at text rest
 unfolding both
 fault_first load.NoMemory r f at text rest h = tt
@@ -110,7 +110,7 @@ then_fault {Y = Y} v w r f at m n e result whole rest le is t =
 abbrev pub IsAhead : {B : Type 0} → Reader B → ℕ → List ℕ → Reader B → ℕ → Type 0
 IsAhead r at text s next = (more : List ℕ) → r (here at (text ++ more)) ≡ s (here next more)
 
--- where a reader goes on as another one behind a text, its faults are those of the other
+-- if a reader goes on as another one after a text, its faults are those of the other
 fault_ahead : {B : Type 0} (e : LoadFault) (r s : Reader B) (at next : ℕ) (text last rest : List ℕ) → IsAhead r at text s next → FaultHolds e s next last rest → FaultHolds e r at (text ++ last) rest
 fault_ahead load.NoMemory r s at next text last rest a h = tt
 fault_ahead load.Read r s at next text last rest a h = a last ∙ h
@@ -140,7 +140,7 @@ then_takes {A = A} {B = B} v w r f s at next m n size x result whole mid rest le
     let then : IsAhead (both r f) at one.text s next = subst (λ (q : Reader B). IsAhead (both r f) at one.text q next) same there in
     takes_ahead w (both r f) s at next m n size result one.text whole mid rest then one.parts one.few le two
 
--- ---- several items: after the first i of them
+-- ---- several items: the state after the first i of them
 pub record Ahead (item : Plan → Reader Plan) (count i : ℕ) (first : Plan) (start : ℕ) (plan : Plan) (at size : ℕ) (whole rest : List ℕ) : Type 0 where
   pub text : List ℕ
   pub parts : whole ≡ text ++ rest

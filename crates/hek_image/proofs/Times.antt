@@ -1,4 +1,4 @@
--- One more item of several.
+-- One more of several items that are read.
 use Rattle.std.proofs.Common.{◌≡◌, ℕ, suc, ◌+◌, ◌-◌, ◌<◌, ◌≤◌, Result, Ok, refl, arith}
 use Rattle.hek_rules.specs.Plan.{Plan}
 use Rattle.hek_image.specs.declared.fault.LoadFault.{LoadFault}
@@ -14,7 +14,7 @@ pub done : (item : Plan → Place → Result (Plan × Place) LoadFault) (count i
 unfolding times
 done item count i plan p le = let k : count - i ≡ 0 = omega arith in rw k refl
 
--- a fault of one field is the fault of what begins with it
+-- a fault of the first field is a fault of the fields together
 pub first_fault : {A B : Type 0} (e : LoadFault) (r : Result (A × Place) LoadFault) (f : A → Reader B) → FieldFails e r → FieldFails e (then_read r f)
 first_fault load.NoMemory r f h = tt
 first_fault load.Read r f h = h

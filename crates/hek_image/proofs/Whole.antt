@@ -1,4 +1,4 @@
--- An image is of at most 22,083,414 bytes, and more bytes behind change only Short.
+-- An image has at most 22,083,414 bytes, and more bytes after it change no fault but Short.
 use Rattle.std.proofs.Common.{◌≡◌, ℕ, zero, suc, ◌+◌, ◌-◌, ◌<◌, ◌≤◌, false, List, [], ◌++◌, length, take, Result, Ok, Err, refl, ap, subst, ◌∙◌, arith, inl, inr, length-append}
 use Rattle.std.specs.Prelude.{◌==◌}
 use Rattle.std.specs.Int.{w8, w16, w32, w64}
@@ -7,7 +7,7 @@ use Rattle.std.proofs.Math.Seq.{take-append_seam}
 use Rattle.hek_rules.specs.Plan.{Plan, IsPlan}
 use Rattle.hek_image.specs.declared.fault.LoadFault.{LoadFault}
 use Rattle.hek_image.specs.declared.fault.LoadFault.TheVariants as load
-use Rattle.hek_image.specs.Loading.{Place, Header, row_at, txn_at, kind_at, step_at, magic_at, version_at, header_at, plan_at, ended, loading}
+use Rattle.hek_image.specs.Loading.{Place, Header, row_at, txn_at, kind_at, step_at, magic_at, image_version, header_at, plan_at, ended, loading}
 use Rattle.hek_image.specs.Schedules.{image, image_in}
 use Rattle.hek_image.specs.Gives.{given_between}
 use Rattle.hek_image.proofs.ImageAgain.{image_again}
@@ -38,8 +38,8 @@ magic_steady : IsSteady Any 4 magic_at
 unfolding magic_at
 magic_steady = required_steady Any Any 4 _ _ load.BadMagic (λ C D d. d) (λ x any e. tt) (bytes_steady 4)
 
-version_steady : IsSteady Any 2 version_at
-unfolding version_at
+version_steady : IsSteady Any 2 image_version
+unfolding image_version
 version_steady = required_steady Any Any 2 _ _ load.BadVersion (λ C D d. d) (λ x any e. tt) (number_steady w16)
 
 pub record AreFew (head : Plan × Header) : Type 0 where
@@ -66,7 +66,7 @@ plan_steady = both_steady AreFew Any 22 22083392 _ _ header_steady (λ head few.
     both_steady Any Any 34816 21000000 _ _ (times_steady 34 head.1.txns 1024 (txn_at head.1.version) plan few.txns (txn_steady head.1.version)) (λ full any2.
     times_steady 21 head.1.steps 1000000 step_at full few.steps step_steady)))
 
--- what bytes give, and what they give with more behind them
+-- what bytes give, and what they give with more bytes after them
 abbrev LoadAgrees : List ℕ → Result Plan LoadFault → Result Plan LoadFault → Type 0
 LoadAgrees bytes (Ok p) s = length bytes ≤ longest
 LoadAgrees bytes (Err e) s = FaultAgrees e (length bytes < longest) (s ≡ Err e)
@@ -103,6 +103,6 @@ given_is whole bytes more parts =
     let count : length whole - length more ≡ length bytes = omega (arith, ap length parts, length-append bytes more) in
     ap (λ (n : ℕ). take n whole) count ∙ ap (take (length bytes)) parts ∙ take-append_seam bytes more
 
--- ---- how long an image is, of any version, since two differ in the version field alone
+-- ---- the length of an image, of any version: two versions differ in the version field alone
 pub image_bounded : (version : ℕ) (p : Plan) → IsPlan p → length (image_in version p) ≤ longest
 image_bounded version p is = whole_plan p (image p) [] (image_again p is)

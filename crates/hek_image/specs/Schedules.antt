@@ -8,15 +8,15 @@ use Rattle.hek_rules.specs.declared.event.Event.{Event}
 use Rattle.hek_rules.specs.Events.{opcode_of, kind_of, txn_of, first_of, second_of}
 use Rattle.hek_rules.specs.Plan.{Plan}
 
--- HKSC
+-- the bytes of HKSC
 abbrev pub magic : List ℕ
 magic = 0x48 ∷ 0x4B ∷ 0x53 ∷ 0x43 ∷ []
 
--- magic, version, and how many buckets there are
+-- magic, version and the number of buckets
 abbrev pub front_bytes : ℕ → ℕ → List ℕ
 front_bytes version buckets = magic ++ to_be_bytes w16 version ++ to_be_bytes w32 buckets
 
--- how many rows, transactions and steps there are
+-- the numbers of rows, transactions and steps
 abbrev pub count_bytes : Plan → List ℕ
 count_bytes p = to_be_bytes w32 (length p.rows) ++ to_be_bytes w32 (length p.txns) ++ to_be_bytes w32 (length p.steps)
 
@@ -31,7 +31,7 @@ level_byte Snapshot = 3
 abbrev pub txn_bytes : List ℕ × Level → List ℕ
 txn_bytes t = level_byte t.1 ∷ length t.0 ∷ t.0
 
--- opcode, transaction, and two operands, each 0 where there is none
+-- opcode, transaction and two operands; 0 for each that is missing
 abbrev pub step_bytes : Event → List ℕ
 step_bytes e = opcode_of (kind_of e) ∷ to_be_bytes w32 (unwrap_or (txn_of e) 0) ++ to_be_bytes w64 (first_of e) ++ to_be_bytes w64 (second_of e)
 
@@ -47,6 +47,6 @@ abbrev pub is_snapshot : Level → Bool
 is_snapshot Snapshot = true
 is_snapshot other = false
 
--- no transaction of the schedule is a snapshot one, so that it has a version 1 image too
+-- no transaction of the schedule is at the snapshot level, so that the schedule has a version 1 image too
 abbrev pub HasNoSnapshot : Plan → Type 0
 HasNoSnapshot p = AllByRecursion (λ t. is_snapshot t.1 ≡ false) p.txns

@@ -1,15 +1,15 @@
--- What a source gave while fields were read from it, and what is known of them whatever follows.
+-- What a source gave while fields were read from it, and what is certain whatever bytes follow.
 use Rattle.std.specs.Prelude.{◌≡◌, ℕ, ◌+◌, ◌≤◌, List, [], ◌∷◌, ◌++◌, length, Result, Ok, Err}
 use Rattle.hek_rules.specs.declared.event.Level.{Level}
-use Rattle.hek_rules.specs.Plan.{Plan}
+use Rattle.hek_rules.specs.Plan.{Plan, max_rows, max_steps, max_txns}
 use Rattle.hek_image.specs.declared.fault.LoadFault.{LoadFault}
 use Rattle.hek_image.specs.declared.fault.LoadFault.TheVariants as load
 use Rattle.hek_image.specs.declared.item.Item.{Item}
 use Rattle.hek_image.specs.declared.item.Item.TheVariants as item
-use Rattle.hek_image.specs.Loading.{Header, Reader, both, checked, bytes_at, value, is_new_name, row_at, txn_at, step_at, times}
+use Rattle.hek_image.specs.Loading.{Header, Reader, both, checked_read, bytes_at, value, is_new_name, row_at, txn_at, step_at, times}
 
--- a fault of a reader r at an offset, where a source gave `text` and `rest` is left: no bytes behind the text change it; the
--- text ends too early where the source failed, and where it has no more
+-- a fault of a reader r at an offset, where a source gave `text` and has `rest` left: no bytes after the text change
+-- the fault; with Read and Short the text ends too early, and with Short the source has no more
 abbrev pub FaultHolds : {Y : Type 0} → LoadFault → Reader Y → ℕ → List ℕ → List ℕ → Type 0
 FaultHolds load.NoMemory r at text rest = Unit {0}
 FaultHolds load.Read r at text rest = r (record { at = at; rest = text }) ≡ Err load.Short
@@ -19,12 +19,13 @@ FaultHolds load.BadVersion r at text rest = (more : List ℕ) → r (record { at
 FaultHolds (load.BadField n) r at text rest = (more : List ℕ) → r (record { at = at; rest = text ++ more }) ≡ Err (load.BadField n)
 FaultHolds load.Trailing r at text rest = (more : List ℕ) → r (record { at = at; rest = text ++ more }) ≡ Err load.Trailing
 
--- an answer of a reader r, where the text that the source gave is what r takes; `view` is the value, and where the next field begins
+-- an answer of a reader r, where the text that the source gave is what r takes; `view` gives the value, and the offset
+-- of the next field
 abbrev pub Holds : {X Y : Type 0} → (X → Y × ℕ) → Result X LoadFault → Reader Y → ℕ → List ℕ → List ℕ → Type 0
 Holds view (Ok x) r at text rest = (more : List ℕ) → r (record { at = at; rest = text ++ more }) ≡ Ok ((view x).0, record { at = (view x).1; rest = more })
 Holds view (Err e) r at text rest = FaultHolds e r at text rest
 
--- a source with these bytes left gave at most so many of them, with this answer of a reader r at an offset
+-- a source with the bytes `whole` left gave at most `size` of them, with this answer of a reader r at an offset
 pub record Takes {X Y : Type 0} (view : X → Y × ℕ) (r : Reader Y) (at size : ℕ) (result : Result X LoadFault) (whole rest : List ℕ) : Type 0 where
   pub text : List ℕ
   pub parts : whole ≡ text ++ rest
@@ -32,14 +33,14 @@ pub record Takes {X Y : Type 0} (view : X → Y × ℕ) (r : Reader Y) (at size 
   pub holds : Holds view result r at text rest
 
 -- ---- items
--- the name of a transaction of this level, which is added
-abbrev pub name_at : Level → ℕ → Plan → Reader Plan
-name_at level len plan = both (checked (bytes_at len) (is_new_name plan)) (λ name.
+-- a reader of the name of a transaction of this level, which adds the transaction
+abbrev pub named_txn_at : Level → ℕ → Plan → Reader Plan
+named_txn_at level len plan = both (checked_read (bytes_at len) (is_new_name plan)) (λ name.
     value (record plan { txns = plan.txns ++ (name, level) ∷ [] }))
 
 abbrev pub item_at : Item → Plan → Reader Plan
 item_at item.Row plan = row_at plan
-item_at (item.Name level len) plan = name_at level len plan
+item_at (item.Name level len) plan = named_txn_at level len plan
 item_at item.Step plan = step_at plan
 
 abbrev pub item_size : Item → ℕ
@@ -47,22 +48,22 @@ item_size item.Row = 16
 item_size (item.Name level len) = len
 item_size item.Step = 21
 
--- there is room for n of them
+-- the plan has room for n more of these items
 abbrev pub ItemsFit : Item → ℕ → Plan → Type 0
-ItemsFit item.Row n plan = length plan.rows + n ≤ 65536
-ItemsFit (item.Name level len) n plan = length plan.txns + n ≤ 1024
-ItemsFit item.Step n plan = length plan.steps + n ≤ 1000000
+ItemsFit item.Row n plan = length plan.rows + n ≤ max_rows
+ItemsFit (item.Name level len) n plan = length plan.txns + n ≤ max_txns
+ItemsFit item.Step n plan = length plan.steps + n ≤ max_steps
 
 abbrev pub HasMore : ℕ → ℕ → ℕ → Plan → Plan → Type 0
 HasMore rows txns steps old new = (length new.rows ≡ length old.rows + rows) × (length new.txns ≡ length old.txns + txns) × (length new.steps ≡ length old.steps + steps)
 
--- there are n more of them
+-- the new plan has n more of these items
 abbrev pub HasGrown : Item → ℕ → Plan → Plan → Type 0
 HasGrown item.Row n old new = HasMore n 0 0 old new
 HasGrown (item.Name level len) n old new = HasMore 0 n 0 old new
 HasGrown item.Step n old new = HasMore 0 0 n old new
 
--- all items behind a header
+-- a reader of all items after a header
 abbrev pub body_at : Plan × Header → Reader Plan
 body_at head = both (times head.1.rows row_at head.0) (λ plan.
     both (times head.1.txns (txn_at head.1.version) plan) (λ full.

@@ -1,4 +1,4 @@
-//! Why bytes are no image.
+//! Why bytes are not an image.
 ghost use Rattle.std.specs.Prelude.{◌≡◌};
 ghost use Rattle.hek_image.specs.declared.fault.LoadFault.TheVariants as load;
 
@@ -6,7 +6,7 @@ use hek_rules::NoMemory;
 use std::alloc::{AllocError, AllocFailed};
 use thiserror::Error;
 
-/// Why no schedule was loaded: the first fault of the bytes, a failed source, or want of memory.
+/// Why no schedule was loaded: the first fault of the bytes, a failed source, or out of memory.
 #[derive(Clone, Copy, Debug, PartialEq, Eq, Error)]
 pub enum LoadFault {
     #[error("1 BadMagic")]
@@ -16,13 +16,13 @@ pub enum LoadFault {
     /// The bytes end inside a field.
     #[error("3 Short")]
     Short,
-    /// The field that begins at this offset says what it may not.
+    /// The field that begins at this offset has a value that it may not have.
     #[error("4 BadField at {0}")]
     BadField(u64),
-    /// A byte stands after the last field.
+    /// A byte follows the last field.
     #[error("5 Trailing")]
     Trailing,
-    /// The source answered an error before the last field was known to be the last.
+    /// The source failed before the end of the image was known.
     #[error("6 Read")]
     Read,
     #[error("7 NoMemory")]

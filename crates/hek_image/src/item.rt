@@ -1,10 +1,10 @@
-//! What an image is made of behind its header.
+//! What an image has after its header.
 ghost use Rattle.std.specs.Prelude.{◌≡◌};
 ghost use Rattle.hek_image.specs.Taking.{item_size};
 
 use hek_rules::Level;
 
-/// What is read and added at once: a row, a transaction's name of so many bytes, or a step.
+/// What is read and added at once: a row, a transaction with a name of a given length, or a step.
 #[derive(Clone, Copy)]
 pub(crate) enum Item {
     Row,
@@ -12,7 +12,7 @@ pub(crate) enum Item {
     Step,
 }
 
-/// How many bytes it has.
+/// How many bytes an item has. The level and the length of a name are not counted.
 pub(crate) fn item_size(item: Item) -> usize
     ensures { result ≡ item_size item }
 {

@@ -1,8 +1,9 @@
 //! A schedule from one of its images.
 ghost use Rattle.std.specs.Prelude.{◌≡◌, ◌+◌, ◌≤◌, ◌⊎◌, [], length, false, OnOk, IfOk, IfErr, IsTrue, Err};
-ghost use Rattle.hek_image.specs.Loading.{magic_at, version_at, header_at, loading};
+ghost use Rattle.hek_rules.specs.Plan.{max_rows, max_steps, max_txns};
+ghost use Rattle.hek_image.specs.Loading.{magic_at, image_version, header_at, loading};
 ghost use Rattle.hek_image.specs.Gives.{FieldFails, FieldGives, LoadFails, LoadGives, AnswerFits, IsOpen, given_between};
-ghost use Rattle.hek_image.specs.Places.{place_of, header_of};
+ghost use Rattle.hek_image.specs.Places.{place_seen, header_of};
 ghost use Rattle.hek_image.specs.Taking.{Takes, body_at};
 ghost use Rattle.hek_image.specs.declared.fault.LoadFault.TheVariants as load;
 
@@ -18,7 +19,7 @@ use std::alloc::Global;
 /// How many bytes the header has.
 const HEADER: usize = 22;
 
-// The version, and how many rows, transactions and steps there are.
+// The version, and the numbers of rows, transactions and steps.
 #[derive(Clone, Copy)]
 struct Header {
     version: u8,
@@ -29,7 +30,7 @@ struct Header {
 
 #[tactic(auto, unfolding(crate::specs::Loading::magic_at, crate::specs::Loading::required))]
 fn magic_at(place: Place<'_>) -> Result<(&[u8], Place<'_>), LoadFault>
-    ensures { FieldGives (λ x. (x.0.now, place_of x.1)) result (magic_at (place_of place.entry)) }
+    ensures { FieldGives (λ x. (x.0.now, place_seen x.1)) result (magic_at (place_seen place.entry)) }
 {
     let (magic, place) = bytes_at(4, place)?;
     if magic != b"HKSC".as_slice() {
@@ -38,9 +39,9 @@ fn magic_at(place: Place<'_>) -> Result<(&[u8], Place<'_>), LoadFault>
     Ok((magic, place))
 }
 
-#[tactic(auto, unfolding(crate::specs::Loading::version_at, crate::specs::Loading::required))]
+#[tactic(auto, unfolding(crate::specs::Loading::image_version, crate::specs::Loading::required))]
 fn version_at(place: Place<'_>) -> Result<(u16, Place<'_>), LoadFault>
-    ensures gives { FieldGives (λ x. (x.0, place_of x.1)) result (version_at (place_of place.entry)) }
+    ensures gives { FieldGives (λ x. (x.0, place_seen x.1)) result (image_version (place_seen place.entry)) }
     ensures known { IfOk result (λ x. x.0 ≤ 2) }
 {
     let (version, place) = u16_at(place)?;
@@ -52,11 +53,11 @@ fn version_at(place: Place<'_>) -> Result<(u16, Place<'_>), LoadFault>
 
 #[tactic(auto, unfolding(crate::specs::Loading::header_at, crate::specs::Loading::both))]
 fn header_at(alloc: Global, place: Place<'_>) -> Result<(Schedule, Header, Place<'_>), LoadFault>
-    ensures gives { FieldGives (λ x. ((x.0, header_of x.1), place_of x.2)) result (header_at (place_of place.entry)) }
+    ensures gives { FieldGives (λ x. ((x.0, header_of x.1), place_seen x.2)) result (header_at (place_seen place.entry)) }
     ensures known { IfOk result (λ x. x.1.version ≤ 2) }
-    ensures rows { IfOk result (λ x. (length x.0.rows ≡ 0) × (x.1.rows ≤ 65536)) }
-    ensures txns { IfOk result (λ x. (length x.0.txns ≡ 0) × (x.1.txns ≤ 1024)) }
-    ensures steps { IfOk result (λ x. (length x.0.steps ≡ 0) × (x.1.steps ≤ 1000000)) }
+    ensures rows { IfOk result (λ x. (length x.0.rows ≡ 0) × (x.1.rows ≤ max_rows)) }
+    ensures txns { IfOk result (λ x. (length x.0.txns ≡ 0) × (x.1.txns ≤ max_txns)) }
+    ensures steps { IfOk result (λ x. (length x.0.steps ≡ 0) × (x.1.steps ≤ max_steps)) }
 {
     let (_, place) = magic_at(place)?;
     let (version, place) = version_at(place)?;
@@ -74,14 +75,14 @@ fn header_at(alloc: Global, place: Place<'_>) -> Result<(Schedule, Header, Place
     Ok((schedule, header, place))
 }
 
-// The header that a source begins with, judged with each piece of it that comes.
+// Reads the header of a source, and judges it with each piece that comes.
 fn next_header<S: Source>(alloc: Global, source: &mut S) -> Result<(Schedule, Header), LoadFault>
     requires { S.failed source.old ≡ false }
     ensures takes { IsTrue (S.tells source.old) → Takes (λ x. ((x.0, header_of x.1), 22)) header_at 0 22 result (S.left source.old) (S.left source.new) }
     ensures known { IfOk result (λ x. x.1.version ≤ 2) }
-    ensures rows { IfOk result (λ x. (length x.0.rows ≡ 0) × (x.1.rows ≤ 65536)) }
-    ensures txns { IfOk result (λ x. (length x.0.txns ≡ 0) × (x.1.txns ≤ 1024)) }
-    ensures steps { IfOk result (λ x. (length x.0.steps ≡ 0) × (x.1.steps ≤ 1000000)) }
+    ensures rows { IfOk result (λ x. (length x.0.rows ≡ 0) × (x.1.rows ≤ max_rows)) }
+    ensures txns { IfOk result (λ x. (length x.0.txns ≡ 0) × (x.1.txns ≤ max_txns)) }
+    ensures steps { IfOk result (λ x. (length x.0.steps ≡ 0) × (x.1.steps ≤ max_steps)) }
     ensures tells { IsTrue (S.tells source.old) → IsTrue (S.tells source.new) }
     ensures fails { AnswerFits result (S.failed source.new) }
 {
@@ -104,7 +105,7 @@ fn next_header<S: Source>(alloc: Global, source: &mut S) -> Result<(Schedule, He
     }
 }
 
-// All that the header counts. It answers where it ends.
+// Reads all items that the header counts. Answers the offset where they end.
 fn next_body<S: Source>(
     header: Header,
     schedule: &mut Schedule,
@@ -112,9 +113,9 @@ fn next_body<S: Source>(
 ) -> Result<u64, LoadFault>
     requires works { S.failed source.old ≡ false }
     requires known { header.version ≤ 2 }
-    requires rows { length schedule.old.rows + header.rows ≤ 65536 }
-    requires txns { length schedule.old.txns + header.txns ≤ 1024 }
-    requires steps { length schedule.old.steps + header.steps ≤ 1000000 }
+    requires rows { length schedule.old.rows + header.rows ≤ max_rows }
+    requires txns { length schedule.old.txns + header.txns ≤ max_txns }
+    requires steps { length schedule.old.steps + header.steps ≤ max_steps }
     ensures takes { IsTrue (S.tells source.old) → Takes (λ n. (schedule.new, n)) (body_at (schedule.old, header_of header)) 22 22083392 result (S.left source.old) (S.left source.new) }
     ensures tells { IsTrue (S.tells source.old) → IsTrue (S.tells source.new) }
     ensures fails { AnswerFits result (S.failed source.new) }
@@ -124,7 +125,7 @@ fn next_body<S: Source>(
     next_items(Item::Step, header.steps, schedule, at, source)
 }
 
-// The end of the source.
+// Checks that the source has no more bytes.
 fn at_end<S: Source>(source: &mut S) -> Result<(), LoadFault>
     requires { S.failed source.old ≡ false }
     ensures end { OnOk result (IsTrue (S.tells source.old) → S.left source.old ≡ []) }
@@ -140,10 +141,10 @@ fn at_end<S: Source>(source: &mut S) -> Result<(), LoadFault>
     }
 }
 
-/// The schedule of which the bytes of a source are, to their end, the version 2 image or the version 1 image, else the first
-/// fault. It takes at most one byte more than the longest image has: `taken` counts them by what the source has left, so it
-/// speaks of sources that tell their bytes. Where the source fails, a fault of the bytes that it gave before is told, and Read
-/// only where they have none but that more would have to follow, or could.
+/// The schedule whose version 2 or version 1 image the bytes of a source are, to their end; otherwise the first fault.
+/// Takes at most one byte more than the longest image has: `taken` counts bytes by what the source has left, so it
+/// applies to sources that tell their bytes. If the source fails, a fault of the bytes that it gave before comes first;
+/// the fault is Read only if those bytes have no fault, except that they may end too early.
 pub fn load_image<S: Source>(alloc: Global, source: &mut S) -> Result<Schedule, LoadFault>
     requires { S.failed source.old ≡ false }
     ensures gives { IsTrue (S.tells source.old) → LoadGives (λ s. s) result (loading (S.left source.old)) }

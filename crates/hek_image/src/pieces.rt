@@ -6,17 +6,17 @@ ghost use Rattle.hek_image.specs.declared.fault.LoadFault.TheVariants as load;
 use crate::fault::LoadFault;
 use hek_rules::Source;
 
-/// The most bytes of a source that are held: those of the longest name.
+/// How many bytes of a source are held at most: as many as the longest name has.
 pub(crate) const ROOM: usize = 32;
 
-// Whether the bytes that are there end inside a field.
+// Whether the fault is that the bytes end inside a field.
 pub(crate) fn is_short(fault: LoadFault) -> bool
     ensures { IsTrue result ↔ (fault ≡ load.Short) }
 {
     matches!(fault, LoadFault::Short)
 }
 
-// One take behind the bytes that the buffer holds, `size` of them at most. It answers how many are held then.
+// Takes bytes of the source once, after those in the buffer, up to `size` in all. Answers how many are held then.
 pub(crate) fn take_more<S: Source>(
     source: &mut S,
     buffer: &mut [u8],

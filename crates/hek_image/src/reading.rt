@@ -1,5 +1,6 @@
-//! Items of an image, read from a source one after another and judged with each piece of them that comes.
+//! Items of an image, read from a source one after another, and judged with each piece that comes.
 ghost use Rattle.std.specs.Prelude.{◌≡◌, ◌+◌, ◌*◌, ◌^◌, ◌<◌, ◌≤◌, length, false, IsTrue, OnOk, IfOk};
+ghost use Rattle.hek_rules.specs.Plan.{max_txns};
 ghost use Rattle.std.specs.Int.{w8};
 ghost use Rattle.hek_image.specs.Loading.{number_within, txn_at, times};
 ghost use Rattle.hek_image.specs.Gives.{AnswerFits};
@@ -13,7 +14,7 @@ use crate::pieces::{ROOM, is_short, take_more};
 use crate::place::Place;
 use hek_rules::{Schedule, Source};
 
-// The item at an offset, which is added. It answers where the next one begins.
+// Reads the item at an offset and adds it to the schedule. Answers the offset of the next one.
 fn next_item<S: Source>(
     item: Item,
     schedule: &mut Schedule,
@@ -49,7 +50,7 @@ fn next_item<S: Source>(
     }
 }
 
-// Several items of one kind: rows or steps.
+// Reads several items of one kind: rows or steps.
 pub(crate) fn next_items<S: Source>(
     item: Item,
     count: u32,
@@ -77,7 +78,7 @@ pub(crate) fn next_items<S: Source>(
     Ok(next)
 }
 
-// A byte that is a number in a range.
+// Reads a byte that is a number in a range.
 fn next_u8<S: Source>(low: u8, high: u8, at: u64, source: &mut S) -> Result<u8, LoadFault>
     requires works { S.failed source.old ≡ false }
     requires at { at < 2 ^ 32 }
@@ -92,7 +93,7 @@ fn next_u8<S: Source>(low: u8, high: u8, at: u64, source: &mut S) -> Result<u8, 
     Ok(number)
 }
 
-// A transaction of an image of this version, which is added.
+// Reads a transaction of an image of this version and adds it to the schedule.
 fn next_txn<S: Source>(
     version: u8,
     schedule: &mut Schedule,
@@ -101,7 +102,7 @@ fn next_txn<S: Source>(
 ) -> Result<u64, LoadFault>
     requires works { S.failed source.old ≡ false }
     requires known { version ≤ 2 }
-    requires room { length schedule.old.txns < 1024 }
+    requires room { length schedule.old.txns < max_txns }
     requires at { at + 2 < 2 ^ 32 }
     ensures takes { IsTrue (S.tells source.old) → Takes (λ n. (schedule.new, n)) (txn_at version schedule.old) at 34 result (S.left source.old) (S.left source.new) }
     ensures grown { OnOk result (HasMore 0 1 0 schedule.old schedule.new) }
@@ -119,7 +120,7 @@ fn next_txn<S: Source>(
     )
 }
 
-// Several transactions.
+// Reads several transactions.
 pub(crate) fn next_txns<S: Source>(
     version: u8,
     count: u32,
@@ -129,7 +130,7 @@ pub(crate) fn next_txns<S: Source>(
 ) -> Result<u64, LoadFault>
     requires works { S.failed source.old ≡ false }
     requires known { version ≤ 2 }
-    requires room { length schedule.old.txns + count ≤ 1024 }
+    requires room { length schedule.old.txns + count ≤ max_txns }
     requires at { at + count * 34 < 2 ^ 32 }
     ensures takes { IsTrue (S.tells source.old) → Takes (λ n. (schedule.new, n)) (times count (txn_at version) schedule.old) at (count * 34) result (S.left source.old) (S.left source.new) }
     ensures grown { OnOk result (HasMore 0 count 0 schedule.old schedule.new) }

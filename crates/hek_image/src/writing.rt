@@ -123,10 +123,10 @@ fn step_bytes(event: &Event) -> [u8; 21]
     ]
 }
 
-/// Bytes of steps that go out at once: 48 steps of 21 bytes. A put of each costs more than its bytes.
+/// How many bytes of steps go out at once: 48 steps of 21 bytes. Putting each step alone costs more than its bytes.
 const BLOCK: usize = 1008;
 
-// Adds a step to the block, which goes out first if it has no room.
+// Adds a step to the block. If the block has no room for it, the block goes out first.
 fn gather_step<S: Sink>(
     event: &Event,
     block: &mut ArrayVec<u8, BLOCK>,
@@ -142,7 +142,7 @@ fn gather_step<S: Sink>(
         put_all(sink, block.as_slice())?;
         block.clear();
     }
-    // There is room now.
+    // The block has room now.
     let _ = block.try_extend_from_slice(step_bytes(event).as_slice());
     Ok(())
 }
@@ -187,7 +187,7 @@ fn put_steps<S: Sink>(schedule: &Schedule, sink: &mut S) -> Result<(), WriteFaul
     put_all(sink, block.as_slice())
 }
 
-/// Writes the version 2 image of a schedule. After a fault nothing is known of how much went out.
+/// Writes the version 2 image of a schedule. After a fault it is unknown how many bytes went out.
 #[tactic(auto, using(crate::proofs::StepLemmas::short_names, crate::proofs::StepLemmas::short_txns))]
 pub fn write_image<S: Sink>(schedule: &Schedule, sink: &mut S) -> Result<(), WriteFault>
     requires { S.failed sink.old ≡ false }

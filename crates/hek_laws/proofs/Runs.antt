@@ -1,4 +1,4 @@
--- Whole runs: the invariant from the opening world on, and what it says at the end.
+-- Whole runs: the invariant from the opening world on, and what it gives at the end.
 pub mod Whole
 pub mod Opening
 pub mod Final

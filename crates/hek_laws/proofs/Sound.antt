@@ -1,4 +1,4 @@
--- Sound worlds.
+-- Sound worlds: every world that a run reaches is sound.
 pub mod WaitCounts
 pub mod WaitsFall
 pub mod Flags

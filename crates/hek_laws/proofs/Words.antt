@@ -1,4 +1,4 @@
--- What the words of the versions name, and what the write lists say.
+-- The transactions that the words of versions name, and the write sets.
 pub mod Names
 pub mod Version
 pub mod Stamps

@@ -1,4 +1,4 @@
--- Which runs the laws are about: those from the opening world of a schedule, at a first clock.
+-- The runs that the laws are about: from the opening world of a schedule, at a first clock.
 use Rattle.std.specs.List.{All, IsDistinct}
 use Rattle.std.specs.Map.{keys_of}
 use Rattle.std.specs.Prelude.{ℕ, ◌≡◌, ◌<◌, nat_eq, List}
@@ -18,17 +18,17 @@ HasDistinctKeys rows = IsDistinct nat_eq (keys_of rows)
 abbrev pub IsFirstClock : ℕ → Type 0
 IsFirstClock clock = (0 < clock) × (clock < infinity)
 
--- what a checker is told of a run
-abbrev pub told : ℕ → List (ℕ × ℕ) → List Level → ℕ → List Event → Recorded
-told buckets rows levels clock events =
+-- the record of a run that a checker judges
+abbrev pub recorded_run : ℕ → List (ℕ × ℕ) → List Level → ℕ → List Event → Recorded
+recorded_run buckets rows levels clock events =
     record { buckets = buckets; rows = rows; levels = levels; history = transcript (opening buckets rows levels clock) events }
 
--- the event may be made of a world with so many buckets: a scan is of one of them
+-- a scan is of one of so many buckets; other events have no bucket
 abbrev pub IsPlaced : ℕ → Event → Type 0
 IsPlaced buckets (event.Scan t bucket) = bucket < buckets
 IsPlaced buckets e = Unit {0}
 
--- a run comes to the world
+-- a run leads to the world
 pub record IsReachable (w : World) : Type 0 where
   pub buckets : ℕ
   pub rows : List (ℕ × ℕ)

@@ -6,9 +6,9 @@ use crate::view::{Change, View};
 use atomic_table::Table;
 use std::alloc::Global;
 
-/// Record locks that threads share. Each is infinity, the word of a version that nobody holds, or a lock; its
-/// ReadLockCount is the number of seats that hold its read token, and its WriteLock the ID under which a seat holds its
-/// write token.
+/// Record locks that threads share. Each word is infinity, which is the word of a version that nobody holds, or a lock.
+/// Its ReadLockCount is the number of seats that hold its read token, and its WriteLock the ID under which a seat holds
+/// its write token.
 #[derive(Drop)]
 pub struct LiveWords {
     pub(crate) table: Table<Change, View, usize, Counted, Global>,
@@ -16,7 +16,7 @@ pub struct LiveWords {
     ghost some: { 0 < table.shared.table_id.words },
 }
 
-/// What one thread steps on the words with, and the tokens that it holds, in no bytes at all. A seat that is let go keeps
+/// The access of one thread to the words, with the tokens that it holds. It has no bytes. A seat that is dropped keeps
 /// its tokens for ever.
 #[derive(Drop)]
 pub struct Seat {

@@ -1,4 +1,4 @@
-//! Record locks (section 4 of the paper) on live words, without a lock round them: threads share the words, and each
+//! Record locks (section 4 of the paper) on live words, without a lock around them: threads share the words, and each
 //! change of a word is one exchange.
 #![tactic(auto)]
 

@@ -2,7 +2,7 @@
 use crate::view::{Change, View};
 use atomic_table::{Join, Play, Split, TableRule};
 
-/// The rule of the words.
+/// The rule of the live words.
 pub struct Counted;
 
 impl TableRule<Change, View, usize> for Counted {

@@ -11,8 +11,9 @@ pub enum Change {
     ClearWriter,
 }
 
-/// The words whose read token the seat holds; those whose write token it holds, each with the ID; what it met: the word,
-/// what was found and what was left; and whether it makes the other seats, and how many it made. No value of it is made.
+/// What a seat knows: the words whose read token it holds; those whose write token it holds, each with the ID; what it
+/// met: the word, what was found and what was left; whether it makes the other seats, and how many it made. No value of
+/// this type is made.
 pub struct View {
     pub reads: LinkedList<u64>,
     pub writes: LinkedList<(u64, TxnId)>,

@@ -1,8 +1,8 @@
-//! Clear: a writer goes, and its lock with it.
+//! Clear: an aborted writer leaves a word, and its lock goes.
 ghost use Rattle.std.specs.Prelude.{◌≡◌, ◌<◌, IsSome, length};
 ghost use Rattle.hek_rules.specs.World.{is_aborted};
 ghost use Rattle.hek_rules.specs.Words.{writer_of, without_writer};
-ghost use Rattle.hek_store.specs.Stored.{version_at, with_end};
+ghost use Rattle.hek_store.specs.Stored.{version_at, with_end_word};
 ghost use Rattle.hek_locks.specs.Locked.{KnowsWriter, CanFree, writer_freed, is_stale as stale, cleared_word, cleared_waits};
 
 use hek_rules::{State, VersionId};
@@ -10,7 +10,7 @@ use hek_store::Store;
 use hek_txn::Txns;
 use hek_word::EndWord;
 
-/// Whether an aborted writer holds the word, which the next reader or writer may then take from it. (Section 4 of the
+/// Whether an aborted writer holds the word; the next reader or writer may take the word from it. (Section 4 of the
 /// paper: an aborted transaction gives its write locks up.)
 pub fn is_stale(txns: &Txns, word: EndWord) -> bool
     requires { KnowsWriter txns.now word }
@@ -22,7 +22,7 @@ pub fn is_stale(txns: &Txns, word: EndWord) -> bool
     }
 }
 
-/// The word once an aborted writer, if it has one, is gone: what a reader or a writer that comes now is judged by.
+/// The word without its writer if that writer has aborted: a new reader or writer is judged by this word.
 pub fn cleared(txns: &Txns, word: EndWord) -> EndWord
     requires { KnowsWriter txns.now word }
     ensures { result ≡ cleared_word txns.now.cores word }
@@ -34,7 +34,7 @@ pub fn cleared(txns: &Txns, word: EndWord) -> EndWord
     }
 }
 
-/// The writer of the word waits for its readers no more.
+/// The writer of the word no longer waits for the word's readers.
 fn free_writer(txns: &mut Txns, word: EndWord)
     requires { CanFree txns.old word }
     ensures { txns.new ≡ writer_freed txns.old word }
@@ -47,7 +47,7 @@ fn free_writer(txns: &mut Txns, word: EndWord)
     }
 }
 
-/// An aborted writer of the word waits for its readers no more.
+/// An aborted writer of the word no longer waits for the word's readers.
 pub(crate) fn free_stale(txns: &mut Txns, word: EndWord)
     requires { CanFree txns.old word }
     ensures { txns.new ≡ cleared_waits txns.old word }
@@ -57,13 +57,13 @@ pub(crate) fn free_stale(txns: &mut Txns, word: EndWord)
     }
 }
 
-/// The writer of a version goes, and NoMoreReadLocks with it; it waits for the version's readers no more. (Section 4 of
-/// the paper: an aborted transaction gives its write locks up.)
+/// Takes the writer of a version and NoMoreReadLocks out of the word; the writer no longer waits for the version's
+/// readers. (Section 4 of the paper: an aborted transaction gives its write locks up.)
 pub fn clear_write(store: &mut Store, txns: &mut Txns, v: VersionId)
     requires version { v < length store.old.versions }
     requires written { IsSome (writer_of (version_at store.old v).end) }
     requires counted { CanFree txns.old (version_at store.old v).end }
-    ensures store { store.new ≡ with_end store.old v (without_writer (version_at store.old v).end) }
+    ensures store { store.new ≡ with_end_word store.old v (without_writer (version_at store.old v).end) }
     ensures txns { txns.new ≡ writer_freed txns.old (version_at store.old v).end }
 {
     let word = store.end_of(v);

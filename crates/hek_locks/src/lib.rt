@@ -1,5 +1,5 @@
-//! Read locks and write locks of versions, with their writers' wait counters. No call takes memory: room in a
-//! transaction's lists is reserved before.
+//! Read locks and write locks of versions, with their writers' wait counters. No call takes memory: callers reserve
+//! room in a transaction's lists before.
 #![tactic(auto)]
 
 mod clear;

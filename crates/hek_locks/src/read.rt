@@ -27,7 +27,7 @@ fn reads_freely(store: &Store, txns: &Txns, t: TxnId, v: VersionId) -> bool
     is_maker(store, t, v) || txns.reads(t, v)
 }
 
-/// What the word says to one that doesn't read the version yet.
+/// Whether the word takes a reader that does not read the version yet, or why not.
 fn judge_word(txns: &Txns, word: EndWord) -> Result<(), Cause>
     requires { KnowsWriter txns.now word }
     ensures { result ≡ answer_of (word_refusal txns.now.cores (cleared_word txns.now.cores word)) }
@@ -51,18 +51,18 @@ fn judge_word(txns: &Txns, word: EndWord) -> Result<(), Cause>
     }
 }
 
-/// Whether t may read-lock v, or why not. It may where it made v or read-locks it already. The word is asked first, since
-/// it mostly allows a reader.
-pub fn can_read_lock(store: &Store, txns: &Txns, t: TxnId, v: VersionId) -> Result<(), Cause>
+/// Whether `txn` may read-lock v, or why not. A transaction that made v or read-locks it may. The word is checked
+/// first, since it allows most readers.
+pub fn can_read_lock(store: &Store, txns: &Txns, txn: TxnId, v: VersionId) -> Result<(), Cause>
     requires version { v < length store.now.versions }
-    requires txn { Declared txns.now t }
+    requires txn { Declared txns.now txn }
     requires writer { KnowsWriter txns.now (version_at store.now v).end }
-    ensures { result ≡ answer_of (read_refused store.now txns.now t v) }
+    ensures { result ≡ answer_of (read_refused store.now txns.now txn v) }
 {
     match judge_word(txns, store.end_of(v)) {
         Ok(()) => Ok(()),
         Err(cause) => {
-            if reads_freely(store, txns, t, v) {
+            if reads_freely(store, txns, txn, v) {
                 Ok(())
             } else {
                 Err(cause)
@@ -71,7 +71,7 @@ pub fn can_read_lock(store: &Store, txns: &Txns, t: TxnId, v: VersionId) -> Resu
     }
 }
 
-/// The writer of a word waits for the first reader that comes.
+/// Counts the first reader of a word: the word's writer waits for one version more.
 fn count_first(txns: &mut Txns, word: EndWord)
     requires { CanWait txns.old word }
     ensures { txns.new ≡ writer_waits txns.old word }
@@ -84,22 +84,22 @@ fn count_first(txns: &mut Txns, word: EndWord)
     }
 }
 
-/// t read-locks v, unless it made v or read-locks it already. An aborted writer of v is cleared; another one waits for
-/// its first reader.
-pub fn read_lock(store: &mut Store, txns: &mut Txns, t: TxnId, v: VersionId)
+/// `txn` read-locks v, unless it made v or read-locks it already. An aborted writer of v is cleared; another writer
+/// waits for its first reader.
+pub fn read_lock(store: &mut Store, txns: &mut Txns, txn: TxnId, v: VersionId)
     requires version { v < length store.old.versions }
-    requires txn { Declared txns.old t }
+    requires txn { Declared txns.old txn }
     requires writer { KnowsWriter txns.old (version_at store.old v).end }
-    requires room { 0 < (read_set_of txns.old t).room }
-    requires allowed { freely store.old txns.old t v ≡ false → CanAdd (cleared_word txns.old.cores (version_at store.old v).end) }
+    requires room { 0 < (read_set_of txns.old txn).room }
+    requires allowed { freely store.old txns.old txn v ≡ false → CanAdd (cleared_word txns.old.cores (version_at store.old v).end) }
     requires freed { CanFree txns.old (version_at store.old v).end }
-    requires counted { freely store.old txns.old t v ≡ false → CanWait (cleared_waits txns.old (version_at store.old v).end) (cleared_word txns.old.cores (version_at store.old v).end) }
-    ensures store { store.new ≡ read_locked store.old txns.old t v }
-    ensures txns { txns.new ≡ with_read_set (read_lock_waits store.old txns.old t v) t (read_set_of txns.new t) }
-    ensures reads { (read_set_of txns.new t).items ≡ read_lock_reads store.old txns.old t v }
-    ensures room { (read_set_of txns.old t).room ≤ (read_set_of txns.new t).room + 1 }
+    requires counted { freely store.old txns.old txn v ≡ false → CanWait (cleared_waits txns.old (version_at store.old v).end) (cleared_word txns.old.cores (version_at store.old v).end) }
+    ensures store { store.new ≡ read_locked store.old txns.old txn v }
+    ensures txns { txns.new ≡ with_read_set (read_lock_waits store.old txns.old txn v) txn (read_set_of txns.new txn) }
+    ensures reads { (read_set_of txns.new txn).items ≡ read_lock_reads store.old txns.old txn v }
+    ensures room { (read_set_of txns.old txn).room ≤ (read_set_of txns.new txn).room + 1 }
 {
-    if is_maker(store, t, v) || !txns.enter_read(t, v) {
+    if is_maker(store, txn, v) || !txns.enter_read(txn, v) {
         return;
     }
     let word = store.end_of(v);

@@ -2,7 +2,7 @@
 ghost use Rattle.std.specs.Prelude.{◌≡◌, ◌<◌, ◌≤◌, nat_eq, length};
 ghost use Rattle.std.specs.Set.{remove_key};
 ghost use Rattle.hek_rules.specs.Words.{readers_of, without_reader, dropped_of};
-ghost use Rattle.hek_store.specs.Stored.{version_at, with_end};
+ghost use Rattle.hek_store.specs.Stored.{version_at, with_end_word};
 ghost use Rattle.hek_txn.specs.TxnTable.{Declared, read_set_of, with_read_set};
 ghost use Rattle.hek_locks.specs.Locked.{CanTell, after_drop, left_writer};
 
@@ -10,17 +10,17 @@ use hek_rules::{Dropped, TxnId, VersionId};
 use hek_store::Store;
 use hek_txn::Txns;
 
-/// t gives its read lock of v up. The answer is the writer that was left alone, which waits for one version less, and
-/// whose version takes no more readers.
-pub fn release_read(store: &mut Store, txns: &mut Txns, t: TxnId, v: VersionId) -> Option<TxnId>
+/// `txn` gives up its read lock of v. If v has a writer and no reader left, returns that writer: it waits for one
+/// version less, and v takes no more readers.
+pub fn release_read(store: &mut Store, txns: &mut Txns, txn: TxnId, v: VersionId) -> Option<TxnId>
     requires version { v < length store.old.versions }
-    requires txn { Declared txns.old t }
+    requires txn { Declared txns.old txn }
     requires reader { 0 < readers_of (version_at store.old v).end }
     requires writer { CanTell txns.old (dropped_of (version_at store.old v).end) }
-    ensures store { store.new ≡ with_end store.old v (without_reader (version_at store.old v).end) }
-    ensures txns { txns.new ≡ with_read_set (after_drop (dropped_of (version_at store.old v).end) txns.old) t (read_set_of txns.new t) }
-    ensures reads { (read_set_of txns.new t).items ≡ remove_key (nat_eq v) (read_set_of txns.old t).items }
-    ensures room { (read_set_of txns.old t).room ≤ (read_set_of txns.new t).room }
+    ensures store { store.new ≡ with_end_word store.old v (without_reader (version_at store.old v).end) }
+    ensures txns { txns.new ≡ with_read_set (after_drop (dropped_of (version_at store.old v).end) txns.old) txn (read_set_of txns.new txn) }
+    ensures reads { (read_set_of txns.new txn).items ≡ remove_key (nat_eq v) (read_set_of txns.old txn).items }
+    ensures room { (read_set_of txns.old txn).room ≤ (read_set_of txns.new txn).room }
     ensures told { result ≡ left_writer (dropped_of (version_at store.old v).end) }
 {
     let (left, dropped) = store.end_of(v).drop_reader();
@@ -33,6 +33,6 @@ pub fn release_read(store: &mut Store, txns: &mut Txns, t: TxnId, v: VersionId) 
         }
         Dropped::More | Dropped::Free => None,
     };
-    txns.remove_read(t, v);
+    txns.remove_read(txn, v);
     told
 }

@@ -15,7 +15,7 @@ use hek_store::Store;
 use hek_txn::Txns;
 use hek_word::EndWord;
 
-/// Whether v may be write-locked, or why not: it has ended, or a writer that hasn't aborted.
+/// Whether v may be write-locked: Err with Conflict if v has ended, or has a writer that has not aborted.
 pub fn can_write_lock(store: &Store, txns: &Txns, v: VersionId) -> Result<(), Cause>
     requires version { v < length store.now.versions }
     requires writer { KnowsWriter txns.now (version_at store.now v).end }
@@ -28,8 +28,7 @@ pub fn can_write_lock(store: &Store, txns: &Txns, v: VersionId) -> Result<(), Ca
     }
 }
 
-/// t gives up its own read lock of v, and tells whether it had one. It had none where the word, which is that of v, has no
-/// readers.
+/// t gives up its read lock of v; returns whether it had one. `word` is the End word of v: without readers, t has none.
 fn give_up(txns: &mut Txns, t: TxnId, v: VersionId, word: EndWord) -> bool
     requires txn { Declared txns.old t }
     requires reader { is_among (read_set_of txns.old t).items v ≡ true → 0 < readers_of word }
@@ -41,7 +40,7 @@ fn give_up(txns: &mut Txns, t: TxnId, v: VersionId, word: EndWord) -> bool
     word.readers() > 0 && txns.take_read(t, v)
 }
 
-/// The word without a reader, where one gave its lock up.
+/// The word with one reader less, if a reader gave its lock up.
 fn left_by(word: EndWord, gave_up: bool) -> EndWord
     requires { gave_up ≡ true → 0 < readers_of word }
     ensures { result ≡ (if gave_up then without_reader word else word) }
@@ -54,7 +53,7 @@ fn left_by(word: EndWord, gave_up: bool) -> EndWord
     }
 }
 
-/// t waits for the readers of a word, if it has any.
+/// t waits for the readers of a word, if the word has any.
 fn count_readers(txns: &mut Txns, t: TxnId, word: EndWord)
     requires txn { Declared txns.old t }
     requires counted { waits_of txns.old t + 1 < 2 ^ 64 }
@@ -66,30 +65,30 @@ fn count_readers(txns: &mut Txns, t: TxnId, word: EndWord)
     }
 }
 
-/// t write-locks v: an aborted writer of v is cleared, t's own read lock is given up, and t waits for the readers that are
-/// left, once for the version.
-pub fn write_lock(store: &mut Store, txns: &mut Txns, t: TxnId, v: VersionId)
+/// `txn` write-locks v. An aborted writer of v is cleared, `txn` gives up its read lock of v, and waits for the readers
+/// that are left, once for the version.
+pub fn write_lock(store: &mut Store, txns: &mut Txns, txn: TxnId, v: VersionId)
     requires version { v < length store.old.versions }
-    requires txn { Declared txns.old t }
-    requires named { IsTxn t }
+    requires txn { Declared txns.old txn }
+    requires named { IsTxn txn }
     requires writer { KnowsWriter txns.old (version_at store.old v).end }
-    requires reader { is_among (read_set_of txns.old t).items v ≡ true → 0 < readers_of (cleared_word txns.old.cores (version_at store.old v).end) }
-    requires room { 0 < (write_set_of txns.old t).room }
-    requires free { CanTakeWriter (to_write store.old txns.old t v) }
+    requires reader { is_among (read_set_of txns.old txn).items v ≡ true → 0 < readers_of (cleared_word txns.old.cores (version_at store.old v).end) }
+    requires room { 0 < (write_set_of txns.old txn).room }
+    requires free { CanTakeWriter (to_write store.old txns.old txn v) }
     requires freed { CanFree txns.old (version_at store.old v).end }
-    requires counted { waits_of (cleared_waits txns.old (version_at store.old v).end) t + 1 < 2 ^ 64 }
-    ensures store { store.new ≡ write_locked store.old txns.old t v }
-    ensures txns { txns.new ≡ with_write_set (with_read_set (write_lock_waits store.old txns.old t v) t (read_set_of txns.new t)) t (write_set_of txns.new t) }
-    ensures reads { (read_set_of txns.new t).items ≡ remove_key (nat_eq v) (read_set_of txns.old t).items }
-    ensures writes { (write_set_of txns.new t).items ≡ joined same_entry (write_set_of txns.old t).items (EndOf v) }
-    ensures read_room { (read_set_of txns.old t).room ≤ (read_set_of txns.new t).room }
-    ensures write_room { (write_set_of txns.old t).room ≤ (write_set_of txns.new t).room + 1 }
+    requires counted { waits_of (cleared_waits txns.old (version_at store.old v).end) txn + 1 < 2 ^ 64 }
+    ensures store { store.new ≡ write_locked store.old txns.old txn v }
+    ensures txns { txns.new ≡ with_write_set (with_read_set (write_lock_waits store.old txns.old txn v) txn (read_set_of txns.new txn)) txn (write_set_of txns.new txn) }
+    ensures reads { (read_set_of txns.new txn).items ≡ remove_key (nat_eq v) (read_set_of txns.old txn).items }
+    ensures writes { (write_set_of txns.new txn).items ≡ joined same_entry (write_set_of txns.old txn).items (EndOf v) }
+    ensures read_room { (read_set_of txns.old txn).room ≤ (read_set_of txns.new txn).room }
+    ensures write_room { (write_set_of txns.old txn).room ≤ (write_set_of txns.new txn).room + 1 }
 {
     let word = store.end_of(v);
     let held = cleared(txns, word);
-    let free = left_by(held, give_up(txns, t, v, held));
+    let free = left_by(held, give_up(txns, txn, v, held));
     free_stale(txns, word);
-    count_readers(txns, t, free);
-    store.set_end(v, free.take_writer(t));
-    txns.push_write(t, WriteEntry::EndOf(v));
+    count_readers(txns, txn, free);
+    store.set_end(v, free.take_writer(txn));
+    txns.push_write(txn, WriteEntry::EndOf(v));
 }

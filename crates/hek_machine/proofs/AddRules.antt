@@ -1,4 +1,4 @@
--- A version is made: what the calls ask, and that the parts show the world with it.
+-- A version is made: what the calls require, and that the parts show the world with the version.
 use Rattle.std.proofs.Common.{◌≡◌, ℕ, ◌+◌, ◌<◌, ◌≤◌, ◌^◌, ◌%◌, true, false, [], ◌∷◌, ◌++◌, ◌∙◌, ap, sym, subst, arith, None, ⊎_elim, length}
 use Rattle.std.proofs.lemmas.Bool.{cases_eq}
 use Rattle.std.specs.Prelude.{slice_index_or}
@@ -27,7 +27,7 @@ use Rattle.hek_refinement.proofs.Inserts.{shows-added_store, shows-made_txns, sh
 use Rattle.hek_machine.specs.declared.engine.Engine.{Engine}
 use Rattle.hek_machine.specs.Stands.{Shows}
 use Rattle.hek_machine.specs.Room.{HasRoom, CanMake}
-use Rattle.hek_machine.specs.Walked.{CanAdd, IsAdding}
+use Rattle.hek_machine.specs.Walked.{CanAddVersion, IsAdding}
 
 pub add_named : (m : Engine) (t : ℕ) → IsAdding m t → IsTxn t
 add_named m t a =
@@ -36,8 +36,8 @@ add_named m t a =
 pub add_room : (m : Engine) (t b : ℕ) → CanMake m t b → 0 < m.store.room
 add_room m t b c = c.version
 
--- who locks a bucket is present, and there are no more of them than transactions
-holder-known : (m : Engine) (w : World) (t b h : ℕ) → CanAdd m t w → has w.bucket_locks h b ≡ true → Declared m.txns h
+-- a transaction that locks a bucket is declared
+holder-known : (m : Engine) (w : World) (t b h : ℕ) → CanAddVersion m t w → has w.bucket_locks h b ≡ true → Declared m.txns h
 holder-known m w t b h a k = present-known m.txns w h a.shows.txns (a.sound.locker_present h b k)
 
 holders-few : (w : World) (b : ℕ) → Sound w → length (firsts_of w.bucket_locks b) ≤ length w.txns
@@ -88,7 +88,7 @@ pub add_shows : (m : Engine) (t key value : ℕ) (s : Stored) (x y : TxnTable) �
     s.versions ≡ m.store.versions ++ record { key = key; value = value; begin = By t; end = Until infinity } ∷ [] →
     x ≡ with_write_set m.txns t (write_set_of x t) → (write_set_of x t).items ≡ joined same_entry (write_set_of m.txns t).items (BeginOf (length m.store.versions)) →
     y ≡ with_waiting x t y → waiting_of y t ≡ waiting_for_all t (waiting_of x t) (holders_of m.buckets (key % m.store.buckets)).items →
-    (w : World) → CanAdd m t w → Shows (record m { store = s; txns = y }) (add_version w t key value)
+    (w : World) → CanAddVersion m t w → Shows (record m { store = s; txns = y }) (add_version w t key value)
 add_shows m t key value s x y same grown is items frame waits w a = record {
   clock = h.clock;
   store = shows-added_store m.store s w t key value a.sound same grown h.store;

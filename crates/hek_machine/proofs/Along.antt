@@ -1,4 +1,4 @@
--- Those that pass a test, kept while one goes along: the last of them, or all.
+-- Versions that pass a test, collected along a list: the last of them, or all of them.
 use Rattle.std.proofs.Common.{◌≡◌, ℕ, ◌<◌, Bool, true, false, List, [], ◌∷◌, ◌++◌, append_assoc, refl, ◌∙◌, ap, sym, subst, Option, Some, None}
 use Rattle.std.proofs.lemmas.List.Elements.{All-append, All-cons, All-nil}
 use Rattle.std.specs.List.{All}
@@ -17,7 +17,7 @@ pub last_of_all : (xs : List ℕ) → last_of None xs ≡ last xs
 last_of_all [] = refl
 last_of_all (x ∷ xs) = last-some x xs
 
--- one more
+-- the last version that passes, after one more version
 pub last_more : (f : ℕ → Bool) (v : ℕ) (rest : List ℕ) (before after : Option ℕ) → after ≡ (if f v then Some v else before) →
     last_of after (filter f rest) ≡ last_of before (filter f (v ∷ rest))
 last_more f v rest before after is = ap (λ o. last_of o (filter f rest)) is ∙ by (f v) (filter f rest)
@@ -33,7 +33,7 @@ below_more n v b before after l h is = subst (λ o. IfSome o (λ x. x < n)) (sym
     by true = l
     by false = h
 
--- all of them, behind those before
+-- all versions that pass, after one more version
 pub listed_more : (f : ℕ → Bool) (v : ℕ) (rest before after : List ℕ) → after ≡ before ++ (if f v then v ∷ [] else []) →
     after ++ filter f rest ≡ before ++ filter f (v ∷ rest)
 listed_more f v rest before after is =

@@ -27,7 +27,7 @@ known-there : (x : TxnTable) (w : World) (t : ℕ) → ShowsTxns x w → Declare
 known-there x w zero s d = absurd (let h = d.named in omega (arith, h))
 known-there x w (suc i) s d = there w.txns i (let h = d.within in let long = ap length s.cores in omega (arith, h, long))
 
--- the checks come to the same
+-- the machine's check of an event is the table's
 check-same : (m : Engine) (w : World) (t : ℕ) (e : Event) → Shows m w →
     check_of (txn_in w.txns t) (holds_nothing w t) w.clock e ≡ check_of (txn_in m.txns.cores t) (is_idle m.txns t) m.clock e
 check-same m w t e s =

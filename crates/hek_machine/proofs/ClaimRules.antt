@@ -1,4 +1,4 @@
--- Which versions claim their key.
+-- The versions that claim their key.
 use Rattle.std.proofs.Common.{◌≡◌, ℕ, ◌+◌, ◌<◌, Bool, true, false, List, ◌∷◌, ◌∙◌, ap, sym, length, drop, get_or}
 use Rattle.std.specs.Prelude.{◌||◌}
 use Rattle.std.proofs.lemmas.List.{drop_more}
@@ -12,7 +12,7 @@ use Rattle.hek_machine.specs.Judgements.{IsShown, looks}
 use Rattle.hek_machine.proofs.WalkRules.{looks-same}
 use Rattle.hek_refinement.proofs.Stores.{begin-shown}
 
--- the parts tell whether a version claims its key
+-- a version claims its key in the parts exactly if it does in the world
 pub claim_told : (m : Engine) (t v : ℕ) (begin : BeginRecord) (b : Bool) → begin ≡ (version_at m.store v).begin → b ≡ claims m.txns.cores t (looks m t) (txn_in m.txns.cores t).level begin →
     IsShown m (λ w. is_claim w t (txn_in w.txns t).level (version_in w.versions v).creator) b
 claim_told m t v begin b at told w s =
@@ -20,7 +20,7 @@ claim_told m t v begin b at told w s =
     ∙ ap (λ ts. claims ts t (looks m t) (txn_in ts t).level (version_in w.versions v).creator) (sym s.shows.txns.cores)
     ∙ ap (claims m.txns.cores t (looks m t) (txn_in m.txns.cores t).level) (sym (at ∙ begin-shown m.store w.buckets w.versions w.read_locks v s.shows.store)) ∙ sym told
 
--- a turn of the loop over the versions
+-- one more version without a claim, in the loop over the versions
 pub claim_passed : (m : Engine) (t i v : ℕ) (vs : List ℕ) (b : Bool) → i < length vs → v ≡ get_or vs i v →
     ((w : World) → StandsFor m w → is_claimed w t (drop i vs) ≡ is_claimed w t vs) →
     IsShown m (λ w. is_claim w t (txn_in w.txns t).level (version_in w.versions v).creator) b → b ≡ false →

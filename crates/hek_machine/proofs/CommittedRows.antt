@@ -1,4 +1,4 @@
--- The committed rows: what the words of a version say of who made it and who ended it.
+-- The committed rows: the transactions that made and ended a version, by its words.
 use Rattle.std.proofs.Common.{◌≡◌, ℕ, zero, suc, ◌+◌, ◌<◌, Bool, true, false, List, [], ◌∷◌, ◌++◌, append_assoc, refl, ◌∙◌, ap, sym, subst, arith, length, drop, Some, None}
 use Rattle.std.proofs.lemmas.Bool.{cond_both}
 use Rattle.std.proofs.lemmas.Bool.Decides.{nat_tests}
@@ -26,7 +26,7 @@ use Rattle.hek_machine.specs.Stands.{StandsFor, StandsForSome}
 use Rattle.hek_machine.specs.Judgements.{IsShown}
 use Rattle.hek_machine.proofs.WalkRules.{sight_creator, sight_writer}
 
--- ---- who a word names
+-- ---- the transaction that a word names
 
 named-maker : (x : TxnTable) (b : BeginRecord) (u : ℕ) → NamesCreator x b → begin_txn b ≡ Some u → Declared x u
 named-maker x (At time) u k h = cc
@@ -43,9 +43,9 @@ maker_declared m v u o h = named-maker m.txns (version_at m.store v).begin u (si
 pub ender_declared : (m : Engine) (v u : ℕ) → StandsForSome m → writer_of (version_at m.store v).end ≡ Some u → Declared m.txns u
 ender_declared m v u o h = named-ender m.txns (version_at m.store v).end u (sight_writer m v o) h
 
--- ---- ended by none that committed
+-- ---- versions that no committed transaction ended
 
--- a time that is not infinity is past
+-- an End time below infinity is past
 by-time : (w : World) (n : ℕ) (e : Ender) → IsSoundEnder w e → w.clock < infinity → is_some (end_time (end_word_by n e)) ≡ true → lasts w e ≡ (end_number (end_word_by n e) == end_number (Until infinity))
 by-time w n (EndedAt time) k l h = let ne : (time == infinity) ≡ false = grind (arith, nat_tests, l, k) in sym ne
 by-time w zero (Held None no_more) k l h = refl
@@ -71,7 +71,7 @@ places-more test xs i below =
     ap (places test i) (drop_more xs i no_version below)
     ∙ ap (λ x. if test i x then i ∷ places test (i + 1) (drop (i + 1) xs) else places test (i + 1) (drop (i + 1) xs)) (sym (unwrap_or-slice_get xs i no_version))
 
--- the rows found so far, with those of the versions left, are all
+-- the rows found so far and the rows among the versions left are all committed rows
 abbrev pub Found : Engine → List ℕ → ℕ → Type 0
 Found m found i = (w : World) → StandsFor m w → found ++ places (is_row w) i (drop i w.versions) ≡ places (is_row w) 0 w.versions
 
@@ -88,7 +88,7 @@ found_more m i b before after below shown grown left w s =
     by true = append_assoc before (i ∷ []) rest
     by false = refl
 
--- ---- each is a version of the store
+-- ---- each committed row is a version of the store
 
 world-below : (test : ℕ → Version → Bool) (i n : ℕ) (xs : List Version) → i + length xs ≡ n → All (λ v. v < n) (places test i xs)
 world-below test i n [] e = All-nil (λ v. v < n)

@@ -1,4 +1,4 @@
--- Deadlock detection, as its rule.
+-- Deadlock detection is its rule.
 use Rattle.std.proofs.Common.{◌≡◌, ℕ, List, refl, ◌∙◌, ap, sym}
 use Rattle.std.specs.Prelude.{Some, None}
 use Rattle.hek_rules.specs.declared.event.Cause.TheVariants.{Deadlock}
@@ -33,7 +33,7 @@ rule_of_none m none =
     (λ w s. ap (detect_rule w) (sym (none ∙ same_victim m w s.shows)))
     (record { reply = λ w s. refl; shows = λ w s. s.shows })
 
--- the victim has aborted, whatever that was answered with
+-- the rule of a victim that has aborted
 pub rule_of_victim : (m new : Engine) (t : ℕ) (cycle : List ℕ) (r : Reply) → Some (t, cycle) ≡ victim_in m.store m.txns →
     IsRule (λ w. aborted w t Deadlock) m new r → IsRule (λ w. detect_rule w (victim w)) m new (reply.Victim t cycle)
 rule_of_victim m new t cycle r is gone =

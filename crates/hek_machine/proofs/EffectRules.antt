@@ -1,4 +1,4 @@
--- Each effect of a walk, done: what the calls ask, and what they leave.
+-- The calls for each effect of a walk: what they require, and what they leave.
 use Rattle.std.proofs.Common.{◌≡◌, ℕ, ◌+◌, ◌<◌, ◌^◌, true, false, List, ◌∙◌, ap, sym, arith, length}
 use Rattle.hek_rules.specs.Listing.{is_among}
 use Rattle.hek_rules.specs.Words.{IsTxn, CanAdd, CanTakeWriter, readers_of}
@@ -17,7 +17,7 @@ use Rattle.hek_refinement.proofs.WriteLocks.{may-take, has-own, may-wait}
 use Rattle.hek_machine.specs.declared.engine.Engine.{Engine}
 use Rattle.hek_machine.specs.Applied.{IsAble}
 
--- ---- what the calls ask
+-- ---- what the calls require
 
 pub able_txn : (m : Engine) (t : ℕ) (e : Effect) → IsAble m t e → Declared m.txns t
 able_txn m t e a = a.can.walker
@@ -69,7 +69,7 @@ able_taken m t v a = may-take m.store m.txns a.world t v a.can.sound a.can.may a
 pub able_waiting : (m : Engine) (t v : ℕ) (e : Effect) → IsAble m t e → waits_of (cleared_waits m.txns (version_at m.store v).end) t + 1 < 2 ^ 64
 able_waiting m t v e a = may-wait m.store m.txns a.world t v a.can.sound a.can.few a.can.shows.store a.can.shows.txns
 
--- a bucket that t does not list does not list t
+-- a bucket that is not in t's bucket set does not have t among its holders
 pub unlisted : (m : Engine) (t b : ℕ) → IsAble m t (LockBucket b) → is_among (bucket_set_of m.txns t).items b ≡ false → is_among (holders_of m.buckets b).items t ≡ false
 unlisted m t b a h =
     let P : List (ℕ × ℕ) = a.world.bucket_locks in

@@ -1,4 +1,4 @@
--- What each effect of a walk leaves shows the world after it, and takes no more room than its own.
+-- Each effect of a walk leaves parts that show the world after it, and takes no more room than it adds.
 use Rattle.std.proofs.Common.{◌≡◌, ℕ, ◌+◌, ◌<◌, ◌≤◌, Bool, true, false, List, refl, ◌∙◌, ap, sym, subst, arith, ⊎_elim, nat_eq, get_or-set_other, inl, inr, ◌++◌, ◌∷◌, []}
 use Rattle.std.proofs.lemmas.Bool.{cond_both, cases_Bool, cases_eq, false≢true, eqb-true}
 use Rattle.std.specs.Prelude.{◌==◌, ◌||◌, ◌⊎◌}
@@ -25,7 +25,7 @@ use Rattle.hek_refinement.proofs.ReadLocks.{shows-read_store, shows-read_txns}
 use Rattle.hek_refinement.proofs.WriteLocks.{shows-write_store, shows-write_txns}
 use Rattle.hek_refinement.proofs.OnlyWaits.{imposed-only, read-only, write-only, depended-only}
 use Rattle.hek_machine.specs.declared.engine.Engine.{Engine}
-use Rattle.hek_machine.specs.Room.{IsReady, KeepsRoom}
+use Rattle.hek_machine.specs.Room.{IsEffectReady, KeepsRoom}
 use Rattle.hek_buckets.specs.Waited.{IsReady as CanWait}
 use Rattle.hek_machine.specs.Applied.{Applies}
 
@@ -97,7 +97,7 @@ applies_write m t v x is taken joins w c = let h = c.shows in record {
 
 -- ---- room
 
-ready-same : (m : Engine) (s : Stored) (x : TxnTable) (t : ℕ) → x.dependents ≡ m.txns.dependents → (e : Effect) → IsReady m t e → IsReady (record m { store = s; txns = x }) t e
+ready-same : (m : Engine) (s : Stored) (x : TxnTable) (t : ℕ) → x.dependents ≡ m.txns.dependents → (e : Effect) → IsEffectReady m t e → IsEffectReady (record m { store = s; txns = x }) t e
 ready-same m s x t same (LockBucket b) r = r
 ready-same m s x t same (DependOn u) r = subst (λ (es : List (Entries ℕ)). is_among (entry_at no_entries es u).items t ≡ false → 0 < (entry_at no_entries es u).room) (sym same) r
 ready-same m s x t same (MakeWait u) r = tt
@@ -202,7 +202,7 @@ keeps_dependence m t u x d fresh is items =
     whole : x ≡ with_dependents (record m.txns { commit_deps = (depended_deps m.txns t u).commit_deps }) u (dependents_of x u)
     whole = is ∙ ap (λ (y : TxnTable). with_dependents y u (dependents_of x u)) (depended-only m.txns t u)
 
-    others : (e : Effect) → IsReady m t e → IsReady (record m { txns = x }) t e
+    others : (e : Effect) → IsEffectReady m t e → IsEffectReady (record m { txns = x }) t e
     others (LockBucket b) r = r
     others (DependOn y) r =
         ⊎_elim
@@ -239,7 +239,7 @@ keeps_bucket m t b lists x fresh is members like room =
         inl (ap (λ (es : Entries ℕ). is_among es.items h) (sym same) ∙ k))
         (cases_eq c b)
 
-    others : (e : Effect) → IsReady m t e → IsReady (record m { buckets = lists; txns = x }) t e
+    others : (e : Effect) → IsEffectReady m t e → IsEffectReady (record m { buckets = lists; txns = x }) t e
     others (LockBucket y) r =
         ⊎_elim
         (λ e. λ no. absurd (false≢true (sym no ∙ ap (λ n. is_among (holders_of lists n).items t) e ∙ ap (λ xs. is_among xs t) members ∙ joined-among (holders_of m.buckets b).items t fresh)))

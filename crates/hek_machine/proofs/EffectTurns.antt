@@ -21,7 +21,7 @@ use Rattle.hek_txn.specs.TxnTable.{read_set_of, write_set_of, waiting_list_of, b
 use Rattle.hek_refinement.proofs.Known.{begun-known}
 use Rattle.hek_machine.specs.declared.engine.Engine.{Engine}
 use Rattle.hek_machine.specs.Stands.{Shows, StandsFor, StandsForSome}
-use Rattle.hek_machine.specs.Room.{HasRoom, KeepsRoom, KeepsAdding, IsReady, reads_in, writes_in, waits_in, buckets_in}
+use Rattle.hek_machine.specs.Room.{HasRoom, KeepsRoom, KeepsAdding, IsEffectReady, reads_in, writes_in, wait_effects, buckets_in}
 use Rattle.hek_machine.specs.Applied.{May, CanApply, IsAble, Applies, Allowed}
 use Rattle.hek_machine.proofs.Needs.{reads-first, writes-first, waits-first, buckets-first}
 
@@ -65,7 +65,7 @@ module _ (w : World) (t : ℕ) (before : List Effect) (e : Effect) (after : List
   pub turn-sound : Sound (apply_all t w before)
   turn-sound = part-sound w t a.purpose a.bucket a.test before (e ∷ after) a.walk
 
-  -- what was seen is still held
+  -- a version that was seen is still held after the first effects
   still-held : (v : ℕ) → is_held (version_in w.versions v).ender ≡ true → is_held (version_in (apply_all t w before).versions v).ender ≡ true
   still-held v h =
       let m = (moved w t a.purpose a.bucket a.test before (walking-first w t a.purpose a.bucket a.test before (e ∷ after) walking) v).ender in
@@ -97,7 +97,7 @@ may-turn w t before (WriteLock v) after a =
       allowed = write-turn w t a.purpose a.bucket a.test before after v a.walk;
     }
 
--- what has been done of a walk
+-- the first i effects of a walk are done
 pub record Done (m : Engine) (t made : ℕ) (effects : List Effect) (i : ℕ) (cur : Engine) : Type 0 where
   pub shows : (w : World) → StandsFor m w → Shows cur (apply_all t w (take i effects))
   pub room : HasRoom cur t made (drop i effects)
@@ -137,10 +137,10 @@ first-left : (es : List Effect) (i : ℕ) (e : Effect) → i < length es → e �
 first-left es i e l at = drop_more es i e l ∙ ap (λ x. x ∷ drop (i + 1) es) (sym at)
 
 pub record RoomNow (m : Engine) (t : ℕ) (e : Effect) : Type 0 where
-  pub ready : IsReady m t e
+  pub ready : IsEffectReady m t e
   pub reads : reads_in (e ∷ []) ≤ (read_set_of m.txns t).room
   pub writes : writes_in (e ∷ []) ≤ (write_set_of m.txns t).room
-  pub waits : waits_in (e ∷ []) ≤ (waiting_list_of m.txns t).room
+  pub waits : wait_effects (e ∷ []) ≤ (waiting_list_of m.txns t).room
   pub buckets : buckets_in (e ∷ []) ≤ (bucket_set_of m.txns t).room
 
 pub room_now : (m cur : Engine) (t made i : ℕ) (e : Effect) (es : List Effect) → i < length es → e ≡ get_or es i e → Done m t made es i cur → RoomNow cur t e

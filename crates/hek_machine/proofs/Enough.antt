@@ -1,4 +1,5 @@
--- Versions of a key that are enough: those left out bring nothing to a walk, aren't seen, and claim nothing.
+-- Versions of a key that suffice for a transaction: those left out add nothing to a walk, are not seen, and claim
+-- nothing.
 use Rattle.std.proofs.Common.{◌≡◌, ℕ, zero, suc, ◌+◌, ◌<◌, ◌%◌, Bool, true, false, List, [], ◌∷◌, refl, ◌∙◌, ap, sym, subst, arith, length, Option, ⊎_elim}
 use Rattle.std.proofs.lemmas.Bool.{cases_Bool, cases_lt, cond-true, cond-false, cond_both, eqb-true, false≢true, le-ltb, lt-ltb}
 use Rattle.std.specs.Prelude.{◌==◌, ◌≤◌, ◌⊎◌, not, nat_lt, None, ◌&&◌, ◌||◌, filter, if◌then◌else◌, slice_index_or}
@@ -23,7 +24,7 @@ use Rattle.hek_visible.specs.Seen.{version_seen}
 use Rattle.hek_machine.specs.declared.engine.Engine.{Engine}
 use Rattle.hek_machine.specs.Stands.{StandsFor, StandsForSome}
 use Rattle.hek_machine.specs.Judgements.{looks}
-use Rattle.hek_machine.specs.Walked.{ArePlaces}
+use Rattle.hek_machine.specs.Walked.{AreVersionPlaces}
 use Rattle.hek_machine.specs.Written.{AreEnough}
 use Rattle.hek_machine.proofs.KeyPlaces.{of_key-below, of_key-same, filter_below}
 use Rattle.hek_machine.proofs.RuleWalks.{key_places}
@@ -33,7 +34,7 @@ use Rattle.hek_store.specs.Living.{IsLiving, is_over, is_over_by, is_past}
 
 -- ---- lists without some of their members
 
--- a version brings nothing
+-- each version that `keep` leaves out is hidden from t
 abbrev IsHidden : World → ℕ → (ℕ → Bool) → ℕ → Type 0
 IsHidden w t keep v = keep v ≡ false → sight w t (read_time w t) v ≡ Hidden
 
@@ -94,7 +95,7 @@ places-filter keep test i (x ∷ xs) =
     (cases_Bool (test x)))
     (cases_Bool (keep i))
 
--- what holds of each version that passes the test holds of all places
+-- a property of each version that passes the test holds of all places listed
 places-each : (test : StoredVersion → Bool) (P : ℕ → Type 0) (i : ℕ) (xs : List StoredVersion) →
     ((j : ℕ) → j < length xs → test (slice_index_or xs j no_version) ≡ true → P (i + j)) → AllByRecursion P (stored.places test i xs)
 places-each test P i [] h = tt
@@ -102,24 +103,24 @@ places-each test P i (x ∷ xs) h =
     let rest = places-each test P (i + 1) xs (λ j l y. subst P (omega arith) (h (suc j) (omega (arith, l)) y)) in
     cond_both (test x) (i ∷ stored.places test (i + 1) xs) (stored.places test (i + 1) xs) (AllByRecursion P) (λ y. (subst P (omega arith) (h zero (omega arith) y), rest)) (λ n. rest)
 
--- ---- enough
+-- ---- versions that suffice
 
--- a version of the key that brings nothing to t
+-- a version of the key that is hidden from t and claims nothing
 pub record IsIdle (m : Engine) (t v : ℕ) : Type 0 where
   pub hidden : version_seen m.store m.txns t (looks m t) v ≡ Hidden
   pub claims : (w : World) → StandsFor m w → is_claim w t (txn_in w.txns t).level (version_in w.versions v).creator ≡ false
 
--- all are enough
+-- all versions of a key suffice
 pub all_enough : (m : Engine) (t key : ℕ) (vs : List ℕ) → StandsForSome m → vs ≡ of_key m.store.versions key → AreEnough m t key vs
 all_enough m t key vs o e = record {
   below = subst (All (λ v. v < length m.store.versions)) (sym e) (of_key-below m.store key);
-  places = subst (ArePlaces m (key % m.store.buckets)) (sym e) (key_places m key o);
+  places = subst (AreVersionPlaces m (key % m.store.buckets)) (sym e) (key_places m key o);
   walked = λ w p s. ap (walk w t p (bucket_of w key)) (e ∙ of_key-same m.store w key s.shows.store);
   seen = λ w s. ap (seen_of w t) (e ∙ of_key-same m.store w key s.shows.store);
   claimed = λ w s. ap (is_claimed w t) (e ∙ of_key-same m.store w key s.shows.store);
 }
 
--- and so are those without some that bring nothing
+-- the versions of a key suffice without some that are hidden and claim nothing
 pub enough_without : (m : Engine) (t key : ℕ) (vs : List ℕ) (keep : ℕ → Bool) → StandsForSome m → vs ≡ filter keep (of_key m.store.versions key) →
     ((v : ℕ) → v < length m.store.versions → (version_at m.store v).key ≡ key → keep v ≡ false → IsIdle m t v) → AreEnough m t key vs
 enough_without m t key vs keep o e idle = record {
@@ -150,7 +151,7 @@ enough_without m t key vs keep o e idle = record {
     hidden : (w : World) → StandsFor m w → AllByRecursion (IsHidden w t keep) all
     hidden w s = each (IsHidden w t keep) (λ v i n. sym (sight-shown m w t v s) ∙ (i n).hidden)
 
--- ---- what is over brings nothing
+-- ---- versions that are over
 
 ended : (ts : List Txn) (reader rt : ℕ) (e : EndRecord) → rt < infinity → is_past rt (end_time e) ≡ true → end_sight ts reader rt (ender_of e) ≡ Hidden
 ended ts reader rt (Lock readers writer no_more) early past = absurd (false≢true past)
@@ -175,7 +176,7 @@ hidden-over : (ts : List Txn) (reader rt : ℕ) (b : BeginRecord) (e : EndRecord
 hidden-over ts reader rt (By u) e early h = absurd (false≢true h)
 hidden-over ts reader rt (At from) e early h = hidden-at ts reader rt from e early h
 
--- who looks at the clock
+-- the levels at which a transaction looks at the clock
 abbrev pub LooksNow : Level → Type 0
 LooksNow Snapshot = ⊥
 LooksNow Repeatable = Unit {0}
@@ -203,7 +204,7 @@ over_idle m t v o now over =
       claims = claim_told m t v x.begin false refl (sym (unclaimed m.txns.cores t (looks m t) m.clock level x.begin x.end now over));
     }
 
--- the living are enough for one who looks at the clock
+-- the living versions of a key suffice for a transaction that looks at the clock
 pub living_enough : (m : Engine) (t key : ℕ) (vs : List ℕ) → StandsForSome m → LooksNow (txn_in m.txns.cores t).level → IsLiving m.store.versions key m.clock vs → AreEnough m t key vs
 living_enough m t key vs o now living =
     enough_without m t key vs (λ v. not (nat_lt v living.from)) o living.left

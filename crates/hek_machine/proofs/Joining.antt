@@ -1,4 +1,4 @@
--- Room for a version, and for its maker in the waiting lists of those who lock the bucket.
+-- Room for a version, and for its creator in the waiting lists of those that lock the bucket.
 use Rattle.std.proofs.Common.{◌≡◌, ℕ, inl, inr, ◌+◌, ◌<◌, ◌≤◌, Bool, true, false, List, [], ◌∷◌, ◌++◌, refl, ◌∙◌, ap, sym, subst, arith, ⊎_elim, length, take, get_or}
 use Rattle.std.proofs.lemmas.List.{take_more}
 use Rattle.std.proofs.lemmas.Bool.{eqb-true, cases_Bool, false≢true}
@@ -49,7 +49,7 @@ among-last (y ∷ ys) n h e =
 pub holders-same : (m n : Engine) (b : ℕ) → Reserved m n → (holders_of n.buckets b).items ≡ (holders_of m.buckets b).items
 holders-same m n b r = sym (items-index n.buckets b) ∙ ap (λ xs. slice_index_or xs b []) r.holders ∙ items-index m.buckets b
 
--- one more of them
+-- the waiting list of one more holder has room
 pub joined_more : (first m : Engine) (t i h : ℕ) (holders : List ℕ) (x : TxnTable) → i < length holders → h ≡ get_or holders i h →
     x ≡ with_waiting_list m.txns h (waiting_list_of x h) → (waiting_list_of x h).items ≡ (waiting_list_of m.txns h).items → (waiting_list_of m.txns h).room ≤ (waiting_list_of x h).room →
     1 ≤ (waiting_list_of x h).room → AreJoined m t (take i holders) → AreJoined (record m { txns = x }) t (take (i + 1) holders)
@@ -62,7 +62,7 @@ pub step_reserved : (first m : Engine) (h : ℕ) (x : TxnTable) → Reserved fir
     (waiting_list_of x h).items ≡ (waiting_list_of m.txns h).items → (waiting_list_of m.txns h).room ≤ (waiting_list_of x h).room → Reserved first (record m { txns = x })
 step_reserved first m h x r is items more = reserved_more first m (record m { txns = x }) r (reserved_waiters m h x is items more)
 
--- what is reserved keeps what making a version counts on
+-- reserving room keeps what making a version needs
 pub reserved_kept : (m n : Engine) (t : ℕ) → Reserved m n → KeepsAdding m n t
 reserved_kept m n t r = record {
   versions = r.more_versions;

@@ -1,4 +1,4 @@
--- The versions of a key or a bucket: the store's are the world's.
+-- The versions of a key or a bucket in the store are those of the world.
 use Rattle.std.proofs.Common.{◌≡◌, ℕ, zero, suc, ◌+◌, ◌<◌, ◌%◌, Bool, List, [], ◌∷◌, refl, ◌∙◌, sym, ap, arith, Option, Some, None, length}
 use Rattle.std.proofs.lemmas.Bool.{cond_both}
 use Rattle.std.specs.Prelude.{IfSome, ◌==◌, if◌then◌else◌, slice_index_or, filter}
@@ -11,7 +11,7 @@ use Rattle.hek_store.specs.Stored.{Stored, version_at, no_version, of_key, of_bu
 use Rattle.hek_store.specs.Stored as stored
 use Rattle.hek_refinement.specs.Shows.{ShowsStore}
 
--- a test of keys
+-- the places of keys that pass a test are the same in the store and in the world
 places-keys : (f : ℕ → Bool) (i : ℕ) (xs : List StoredVersion) (ys : List Version) → length xs ≡ length ys →
     ((v : ℕ) → (slice_index_or xs v no_version).key ≡ (version_in ys v).key) → stored.places (λ x. f x.key) i xs ≡ places (λ v x. f x.key) i ys
 places-keys f i [] [] e h = refl
@@ -35,7 +35,7 @@ all-first : (n i : ℕ) (vs : List ℕ) → i < n → All (λ v. v < n) vs → A
 all-first n i vs below rest zero d l = below
 all-first n i vs below rest (suc k) d l = rest k d (omega (arith, l))
 
--- each place is one of a version
+-- each place listed is that of a version
 places-below : (test : StoredVersion → Bool) (i n : ℕ) (xs : List StoredVersion) → i + length xs ≡ n → All (λ v. v < n) (stored.places test i xs)
 places-below test i n [] e = λ k d l. absurd (omega (arith, l))
 places-below test i n (x ∷ xs) e =
@@ -49,13 +49,13 @@ of_key-below s key = places-below (λ x. x.key == key) 0 (length s.versions) s.v
 pub of_bucket-below : (s : Stored) (bucket : ℕ) → All (λ v. v < length s.versions) (of_bucket s.buckets s.versions bucket)
 of_bucket-below s bucket = places-below (λ x. x.key % s.buckets == bucket) 0 (length s.versions) s.versions (omega arith)
 
--- the last of some is one of them
+-- the last of some versions is one of them
 pub last_below : (n : ℕ) (xs : List ℕ) (v : ℕ) → All (λ x. x < n) xs → last xs ≡ Some v → v < n
 last_below n [] v a h = cc
 last_below n (x ∷ []) v a h = let e : x ≡ v = cc in let l = a 0 0 (omega arith) in omega (arith, l, e)
 last_below n (x ∷ y ∷ ys) v a h = last_below n (y ∷ ys) v (λ k d l. a (suc k) d (omega (arith, l))) h
 
--- what is filtered out of places is of versions too
+-- places that a filter keeps are those of versions
 pub filter_below : (test : ℕ → Bool) (n : ℕ) (xs : List ℕ) → All (λ x. x < n) xs → All (λ x. x < n) (filter test xs)
 filter_below test n [] a = λ k d l. absurd (omega (arith, l))
 filter_below test n (x ∷ xs) a =

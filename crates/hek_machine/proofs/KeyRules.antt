@@ -1,4 +1,4 @@
--- Rows that walk over the versions of a key, and the version that an update or an insert makes after the walk.
+-- Rules that walk over the versions of a key, and the version that an update or an insert makes after the walk.
 use Rattle.std.proofs.Common.{◌≡◌, ℕ, ◌<◌, ◌^◌, ◌%◌, Bool, true, false, List, [], refl, ◌∙◌, ap, sym, subst, arith, Option, Some, None, Result, Ok, Err, IfOk, length, append-nil}
 use Rattle.std.proofs.lemmas.Result.{IfOk-weaker}
 use Rattle.std.proofs.Math.Nat.{mod-lt}
@@ -24,12 +24,12 @@ use Rattle.hek_txn.specs.TxnTable.{Declared}
 use Rattle.hek_buckets.specs.LockLists.{holders_of}
 use Rattle.hek_refinement.proofs.Known.{begun-known, present-known, has-first}
 use Rattle.hek_machine.specs.declared.engine.Engine.{Engine}
-use Rattle.hek_machine.specs.declared.walks.Aim.{Aim}
-use Rattle.hek_machine.specs.declared.walks.Aim.TheVariants as aims
+use Rattle.hek_rules.specs.declared.event.Aim.{Aim}
+use Rattle.hek_rules.specs.declared.event.Aim.TheVariants as aims
 use Rattle.hek_machine.specs.Stands.{Shows, StandsFor, StandsForSome, IsRule, StillShows}
 use Rattle.hek_machine.specs.Judgements.{IsShown, IsAimed, seen_among}
 use Rattle.hek_machine.specs.Room.{Reserved, CanMake, KeepsAdding}
-use Rattle.hek_machine.specs.Walked.{ArePlaces, After, CanAdd, IsAdding, told, deleted_reply}
+use Rattle.hek_machine.specs.Walked.{AreVersionPlaces, After, CanAddVersion, IsAdding, told, deleted_reply}
 use Rattle.hek_machine.specs.Written.{AreEnough, key_walk, after_walk, after_making, after_conflict}
 use Rattle.hek_machine.proofs.Joining.{can_make_kept}
 use Rattle.hek_machine.proofs.Reserves.{reserved-shows}
@@ -38,13 +38,13 @@ use Rattle.hek_machine.proofs.WalkRules.{seen-same}
 
 -- ---- the versions of a key
 
-pub bucket_places : (m : Engine) (t key bucket : ℕ) (vs : List ℕ) → bucket ≡ key % m.store.buckets → AreEnough m t key vs → ArePlaces m bucket vs
-bucket_places m t key bucket vs a e = subst (λ n. ArePlaces m n vs) (sym a) e.places
+pub bucket_places : (m : Engine) (t key bucket : ℕ) (vs : List ℕ) → bucket ≡ key % m.store.buckets → AreEnough m t key vs → AreVersionPlaces m bucket vs
+bucket_places m t key bucket vs a e = subst (λ n. AreVersionPlaces m n vs) (sym a) e.places
 
 pub enough_as : (m : Engine) (t key : ℕ) (vs xs : List ℕ) → vs ≡ xs → AreEnough m t key xs → AreEnough m t key vs
 enough_as m t key vs xs e h = subst (AreEnough m t key) (sym e) h
 
--- the walk over those versions, by the number of their bucket
+-- the walk over sufficient versions of a key, in the bucket of the key, is the walk over all
 pub walk-enough : (m : Engine) (w : World) (t key bucket : ℕ) (vs : List ℕ) (p : Purpose) → StandsFor m w → bucket ≡ key % m.store.buckets → AreEnough m t key vs →
     walk w t p bucket vs ≡ key_walk w t p key
 walk-enough m w t key bucket vs p s a e = ap (λ n. walk w t p n vs) (a ∙ ap (λ n. key % n) s.shows.store.buckets) ∙ e.walked w p s
@@ -54,36 +54,36 @@ came-on : (m n : Engine) (t key bucket : ℕ) (vs : List ℕ) (p : Purpose) (o o
 came-on m n t key bucket vs p o other a b c came w s =
     subst (λ x. After n t w (key_walk w t p key) x) c (subst (λ j. After n t w j o) (walk-enough m w t key bucket vs p s a b) (came w s))
 
--- ---- rows
+-- ---- rules
 
--- rows that are the same in each world that is stood for
+-- rules with equal outcomes in each world that the parts stand for
 pub rule_same : (m n : Engine) (f g : World → Outcome) (r : Reply) → ((w : World) → StandsFor m w → f w ≡ g w) → IsRule g m n r → IsRule f m n r
 rule_same m n f g r same rule = record {
   reply = λ w s. rule.reply w s ∙ ap (λ (o : Outcome). o.reply) (sym (same w s));
   shows = λ w s. subst (λ (o : Outcome). Shows n o.world) (sym (same w s)) (rule.shows w s);
 }
 
--- a walk that is refused
+-- the rule of a walk that is refused
 pub key_refused : (m n : Engine) (t key bucket : ℕ) (vs : List ℕ) (p : Purpose) (after : World → Judgement → Outcome) (o : Option Cause) (cause : Cause) →
     ((w : World) (c : Cause) → after w (Refuse c) ≡ aborted w t c) → bucket ≡ key % m.store.buckets → AreEnough m t key vs → o ≡ Some cause → Came m n t p bucket vs o →
     IsRule (λ w. after w (key_walk w t p key)) m n (reply.Aborted cause)
 key_refused m n t key bucket vs p after o cause is a b some came =
     rule_refused m n t (λ w. after w (key_walk w t p key)) (λ w. key_walk w t p key) cause (λ w c s j. ap (after w) j ∙ is w c) (came-on m n t key bucket vs p o (Some cause) a b some came)
 
--- one that is allowed
+-- the rule of a walk that is allowed
 pub key_walked : (m n : Engine) (t key bucket : ℕ) (vs : List ℕ) (p : Purpose) (answer : Reply) (o : Option Cause) → bucket ≡ key % m.store.buckets → AreEnough m t key vs → o ≡ None →
     Came m n t p bucket vs o → IsRule (λ w. after_walk w t answer (key_walk w t p key)) m n answer
 key_walked m n t key bucket vs p answer o a b none came =
     rule_allowed m n t (λ w. after_walk w t answer (key_walk w t p key)) (λ w. key_walk w t p key) answer (λ w es s j. ap (after_walk w t answer) j) (came-on m n t key bucket vs p o None a b none came)
 
--- one that is refused or allowed
+-- the rule of a walk that is refused or allowed
 pub key_told : (m n : Engine) (t key bucket : ℕ) (vs : List ℕ) (p : Purpose) (answer : Reply) (o : Option Cause) → bucket ≡ key % m.store.buckets → AreEnough m t key vs →
     Came m n t p bucket vs o → IsRule (λ w. after_walk w t answer (key_walk w t p key)) m n (told o answer)
 key_told m n t key bucket vs p answer None a b came = key_walked m n t key bucket vs p answer None a b refl came
 key_told m n t key bucket vs p answer (Some cause) a b came =
     key_refused m n t key bucket vs p (λ w j. after_walk w t answer j) (Some cause) cause (λ w c. refl) a b refl came
 
--- the same row by another name, and what is told
+-- the rule of equal outcomes, with the reply after the walk
 pub told_rule : (m n : Engine) (f g : World → Outcome) (o : Option Cause) (answer r : Reply) → r ≡ told o answer → ((w : World) → StandsFor m w → f w ≡ g w) → IsRule g m n (told o answer) → IsRule f m n r
 told_rule m n f g o answer r is same rule = rule_same m n f g r same (subst (IsRule g m n) (sym is) rule)
 
@@ -129,15 +129,15 @@ bucket_there m key bucket o a =
 
 -- ---- a version that is made after the walk
 
--- what the walk of a world allowed
+-- the effects of a walk that a world allowed
 pub each_allowed : (m n : Engine) (w : World) (t bucket : ℕ) (vs : List ℕ) (p : Purpose) (j : Judgement) → walk w t p bucket vs ≡ j → After n t w j None →
     (es : List Effect) × (walk w t p bucket vs ≡ Allow es) × Shows n (apply_all t w es)
 each_allowed m n w t bucket vs p (Refuse cause) e a = absurd a
 each_allowed m n w t bucket vs p (Allow es) e a = (es, e, a)
 
--- after an allowed walk t may make a version
-can_add : (m n : Engine) (w : World) (t bucket : ℕ) (vs : List ℕ) (p : Purpose) (es : List Effect) → StandsFor m w → ArePlaces m bucket vs → is_open (txn_in m.txns.cores t) ≡ true →
-    length m.store.versions < 2 ^ 58 → walk w t p bucket vs ≡ Allow es → Shows n (apply_all t w es) → CanAdd n t (apply_all t w es)
+-- t may make a version after an allowed walk
+can_add : (m n : Engine) (w : World) (t bucket : ℕ) (vs : List ℕ) (p : Purpose) (es : List Effect) → StandsFor m w → AreVersionPlaces m bucket vs → is_open (txn_in m.txns.cores t) ≡ true →
+    length m.store.versions < 2 ^ 58 → walk w t p bucket vs ≡ Allow es → Shows n (apply_all t w es) → CanAddVersion n t (apply_all t w es)
 can_add m n w t bucket vs p es s places open_now small allowed shows =
     let same = (apply_all-times t w es).txns in
     let long = length-walked t w es in
@@ -155,7 +155,7 @@ can_add m n w t bucket vs p es s places open_now small allowed shows =
       named = let k = ap length same in let q = s.named in omega (arith, k, q);
     }
 
--- what making the version counts on, after the walk
+-- what making the version needs, after the walk
 pub record CanMakeIt (m n : Engine) (t key : ℕ) : Type 0 where
   pub able : IsAdding n t
   pub buckets : n.store.buckets ≡ m.store.buckets
@@ -177,7 +177,7 @@ pub room_left : (m n : Engine) (t key : ℕ) → KeepsAdding m n t → n.store.b
 room_left m n t key kept same make = subst (λ b. CanMake n t (key % b)) (sym same) (can_make_kept m n t (key % m.store.buckets) kept make)
 
 pub key_made : (m n new : Engine) (t key value bucket : ℕ) (vs : List ℕ) (p : Purpose) (o : Option Cause) → StandsForSome m → is_open (txn_in m.txns.cores t) ≡ true → length m.store.versions < 2 ^ 58 →
-    bucket ≡ key % m.store.buckets → AreEnough m t key vs → o ≡ None → Came m n t p bucket vs o → ((w : World) → CanAdd n t w → Shows new (add_version w t key value)) →
+    bucket ≡ key % m.store.buckets → AreEnough m t key vs → o ≡ None → Came m n t p bucket vs o → ((w : World) → CanAddVersion n t w → Shows new (add_version w t key value)) →
     IsRule (λ w. after_making w t key value (key_walk w t p key)) m new reply.Done
 key_made m n new t key value bucket vs p o order open_now small a b none came added = record {
   reply = λ w s. ap (λ (x : Outcome). x.reply) (sym (same w s));
@@ -190,21 +190,21 @@ key_made m n new t key value bucket vs p o order open_now small a b none came ad
     same : (w : World) (s : StandsFor m w) → after_making w t key value (key_walk w t p key) ≡ record { reply = reply.Done; world = add_version (apply_all t w (found_in w s).0) t key value }
     same w s = ap (after_making w t key value) (sym (walk-enough m w t key bucket vs p s a b) ∙ (found_in w s).1)
 
-    can : (w : World) (s : StandsFor m w) → CanAdd n t (apply_all t w (found_in w s).0)
+    can : (w : World) (s : StandsFor m w) → CanAddVersion n t (apply_all t w (found_in w s).0)
     can w s = can_add m n w t bucket vs p (found_in w s).0 s (bucket_places m t key bucket vs a b) open_now small (found_in w s).1 (found_in w s).2
 
--- ---- what was seen
+-- ---- the versions that t sees
 
 pub seen-target : (m : Engine) (w : World) (t key : ℕ) (vs : List ℕ) (target : Option ℕ) → StandsFor m w → AreEnough m t key vs → target ≡ last (seen_among m t vs) → last (seen_of w t (walking.of_key w key)) ≡ target
 seen-target m w t key vs target s b e = ap last (sym (b.seen w s) ∙ seen-same m t vs w s) ∙ sym e
 
--- ---- the rows of each event
+-- ---- the rule of each event
 
 read-is : (w : World) (t : ℕ) (target : Option ℕ) (j : Judgement) → after_read w t target j ≡ after_walk w t (found w target) j
 read-is w t target (Refuse cause) = refl
 read-is w t target (Allow es) = refl
 
--- a read is answered with what is found, or aborts
+-- a read answers with the value that it finds, or aborts
 pub read_told : (m n : Engine) (t key : ℕ) (o : Option Cause) (target : Option ℕ) (answer r : Reply) → r ≡ told o answer →
     (o ≡ None → IsShown m (λ w. last (seen_of w t (walking.of_key w key))) target) → IsShown m (λ w. found w target) answer →
     ((w : World) → StandsFor m w → After n t w (key_walk w t ToRead key) o) → IsRule (λ w. read_rule w t key) m n r
@@ -288,11 +288,11 @@ pub err_weaker : {A E : Type 0} (r : Result A E) (P Q : Type 0) → (P → Q) �
 err_weaker (Ok x) P Q h p = tt
 err_weaker (Err e) P Q h p = h p
 
--- a last call whose rule is another's
+-- a call whose rule has equal outcomes
 pub rule_of_last : {E : Type 0} (m n : Engine) (f g : World → Outcome) (r : Result Reply E) → ((w : World) → StandsFor m w → f w ≡ g w) → IfOk r (IsRule g m n) → IfOk r (IsRule f m n)
 rule_of_last m n f g r same i = IfOk-weaker r (IsRule g m n) (IsRule f m n) (λ x rule. rule_same m n f g x same rule) i
 
--- an abort, where the walk is refused and where it is allowed
+-- the abort of a claimed insert, whether its walk is refused or allowed
 pub conflict_rule : (m n : Engine) (t key bucket : ℕ) (vs : List ℕ) (j : Judgement) (cause : Cause) (r : Reply) → bucket ≡ key % m.store.buckets → AreEnough m t key vs →
     IsShown m (λ w. walk w t ToRead bucket vs) j → ((w : World) → after_conflict w t j ≡ aborted w t cause) → IsRule (λ w. aborted w t cause) m n r →
     IsRule (λ w. after_conflict w t (key_walk w t ToRead key)) m n r

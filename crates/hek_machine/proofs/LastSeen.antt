@@ -1,4 +1,4 @@
--- The last of those that pass a test, found from the end.
+-- The last element that passes a test, found from the end.
 use Rattle.std.proofs.Common.{◌≡◌, ℕ, zero, suc, ◌+◌, ◌<◌, Bool, true, false, List, [], ◌∷◌, drop, length, ◌∙◌, sym, ap, arith, Some}
 use Rattle.std.specs.Prelude.{filter, slice_index_or, if◌then◌else◌}
 use Rattle.hek_rules.specs.Walk.{last}
@@ -13,7 +13,7 @@ filter-hit f x xs h = ap (λ b. if b then x ∷ filter f xs else filter f xs) h
 filter-miss : (f : ℕ → Bool) (x : ℕ) (xs : List ℕ) → f x ≡ false → filter f (x ∷ xs) ≡ filter f xs
 filter-miss f x xs h = ap (λ b. if b then x ∷ filter f xs else filter f xs) h
 
--- none behind it passes
+-- the element at place k is the last that passes, if none after it does
 pub last_found : (f : ℕ → Bool) (k d : ℕ) (xs : List ℕ) → k < length xs → f (slice_index_or xs k d) ≡ true → filter f (drop (suc k) xs) ≡ [] → last (filter f xs) ≡ Some (slice_index_or xs k d)
 last_found f k d [] l h e = absurd (omega (arith, l))
 last_found f zero d (x ∷ xs) l h e = ap last (filter-hit f x xs h ∙ ap (λ ys. x ∷ ys) e)
@@ -23,13 +23,13 @@ last_found f (suc k) d (x ∷ xs) l h e = more (f x) (last_found f k d xs (omega
     more true i = last-more x (slice_index_or xs k d) (filter f xs) i
     more false i = i
 
--- it doesn't pass, and none behind it
+-- no element from place k on passes, if the one at k and those after it do not
 pub none_from : (f : ℕ → Bool) (k d : ℕ) (xs : List ℕ) → k < length xs → f (slice_index_or xs k d) ≡ false → filter f (drop (suc k) xs) ≡ [] → filter f (drop k xs) ≡ []
 none_from f k d [] l h e = absurd (omega (arith, l))
 none_from f zero d (x ∷ xs) l h e = filter-miss f x xs h ∙ e
 none_from f (suc k) d (x ∷ xs) l h e = none_from f k d xs (omega (arith, l)) h e
 
--- the same by a place and the one behind it
+-- a place and the next one, by an equation
 suc-of : (k j : ℕ) → j ≡ k + 1 → j ≡ suc k
 suc-of k j n = omega (arith, n)
 

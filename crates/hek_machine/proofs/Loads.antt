@@ -1,4 +1,4 @@
--- Engine that were loaded or copied.
+-- The parts of a machine that was loaded or copied.
 use Rattle.std.proofs.Common.{◌≡◌, ℕ, map, ◌∙◌, arith}
 use Rattle.std.proofs.lemmas.List.{length-map}
 use Rattle.hek_rules.specs.Plan.{Plan, IsPlan, levels_of}
@@ -13,7 +13,7 @@ use Rattle.hek_refinement.proofs.Copies.{shows-copied_store, shows-copied_txns, 
 use Rattle.hek_machine.specs.declared.engine.Engine.{Engine}
 use Rattle.hek_machine.specs.Stands.{StandsFor, StillShows}
 
--- parts as a schedule gives them
+-- the parts that a schedule gives
 pub record IsLoaded (m : Engine) (p : Plan) (first : ℕ) : Type 0 where
   pub clock : m.clock ≡ first
   pub store_buckets : m.store.buckets ≡ p.buckets
@@ -34,7 +34,7 @@ loaded-stands m p clock plan first l = record {
   };
 }
 
--- parts that are a copy
+-- parts that are a copy of others
 pub record IsCopied (m new : Engine) : Type 0 where
   pub clock : new.clock ≡ m.clock
   pub store_buckets : new.store.buckets ≡ m.store.buckets

@@ -1,11 +1,11 @@
--- How many effects are left to count.
+-- The count of effects by list, and those left to count.
 use Rattle.std.proofs.Common.{◌≡◌, ℕ, ◌+◌, ◌<◌, ◌≤◌, List, [], ◌∷◌, refl, ◌∙◌, ap, sym, arith, length, drop, get_or}
 use Rattle.std.proofs.lemmas.List.{drop_more}
 use Rattle.hek_rules.specs.declared.event.Effect.{Effect}
 use Rattle.hek_rules.specs.declared.event.Effect.TheVariants.{LockBucket, DependOn, MakeWait, ReadLock, WriteLock}
-use Rattle.hek_machine.specs.Room.{reads_in, writes_in, waits_in, buckets_in}
+use Rattle.hek_machine.specs.Room.{reads_in, writes_in, wait_effects, buckets_in}
 
--- one effect, and the others
+-- the count of a list of effects is that of the first and that of the others
 pub reads-first : (e : Effect) (es : List Effect) → reads_in (e ∷ es) ≡ reads_in (e ∷ []) + reads_in es
 reads-first (LockBucket b) es = omega arith
 reads-first (DependOn u) es = omega arith
@@ -20,7 +20,7 @@ writes-first (MakeWait u) es = omega arith
 writes-first (ReadLock v) es = omega arith
 writes-first (WriteLock v) es = omega arith
 
-pub waits-first : (e : Effect) (es : List Effect) → waits_in (e ∷ es) ≡ waits_in (e ∷ []) + waits_in es
+pub waits-first : (e : Effect) (es : List Effect) → wait_effects (e ∷ es) ≡ wait_effects (e ∷ []) + wait_effects es
 waits-first (LockBucket b) es = omega arith
 waits-first (DependOn u) es = omega arith
 waits-first (MakeWait u) es = omega arith
@@ -34,7 +34,7 @@ buckets-first (MakeWait u) es = omega arith
 buckets-first (ReadLock v) es = omega arith
 buckets-first (WriteLock v) es = omega arith
 
--- none counts for more than one
+-- a list of effects counts at most one for each
 few : (f : List Effect → ℕ) → f [] ≡ 0 → ((e : Effect) (es : List Effect) → f (e ∷ es) ≡ f (e ∷ []) + f es) → ((e : Effect) → f (e ∷ []) ≤ 1) → (es : List Effect) → f es ≤ length es
 few f none first one [] = omega (arith, none)
 few f none first one (e ∷ es) = let rest = few f none first one es in let a = first e es in let b = one e in omega (arith, rest, a, b)
@@ -59,10 +59,10 @@ writes-few es = few writes_in refl writes-first one es
     one (ReadLock v) = omega arith
     one (WriteLock v) = omega arith
 
-pub waits-few : (es : List Effect) → waits_in es ≤ length es
-waits-few es = few waits_in refl waits-first one es
+pub waits-few : (es : List Effect) → wait_effects es ≤ length es
+waits-few es = few wait_effects refl waits-first one es
   where
-    one : (e : Effect) → waits_in (e ∷ []) ≤ 1
+    one : (e : Effect) → wait_effects (e ∷ []) ≤ 1
     one (LockBucket b) = omega arith
     one (DependOn u) = omega arith
     one (MakeWait u) = omega arith
@@ -79,7 +79,7 @@ buckets-few es = few buckets_in refl buckets-first one es
     one (ReadLock v) = omega arith
     one (WriteLock v) = omega arith
 
--- what is counted and what is left come to the whole, and there is room to count on
+-- the count so far and that of the effects left are the whole count, and it is at most the number counted
 pub record Counted (f : List Effect → ℕ) (es : List Effect) (i n : ℕ) : Type 0 where
   pub whole : n + f (drop i es) ≡ f es
   pub small : n ≤ i

@@ -12,11 +12,11 @@ use Rattle.hek_laws.proofs.Lists.Maps.{insert-put}
 use Rattle.hek_machine.specs.declared.engine.Engine.{Engine}
 use Rattle.hek_machine.specs.Stands.{StandsFor}
 
--- these versions, put over the pairs so far, are the whole
+-- the pairs so far, under those of the versions left, are the pairs of all versions
 abbrev pub Left : Engine → List ℕ → List (ℕ × ℕ) → List ℕ → Type 0
 Left m vs pairs rest = (w : World) → StandsFor m w → pairs_of w.versions pairs rest ≡ pairs_of w.versions [] vs
 
--- a version's pair is put over those so far
+-- the pair of one more version is put into the pairs so far
 pub one_row : (m : Engine) (vs : List ℕ) (i v : ℕ) (before after : List (ℕ × ℕ)) → i < length vs → v ≡ get_or vs i v →
     after ≡ put (version_at m.store v).key (version_at m.store v).value before → Left m vs before (drop i vs) → Left m vs after (drop (i + 1) vs)
 one_row m vs i v before after below at grown left w s =

@@ -1,5 +1,4 @@
--- For callers of run: the steps of a schedule may be made of its machine, since each scan is of a bucket that there is; and
--- each event has one reply.
+-- For callers of `run`: each scan of a schedule's steps is of an existing bucket, and each event has one reply.
 use Rattle.std.proofs.Common.{◌≡◌, ℕ, suc, List, [], ◌∷◌, refl, ◌∙◌, ap, sym, subst, length}
 use Rattle.std.specs.Prelude.{map}
 use Rattle.std.proofs.lemmas.List.Elements.{All-nil, All-cons}
@@ -35,7 +34,7 @@ all_placed : (buckets txns : ℕ) (es : List Event) → AllByRecursion (IsStep b
 all_placed b n [] h = All-nil (IsPlaced b)
 all_placed b n (e ∷ es) h = All-cons (IsPlaced b) e es (step_placed b n e h.0) (all_placed b n es h.1)
 
--- the steps of a schedule, as a slice gives them
+-- the steps of a schedule, read through a slice, scan existing buckets
 pub steps_placed : (p : Plan) (es : List Event) → IsPlan p → es ≡ p.steps → All (IsPlaced p.buckets) es
 steps_placed p es is same = subst (All (IsPlaced p.buckets)) (sym same) (all_placed p.buckets (length p.txns) p.steps is.steps)
 

@@ -1,4 +1,4 @@
--- The release of a read lock, a bucket lock or a waiter, as its rule.
+-- The release of a read lock, a bucket lock or a waiter is its rule.
 use Rattle.std.proofs.Common.{◌≡◌, ℕ, ◌-◌, ◌<◌, List, [], ◌∷◌, refl, ◌∙◌, ap, sym, arith, true, Some, None, length, nat_eq}
 use Rattle.std.specs.Prelude.{slice_get, slice_index_or}
 use Rattle.std.specs.Set.{remove_key}
@@ -8,7 +8,7 @@ use Rattle.hek_rules.specs.Words.{readers_of, without_reader, dropped_of}
 use Rattle.hek_rules.specs.Listing.{has, leave, seconds_of}
 use Rattle.hek_rules.specs.World.{World}
 use Rattle.hek_rules.specs.Table.{Outcome, release_rule, release_first, release_bucket, release_waiter, release_read}
-use Rattle.hek_store.specs.Stored.{version_at, with_end}
+use Rattle.hek_store.specs.Stored.{version_at, with_end_word}
 use Rattle.hek_txn.specs.Entries.{Entries}
 use Rattle.hek_txn.specs.TxnTable.{TxnTable, Declared, waits_of, with_waits, read_set_of, with_read_set, bucket_set_of, with_bucket_set, waiting_list_of, with_waiting_list}
 use Rattle.hek_locks.specs.Locked.{after_drop, left_writer, CanTell}
@@ -57,7 +57,7 @@ first_waiter w t u (x ∷ us) h = ap (λ (n : ℕ). one n) (some x u h)
     some : (a b : ℕ) → Some a ≡ Some b → a ≡ b
     some a b e = cc
 
--- who read-locks nothing, and locks no bucket
+-- the release of a transaction without read locks gives up a bucket lock, or else a waiter
 no_reads : (m : Engine) (w : World) (t : ℕ) → StandsFor m w → slice_get (read_set_of m.txns t).items 0 ≡ None → release_rule w t ≡ release_bucket w t (seconds_of w.bucket_locks t)
 no_reads m w t s h = ap (release_first w t) (sym (s.shows.txns.read_sets t) ∙ no_first (read_set_of m.txns t).items h)
 
@@ -83,7 +83,7 @@ read_may_tell m t v o h =
 pub row_of_release_read : (m : Engine) (t v : ℕ) (x : TxnTable) → Declared m.txns t → slice_get (read_set_of m.txns t).items 0 ≡ Some v →
     x ≡ with_read_set (after_drop (dropped_of (version_at m.store v).end) m.txns) t (read_set_of x t) →
     (read_set_of x t).items ≡ remove_key (nat_eq v) (read_set_of m.txns t).items →
-    IsRule (λ w. release_rule w t) m (record m { store = with_end m.store v (without_reader (version_at m.store v).end); txns = x })
+    IsRule (λ w. release_rule w t) m (record m { store = with_end_word m.store v (without_reader (version_at m.store v).end); txns = x })
     (reply.ReleasedRead v (left_writer (dropped_of (version_at m.store v).end)))
 row_of_release_read m t v x d first is items =
     rule-is m _ (λ w. release_rule w t) (λ w. release_read w t v) _

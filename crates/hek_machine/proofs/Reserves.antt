@@ -1,4 +1,4 @@
--- Room is reserved, and nothing else changes.
+-- Reserving room changes nothing else.
 use Rattle.std.proofs.Common.{◌≡◌, ℕ, zero, suc, ◌+◌, ◌<◌, ◌≤◌, List, [], ◌∷◌, refl, ◌∙◌, ap, sym, subst, arith, inl, inr, ⊎_elim, length, take, get_or}
 use Rattle.std.proofs.lemmas.List.{take_more}
 use Rattle.std.specs.Prelude.{slice_index_or, slice_set}
@@ -13,7 +13,7 @@ use Rattle.hek_txn.proofs.EntryLemmas.{set_at-same, items-entry, items-set}
 use Rattle.hek_buckets.specs.LockLists.{holders_of, with_holders}
 use Rattle.hek_machine.specs.declared.engine.Engine.{Engine}
 use Rattle.hek_machine.specs.Stands.{StillShows}
-use Rattle.hek_machine.specs.Room.{Reserved, IsThere, IsReady, HasRoom, AreReady, reads_in, writes_in, waits_in, buckets_in}
+use Rattle.hek_machine.specs.Room.{Reserved, IsThere, IsEffectReady, HasRoom, AreReady, reads_in, writes_in, wait_effects, buckets_in}
 use Rattle.hek_machine.proofs.Loads.{copied-shows}
 
 -- ---- one list
@@ -200,7 +200,7 @@ reserved_holders m b lists is items more = subst (λ (z : List (Entries ℕ)). R
   more_versions = omega arith;
 })
 
--- ---- what was ready stays so
+-- ---- lists that had room keep it
 
 pub there-kept : (m n : Engine) → Reserved m n → (e : Effect) → IsThere m e → IsThere n e
 there-kept m n r (LockBucket b) h = let a = items-length m.buckets in let c = items-length n.buckets in let k = ap length r.holders in omega (arith, a, c, k, h)
@@ -209,7 +209,7 @@ there-kept m n r (MakeWait u) h = tt
 there-kept m n r (ReadLock v) h = tt
 there-kept m n r (WriteLock v) h = tt
 
-pub ready-kept : (m n : Engine) (t : ℕ) → Reserved m n → (e : Effect) → IsReady m t e → IsReady n t e
+pub ready-kept : (m n : Engine) (t : ℕ) → Reserved m n → (e : Effect) → IsEffectReady m t e → IsEffectReady n t e
 ready-kept m n t r (LockBucket b) h = λ no.
     let same : (holders_of n.buckets b).items ≡ (holders_of m.buckets b).items = sym (items-index n.buckets b) ∙ ap (λ xs. slice_index_or xs b []) r.holders ∙ items-index m.buckets b in
     let old = h (ap (λ xs. is_among xs t) (sym same) ∙ no) in let more = r.more_holders b in omega (arith, old, more)
@@ -227,16 +227,16 @@ in-at [] i e l h = absurd (omega (arith, l))
 in-at (x ∷ xs) zero e l h = inl h
 in-at (x ∷ xs) (suc i) e l h = inr (in-at xs i e (omega (arith, l)) h)
 
-pub ready_more : (old new : Engine) (t i : ℕ) (e : Effect) (es : List Effect) → i < length es → e ≡ get_or es i e → Reserved old new → IsReady new t e →
-    ((x : Effect) → In x (take i es) → IsReady old t x) → (x : Effect) → In x (take (i + 1) es) → IsReady new t x
+pub ready_more : (old new : Engine) (t i : ℕ) (e : Effect) (es : List Effect) → i < length es → e ≡ get_or es i e → Reserved old new → IsEffectReady new t e →
+    ((x : Effect) → In x (take i es) → IsEffectReady old t x) → (x : Effect) → In x (take (i + 1) es) → IsEffectReady new t x
 ready_more old new t i e es l at r this before x h =
-    ⊎_elim (λ k. ready-kept old new t r x (before x k)) (λ k. ⊎_elim (λ same. subst (IsReady new t) (sym (same ∙ sym at)) this) (λ none. absurd none) k)
+    ⊎_elim (λ k. ready-kept old new t r x (before x k)) (λ k. ⊎_elim (λ same. subst (IsEffectReady new t) (sym (same ∙ sym at)) this) (λ none. absurd none) k)
     (In-split x (take i es) (get_or es i e ∷ []) (subst (In x) (take_more es i e l) h))
 
 -- ---- the whole
 
 pub has-room : (m n : Engine) (t made : ℕ) (es : List Effect) → Reserved m n → reads_in es ≤ (read_set_of m.txns t).room → writes_in es + made ≤ (write_set_of m.txns t).room →
-    waits_in es + made ≤ (waiting_list_of m.txns t).room → buckets_in es ≤ (bucket_set_of m.txns t).room → AreReady n t es → HasRoom n t made es
+    wait_effects es + made ≤ (waiting_list_of m.txns t).room → buckets_in es ≤ (bucket_set_of m.txns t).room → AreReady n t es → HasRoom n t made es
 has-room m n t made es r reads writes waits buckets ready =
     let a = r.more_reads t in let b = r.more_writes t in let c = r.more_waiters t in let d = r.more_buckets t in
     record { reads = omega (arith, a, reads); writes = omega (arith, b, writes); waits = omega (arith, c, waits); buckets = omega (arith, d, buckets); others = ready }

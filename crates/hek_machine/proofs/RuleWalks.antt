@@ -1,4 +1,4 @@
--- A walk is judged, its room reserved, and its effects done.
+-- A walk is judged, its room is reserved, and its effects are done.
 use Rattle.std.proofs.Common.{◌≡◌, ℕ, ◌<◌, ◌%◌, true, List, refl, ◌∙◌, ap, sym, subst, arith, Option, Some, None, Result, Ok, Err}
 use Rattle.std.proofs.lemmas.Bool.{and_parts}
 use Rattle.std.proofs.Math.Nat.{mod-lt}
@@ -21,23 +21,24 @@ use Rattle.hek_laws.proofs.Table.Cases.{active-is}
 use Rattle.hek_store.specs.Stored.{of_key}
 use Rattle.hek_refinement.proofs.Known.{begun-known}
 use Rattle.hek_machine.specs.declared.engine.Engine.{Engine}
-use Rattle.hek_machine.specs.declared.walks.Aim.{Aim}
+use Rattle.hek_rules.specs.declared.event.Aim.{Aim}
 use Rattle.hek_machine.specs.Stands.{Shows, StandsFor, StandsForSome, IsRule}
-use Rattle.hek_machine.specs.Judgements.{IsShown, purpose_of, verdict}
+use Rattle.hek_machine.specs.Judgements.{IsShown, verdict}
+use Rattle.hek_rules.specs.Aims.{purpose_of}
 use Rattle.hek_machine.specs.Room.{Reserved, IsThere}
 use Rattle.hek_machine.specs.Applied.{Allowed}
-use Rattle.hek_machine.specs.Walked.{ArePlaces, After}
+use Rattle.hek_machine.specs.Walked.{AreVersionPlaces, After}
 use Rattle.hek_machine.proofs.Loads.{copied-shows}
 use Rattle.hek_machine.proofs.Reserves.{reserved-shows}
 use Rattle.hek_machine.proofs.KeyPlaces.{of_key-same}
 use Rattle.hek_machine.proofs.EffectTurns.{begun_preparing}
 
--- ---- who walks
+-- ---- the transaction that walks
 
 pub open_active : (x : Txn) → is_open x ≡ true → x.state ≡ Active
 open_active x h = active-is x.state (and_parts _ _ h).0
 
--- ---- room says nothing of the world
+-- ---- parts with other room show the same worlds
 
 pub reserved-stands : (m n : Engine) → Reserved m n → (w : World) → StandsFor m w → StandsFor n w
 reserved-stands m n r w s = record { reachable = s.reachable; named = s.named; shows = (reserved-shows m n r).world w s.shows }
@@ -67,7 +68,7 @@ reserved-back m n r w s = record {
 pub reserved-ordered : (m n : Engine) → Reserved m n → StandsForSome m → StandsForSome n
 reserved-ordered m n r o = record { world = o.world; stands = reserved-stands m n r o.world o.stands }
 
--- ---- what the effects ask
+-- ---- what the effects require
 
 effect-there : (m : Engine) (w : World) (t : ℕ) (es : List Effect) → StandsFor m w → Allowed w t es → (e : Effect) → In e es → IsThere m e
 effect-there m w t es s a (LockBucket b) i =
@@ -82,7 +83,7 @@ effect-there m w t es s a (WriteLock v) i = tt
 pub effects_there : (m : Engine) (t : ℕ) (es : List Effect) → StandsForSome m → ((w : World) → StandsFor m w → Allowed w t es) → (e : Effect) → In e es → IsThere m e
 effects_there m t es o a = effect-there m o.world t es o.stands (a o.world o.stands)
 
-pub allowed_by : (m : Engine) (t bucket : ℕ) (vs : List ℕ) (aim : Aim) (o : Option Cause) (es : List Effect) → ArePlaces m bucket vs → is_open (txn_in m.txns.cores t) ≡ true → o ≡ None →
+pub allowed_by : (m : Engine) (t bucket : ℕ) (vs : List ℕ) (aim : Aim) (o : Option Cause) (es : List Effect) → AreVersionPlaces m bucket vs → is_open (txn_in m.txns.cores t) ≡ true → o ≡ None →
     IsShown m (λ w. walk w t (purpose_of aim) bucket vs) (verdict o es) → (w : World) → StandsFor m w → Allowed w t es
 allowed_by m t bucket vs aim o es p open_now none judged w s = record {
   purpose = purpose_of aim;
@@ -102,7 +103,7 @@ pub after_done : (m n : Engine) (t bucket : ℕ) (vs : List ℕ) (aim : Aim) (o 
     ((w : World) → StandsFor m w → Shows n (apply_all t w es)) → (w : World) → StandsFor m w → After n t w (walk w t (purpose_of aim) bucket vs) None
 after_done m n t bucket vs aim o es none judged done w s = subst (λ j. After n t w j None) (sym (judged w s ∙ ap (λ c. verdict c es) none)) (done w s)
 
--- a rule that aborts its transaction where the walk is refused
+-- a rule that aborts its transaction if the walk is refused
 pub rule_refused : (m n : Engine) (t : ℕ) (rule : World → Outcome) (judged : World → Judgement) (cause : Cause) →
     ((w : World) (c : Cause) → StandsFor m w → judged w ≡ Refuse c → rule w ≡ aborted w t c) →
     ((w : World) → StandsFor m w → After n t w (judged w) (Some cause)) → IsRule rule m n (reply.Aborted cause)
@@ -117,7 +118,7 @@ rule_refused m n t rule judged cause is after = record {
         let r = is w c s e in
         (ap reply.Aborted (sym a.0) ∙ ap (λ (o : Outcome). o.reply) (sym r), subst (λ (o : Outcome). Shows n o.world) (sym r) a.1)
 
--- a rule that does the effects of the walk where it is allowed
+-- a rule that does the effects of the walk if it is allowed
 pub rule_allowed : (m n : Engine) (t : ℕ) (rule : World → Outcome) (judged : World → Judgement) (r : Reply) →
     ((w : World) (es : List Effect) → StandsFor m w → judged w ≡ Allow es → rule w ≡ record { reply = r; world = apply_all t w es }) →
     ((w : World) → StandsFor m w → After n t w (judged w) None) → IsRule rule m n r
@@ -133,7 +134,7 @@ rule_allowed m n t rule judged r is after = record {
 
 -- ---- the versions of a key
 
-pub key_places : (m : Engine) (key : ℕ) → StandsForSome m → ArePlaces m (key % m.store.buckets) (of_key m.store.versions key)
+pub key_places : (m : Engine) (key : ℕ) → StandsForSome m → AreVersionPlaces m (key % m.store.buckets) (of_key m.store.versions key)
 key_places m key o = record {
   test = λ v x. x.key == key;
   same = λ w s. sym (of_key-same m.store w key s.shows.store);
@@ -147,6 +148,6 @@ pub on_err : {A E : Type 0} (r : Result A E) (P : Type 0) → P → OnErr r P
 on_err (Ok x) P p = tt
 on_err (Err e) P p = p
 
--- what a walk over these versions of this bucket came to
+-- the parts after a walk over these versions of this bucket
 abbrev pub Came : Engine → Engine → ℕ → walking.Purpose → ℕ → List ℕ → Option Cause → Type 0
 Came m n t p bucket vs o = (w : World) → StandsFor m w → After n t w (walk w t p bucket vs) o

@@ -1,4 +1,4 @@
--- Steps of a machine, and runs of many.
+-- Steps of a machine, and runs of many steps.
 use Rattle.std.proofs.Common.{◌≡◌, ℕ, ◌+◌, ◌<◌, List, [], ◌∷◌, ◌++◌, refl, ◌∙◌, ap, sym, subst, arith, Result, Ok, Err, IfOk, length, take, get_or}
 use Rattle.std.proofs.lemmas.Result.{IfOk-weaker}
 use Rattle.std.proofs.lemmas.List.{take_more}
@@ -11,7 +11,7 @@ use Rattle.hek_rules.specs.Plan.{Plan, IsPlan, levels_of}
 use Rattle.hek_rules.specs.World.{World}
 use Rattle.hek_rules.specs.Table.{outcome}
 use Rattle.hek_rules.specs.Run.{next, reply, run, transcript}
-use Rattle.hek_rules.specs.Serial.{laid_over, serial_order}
+use Rattle.hek_rules.specs.Serial.{serial_map}
 use Rattle.hek_rules.specs.Faults.{put_all, HasNoFault}
 use Rattle.hek_laws.specs.Runs.{IsFirstClock, IsPlaced}
 use Rattle.hek_laws.proofs.Runs.NoFault.{run-no_fault}
@@ -21,11 +21,11 @@ use Rattle.hek_laws.proofs.Worlds.Fixed.{fixed-next}
 use Rattle.hek_machine.specs.declared.engine.Engine.{Engine}
 use Rattle.hek_machine.specs.Stands.{StandsFor, StandsForSome, IsRule, StillShows}
 use Rattle.hek_machine.specs.Observed.{opening_of, StandsAs}
-use Rattle.hek_machine.specs.Steps.{IsStep, HasNoFaults, RowsAreSerial}
+use Rattle.hek_machine.specs.Steps.{IsMachineStep, HasNoFaults, RowsAreSerial}
 
 -- ---- steps
 
-pub step_of_row : (e : Event) (m n : Engine) (r : Reply) → IsPlaced (length m.buckets) e → IsRule (λ w. outcome w e) m n r → IsStep e m n r
+pub step_of_row : (e : Event) (m n : Engine) (r : Reply) → IsPlaced (length m.buckets) e → IsRule (λ w. outcome w e) m n r → IsMachineStep e m n r
 step_of_row e m n r placed i = record {
   reply = i.reply;
   world = λ w s. record {
@@ -35,8 +35,8 @@ step_of_row e m n r placed i = record {
   };
 }
 
-pub steps_of_rows : {E : Type 0} (e : Event) (m n : Engine) (r : Result Reply E) → IsPlaced (length m.buckets) e → IfOk r (IsRule (λ w. outcome w e) m n) → IfOk r (IsStep e m n)
-steps_of_rows e m n r placed i = IfOk-weaker r (IsRule (λ w. outcome w e) m n) (IsStep e m n) (λ x rule. step_of_row e m n x placed rule) i
+pub steps_of_rows : {E : Type 0} (e : Event) (m n : Engine) (r : Result Reply E) → IsPlaced (length m.buckets) e → IfOk r (IsRule (λ w. outcome w e) m n) → IfOk r (IsMachineStep e m n)
+steps_of_rows e m n r placed i = IfOk-weaker r (IsRule (λ w. outcome w e) m n) (IsMachineStep e m n) (λ x rule. step_of_row e m n x placed rule) i
 
 still_stands : (m n : Engine) → StillShows m n → (w : World) → StandsFor m w → StandsFor n w
 still_stands m n s w k = record { reachable = k.reachable; named = k.named; shows = s.world w k.shows }
@@ -53,7 +53,7 @@ pub buckets_after : {E : Type 0} (e : Event) (m n : Engine) (r : Result Reply E)
 buckets_after e m n (Ok x) o i s = (i.shows o.world o.stands).buckets.count ∙ (fixed-next o.world e).buckets ∙ sym o.stands.shows.buckets.count
 buckets_after e m n (Err f) o i s = (s.world o.world o.stands.shows).buckets.count ∙ sym o.stands.shows.buckets.count
 
--- ---- runs, one event more
+-- ---- runs, after one more event
 
 abbrev pub replies_of : World → List Event → List Reply
 replies_of w es = map (λ (x : Event × Reply). x.1) (transcript w es)
@@ -65,13 +65,13 @@ replies_more w (x ∷ xs) e = ap (λ rs. reply w x ∷ rs) (replies_more (next w
 taken-more : (es : List Event) (i : ℕ) (e : Event) → i < length es → e ≡ get_or es i e → take (i + 1) es ≡ take i es ++ e ∷ []
 taken-more es i e below at = take_more es i e below ∙ ap (λ x. take i es ++ x ∷ []) (sym at)
 
-pub step_stands : (p : Plan) (clock i : ℕ) (es : List Event) (e : Event) (m n : Engine) (r : Reply) → i < length es → e ≡ get_or es i e → StandsFor m (run (opening_of p clock) (take i es)) → IsStep e m n r →
+pub step_stands : (p : Plan) (clock i : ℕ) (es : List Event) (e : Event) (m n : Engine) (r : Reply) → i < length es → e ≡ get_or es i e → StandsFor m (run (opening_of p clock) (take i es)) → IsMachineStep e m n r →
     StandsFor n (run (opening_of p clock) (take (i + 1) es))
 step_stands p clock i es e m n r below at s step =
     subst (StandsFor n) (sym (ap (run (opening_of p clock)) (taken-more es i e below at) ∙ run-append (opening_of p clock) (take i es) e)) (step.world (run (opening_of p clock) (take i es)) s)
 
 pub step_replies : (p : Plan) (clock i : ℕ) (es : List Event) (e : Event) (m n : Engine) (rs : List Reply) (r : Reply) → i < length es → e ≡ get_or es i e → StandsFor m (run (opening_of p clock) (take i es)) →
-    IsStep e m n r → rs ≡ replies_of (opening_of p clock) (take i es) → rs ++ r ∷ [] ≡ replies_of (opening_of p clock) (take (i + 1) es)
+    IsMachineStep e m n r → rs ≡ replies_of (opening_of p clock) (take i es) → rs ++ r ∷ [] ≡ replies_of (opening_of p clock) (take (i + 1) es)
 step_replies p clock i es e m n rs r below at s step so_far =
     ap (λ xs. xs ++ r ∷ []) so_far ∙ ap (λ x. replies_of (opening_of p clock) (take i es) ++ x ∷ []) (step.reply (run (opening_of p clock) (take i es)) s)
     ∙ sym (ap (replies_of (opening_of p clock)) (taken-more es i e below at) ∙ replies_more (opening_of p clock) (take i es) e)
@@ -95,9 +95,9 @@ pub run_rows_are_serial : (p : Plan) (clock : ℕ) (es : List Event) (rs : List 
 run_rows_are_serial p clock es rs m plan first e s rows shown =
     sym (shown (run (opening_of p clock) es) s)
     ∙ run-rows p.buckets clock p.rows (levels_of p) plan.keys first.0 first.1 es
-    ∙ ap (λ h. laid_over h (serial_order h) (put_all p.rows [])) (history-is p clock es rs e)
+    ∙ ap (λ h. serial_map h (put_all p.rows [])) (history-is p clock es rs e)
 
--- once all events have been taken
+-- the replies after the last event are those of all events
 pub all_taken : (p : Plan) (clock i : ℕ) (es : List Event) (rs : List Reply) → i ≡ length es → rs ≡ replies_of (opening_of p clock) (take i es) → rs ≡ replies_of (opening_of p clock) es
 all_taken p clock i es rs end e = e ∙ ap (replies_of (opening_of p clock)) (ap (λ n. take n es) end ∙ take-length es)
 

@@ -1,4 +1,4 @@
--- Scans: the versions of a bucket are walked over, and the pairs of those that are seen are the answer.
+-- Scans: a walk over the versions of a bucket, whose reply is the pairs of those seen.
 use Rattle.std.proofs.Common.{◌≡◌, ℕ, ◌<◌, ◌%◌, List, [], refl, ◌∙◌, ap, sym, subst, arith, Option, Some, None}
 use Rattle.std.specs.Prelude.{◌==◌}
 use Rattle.hek_rules.specs.declared.event.Cause.{Cause}
@@ -12,7 +12,7 @@ use Rattle.hek_store.specs.Stored.{of_bucket}
 use Rattle.hek_machine.specs.declared.engine.Engine.{Engine}
 use Rattle.hek_machine.specs.Stands.{StandsFor, IsRule}
 use Rattle.hek_machine.specs.Judgements.{IsShown, seen_among}
-use Rattle.hek_machine.specs.Walked.{ArePlaces, After, told}
+use Rattle.hek_machine.specs.Walked.{AreVersionPlaces, After, told}
 use Rattle.hek_machine.proofs.WalkRules.{seen-same}
 use Rattle.hek_machine.proofs.KeyPlaces.{of_bucket-same}
 use Rattle.hek_machine.proofs.RuleWalks.{rule_refused, rule_allowed}
@@ -20,25 +20,25 @@ use Rattle.hek_machine.proofs.RuleWalks.{rule_refused, rule_allowed}
 abbrev pub in_bucket : Engine → ℕ → List ℕ
 in_bucket m bucket = of_bucket m.store.buckets m.store.versions bucket
 
-pub bucket_places : (m : Engine) (bucket : ℕ) (vs : List ℕ) → vs ≡ in_bucket m bucket → bucket < m.store.buckets → ArePlaces m bucket vs
+pub bucket_places : (m : Engine) (bucket : ℕ) (vs : List ℕ) → vs ≡ in_bucket m bucket → bucket < m.store.buckets → AreVersionPlaces m bucket vs
 bucket_places m bucket vs a below = record {
   test = λ v x. x.key % m.store.buckets == bucket;
   same = λ w s. ap (λ n. places (λ v x. x.key % n == bucket) 0 w.versions) s.shows.store.buckets ∙ sym (a ∙ of_bucket-same m.store w bucket s.shows.store);
   there = λ w s. let e = s.shows.store.buckets in omega (arith, below, e);
 }
 
--- a walk over a bucket is the table's
+-- the walk over a bucket is the table's
 pub bucket-walk : (m : Engine) (w : World) (t bucket : ℕ) (vs : List ℕ) → vs ≡ in_bucket m bucket → StandsFor m w →
     walk w t walking.ToRead bucket (walking.of_bucket w bucket) ≡ walk w t walking.ToRead bucket vs
 bucket-walk m w t bucket vs a s = ap (walk w t walking.ToRead bucket) (sym (a ∙ of_bucket-same m.store w bucket s.shows.store))
 
--- and so is what is seen of it
+-- the versions seen in a bucket are the table's
 pub bucket-seen : (m : Engine) (w : World) (t bucket : ℕ) (vs seen : List ℕ) → vs ≡ in_bucket m bucket → seen ≡ seen_among m t vs → StandsFor m w →
     seen_of w t (walking.of_bucket w bucket) ≡ seen
 bucket-seen m w t bucket vs seen a e s =
     ap (seen_of w t) (sym (a ∙ of_bucket-same m.store w bucket s.shows.store)) ∙ seen-same m t vs w s ∙ sym e
 
--- a scan is answered with the pairs of what is seen, or aborts
+-- a scan answers with the pairs of the versions seen, or aborts
 pub scan_told : (m n : Engine) (t bucket : ℕ) (o : Option Cause) (seen : List ℕ) (pairs : List (ℕ × ℕ)) (r : Reply) → r ≡ told o (reply.Rows pairs) →
     (o ≡ None → IsShown m (λ w. seen_of w t (walking.of_bucket w bucket)) seen) → IsShown m (λ w. pairs_of w.versions [] seen) pairs →
     ((w : World) → StandsFor m w → After n t w (walk w t walking.ToRead bucket (walking.of_bucket w bucket)) o) → IsRule (λ w. scan_rule w t bucket) m n r

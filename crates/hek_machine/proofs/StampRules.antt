@@ -1,4 +1,4 @@
--- The stamp of the first entry of a write set, as its rule.
+-- The stamp of the first entry of a write set is its rule.
 use Rattle.std.proofs.Common.{◌≡◌, ℕ, ◌<◌, Bool, true, false, List, [], ◌∷◌, refl, ◌∙◌, ap, sym, subst, arith, Some, None, ⊎_elim, length}
 use Rattle.std.proofs.lemmas.Bool.{cond-true, cond-false, cases_Bool}
 use Rattle.std.specs.Prelude.{slice_get, if◌then◌else◌}
@@ -26,14 +26,14 @@ use Rattle.hek_refinement.proofs.Stamps.{first-written, shows-unwritten, shows-b
 use Rattle.hek_machine.specs.declared.engine.Engine.{Engine}
 use Rattle.hek_machine.specs.Stands.{Shows, StandsFor, StandsForSome, IsRule}
 
--- what a stamp leaves and answers
+-- the store, the table and the reply after a stamp
 pub record Stamping (m : Engine) (t : ℕ) (store : Stored) (x : TxnTable) (r : Reply) : Type 0 where
   pub store_is : store ≡ stamped_store m.store m.txns.cores t (slice_get (write_set_of m.txns t).items 0)
   pub txns_is : x ≡ with_write_set (stamped_txns m.store m.txns t (slice_get (write_set_of m.txns t).items 0)) t (write_set_of x t)
   pub writes : (write_set_of x t).items ≡ rest_of (write_set_of m.txns t).items
   pub reply_is : r ≡ stamp_reply m.store m.txns.cores t (slice_get (write_set_of m.txns t).items 0)
 
--- the reply and the world of an outcome
+-- an outcome has this reply, and a world that these parts show
 abbrev Gives : Engine → Stored → TxnTable → Reply → Outcome → Type 0
 Gives m store x r o = (r ≡ o.reply) × Shows (record m { store = store; txns = x }) o.world
 
@@ -194,7 +194,7 @@ row_of_stamp m t store x r d k = record {
   shows = λ w s. (stamp-gives m w t store x r s d k).1;
 }
 
--- ---- what the call asks
+-- ---- what the call requires
 
 pub stamp_time : (m : Engine) (t : ℕ) → StandsForSome m → IsTime (txn_in m.txns.cores t).end
 stamp_time m t o =

@@ -1,4 +1,4 @@
--- One event: what each check answers is the table's answer, and which checks have been passed.
+-- One event: the answer of each check is the table's, and what holds of an event that has passed the checks.
 use Rattle.std.proofs.Common.{◌≡◌, ℕ, zero, suc, List, [], ◌∷◌, ◌<◌, ◌^◌, ◌-◌, Bool, true, false, not, if◌then◌else◌, refl, ◌∙◌, ap, sym, arith, Option, Some, None, Result, IfOk, length}
 use Rattle.std.specs.Prelude.{◌&&◌, ◌==◌, ◌↔◌, IsTrue, is_some, slice_get}
 use Rattle.std.proofs.lemmas.Bool.{false≢true}
@@ -22,7 +22,7 @@ use Rattle.hek_machine.specs.Stands.{Shows, StandsForSome, IsRule}
 use Rattle.hek_machine.proofs.CheckRules.{checks-agree}
 use Rattle.hek_machine.proofs.KeyRules.{rule_same, rule_of_last}
 
--- ---- what an event that has passed the checks knows
+-- ---- what holds of an event that has passed the checks
 
 skip : (b : Bool) (x y : Check) → (x ≡ Passed → ⊥) → (if b then x else y) ≡ Passed → y ≡ Passed
 skip true x y n h = absurd (n h)
@@ -59,7 +59,7 @@ clock-passed x idle clock e h =
     not-passed _ (Refused refusal.ClockFull) Passed (refusal-fails refusal.ClockFull)
     (skip _ (missed x.state e) _ (missed-fails x.state e) (skip _ Doomed _ undoomed (phase-passed x idle clock e h)))
 
--- a time may be drawn
+-- the clock is below its end for an event that draws a time
 pub early : (m : Engine) (t : ℕ) (e : Event) → StandsForSome m → check_of (txn_in m.txns.cores t) (is_idle m.txns t) m.clock e ≡ Passed → draws e ≡ true → m.clock < 2 ^ 63 - 2
 early m t e o h d = by (m.clock == clock_end) refl (sym (ap (λ b. b && m.clock == clock_end) d) ∙ clock-passed (txn_in m.txns.cores t) (is_idle m.txns t) m.clock e h)
   where
@@ -72,7 +72,7 @@ early m t e o h d = by (m.clock == clock_end) refl (sym (ap (λ b. b && m.clock 
         apart : (n : ℕ) → (n == clock_end) ≡ false → n ≡ clock_end → ⊥
         apart n z same = false≢true (sym z ∙ ap (λ i. i == clock_end) same)
 
--- ---- what a check answers
+-- ---- the answer of a check
 
 pub answered_rule : (m n : Engine) (t : ℕ) (e : Event) (c : Check) (r : Reply) → Declared m.txns t → check_of (txn_in m.txns.cores t) (is_idle m.txns t) m.clock e ≡ c →
     IsRule (λ w. answered w t e c) m n r → IsRule (λ w. checked w t e) m n r

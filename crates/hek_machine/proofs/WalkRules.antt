@@ -1,4 +1,4 @@
--- What a walk is judged to do.
+-- The judgement of a walk.
 use Rattle.std.proofs.Common.{◌≡◌, ℕ, ◌<◌, Bool, true, false, List, [], ◌∷◌, ◌++◌, append_assoc, subst, refl, ◌∙◌, ap, sym, arith, length, Option, Some, None, Result, Ok, Err, IfOk, append-nil, drop, get_or, ◌+◌}
 use Rattle.std.specs.Prelude.{if◌then◌else◌, filter, is_some}
 use Rattle.std.proofs.lemmas.List.{drop_more}
@@ -28,9 +28,10 @@ use Rattle.hek_refinement.proofs.Clears.{knows-writer}
 use Rattle.hek_locks.specs.Locked.{KnowsWriter, answer_of, read_refused, write_refused}
 use Rattle.hek_txn.specs.TxnTable.{Declared, waiting_list_of}
 use Rattle.hek_refinement.proofs.Pairs.{among-seconds}
-use Rattle.hek_machine.specs.Judgements.{IsShown, IsAimed, looks, purpose_of, target_of, verdict, seen_among}
-use Rattle.hek_machine.specs.declared.walks.Aim.TheVariants as aims
-use Rattle.hek_machine.specs.declared.walks.Aim.{Aim}
+use Rattle.hek_machine.specs.Judgements.{IsShown, IsAimed, looks, verdict, seen_among}
+use Rattle.hek_rules.specs.Aims.{purpose_of, target_of}
+use Rattle.hek_rules.specs.declared.event.Aim.TheVariants as aims
+use Rattle.hek_rules.specs.declared.event.Aim.{Aim}
 use Rattle.hek_laws.proofs.Sound.WordsAndSights.{sight-counts}
 use Rattle.hek_laws.proofs.Walks.Sights.{Counts}
 use Rattle.hek_laws.proofs.Walks.Looks.{IsNow, reads-past}
@@ -41,7 +42,7 @@ use Rattle.hek_machine.specs.Stands.{StandsFor, StandsForSome}
 sound : (m : Engine) (o : StandsForSome m) → Sound o.world
 sound m o = reachable-sound o.world o.stands.reachable
 
--- the parts tell the time at which a transaction looks, which isn't the one that never comes
+-- the time at which a transaction looks is the same in the parts and in the world
 pub looks-same : (m : Engine) (w : World) (t : ℕ) → StandsFor m w → looks m t ≡ read_time w t
 looks-same m w t s = ap (λ ts. looks_at (txn_in ts t).level (txn_in ts t).begin m.clock) s.shows.txns.cores ∙ ap (looks_at (txn_in w.txns t).level (txn_in w.txns t).begin) s.shows.clock
 
@@ -92,7 +93,7 @@ pub write_denied : (m : Engine) (v : ℕ) (cause : Cause) → answer_of (write_r
 write_denied m v cause h w s =
     ap (λ o. unless_refused o (WriteLock v)) (sym (write-refused m.store m.txns w v (reachable-sound w s.reachable) s.shows.store s.shows.txns)) ∙ answered-err _ (WriteLock v) cause h
 
--- the lock of what is read, by the level
+-- the judgement of a read lock, for a level that looks at the clock
 pub read_by : (m : Engine) (t v : ℕ) (j : Judgement) → IsNow (txn_in m.txns.cores t).level → IsShown m (λ w. unless_refused (no_read_lock w t v) (ReadLock v)) j → IsShown m (λ w. read_judged w t v (txn_in w.txns t).level) j
 read_by m t v j now shown w s = by (txn_in w.txns t).level (subst (λ ts. IsNow (txn_in ts t).level) s.shows.txns.cores now)
   where
@@ -106,7 +107,7 @@ read_past m t v l w s = ap (read_judged w t v) (ap (λ ts. (txn_in ts t).level) 
 
 -- ---- waits
 
--- a wait, from the level, whether it stands already, and NoMoreWaitFors
+-- the judgement of a wait, by the level, an earlier wait, and NoMoreWaitFors
 abbrev pub wait_by : Level → Bool → Bool → ℕ → Judgement
 wait_by Repeatable there no_more_waits u = Allow []
 wait_by Snapshot there no_more_waits u = Allow []
@@ -155,7 +156,7 @@ active_present state.Committed h = cc
 active_present (state.Aborted cause) h = cc
 active_present state.Terminated h = cc
 
--- who made a version that is hidden while it is active
+-- the creator of a version that is hidden while its creator is Active is declared
 pub maker_known : (m : Engine) (t v u : ℕ) → StandsForSome m → version_seen m.store m.txns t (looks m t) v ≡ HiddenActive u → Declared m.txns u
 maker_known m t v u o h =
     let w : World = o.world in
@@ -171,7 +172,7 @@ pub behind-behind : (xs ys : List Effect) (j : Judgement) → behind (xs ++ ys) 
 behind-behind xs ys (Refuse cause) = refl
 behind-behind xs ys (Allow es) = ap Allow (append_assoc xs ys es)
 
--- from what t sees of it
+-- the judgement of one version, by what t sees of it
 pub by_sight : (m : Engine) (t v : ℕ) (aim : Aim) (s : Sight) (j : Judgement) (before : List Effect) (r : Option Cause) (after : List Effect) →
     version_seen m.store m.txns t (looks m t) v ≡ s → IsShown m (λ w. version_judged w t (purpose_of aim) (target_of aim) v s) j → behind before j ≡ verdict r after →
     IsShown m (λ w. behind before (version_judged w t (purpose_of aim) (target_of aim) v (sight w t (read_time w t) v))) (verdict r after)
@@ -180,7 +181,7 @@ by_sight m t v aim x j before r after seen judged is w s =
     (sym (sight-shown m w t v s) ∙ seen)
     ∙ ap (behind before) (judged w s) ∙ is
 
--- a dependence first, and then the lock
+-- the judgement of a version seen if u commits: a dependency, and then the lock
 pub by_promise : (m : Engine) (t v u : ℕ) (aim : Aim) (j : Judgement) (before more : List Effect) (r : Option Cause) (after : List Effect) →
     version_seen m.store m.txns t (looks m t) v ≡ SeenIf u → IsShown m (λ w. lock_judged w t (purpose_of aim) (target_of aim) v) j →
     more ≡ before ++ DependOn u ∷ [] → behind more j ≡ verdict r after →
@@ -202,7 +203,7 @@ behind-and_then es (Allow fs) b = sym (behind-behind es fs b)
 abbrev pub each_judged : World → ℕ → Aim → List ℕ → Judgement
 each_judged w t aim vs = versions_judged w t (purpose_of aim) (target_of aim) vs
 
--- the version that is next adds its effects
+-- the effects of the next version come after those before
 pub next_allowed : (m : Engine) (t v : ℕ) (aim : Aim) (before after : List Effect) (vs : List ℕ) →
     IsShown m (λ w. behind before (version_judged w t (purpose_of aim) (target_of aim) v (sight w t (read_time w t) v))) (Allow after) →
     (w : World) → StandsFor m w → behind before (each_judged w t aim (v ∷ vs)) ≡ behind after (each_judged w t aim vs)
@@ -210,7 +211,7 @@ next_allowed m t v aim before after vs judged w s =
     behind-and_then before (version_judged w t (purpose_of aim) (target_of aim) v (sight w t (read_time w t) v)) (each_judged w t aim vs)
     ∙ ap (λ j. and_then j (each_judged w t aim vs)) (judged w s)
 
--- or is refused, and all with it
+-- a refusal at the next version refuses the walk
 pub next_refused : (m : Engine) (t v : ℕ) (aim : Aim) (before : List Effect) (cause : Cause) (vs : List ℕ) →
     IsShown m (λ w. behind before (version_judged w t (purpose_of aim) (target_of aim) v (sight w t (read_time w t) v))) (Refuse cause) →
     (w : World) → StandsFor m w → behind before (each_judged w t aim (v ∷ vs)) ≡ Refuse cause
@@ -218,7 +219,7 @@ next_refused m t v aim before cause vs judged w s =
     behind-and_then before (version_judged w t (purpose_of aim) (target_of aim) v (sight w t (read_time w t) v)) (each_judged w t aim vs)
     ∙ ap (λ j. and_then j (each_judged w t aim vs)) (judged w s)
 
--- a read has no target
+-- a read is judged alike for any target
 read-free : (w : World) (t : ℕ) (a b : Option ℕ) (vs : List ℕ) → versions_judged w t ToRead a vs ≡ versions_judged w t ToRead b vs
 read-free w t a b [] = refl
 read-free w t a b (v ∷ vs) =
@@ -237,7 +238,7 @@ read-free w t a b (v ∷ vs) =
 pub nothing_more : (es : List Effect) → behind es (Allow []) ≡ Allow es
 nothing_more es = ap Allow (append-nil es)
 
--- a hidden version brings nothing
+-- a hidden version adds nothing
 pub by_hidden : (m : Engine) (t v : ℕ) (aim : Aim) (effects : List Effect) → version_seen m.store m.txns t (looks m t) v ≡ Hidden →
     IsShown m (λ w. behind effects (version_judged w t (purpose_of aim) (target_of aim) v (sight w t (read_time w t) v))) (verdict None effects)
 by_hidden m t v aim effects seen = by_sight m t v aim Hidden (Allow []) effects None effects seen (λ w s. refl) (nothing_more effects)
@@ -283,7 +284,7 @@ first_refused m t v aim all xs rest old before new None first left judged some w
 first_refused m t v aim all xs rest old before new (Some cause) first left judged some w s =
     sym (left w s) ∙ ap (λ ys. behind before (each_judged w t aim ys)) first ∙ next_refused m t v aim before cause rest judged w s
 
--- the same by the place of the version in the list
+-- the list from a place on is the version there and the rest, by the loop's place
 first-at : (vs : List ℕ) (i v : ℕ) → i < length vs → v ≡ get_or vs i v → drop i vs ≡ v ∷ drop (i + 1) vs
 first-at vs i v below at = drop_more vs i v below ∙ ap (λ n. n ∷ drop (i + 1) vs) (sym at)
 

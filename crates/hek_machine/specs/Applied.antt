@@ -1,17 +1,17 @@
--- One effect of a walk, done: where it may be, and what it leaves.
+-- One effect of a walk: when it may be done, and what it leaves.
 use Rattle.std.specs.Prelude.{◌≡◌, ℕ, ◌+◌, ◌<◌, ◌^◌, Bool, false, List, length}
 use Rattle.hek_rules.specs.declared.event.Effect.{Effect}
 use Rattle.hek_rules.specs.declared.event.Effect.TheVariants.{LockBucket, DependOn, MakeWait, ReadLock, WriteLock}
 use Rattle.hek_rules.specs.World.{World, Version, txn_in, is_not_begun}
 use Rattle.hek_rules.specs.Walk.{Purpose, apply}
-use Rattle.hek_laws.specs.Laws.{IsWalk}
+use Rattle.hek_laws.specs.Laws.{IsAllowedWalk}
 use Rattle.hek_laws.specs.Sound.{Sound}
 use Rattle.hek_txn.specs.TxnTable.{Declared}
 use Rattle.hek_refinement.specs.MayLock.{MayRead, MayWrite}
 use Rattle.hek_machine.specs.declared.engine.Engine.{Engine}
 use Rattle.hek_machine.specs.Stands.{Shows}
 
--- what an effect rests on
+-- the condition of an effect of t in a world
 abbrev pub May : World → ℕ → Effect → Type 0
 May w t (LockBucket b) = b < w.buckets
 May w t (DependOn u) = is_not_begun (txn_in w.txns u).state ≡ false
@@ -19,7 +19,7 @@ May w t (MakeWait u) = is_not_begun (txn_in w.txns u).state ≡ false
 May w t (ReadLock v) = MayRead w t v
 May w t (WriteLock v) = MayWrite w t v
 
--- the parts show a sound world in which t may do it
+-- the parts show a sound world in which t may do the effect
 pub record CanApply (m : Engine) (t : ℕ) (effect : Effect) (w : World) : Type 0 where
   pub shows : Shows m w
   pub sound : Sound w
@@ -35,9 +35,9 @@ pub record IsAble (m : Engine) (t : ℕ) (effect : Effect) : Type 0 where
 abbrev pub Applies : Engine → Engine → ℕ → Effect → Type 0
 Applies old new t effect = (w : World) → CanApply old t effect w → Shows new (apply t w effect)
 
--- in each world that the parts stand for, these are the effects of a walk that is allowed
+-- these are the effects of an allowed walk of t in the world
 pub record Allowed (w : World) (t : ℕ) (effects : List Effect) : Type 0 where
   pub purpose : Purpose
   pub bucket : ℕ
   pub test : ℕ → Version → Bool
-  pub walk : IsWalk w t purpose bucket test effects
+  pub walk : IsAllowedWalk w t purpose bucket test effects

@@ -1,4 +1,4 @@
--- A walk that is done, or refused.
+-- The world after a walk that was allowed or refused.
 use Rattle.std.specs.Prelude.{◌≡◌, ℕ, ◌<◌, ◌+◌, ◌^◌, length, Bool, List, Option, Some, None}
 use Rattle.hek_rules.specs.declared.event.Cause.{Cause}
 use Rattle.hek_rules.specs.World.{World, Version, places}
@@ -11,31 +11,31 @@ use Rattle.hek_txn.specs.TxnTable.{Declared}
 use Rattle.hek_machine.specs.declared.engine.Engine.{Engine}
 use Rattle.hek_machine.specs.Stands.{Shows, StandsFor}
 
--- the versions of one bucket that pass a test of theirs
-pub record ArePlaces (m : Engine) (bucket : ℕ) (vs : List ℕ) : Type 0 where
+-- the versions of one bucket that pass some test
+pub record AreVersionPlaces (m : Engine) (bucket : ℕ) (vs : List ℕ) : Type 0 where
   pub test : ℕ → Version → Bool
   pub same : (w : World) → StandsFor m w → places test 0 w.versions ≡ vs
   pub there : (w : World) → StandsFor m w → bucket < w.buckets
 
--- after a judgement: its effects are done, or t has aborted
+-- the parts after a judgement: its effects are done, or t has aborted by the refusal
 abbrev pub After : Engine → ℕ → World → Judgement → Option Cause → Type 0
 After m t w (Allow effects) None = Shows m (apply_all t w effects)
 After m t w (Allow effects) (Some cause) = ⊥
 After m t w (Refuse cause) None = ⊥
 After m t w (Refuse cause) (Some other) = (cause ≡ other) × Shows m (abort w t cause)
 
--- what is answered: the cause of a refusal where there is one, and else this
+-- the reply after a walk: an abort if there is a cause, otherwise this answer
 abbrev pub told : Option Cause → Reply → Reply
 told None answer = answer
 told (Some cause) answer = reply.Aborted cause
 
--- what a delete that is done is answered with, from its target
+-- the reply of a delete that was allowed, from its target
 abbrev pub deleted_reply : Option ℕ → Reply
 deleted_reply None = reply.Absent
 deleted_reply (Some v) = reply.Done
 
 -- the parts show a sound world in which t may make a version
-pub record CanAdd (m : Engine) (t : ℕ) (w : World) : Type 0 where
+pub record CanAddVersion (m : Engine) (t : ℕ) (w : World) : Type 0 where
   pub shows : Shows m w
   pub sound : Sound w
   pub walker : Declared m.txns t
@@ -44,4 +44,4 @@ pub record CanAdd (m : Engine) (t : ℕ) (w : World) : Type 0 where
 
 pub record IsAdding (m : Engine) (t : ℕ) : Type 0 where
   pub world : World
-  pub can : CanAdd m t world
+  pub can : CanAddVersion m t world

@@ -8,7 +8,7 @@ ghost use Rattle.hek_machine.specs.Checks.{is_idle as idle};
 use crate::engine::Engine;
 use hek_rules::{Check, Event, Refusal, State, TxnId};
 
-/// The last clock value, at which nothing is drawn.
+/// The last clock value: no event draws it.
 const CLOCK_END: u64 = (1 << 63) - 2;
 
 fn is_live(state: State) -> bool
@@ -36,7 +36,7 @@ fn draws(e: &Event) -> bool
     matches!(e, Event::Begin(_) | Event::Precommit(_))
 }
 
-/// Whether an aborted transaction is told its cause again.
+/// Whether the reply to the event, after an abort, repeats the cause.
 fn repeats_cause(e: &Event) -> bool
     ensures { result ≡ repeats e.now }
 {
@@ -46,7 +46,7 @@ fn repeats_cause(e: &Event) -> bool
     )
 }
 
-/// Out of the phase that the event is for.
+/// The check of an event out of its phase.
 fn missed(state: State, e: &Event) -> Check
     ensures { result ≡ missed_phase state e.now }
 {
@@ -116,7 +116,7 @@ impl Engine {
         }
     }
 
-    /// The first check that fits.
+    /// The first check that fits an event of a declared transaction.
     pub(crate) fn check(&self, t: TxnId, e: &Event) -> Check
         requires { Declared self.now.txns t }
         ensures { result ≡ check_of (txn_in self.now.txns.cores t) (idle self.now.txns t) self.now.clock e.now }

@@ -1,4 +1,4 @@
-//! Which versions claim their key, and what becomes of an insert of a claimed one (section 4 of the paper: inserts).
+//! Versions that claim their key, and the insert of a claimed key (section 4 of the paper: inserts).
 ghost use Rattle.std.specs.Prelude.{◌≡◌, ◌<◌, true, None, length, IfOk, OnErr, ◌||◌};
 ghost use Rattle.std.specs.List.{All};
 ghost use Rattle.hek_rules.specs.World.{txn_in, bucket_of, version_in};
@@ -12,14 +12,12 @@ ghost use Rattle.hek_machine.specs.Written.{AreEnough, key_walk, after_conflict}
 ghost use Rattle.hek_visible.specs.Seen.{NamesCreator};
 
 use crate::engine::Engine;
-use crate::walks::Aim;
-use hek_rules::{BeginRecord, Cause, Effect, Level, NoMemory, Reply, State, TxnId, VersionId};
-
-/// The number of the time that never comes.
-const INFINITY: u64 = 0x7FFF_FFFF_FFFF_FFFF;
+use hek_rules::{
+    Aim, BeginRecord, Cause, Effect, Level, NoMemory, Reply, State, Time, TxnId, VersionId,
+};
 
 impl Engine {
-    /// Whether another that is active made the version of a Begin.
+    /// Whether another Active transaction made the version with this Begin.
     fn is_made_by_other(&self, t: TxnId, begin: BeginRecord) -> bool
         requires maker { NamesCreator self.now.txns begin }
         ensures { result ≡ made_by_other self.now.txns.cores t begin }
@@ -30,7 +28,8 @@ impl Engine {
         }
     }
 
-    /// The same, or whether it was made later than the transaction looks.
+    /// Whether another Active transaction made the version with this Begin, or it was made after the time at which `t`
+    /// looks.
     fn is_made_since(&self, t: TxnId, begin: BeginRecord) -> bool
         requires known { Declared self.now.txns t }
         requires maker { NamesCreator self.now.txns begin }
@@ -38,7 +37,7 @@ impl Engine {
     {
         let time = self.read_time(t);
         match begin {
-            BeginRecord::At(made) => time < made && made.number() < INFINITY,
+            BeginRecord::At(made) => time < made && made.number() < Time::INFINITY,
             BeginRecord::By(u) => match self.txns.state(u) {
                 State::Active => u != t,
                 State::Preparing | State::Committed => time < self.txns.end_time(u),
@@ -47,8 +46,8 @@ impl Engine {
         }
     }
 
-    /// Whether a Begin claims its key: another that is active made it, or, for a snapshot transaction, it is later than this
-    /// one looks.
+    /// Whether the version with this Begin claims its key: another Active transaction made it, or, if `t` is a snapshot
+    /// one, it was made after the begin of `t`.
     fn is_claim_by(&self, t: TxnId, begin: BeginRecord) -> bool
         requires known { Declared self.now.txns t }
         requires maker { NamesCreator self.now.txns begin }
@@ -60,7 +59,7 @@ impl Engine {
         }
     }
 
-    /// Whether this version claims its key.
+    /// Whether this version claims its key against `t`.
     fn is_claim(&self, t: TxnId, v: VersionId) -> bool
         requires version { v < length self.now.store.versions }
         requires known { Declared self.now.txns t }
@@ -70,7 +69,7 @@ impl Engine {
         self.is_claim_by(t, self.store.begin_of(v).content())
     }
 
-    /// Whether another claims a key by one of these versions.
+    /// Whether one of these versions claims its key against `t`.
     pub(crate) fn is_claimed(&self, t: TxnId, vs: &[VersionId]) -> bool
         requires known { Declared self.now.txns t }
         requires versions { All (λ v. v < length self.now.store.versions) vs.now }
@@ -85,8 +84,8 @@ impl Engine {
         false
     }
 
-    /// The insert of a key that another claims: the transaction aborts, by a refusal of its walk, which comes first, or else by
-    /// the conflict.
+    /// The insert of a claimed key: the transaction aborts, by a refusal of its walk if there is one, otherwise by
+    /// Conflict.
     pub(crate) fn conflict(
         &mut self,
         t: TxnId,

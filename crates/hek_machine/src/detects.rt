@@ -8,7 +8,7 @@ use crate::engine::Engine;
 use hek_rules::{Cause, NoMemory, Reply};
 
 impl Engine {
-    /// The event `detect`: of those that wait for one another the victim aborts, if there are any.
+    /// The event `detect`: the victim of a cycle aborts, if there is a cycle.
     pub(crate) fn detect(&mut self) -> Result<Reply, NoMemory>
         requires ordered { StandsForSome self.old }
         ensures rule { IfOk result (IsRule (λ w. detect_rule w (victim w)) self.old self.new) }

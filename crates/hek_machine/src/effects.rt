@@ -1,9 +1,9 @@
-//! The effects of a walk, done one after another. Room for them is there.
+//! The effects of a walk, done one after another. The lists have room for them.
 ghost use Rattle.std.specs.Prelude.{◌≡◌, ◌<◌, ◌≤◌, ◌^◌, ◌∷◌, [], length};
 ghost use Rattle.hek_rules.specs.Walk.{apply_all as all_applied};
 ghost use Rattle.hek_rules.specs.declared.event.Effect.TheVariants.{LockBucket, DependOn, MakeWait, ReadLock, WriteLock};
 ghost use Rattle.hek_txn.specs.TxnTable.{read_set_of, write_set_of, bucket_set_of, waiting_list_of};
-ghost use Rattle.hek_machine.specs.Room.{IsReady, KeepsRoom, KeepsAdding, HasRoom, reads_in, writes_in, waits_in, buckets_in};
+ghost use Rattle.hek_machine.specs.Room.{IsEffectReady, KeepsRoom, KeepsAdding, HasRoom, reads_in, writes_in, wait_effects, buckets_in};
 ghost use Rattle.hek_machine.specs.Applied.{IsAble, Applies, Allowed};
 ghost use Rattle.hek_machine.specs.Stands.{Shows, StandsFor, StandsForSome};
 
@@ -16,7 +16,7 @@ use hek_rules::{Effect, TxnId, VersionId};
 impl Engine {
     fn lock_bucket(&mut self, t: TxnId, bucket: u64)
         requires able { IsAble self.old t (LockBucket bucket) }
-        requires ready { IsReady self.old t (LockBucket bucket) }
+        requires ready { IsEffectReady self.old t (LockBucket bucket) }
         requires free { 0 < (bucket_set_of self.old.txns t).room }
         ensures shows { Applies self.old self.new t (LockBucket bucket) }
         ensures room { KeepsRoom self.old self.new t (LockBucket bucket) }
@@ -29,7 +29,7 @@ impl Engine {
 
     fn depend_on(&mut self, t: TxnId, u: TxnId)
         requires able { IsAble self.old t (DependOn u) }
-        requires ready { IsReady self.old t (DependOn u) }
+        requires ready { IsEffectReady self.old t (DependOn u) }
         ensures shows { Applies self.old self.new t (DependOn u) }
         ensures room { KeepsRoom self.old self.new t (DependOn u) }
     {
@@ -67,10 +67,10 @@ impl Engine {
 
     fn apply(&mut self, t: TxnId, effect: Effect)
         requires able { IsAble self.old t effect }
-        requires ready { IsReady self.old t effect }
+        requires ready { IsEffectReady self.old t effect }
         requires reads { reads_in (effect ∷ []) ≤ (read_set_of self.old.txns t).room }
         requires writes { writes_in (effect ∷ []) ≤ (write_set_of self.old.txns t).room }
-        requires waits { waits_in (effect ∷ []) ≤ (waiting_list_of self.old.txns t).room }
+        requires waits { wait_effects (effect ∷ []) ≤ (waiting_list_of self.old.txns t).room }
         requires buckets { buckets_in (effect ∷ []) ≤ (bucket_set_of self.old.txns t).room }
         ensures shows { Applies self.old self.new t effect }
         ensures room { KeepsRoom self.old self.new t effect }
@@ -84,7 +84,7 @@ impl Engine {
         }
     }
 
-    /// The effects of a walk that is allowed, in their order. Room for so many versions is left.
+    /// Does the effects of an allowed walk, in order. Room for `made` versions is left.
     pub(crate) fn apply_all(&mut self, t: TxnId, effects: &[Effect], made: usize)
         requires ordered { StandsForSome self.old }
         requires allowed { (w : _) → StandsFor self.old w → Allowed w t effects.now }

@@ -1,4 +1,4 @@
-//! What a machine is made of.
+//! The parts of a machine.
 ghost use Rattle.std.specs.Prelude.{IfOk};
 ghost use Rattle.hek_rules.specs.Plan.{IsPlan, levels_of};
 ghost use Rattle.hek_rules.specs.World.{opening};
@@ -11,7 +11,7 @@ use hek_store::Store;
 use hek_txn::Txns;
 use std::alloc::Global;
 
-/// The versions, the transactions, who locks which bucket, and the clock.
+/// The versions, the transactions, the bucket locks, and the clock.
 #[derive(Drop)]
 pub(crate) struct Engine {
     pub(crate) store: Store,
@@ -37,7 +37,7 @@ impl Engine {
         })
     }
 
-    /// Equal parts, with room of their own.
+    /// Equal parts, with separate room.
     pub(crate) fn copy(&self) -> Result<Engine, NoMemory>
         ensures { IfOk result (StillShows self.now) }
     {

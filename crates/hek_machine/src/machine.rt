@@ -5,7 +5,7 @@ ghost use Rattle.hek_rules.specs.World.{World};
 ghost use Rattle.hek_laws.specs.Runs.{IsFirstClock, IsPlaced};
 ghost use Rattle.hek_machine.specs.Stands.{StandsFor};
 ghost use Rattle.hek_machine.specs.Observed.{opening_of, StandsAs};
-ghost use Rattle.hek_machine.specs.Steps.{NeedsNone, IsStep, IsSmall};
+ghost use Rattle.hek_machine.specs.Steps.{NeedsNone, IsMachineStep, IsSmall};
 
 use crate::engine::Engine;
 use crate::scratch::Scratch;
@@ -13,9 +13,9 @@ use hek_rules::{Event, NoMemory, Reply, Schedule, Time};
 use std::alloc::Global;
 use std::marker::Model;
 
-/// A machine that does the events of transactions one by one: the versions with their words, the transactions with their
-/// lists and counters, the bucket locks, and the clock (sections 2 and 4 of the paper). A contract speaks of the worlds
-/// of the rule table that it stands for.
+/// A machine that carries out the events of transactions one by one: the versions with their words, the transactions
+/// with their lists and counters, the bucket locks, and the clock (sections 2 and 4 of the paper). Its contracts are
+/// about the worlds of the rule table that it stands for.
 #[derive(Drop)]
 pub struct Machine {
     pub(crate) engine: Engine,
@@ -34,7 +34,7 @@ impl Model for Machine {
 }
 
 impl Machine {
-    /// A machine before the first event of a schedule. Its clock is 1. The steps of the schedule are the caller's to do.
+    /// A machine before the first event of a schedule, at clock 1. The caller runs the steps of the schedule.
     pub fn load(alloc: Global, schedule: &Schedule) -> Result<Machine, NoMemory>
         ensures plan { IfOk result (λ _. IsPlan schedule.now) }
         ensures stands { IfOk result (λ m. StandsFor m (opening_of schedule.now 1)) }
@@ -42,7 +42,7 @@ impl Machine {
         Machine::load_at(alloc, schedule, Time::new(1))
     }
 
-    /// A machine before the first event of a schedule, at this clock: the first time that will be drawn. Rows are valid from
+    /// A machine before the first event of a schedule, at this clock, the first time to be drawn. Rows are valid from
     /// time 0 on.
     pub fn load_at(alloc: Global, schedule: &Schedule, clock: Time) -> Result<Machine, NoMemory>
         requires { IsFirstClock clock }
@@ -55,7 +55,8 @@ impl Machine {
         })
     }
 
-    /// A machine that shows the same, with room of its own: what is done to one leaves the other as it was.
+    /// A machine that shows the same words, counters and lists, with separate room. A change of one does not change the
+    /// other.
     pub fn copy(&self) -> Result<Machine, NoMemory>
         ensures { IfOk result (StandsAs self.now) }
     {
@@ -65,13 +66,13 @@ impl Machine {
         })
     }
 
-    /// One event: its reply, and the machine after it, are what the rule table says. A scan is of a bucket that there is.
-    /// NoMemory changes nothing, and comes only of an event that reads or writes rows or looks for a deadlock, once it has
-    /// passed the checks. An event takes time at most linear in the versions and in what its transaction holds, and
-    /// `Detect` in the transactions times the waits.
+    /// Carries out one event: its reply and the machine after it are those of the rule table. The bucket of a scan must
+    /// exist. NoMemory changes nothing; it comes only from an event that reads or writes rows or searches for a
+    /// deadlock, after it has passed the checks. An event takes time at most linear in the versions and in what its
+    /// transaction holds, and `Detect` in the transactions times the waits.
     pub fn step(&mut self, event: Event) -> Result<Reply, NoMemory>
         requires { IsPlaced (length self.old.buckets) event }
-        ensures step { IfOk result (IsStep event self.old self.new) }
+        ensures step { IfOk result (IsMachineStep event self.old self.new) }
         ensures small { IfOk result (λ r. (w : World) → StandsFor self.old w → IsSmall w r) }
         ensures still { OnErr result (StandsAs self.old self.new) }
         ensures sure { NeedsNone self.old event → IsOk result }

@@ -1,27 +1,28 @@
-//! A version more: the room for it, the version, and the waits that it brings (section 4 of the paper: bucket locks and phantoms).
+//! New versions: the room for a version, the version, and the waits that it causes (section 4 of the paper: bucket
+//! locks and phantoms).
 ghost use Rattle.std.specs.Prelude.{◌≡◌, ◌<◌, ◌%◌, true, None, [], length, IfOk, OnOk, OnErr};
 ghost use Rattle.std.specs.List.{All};
 ghost use Rattle.hek_rules.specs.World.{txn_in, bucket_of};
 ghost use Rattle.hek_rules.specs.Checks.{is_open};
 ghost use Rattle.hek_txn.specs.TxnTable.{Declared};
-ghost use Rattle.hek_machine.specs.Judgements.{IsAimed, purpose_of};
+ghost use Rattle.hek_machine.specs.Judgements.{IsAimed};
+ghost use Rattle.hek_rules.specs.Aims.{purpose_of};
 ghost use Rattle.hek_machine.specs.Room.{HasRoom, CanMake, Reserved};
 ghost use Rattle.hek_buckets.specs.LockLists.{holders_of as holders_in};
 ghost use Rattle.hek_machine.specs.Stands.{Shows, StandsForSome, IsRule, StillShows};
-ghost use Rattle.hek_machine.specs.Walked.{CanAdd, IsAdding, told};
+ghost use Rattle.hek_machine.specs.Walked.{CanAddVersion, IsAdding, told};
 ghost use Rattle.hek_rules.specs.declared.reply.Reply.TheVariants.{Done};
 ghost use Rattle.hek_machine.specs.Written.{AreEnough, key_walk, after_making};
 ghost use Rattle.hek_rules.specs.Locks.{add_version as version_added};
 
 use crate::engine::Engine;
-use crate::walks::Aim;
 use hek_buckets::wait_for_holders;
-use hek_rules::{Cause, Effect, NoMemory, TxnId, VersionId, WriteEntry};
+use hek_rules::{Aim, Cause, Effect, NoMemory, TxnId, VersionId, WriteEntry};
 use hek_store::Version;
 use hek_word::{BeginWord, EndWord};
 
 impl Engine {
-    /// Room for a version of a bucket, and for its maker in the waiting lists of those who lock the bucket.
+    /// Makes room for a version of a bucket, and for its creator in the waiting lists of those that lock the bucket.
     fn reserve_version(&mut self, t: TxnId, bucket: u64) -> Result<(), NoMemory>
         requires bucket { bucket < length self.old.buckets }
         requires holders { All (λ h. Declared self.old.txns h) (holders_in self.old.buckets bucket).items }
@@ -32,14 +33,14 @@ impl Engine {
         self.reserve_joins(t, bucket)
     }
 
-    /// The transaction makes a version, and comes to wait for those who lock its bucket.
+    /// The transaction makes a version, and waits for those that lock its bucket.
     #[tactic(auto, using(crate::proofs::AddRules::add_named, crate::proofs::AddRules::add_room))]
     fn add_version(&mut self, t: TxnId, key: u64, value: u64, bucket: u64)
         requires able { IsAdding self.old t }
         requires room { HasRoom self.old t 1 [] }
         requires bucket { bucket ≡ key % self.old.store.buckets }
         requires make { CanMake self.old t (key % self.old.store.buckets) }
-        ensures { (w : _) → CanAdd self.old t w → Shows self.new (version_added w t key value) }
+        ensures { (w : _) → CanAddVersion self.old t w → Shows self.new (version_added w t key value) }
     {
         let made = WriteEntry::BeginOf(VersionId::new(self.store.len()));
         self.store.add_version(Version {
@@ -52,7 +53,8 @@ impl Engine {
         wait_for_holders(&self.buckets, &mut self.txns, bucket, t);
     }
 
-    /// The walk over the versions of a key, and the cause where it is refused; or else a version is made, for which there is room.
+    /// The walk over the versions of a key; then a version is made, for which there is room. Returns the cause if the
+    /// walk is refused.
     fn make_with_room(
         &mut self,
         t: TxnId,
@@ -73,7 +75,7 @@ impl Engine {
         ensures rule { IfOk result (λ refused. IsRule (λ w. after_making w t key value (key_walk w t (purpose_of aim.now) key)) self.old self.new (told refused Done)) }
         ensures still { OnErr result (StillShows self.old self.new) }
     {
-        // There are too few versions for a counter of waits to overflow.
+        // The contract of `len` bounds the versions: their number is too small for a counter of waits to overflow.
         let _ = self.store.len();
         match self.walk_over(t, aim, bucket, vs, 1, effects)? {
             None => {
@@ -84,7 +86,8 @@ impl Engine {
         }
     }
 
-    /// The walk over the versions of a key, and the cause where it is refused; or else a version is made, if there is memory for it.
+    /// The walk over the versions of a key; then a version is made, if there is memory for it. Returns the cause if the
+    /// walk is refused.
     pub(crate) fn make(
         &mut self,
         t: TxnId,

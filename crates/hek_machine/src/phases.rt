@@ -52,7 +52,7 @@ impl Engine {
         }
     }
 
-    /// The transaction is aborted for this cause.
+    /// Aborts the transaction by this cause.
     #[tactic(auto, using(crate::proofs::PhaseRules::dependents_declared, crate::proofs::PhaseRules::dependents_counted))]
     pub(crate) fn abort(&mut self, t: TxnId, cause: Cause) -> Reply
         requires known { Declared self.old.txns t }
@@ -73,7 +73,7 @@ impl Engine {
         Reply::Failed
     }
 
-    /// The first entry of the write set is stamped.
+    /// Stamps the first entry of the write set.
     #[tactic(auto, using(crate::proofs::StampRules::stamp_time, crate::proofs::StampRules::can_stamp))]
     pub(crate) fn stamp(&mut self, t: TxnId) -> Reply
         requires known { Declared self.old.txns t }

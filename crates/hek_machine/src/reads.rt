@@ -15,13 +15,13 @@ ghost use Rattle.hek_machine.specs.Stands.{StandsFor, StandsForSome, IsRule, Sti
 ghost use Rattle.hek_machine.specs.Written.{key_walk};
 
 use crate::engine::Engine;
-use crate::key_walks::told;
+use crate::judging::{is_hidden, is_seen};
 use crate::scratch::{Met, Scratch};
-use crate::walks::{Aim, is_hidden, is_seen};
-use hek_rules::{Cause, Effect, NoMemory, Reply, Sight, TxnId, VersionId};
+use crate::walks::told;
+use hek_rules::{Aim, Cause, Effect, NoMemory, Reply, Sight, TxnId, VersionId};
 use hek_store::KeyVersions;
 
-/// The last version seen, after one more.
+/// The last version seen, after this version.
 fn latest(before: Option<VersionId>, sight: &Sight, v: VersionId) -> Option<VersionId>
     ensures { result ≡ (if seen sight.now then Some v else before) }
 {
@@ -29,7 +29,7 @@ fn latest(before: Option<VersionId>, sight: &Sight, v: VersionId) -> Option<Vers
 }
 
 impl Engine {
-    /// The value of the version seen.
+    /// The reply of a read: the value of the version seen, or Absent.
     fn found(&self, seen: Option<VersionId>) -> Reply
         requires { IfSome seen (λ v. v < length self.now.store.versions) }
         ensures { IsShown self.now (λ w. found_row w seen) result }
@@ -40,7 +40,7 @@ impl Engine {
         }
     }
 
-    /// The versions are judged for a read, in order of creation, up to the first refusal, and the last one seen is kept.
+    /// Judges the versions for a read, in order of creation, up to the first refusal, and keeps the last one seen.
     fn judge_along(
         &self,
         t: TxnId,
@@ -77,8 +77,8 @@ impl Engine {
         Ok(None)
     }
 
-    /// The walk of a read along the versions of a key that are enough for the transaction: the cause of its refusal, or else its
-    /// effects are listed in their order, in place of what the list held.
+    /// The walk of a read along the versions of a key that suffice for the transaction: returns the cause of its
+    /// refusal, or replaces the list by its effects in order.
     fn walk_along(
         &self,
         t: TxnId,

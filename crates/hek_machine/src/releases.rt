@@ -1,5 +1,5 @@
-//! Releases (section 4 of the paper): read locks first, then bucket locks, then the transactions that wait by a bucket,
-//! one an event.
+//! Releases (section 4 of the paper): read locks first, then bucket locks, then the transactions that wait because of a
+//! bucket, one per event.
 ghost use Rattle.std.specs.Prelude.{◌≡◌, Some, None, slice_get};
 ghost use Rattle.hek_rules.specs.Table.{release_rule};
 ghost use Rattle.hek_txn.specs.TxnTable.{Declared, read_set_of, bucket_set_of};
@@ -47,7 +47,7 @@ impl Engine {
         }
     }
 
-    /// The first thing that the transaction holds is released.
+    /// Releases the first thing that the transaction holds.
     pub(crate) fn release(&mut self, t: TxnId) -> Reply
         requires known { Declared self.old.txns t }
         requires ordered { StandsForSome self.old }

@@ -1,8 +1,8 @@
-//! Room: all that an event may add is reserved before it changes anything.
+//! Room: everything that an event may add is reserved before the event changes anything.
 ghost use Rattle.std.specs.Prelude.{◌≡◌, ◌+◌, ◌<◌, ◌≤◌, ◌^◌, ◌∷◌, [], length, OnOk};
 ghost use Rattle.hek_laws.specs.Lists.{In};
 ghost use Rattle.hek_txn.specs.TxnTable.{Declared, read_set_of, write_set_of, bucket_set_of, waiting_list_of};
-ghost use Rattle.hek_machine.specs.Room.{reads_in, writes_in, waits_in, buckets_in, IsThere, IsReady, HasRoom, Reserved, AreReady, AreJoined};
+ghost use Rattle.hek_machine.specs.Room.{reads_in, writes_in, wait_effects, buckets_in, IsThere, IsEffectReady, HasRoom, Reserved, AreReady, AreJoined};
 ghost use Rattle.std.specs.List.{All};
 ghost use Rattle.hek_buckets.specs.LockLists.{holders_of};
 
@@ -19,7 +19,7 @@ struct Needs {
 }
 
 impl Needs {
-    /// With one effect more.
+    /// The needs with another effect.
     fn and(self, effect: Effect) -> Needs
         requires reads { self.reads + 1 < 2 ^ 64 }
         requires writes { self.writes + 1 < 2 ^ 64 }
@@ -27,7 +27,7 @@ impl Needs {
         requires buckets { self.buckets + 1 < 2 ^ 64 }
         ensures reads { result.reads ≡ self.reads + reads_in (effect ∷ []) }
         ensures writes { result.writes ≡ self.writes + writes_in (effect ∷ []) }
-        ensures waits { result.waits ≡ self.waits + waits_in (effect ∷ []) }
+        ensures waits { result.waits ≡ self.waits + wait_effects (effect ∷ []) }
         ensures buckets { result.buckets ≡ self.buckets + buckets_in (effect ∷ []) }
     {
         let mut more = self;
@@ -45,7 +45,7 @@ impl Needs {
 fn needs_of(effects: &[Effect]) -> Needs
     ensures reads { result.reads ≡ reads_in effects.now }
     ensures writes { result.writes ≡ writes_in effects.now }
-    ensures waits { result.waits ≡ waits_in effects.now }
+    ensures waits { result.waits ≡ wait_effects effects.now }
     ensures buckets { result.buckets ≡ buckets_in effects.now }
     ensures small { length effects.now < 2 ^ 63 }
 {
@@ -62,7 +62,8 @@ fn needs_of(effects: &[Effect]) -> Needs
 }
 
 impl Engine {
-    /// Room in the lists of the transaction itself, and in its write set and its waiting list for so many entries more.
+    /// Makes room in the transaction's lists for these needs, and for `made` new versions in its write set and waiting
+    /// list.
     fn reserve_own(&mut self, t: TxnId, needs: Needs, made: usize) -> Result<(), NoMemory>
         requires known { Declared self.old.txns t }
         requires few_writes { needs.writes + made < 2 ^ 64 }
@@ -79,11 +80,11 @@ impl Engine {
         self.txns.reserve_buckets(t, needs.buckets)
     }
 
-    /// Room for one more in the list of another that an effect adds to.
+    /// Makes room for the transaction in the list of a bucket or another transaction that an effect adds to.
     fn reserve_other(&mut self, t: TxnId, effect: Effect) -> Result<(), NoMemory>
         requires there { IsThere self.old effect }
         ensures reserved { Reserved self.old self.new }
-        ensures ready { OnOk result (IsReady self.new t effect) }
+        ensures ready { OnOk result (IsEffectReady self.new t effect) }
     {
         match effect {
             Effect::LockBucket(bucket) => self.buckets.reserve(bucket),
@@ -103,7 +104,7 @@ impl Engine {
         Ok(())
     }
 
-    /// Room for these effects of the transaction, and for so many versions that it makes.
+    /// Makes room for these effects of the transaction, and for `made` versions that it makes.
     pub(crate) fn reserve(
         &mut self,
         t: TxnId,
@@ -120,7 +121,7 @@ impl Engine {
         self.reserve_others(t, effects)
     }
 
-    /// Room for the transaction in the waiting lists of those who lock a bucket.
+    /// Makes room for the transaction in the waiting lists of those that lock a bucket.
     pub(crate) fn reserve_joins(&mut self, t: TxnId, bucket: u64) -> Result<(), NoMemory>
         requires bucket { bucket < length self.old.buckets }
         requires holders { All (λ h. Declared self.old.txns h) (holders_of self.old.buckets bucket).items }

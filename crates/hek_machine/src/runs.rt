@@ -8,19 +8,20 @@ use crate::machine::Machine;
 use hek_rules::{Event, NoMemory, Reply, Schedule, Time};
 use std::alloc::Global;
 
-/// What a run comes to: the reply to each event, in order, and the machine at the end.
+/// The result of a run: the reply to each event, in order, and the machine at the end.
 #[derive(Drop)]
 pub struct Trace {
     pub replies: Vec<Reply>,
     pub machine: Machine,
 }
 
-/// These events, one after another, on the rows and transactions of a schedule. The clock begins at 1. Each scan is of a
-/// bucket that there is.
+/// Runs these events, one after another, on the rows and transactions of a schedule. The clock begins at 1. The bucket
+/// of each scan must exist.
 ///
-/// However the events of different transactions are mixed, the run is serializable: no event of a declared transaction is
-/// at fault, and the committed rows of the machine at the end are those that the committed transactions leave where they
-/// run one after another by end time.
+/// However the events of different transactions are mixed, no event of a declared transaction is at fault: each committed
+/// transaction was answered, as its level promises, over the rows that the committed transactions before it by end time
+/// wrote. The committed rows of the machine at the end are those that the writes of all committed transactions leave, laid
+/// one over another by end time. Where all are serializable, that is a run of one after another.
 pub fn run(alloc: Global, schedule: &Schedule, events: &[Event]) -> Result<Trace, NoMemory>
     requires placed { All (IsPlaced schedule.now.buckets) events.now }
     ensures run { IfOk result (λ trace. IsRun schedule.now 1 events.now trace.replies.items trace.machine) }
@@ -30,7 +31,7 @@ pub fn run(alloc: Global, schedule: &Schedule, events: &[Event]) -> Result<Trace
     run_at(alloc, schedule, Time::new(1), events)
 }
 
-/// `run` with another first clock, from 1 to 2^63 - 2.
+/// Runs these events as [`run`] does, with another first clock, from 1 to 2^63 - 2.
 pub fn run_at(
     alloc: Global,
     schedule: &Schedule,

@@ -1,4 +1,4 @@
-//! What is found of many keys at once: the scan of a bucket, and the committed rows (section 4 of the paper: reads).
+//! Reads of many keys at once: the scan of a bucket, and the committed rows (section 4 of the paper: reads).
 ghost use Rattle.std.specs.Prelude.{◌≡◌, ◌<◌, ◌++◌, ◌∷◌, ◌&&◌, true, None, [], length, if◌then◌else◌, IfOk, OnOk, OnErr};
 ghost use Rattle.std.specs.List.{All};
 ghost use Rattle.hek_rules.specs.declared.event.State.TheVariants.{Active};
@@ -15,16 +15,16 @@ ghost use Rattle.hek_machine.specs.Judgements.{IsShown, seen_among, verdict};
 ghost use Rattle.hek_machine.specs.Stands.{StandsFor, StandsForSome, IsRule, StillShows};
 
 use crate::engine::Engine;
-use crate::key_walks::told;
+use crate::judging::{is_hidden, is_seen};
 use crate::pairs::put;
 use crate::scratch::Scratch;
-use crate::walks::{Aim, is_hidden, is_seen};
-use hek_rules::{Cause, Effect, NoMemory, Pairs, Reply, Sight, State, TxnId, VersionId};
+use crate::walks::told;
+use hek_rules::{Aim, Cause, Effect, NoMemory, Pairs, Reply, Sight, State, TxnId, VersionId};
 use hek_store::Versions;
 use hek_word::{BeginWord, EndWord};
 use std::collections::BTreeMap;
 
-/// So many versions are put in order one by one, and more by way of a tree.
+/// The most versions that are sorted one by one; more are sorted with a tree.
 const FEW: usize = 64;
 
 fn is_committed(state: State) -> bool
@@ -33,7 +33,7 @@ fn is_committed(state: State) -> bool
     matches!(state, State::Committed)
 }
 
-/// A version that is seen is listed too.
+/// Lists a version if it is seen.
 fn note(sight: &Sight, v: VersionId, seen: &mut Vec<VersionId>) -> Result<(), NoMemory>
     ensures { OnOk result (seen.new.items ≡ seen.old.items ++ (if sees sight.now then v ∷ [] else [])) }
 {
@@ -44,8 +44,8 @@ fn note(sight: &Sight, v: VersionId, seen: &mut Vec<VersionId>) -> Result<(), No
 }
 
 impl Engine {
-    /// The pairs of a few versions by key, the later ones over the earlier. At worst it takes time in the
-    /// square of their number.
+    /// The pairs of a few versions by key; a later version replaces an earlier one. At worst this takes time quadratic
+    /// in their number.
     fn few_pairs(&self, vs: &[VersionId]) -> Result<Vec<(u64, u64)>, NoMemory>
         requires { All (λ v. v < length self.now.store.versions) vs.now }
         ensures { IfOk result (λ pairs. IsShown self.now (λ w. pairs_in w.versions [] vs.now) pairs.items) }
@@ -57,7 +57,7 @@ impl Engine {
         Ok(pairs)
     }
 
-    /// The pairs of these versions by key, the later ones over the earlier, by way of a tree.
+    /// The pairs of these versions by key, sorted with a tree; a later version replaces an earlier one.
     fn many_pairs(&self, vs: &[VersionId]) -> Result<Vec<(u64, u64)>, NoMemory>
         requires { All (λ v. v < length self.now.store.versions) vs.now }
         ensures { IfOk result (λ pairs. IsShown self.now (λ w. pairs_in w.versions [] vs.now) pairs.items) }
@@ -69,7 +69,7 @@ impl Engine {
         Ok(pairs.into_iter().collect(self.alloc)?)
     }
 
-    /// The pairs of these versions by key, the later ones over the earlier.
+    /// The pairs of these versions by key; a later version replaces an earlier one.
     fn pairs_of(&self, vs: &[VersionId]) -> Result<Pairs, NoMemory>
         requires { All (λ v. v < length self.now.store.versions) vs.now }
         ensures { IfOk result (IsShown self.now (λ w. pairs_in w.versions [] vs.now)) }
@@ -82,8 +82,8 @@ impl Engine {
         Ok(Pairs::new(pairs))
     }
 
-    /// The versions are judged for a read, in order of creation, up to the first refusal, and those seen are listed, in place of what
-    /// the list held.
+    /// Judges the versions for a read, in order of creation, up to the first refusal, and replaces the list `seen` by
+    /// those seen.
     fn judge_bucket(
         &self,
         t: TxnId,
@@ -116,8 +116,8 @@ impl Engine {
         Ok(None)
     }
 
-    /// The walk of a scan along the versions of a bucket: the cause of its refusal, or else its effects are listed in their order, and
-    /// the versions seen, in place of what the lists held.
+    /// The walk of a scan along the versions of a bucket: returns the cause of its refusal, or replaces the lists by
+    /// its effects in order and by the versions seen.
     fn walk_bucket(
         &self,
         t: TxnId,

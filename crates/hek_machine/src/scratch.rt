@@ -1,16 +1,16 @@
-//! What an event needs while it is done.
+//! Lists that an event uses while it runs.
 use hek_rules::{Effect, VersionId};
 use std::alloc::Global;
 
-/// What a walk along the versions of a key met: how many there were, and the last one that is seen.
+/// The result of a walk along the versions of a key: how many it met, and the last one seen.
 #[derive(Clone, Copy, Debug)]
 pub(crate) struct Met {
     pub(crate) count: usize,
     pub(crate) seen: Option<VersionId>,
 }
 
-/// The lists of a walk: the versions that it is over, those of them that are seen, and its effects. They are kept from event to
-/// event, so that few events take memory for them; what they hold between two events means nothing.
+/// The lists of a walk: the versions that it goes over, those of them that it sees, and its effects. They are kept from
+/// event to event, so that few events take memory for them; between two events their content has no meaning.
 #[derive(Drop)]
 pub(crate) struct Scratch {
     pub(crate) versions: Vec<VersionId>,

@@ -1,4 +1,4 @@
-//! One event is one rule: the checks, and then the rule of the event's kind.
+//! Steps: each event is the checks and then the rule of its kind.
 ghost use Rattle.std.specs.Prelude.{◌≡◌, false, Some, IfOk, OnErr, IsOk};
 ghost use Rattle.hek_rules.specs.World.{txn_in};
 ghost use Rattle.hek_rules.specs.Events.{txn_of};
@@ -44,7 +44,7 @@ impl Engine {
         }
     }
 
-    /// An event of a transaction: the first check that fits gives the answer, and else the rule does.
+    /// An event of a transaction: the first check that fits gives the answer, otherwise the event's rule does.
     fn step_of(&mut self, t: TxnId, e: &Event, scratch: &mut Scratch) -> Result<Reply, NoMemory>
         requires ordered { StandsForSome self.old }
         requires placed { IsPlaced self.old.store.buckets e.now }
@@ -63,8 +63,8 @@ impl Engine {
         }
     }
 
-    /// What an event is answered with. Only an event that reads or writes rows or looks for a deadlock, and has passed
-    /// the checks, may be answered NoMemory.
+    /// The reply to an event. NoMemory comes only from an event that reads or writes rows or searches for a deadlock,
+    /// and has passed the checks.
     fn answer(&mut self, e: &Event, scratch: &mut Scratch) -> Result<Reply, NoMemory>
         requires ordered { StandsForSome self.old }
         requires placed { IsPlaced self.old.store.buckets e.now }
@@ -78,7 +78,7 @@ impl Engine {
         }
     }
 
-    /// The same. Where it met many versions of a key, those that are over are passed over from now on.
+    /// The reply to an event. If the event met many versions of a key, later events pass over those that are over.
     pub(crate) fn step(&mut self, e: &Event, scratch: &mut Scratch) -> Result<Reply, NoMemory>
         requires ordered { StandsForSome self.old }
         requires placed { IsPlaced self.old.store.buckets e.now }

@@ -1,4 +1,4 @@
--- Which steps a page has, and when there is none.
+-- Which steps a page has, and when a run has no page.
 use Rattle.std.specs.Prelude.{◌≡◌, ◌≤◌, ◌<◌, ◌⊎◌, ℕ, ◌-◌, min, List, length, Option, unwrap_or}
 use Rattle.std.specs.Io.KnownBytes.{Appends}
 use Rattle.hek_rules.specs.Plan.{Plan}
@@ -6,29 +6,29 @@ use Rattle.hek_commands.specs.declared.schedule_file.ScheduleFile.{ScheduleFile}
 use Rattle.hek_commands.specs.Commands.{FileGives}
 use Rattle.hek_page_command.specs.declared.page.Part.{Part}
 
--- of so many steps the number of the last that is asked for
-abbrev pub last_of : Part → ℕ → ℕ
-last_of part steps = min (unwrap_or part.to steps) steps
+-- the number of the last step that is asked for, of a run of this many steps
+abbrev pub last_step : Part → ℕ → ℕ
+last_step part steps = min (unwrap_or part.to steps) steps
 
--- how many are done before the page: those before the first that is asked for
+-- how many steps are done before the page: those before the first that is asked for
 abbrev pub done_of : Part → ℕ → ℕ
-done_of part steps = min (unwrap_or part.from 1 - 1) (last_of part steps)
+done_of part steps = min (unwrap_or part.from 1 - 1) (last_step part steps)
 
--- how many the page has
+-- how many steps the page has
 abbrev pub count_of : Part → ℕ → ℕ
-count_of part steps = last_of part steps - done_of part steps
+count_of part steps = last_step part steps - done_of part steps
 
--- some bytes, of which nothing is said, were written behind those that a writer held, where they are known
+-- some bytes were written after those that a writer held, if these are known
 pub record WritesPage (before after : Option (List ℕ)) : Type 0 where
   pub page : List ℕ
   pub written : Appends before after page
 
--- of so many steps: one for 2,000 at most, else status 1 and nothing
+-- the answer to a part of this many steps: a page and status 0 for at most 2,000, otherwise nothing and status 1
 abbrev pub IsAnswer : ℕ → ℕ → Option (List ℕ) → Option (List ℕ) → Type 0
 IsAnswer steps status before after =
     ((steps ≤ 2000) × (status ≡ 0) × WritesPage before after) ⊎ ((2000 < steps) × (status ≡ 1) × (after ≡ before))
 
--- so it was for the schedule that a file says
+-- a page, or nothing, was written for the schedule in a file
 pub record Pages {R : Type 0} (left : R → Option (List ℕ)) (said : ScheduleFile R) (part : Part) (status : ℕ) (before after : Option (List ℕ)) : Type 0 where
   pub plan : Plan
   pub is : FileGives left said plan

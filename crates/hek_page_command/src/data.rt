@@ -15,7 +15,7 @@ use serde_json::{Value, json};
 use std::alloc::{AllocError, Global};
 use std::str;
 
-/// The steps that a page shows: those behind the first ones that are done before it, up to the last.
+/// The steps that a page shows: those after the first `done` ones, up to the step number `last`.
 #[derive(Clone, Copy)]
 pub(crate) struct Shown {
     pub done: usize,
@@ -35,13 +35,13 @@ struct Gathered {
 /// The data of the page of a schedule.
 #[tactic(auto, using(hek_asm::proofs::RowLemmas::steps_declared, hek_machine::proofs::PlacedSteps::steps_placed))]
 pub(crate) fn data_of(alloc: Global, schedule: &Schedule, shown: Shown) -> Result<Value, NoMemory> {
-    // There is a bucket, and each step is one of this schedule.
-    let _ = schedule.buckets();
+    // `known` gives that the schedule has a bucket, and that each of its steps is well formed.
+    schedule.known();
     let mut machine = Machine::load(alloc, schedule)?;
     gather(alloc, schedule, &mut machine, schedule.steps(), shown)
 }
 
-/// The data of the page of these steps, from a machine that stands before the first.
+/// The data of the page of these steps, from a machine that has done none.
 fn gather(
     alloc: Global,
     schedule: &Schedule,
@@ -191,12 +191,12 @@ fn step_value(alloc: Global, changes: &Changes, why: &[u8]) -> Result<Value, All
     json!(in alloc; {"changed": lines, "gone": gone, "why": why})
 }
 
-/// All lines of the page's data are ASCII: names are of small letters, digits and underscores.
+/// The data's lines as text. All are ASCII: names have small letters, digits and underscores.
 fn text_of(bytes: &[u8]) -> &str {
     str::from_utf8(bytes).unwrap_or("")
 }
 
-/// The whole of it. The fault is the number of the first event that isn't serial, or 0.
+/// All data of the page. `fault` in it is the number of the first event that isn't serial, or 0.
 fn whole(
     alloc: Global,
     opening: &Changes,

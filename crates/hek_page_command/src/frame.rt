@@ -1,4 +1,5 @@
-//! The elements of a page that the script fills, up to the style, from there to the data, and behind the data.
+//! The elements of a page that the script fills: those before the style, those from the style to the data, and those
+//! after the data.
 
 pub(crate) const FRONT: &str = r##"<!DOCTYPE html>
 <html lang="en">

@@ -7,7 +7,7 @@ use hek_rules::{NoMemory, Schedule, Time, TxnId, VersionId};
 use std::alloc::Global;
 use std::io::Write;
 
-/// The state of a machine as it was looked at last: the words of its versions, and its other lines.
+/// The state of a machine at the last look: the words of its versions, and its other lines.
 #[derive(Drop)]
 pub(crate) struct Look {
     clock: Time,
@@ -23,7 +23,7 @@ struct Words {
     end: u64,
 }
 
-/// The lines that aren't as they were, and the buckets that have no line any more, as `bucket 0`.
+/// The lines that have changed, and the buckets that have no line any more, as `bucket 0`.
 #[derive(Drop)]
 pub(crate) struct Changes {
     pub lines: Vec<u8>,
@@ -31,7 +31,7 @@ pub(crate) struct Changes {
 }
 
 impl Look {
-    /// A look at nothing: no line is as it was.
+    /// A look at nothing: at the next look every line has changed.
     pub(crate) fn new(alloc: Global) -> Look {
         Look {
             clock: Time::new(0),
@@ -41,7 +41,7 @@ impl Look {
         }
     }
 
-    /// What changed since the last look, which is this one then.
+    /// What has changed since the last look. This look becomes the last one.
     pub(crate) fn changes(
         &mut self,
         alloc: Global,
@@ -125,7 +125,7 @@ fn words_of(machine: &Machine, v: VersionId) -> Words {
     }
 }
 
-/// Whether the words at a place are others than they were; they are kept.
+/// Whether the words at a place have changed. Keeps the new words.
 fn is_new(kept: &mut Vec<Words>, place: usize, words: Words) -> Result<bool, NoMemory> {
     match kept.get_mut(place) {
         Some(old) => {
@@ -140,8 +140,8 @@ fn is_new(kept: &mut Vec<Words>, place: usize, words: Words) -> Result<bool, NoM
     }
 }
 
-/// Keeps the line of a place. Where it is another than before it comes behind the lines, and the answer is true; a place is
-/// empty before it is first seen.
+/// Keeps the line of a place. If it has changed, appends it to the lines and answers true. A place is empty before it
+/// is first seen.
 fn note(
     kept: &mut Vec<Vec<u8>>,
     place: usize,

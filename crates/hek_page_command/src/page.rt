@@ -1,7 +1,7 @@
-//! The command itself.
+//! The command `page`: writes the page of a run.
 ghost use Rattle.std.specs.Prelude.{◌≡◌, length, IfOk, IfErr, OnOk, MatchResult};
 ghost use Rattle.hek_commands.specs.Commands.{PrintFails, IsStop};
-ghost use Rattle.hek_page_command.specs.Pages.{Pages, IsAnswer, WritesPage, count_of, done_of, last_of};
+ghost use Rattle.hek_page_command.specs.Pages.{Pages, IsAnswer, WritesPage, count_of, done_of, last_step};
 
 use crate::data::{Shown, data_of};
 use crate::frame::{BACK, FRONT, MIDDLE};
@@ -12,19 +12,18 @@ use hek_rules::{NoMemory, Schedule};
 use std::alloc::Global;
 use std::io::{Read, Write};
 
-/// The most steps of a page.
+/// How many steps a page has at most.
 pub const MOST_STEPS: u64 = 2_000;
 
-/// The steps that are asked for, by their numbers from 1: from the first of these or from the first of all, to the last of
-/// these or to the last of all.
+/// The steps that are asked for, by their numbers from 1: from `from`, or from the first, to `to`, or to the last.
 #[derive(Clone, Copy)]
 pub struct Part {
     pub from: Option<u64>,
     pub to: Option<u64>,
 }
 
-/// Writes the page of the run of the schedule that a file says, or of a part of it. The answer is the exit status. Where the
-/// part has more steps than a page, that is told to `faults`, nothing is written, and the status is 1.
+/// Writes the page of the run of the schedule in a file, or of a part of the run. Answers the exit status. If the part
+/// has more steps than a page, `faults` says so, nothing is written, and the status is 1.
 pub fn page_command<'a, R: Read + Drop, W: Write, E: Write>(
     alloc: Global,
     file: ScheduleFile<R>,
@@ -59,9 +58,9 @@ fn write_page<'a, W: Write, E: Write>(
     Ok(0)
 }
 
-/// Of so many steps those of a part.
+/// The steps of a part of `steps` steps.
 fn shown_of(part: Part, steps: u64) -> Shown
-    ensures { (result.done ≡ done_of part steps) × (result.last ≡ last_of part steps) }
+    ensures { (result.done ≡ done_of part steps) × (result.last ≡ last_step part steps) }
 {
     let last = part.to.unwrap_or(steps).min(steps);
     let done = part.from.unwrap_or(1).saturating_sub(1).min(last);
@@ -79,8 +78,8 @@ fn text_of<'a>(alloc: Global, schedule: &Schedule, shown: Shown) -> Result<Strin
     data.to_string(alloc).map_err(|_| HekFault::NoMemory)
 }
 
-/// The page of these data. They have names of small letters, digits and underscores, and words and numbers of ours: no part of
-/// them ends the element that it stands in, and the script sets it as text.
+/// The page of these data. The data have names of small letters, digits and underscores, and words and numbers of the
+/// program: no part of them ends the element that holds them, and the script sets them as text.
 fn page_of(alloc: Global, data: &str) -> Result<Vec<u8>, NoMemory> {
     let mut page = Vec::new(alloc);
     for part in [FRONT, STYLE, MIDDLE, data, BACK, SCRIPT, END] {

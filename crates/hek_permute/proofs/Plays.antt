@@ -11,18 +11,18 @@ use Rattle.hek_laws.proofs.Table.SetTxns.{slice_get-set_same, slice_get-set}
 use Rattle.hek_rules.specs.declared.event.Event.{Event}
 use Rattle.hek_rules.specs.declared.event.Event.TheVariants.{Detect}
 use Rattle.hek_rules.specs.declared.reply.Reply.{Reply}
-use Rattle.hek_threads.specs.declared.entry.Entry.{Entry}
-use Rattle.hek_threads.specs.declared.stage.Stage.{Stage}
-use Rattle.hek_threads.specs.declared.stage.Stage.TheVariants.{Start, Working, Preparing, Looking, GivingUp, Releasing, Committing, Stamping, Ending, Ended}
-use Rattle.hek_threads.specs.Grammar.{event_at}
-use Rattle.hek_threads.specs.History.{part_of}
+use Rattle.hek_worker.specs.declared.entry.Entry.{Entry}
+use Rattle.hek_worker.specs.declared.stage.Stage.{Stage}
+use Rattle.hek_worker.specs.declared.stage.Stage.TheVariants.{Start, Working, Preparing, Looking, GivingUp, Releasing, Committing, Stamping, Ending, Ended}
+use Rattle.hek_worker.specs.Grammar.{event_at}
+use Rattle.hek_worker.specs.History.{part_of}
 use Rattle.hek_permute.specs.declared.moves.Form.{Form}
 use Rattle.hek_permute.specs.declared.play.Place.{Place}
 use Rattle.hek_permute.specs.Moves.{Work, last_moves}
-use Rattle.hek_permute.specs.Orders.{times}
+use Rattle.hek_permute.specs.Orders.{name_count}
 use Rattle.hek_permute.specs.Tallies.{one_if}
 use Rattle.hek_permute.specs.Plays.{Standing, at_start, may_go, turned, Makes, Walks, AllStand, IsPlay}
-use Rattle.hek_permute.specs.Places.{first_place, standing_of, entry_of, IsResting, IsMade, HasGone, HasCome, AreAt, AllRest, RestBut, IsCounted, IsLater, HasMoved, AreCounted}
+use Rattle.hek_permute.specs.Places.{first_place, standing_of, entry_of, IsResting, IsMade, HasGone, HasCome, AreAt, AllRest, RestBut, IsMoveCounted, IsLater, HasMoved, MovesAreCounted}
 
 lt_more : (i n : ℕ) → IsTrue (nat_lt i n) → IsTrue (nat_lt i (n + 1))
 lt_more i n h = grind (arith, nat_tests)
@@ -30,7 +30,7 @@ lt_more i n h = grind (arith, nat_tests)
 le_more : (i n : ℕ) → IsTrue (nat_le i n) → IsTrue (nat_le i (n + 1))
 le_more i n h = grind (arith, nat_tests)
 
--- what belongs to a move that has come still does after one more
+-- what belongs to a move that has come still belongs to one after one more move
 go_more : (form : Form) (w : Work) (n : ℕ) (s : Stage) → IsTrue (may_go form w n s) → IsTrue (may_go form w (n + 1) s)
 go_more form w n Start h = lt_more 0 n h
 go_more form w n (Working i) h = lt_more i n h
@@ -78,14 +78,14 @@ pub part_other : (u t : ℕ) (xs : List (Event × Reply)) → (u ≡ t → ⊥) 
 part_other u t [] h = refl
 part_other u t (x ∷ xs) h = rw (is_other u t h) (part_other u t xs h)
 
--- places of lists
+-- places in lists
 within : {X : Type 0} (xs : List X) (i : ℕ) (x : X) → slice_get xs i ≡ Some x → is_some (slice_get xs i) ≡ true
 within xs i x h = ap is_some h
 
 same_some : {X : Type 0} (o : Option X) (x y : X) → o ≡ Some x → o ≡ Some y → x ≡ y
 same_some o x y h g = cc
 
--- one event more of a transaction
+-- one more event of a transaction
 pub made_one : (form : Form) (t : ℕ) (w : Work) (p m q : Place) (old h new : List Entry) → (g : HasGone form t w p m old h) → IsTrue (may_go form w m.moves m.stage)
     → IsMade form t w m q h new → HasGone form t w p q old new
 made_one form t w p m q old h new g may d =
@@ -127,7 +127,7 @@ other_part : (u t : ℕ) (old new : List Entry) (made : List (Event × Reply)) �
 other_part u t old new made n h =
     ap (part_of t) h ∙ part_append t old (map (entry_of u) made) ∙ ap (λ (ys : List (Event × Reply)). part_of t old ++ ys) (part_other u t made n) ∙ append-nil (part_of t old)
 
--- the walk of one transaction goes on, and those of the others stay
+-- one transaction's walk goes on, and the others stay where they are
 walk_here : (form : Form) (works : List Work) (k : ℕ) (w v : Work) (p q r : Place) (places : List Place) (old new : List Entry) → AreAt form works places old
     → slice_get works k ≡ Some w → slice_get places k ≡ Some p → HasGone form (k + 1) w p q old new → slice_get works k ≡ Some v → slice_get (slice_set places k q) k ≡ Some r
     → Walks form (k + 1) v r.moves at_start (part_of (k + 1) new) (standing_of r)
@@ -173,7 +173,7 @@ came_at form works k w p q places old new but gw gp come = record {
   rest = λ i v r gv gr. rest_there form works k i w v p q r places old but gw gp come.rest gv gr (same_or_not i k);
 }
 
--- a transaction goes as far as it goes
+-- a transaction goes as far as it can
 pub came : (form : Form) (works : List Work) (t k : ℕ) (w : Work) (p q : Place) (places : List Place) (old new : List Entry) → t ≡ k + 1 → RestBut form works t places old
     → slice_get works k ≡ Some w → slice_get places k ≡ Some p → HasCome form t w p q old new → AllRest form works (slice_set places k q) new
 came form works t k w p q places old new is but gw gp come =
@@ -194,7 +194,7 @@ came_later form t k w p q places old new gp come = record {
   moves = λ i r gr. moves_kept places k i p q r gp come.gone.moves gr (same_or_not i k);
 }
 
--- later and still later
+-- IsLater is reflexive and transitive
 pub later_none : (places : List Place) (h : List Entry) → IsLater places h places h
 later_none places h = record { more = []; grown = sym (append-nil h); moves = λ i p g. (p, g, refl) }
 
@@ -205,7 +205,7 @@ later_on ps qs rs x y z h g = record {
   moves = λ i p e. let b = g.moves i p e in let a = h.moves i b.0 b.1 in (a.0, a.1, b.2 ∙ a.2);
 }
 
--- a search for a deadlock moves nobody
+-- a search for a deadlock moves no transaction
 look_part : (form : Form) (u t : ℕ) (w : Work) (n : ℕ) (s : Standing) (r : Reply) → (b : Bool) → (u == t) ≡ b → Walks form t w n s (part_of t (entry_of u (Detect, r) ∷ [])) s
 look_part form u t w n s r true e = rw e (looks form t w n s r)
 look_part form u t w n s r false e = rw e refl
@@ -251,8 +251,8 @@ count_at form works k p places h all gp = record {
   rest = λ i v r n gv gr. count_rest form works k i v p (record p { moves = p.moves + 1 }) r places h all n gv gr;
 }
 
--- one more move has come, and all but the mover rest
-pub counted : (form : Form) (works : List Work) (t : ℕ) (old new : List Place) (h : List Entry) → AllRest form works old h → IsCounted t old new → RestBut form works t new h
+-- one more move has come, and all but its transaction go no further
+pub counted : (form : Form) (works : List Work) (t : ℕ) (old new : List Place) (h : List Entry) → AllRest form works old h → IsMoveCounted t old new → RestBut form works t new h
 counted form works t old new h all c =
     subst (λ (ps : List Place). RestBut form works t ps h) (sym c.counted)
     (subst (λ (u : ℕ). RestBut form works u (slice_set old c.place (record c.was { moves = c.was.moves + 1 })) h) (sym c.mover) (count_at form works c.place c.was old h all c.is))
@@ -272,7 +272,7 @@ counted_there k i p r places gp gr (inr n) =
     let none : one_if (k + 1 == i + 1) ≡ 0 = rw (is_other (k + 1) (i + 1) (λ e. n (omega arith))) refl in
     (r, set_other places k i (record p { moves = p.moves + 1 }) r n gr, omega arith)
 
-counted_moves : (t i : ℕ) (r : Place) (old new : List Place) → IsCounted t old new → slice_get new i ≡ Some r
+counted_moves : (t i : ℕ) (r : Place) (old new : List Place) → IsMoveCounted t old new → slice_get new i ≡ Some r
     → (z : Place) × (slice_get old i ≡ Some z) × (r.moves ≡ one_if (t == i + 1) + z.moves)
 counted_moves t i r old new c gr =
     subst (λ (u : ℕ). (z : Place) × (slice_get old i ≡ Some z) × (r.moves ≡ one_if (u == i + 1) + z.moves)) (sym c.mover)
@@ -280,18 +280,18 @@ counted_moves t i r old new c gr =
     (subst (λ (ps : List Place). slice_get ps i ≡ Some r) c.counted gr) (same_or_not i c.place))
 
 -- a move came, and then events were made
-pub moved : (t : ℕ) (ps qs rs : List Place) (h now : List Entry) → IsCounted t ps qs → IsLater qs h rs now → HasMoved t ps h rs now
+pub moved : (t : ℕ) (ps qs rs : List Place) (h now : List Entry) → IsMoveCounted t ps qs → IsLater qs h rs now → HasMoved t ps h rs now
 moved t ps qs rs h now c later = record {
   more = later.more;
   grown = later.grown;
   moves = λ i r gr. let q = later.moves i r gr in let p = counted_moves t i q.0 ps qs c q.1 in (p.0, p.1, q.2 ∙ p.2);
 }
 
--- the play of one move more
-pub times_more : (t u : ℕ) (us : List ℕ) → times t (u ∷ us) ≡ one_if (u == t) + times t us
+-- the play of one more move
+pub times_more : (t u : ℕ) (us : List ℕ) → name_count t (u ∷ us) ≡ one_if (u == t) + name_count t us
 times_more t u us = sum_by-cons (λ x. one_if (x == t)) u us
 
-pub counted_more : (t : ℕ) (ps rs : List Place) (h now : List Entry) (past : List ℕ) → AreCounted ps past → HasMoved t ps h rs now → AreCounted rs (t ∷ past)
+pub counted_more : (t : ℕ) (ps rs : List Place) (h now : List Entry) (past : List ℕ) → MovesAreCounted ps past → HasMoved t ps h rs now → MovesAreCounted rs (t ∷ past)
 counted_more t ps rs h now past c m = λ i r gr. let p = m.moves i r gr in
     p.2 ∙ ap (λ (n : ℕ). one_if (t == i + 1) + n) (c i p.0 p.1) ∙ sym (times_more (i + 1) t past)
 
@@ -304,26 +304,26 @@ rest_by : (form : Form) (w : Work) (p : Place) (n : ℕ) → p.moves ≡ n → I
 rest_by form w p n e (inl h) = inl h
 rest_by form w p n e (inr h) = inr (ap (λ (m : ℕ). may_go form w m p.stage) (sym e) ∙ h)
 
-pub stands : (form : Form) (works : List Work) (places : List Place) (h : List Entry) (names : List ℕ) → AllRest form works places h → AreCounted places names → AllStand form works names h
+pub stands : (form : Form) (works : List Work) (places : List Place) (h : List Entry) (names : List ℕ) → AllRest form works places h → MovesAreCounted places names → AllStand form works names h
 stands form works places h names all c = λ i w gw.
     let low : i < length places = omega (arith, slice_get_within works i w gw, all.at.long) in
     let p = some_at places i low in
     record {
       standing = standing_of p.0;
       walk = subst (λ (n : ℕ). Walks form (i + 1) w n at_start (part_of (i + 1) h) (standing_of p.0)) (c i p.0 p.1) (all.at.walks i w p.0 gw p.1);
-      rest = rest_by form w p.0 (times (i + 1) names) (c i p.0 p.1) (all.rest i w p.0 gw p.1);
+      rest = rest_by form w p.0 (name_count (i + 1) names) (c i p.0 p.1) (all.rest i w p.0 gw p.1);
     }
 
--- so far
+-- the state of a play after the moves so far
 pub record IsSoFar (form : Form) (works : List Work) (past : List ℕ) (places : List Place) (h : List Entry) : Type 0 where
   pub rest : AllRest form works places h
-  pub counted : AreCounted places past
+  pub counted : MovesAreCounted places past
   pub play : IsPlay form works past h
 
 pub on_and_on : (form : Form) (works : List Work) (t : ℕ) (past : List ℕ) (ps rs : List Place) (h now : List Entry) → IsSoFar form works past ps h → AllRest form works rs now
     → HasMoved t ps h rs now → IsSoFar form works (t ∷ past) rs now
 on_and_on form works t past ps rs h now so all m =
-    let c : AreCounted rs (t ∷ past) = counted_more t ps rs h now past so.counted m in
+    let c : MovesAreCounted rs (t ∷ past) = counted_more t ps rs h now past so.counted m in
     record {
       rest = all;
       counted = c;
@@ -357,11 +357,11 @@ at_first form works n h places is e none =
 pub back_more : (xs : List ℕ) (i d : ℕ) → i < length xs → reverse (take (i + 1) xs) ≡ get_or xs i d ∷ reverse (take i xs)
 back_more xs i d h = ap (λ (n : ℕ). reverse (take n xs)) (add-one i) ∙ ap reverse (take-suc xs i d h) ∙ reverse-append (take i xs) (get_or xs i d ∷ [])
 
--- the walk of a transaction that rests
+-- a transaction that goes no further has come as far as it can
 pub came_to : (form : Form) (t : ℕ) (w : Work) (p q : Place) (old new : List Entry) → HasGone form t w p q old new → IsResting form w q → HasCome form t w p q old new
 came_to form t w p q old new gone rest = record { gone = gone; rest = rest }
 
-pub moved_if : {A E : Type 0} (r : Result A E) (t : ℕ) (ps qs rs ss : List Place) (h now last : List Entry) → IsCounted t ps qs → IsLater qs h rs now
+pub moved_if : {A E : Type 0} (r : Result A E) (t : ℕ) (ps qs rs ss : List Place) (h now last : List Entry) → IsMoveCounted t ps qs → IsLater qs h rs now
     → OnOk r (IsLater rs now ss last) → OnOk r (HasMoved t ps h ss last)
 moved_if (Ok x) t ps qs rs ss h now last c later g = moved t ps qs ss h last c (later_on qs rs ss h now last later g)
 moved_if (Err e) t ps qs rs ss h now last c later g = tt

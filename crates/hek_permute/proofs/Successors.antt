@@ -7,10 +7,10 @@ use Rattle.std.proofs.lemmas.List.Sorted.{IsPermutation-reverse, sum_by-IsPermut
 use Rattle.std.proofs.lemmas.List.Sums.{sum_by-cons}
 use Rattle.std.proofs.lemmas.Grind.{get_or_default_zero}
 use Rattle.std.proofs.lemmas.Bool.Decides.{nat_tests}
-use Rattle.hek_permute.specs.Orders.{IsBelow, times, AreAlike, IsNext, IsLast}
+use Rattle.hek_permute.specs.Orders.{IsBelow, name_count, AreAlike, IsNext, IsLast}
 use Rattle.hek_permute.specs.Falls.{FallsFrom, IsFalling, IsTurn, IsLastAbove}
 
--- a number stands in a list
+-- a number occurs in a list
 abbrev pub IsIn : ℕ → List ℕ → Type 0
 IsIn z xs = (k : ℕ) × (k < length xs) × (slice_index xs k ≡ z)
 
@@ -26,21 +26,21 @@ is_itself u = grind (arith, nat_tests)
 abbrev pub one_if : Bool → ℕ
 one_if b = cond b 1 0
 
-times_cons : (t x : ℕ) (xs : List ℕ) → times t (x ∷ xs) ≡ one_if (x == t) + times t xs
+times_cons : (t x : ℕ) (xs : List ℕ) → name_count t (x ∷ xs) ≡ one_if (x == t) + name_count t xs
 times_cons t x xs = sum_by-cons (λ u. one_if (u == t)) x xs
 
-found_here : (z x : ℕ) (xs : List ℕ) (b : Bool) → (x == z) ≡ b → 0 < one_if b + times z xs → (0 < times z xs → IsIn z xs) → IsIn z (x ∷ xs)
+found_here : (z x : ℕ) (xs : List ℕ) (b : Bool) → (x == z) ≡ b → 0 < one_if b + name_count z xs → (0 < name_count z xs → IsIn z xs) → IsIn z (x ∷ xs)
 found_here z x xs true e h later = (0, omega arith, same_number x z e)
 found_here z x xs false e h later = let at : IsIn z xs = later (omega arith) in (suc at.0, omega (arith, at.1), at.2)
 
-found : (z : ℕ) (xs : List ℕ) → 0 < times z xs → IsIn z xs
+found : (z : ℕ) (xs : List ℕ) → 0 < name_count z xs → IsIn z xs
 found z [] h = absurd (omega arith)
 found z (x ∷ xs) h = found_here z x xs (x == z) refl (omega (arith, times_cons z x xs)) (found z xs)
 
-one_of : (z : ℕ) (xs : List ℕ) → 0 < times z (z ∷ xs)
+one_of : (z : ℕ) (xs : List ℕ) → 0 < name_count z (z ∷ xs)
 one_of z xs = omega (arith, times_cons z z xs, ap one_if (is_itself z))
 
--- the head of one of two lists that are alike stands in the other
+-- the head of one of two lists of the same numbers occurs in the other
 head_in : (xs : List ℕ) (z : ℕ) (ys : List ℕ) → AreAlike xs (z ∷ ys) → IsIn z xs
 head_in xs z ys a = found z xs (omega (arith, a z, one_of z ys))
 
@@ -56,7 +56,7 @@ turned xs ys a = λ t. sym (a t)
 joined : (xs ys zs : List ℕ) → AreAlike xs ys → AreAlike ys zs → AreAlike xs zs
 joined xs ys zs a b = λ t. a t ∙ b t
 
--- none that is like a falling list comes behind it
+-- no list of the same numbers comes after a falling one
 pub greatest : (t p : List ℕ) → IsFalling t → AreAlike t p → IsBelow t p → ⊥
 greatest [] [] f a b = b
 greatest (h ∷ t) [] f a b = b
@@ -68,7 +68,7 @@ greatest (h ∷ t) (z ∷ p) f a (inl less) =
 greatest (h ∷ t) (z ∷ p) f a (inr same) =
     greatest t p (λ i k low up within. f (suc i) (suc k) (omega arith) (omega arith) (omega arith)) (tails h z t p same.0 a) same.1
 
--- none that is like a rising list comes before it
+-- no list of the same numbers comes before a rising one
 pub least : (t p : List ℕ) → IsRising t → AreAlike t p → IsBelow p t → ⊥
 least [] [] f a b = b
 least [] (z ∷ p) f a b = b
@@ -80,7 +80,7 @@ least (h ∷ t) (z ∷ p) f a (inl less) =
 least (h ∷ t) (z ∷ p) f a (inr same) =
     least t p (λ i k low within. f (suc i) (suc k) (omega arith) (omega arith)) (tails h z t p (sym same.0) a) same.1
 
--- behind x the numbers fall; y is the least of them that is above x, and what is left then rises
+-- the numbers after x fall; y is the least of them above x, and the others, with x in the place of y, then rise
 pub record Turns (x : ℕ) (tail : List ℕ) (y : ℕ) (up : List ℕ) : Type 0 where
   pub falling : IsFalling tail
   pub rising : IsRising up
@@ -129,12 +129,12 @@ is_next (f ∷ g ∷ fs) tail zero y up e h = absurd (omega arith)
 is_next (f ∷ fs) tail (suc place) y up e h = behind_front f (fs ++ tail) (set fs place y ++ up) (is_next fs tail place y up (omega arith) h)
 
 -- a number in the place of another
-set_times : (t x : ℕ) (tail : List ℕ) (j : ℕ) → j < length tail → one_if (slice_index tail j == t) + times t (set tail j x) ≡ one_if (x == t) + times t tail
+set_times : (t x : ℕ) (tail : List ℕ) (j : ℕ) → j < length tail → one_if (slice_index tail j == t) + name_count t (set tail j x) ≡ one_if (x == t) + name_count t tail
 set_times t x [] j h = absurd (omega arith)
 set_times t x (z ∷ tail) zero h = omega (arith, times_cons t z tail, times_cons t x tail)
 set_times t x (z ∷ tail) (suc j) h = omega (arith, times_cons t z tail, times_cons t z (set tail j x), set_times t x tail j (omega arith))
 
-reverse_times : (t : ℕ) (xs : List ℕ) → times t (reverse xs) ≡ times t xs
+reverse_times : (t : ℕ) (xs : List ℕ) → name_count t (reverse xs) ≡ name_count t xs
 reverse_times t xs = sum_by-IsPermutation (λ u. one_if (u == t)) xs (reverse xs) (IsPermutation-reverse xs)
 
 set_falls_here : (tail : List ℕ) (x j i k : ℕ) → IsFalling tail → IsLastAbove tail x j → i ≤ k → k < length tail → (i ≡ j) ⊎ (i ≡ j → ⊥) → (k ≡ j) ⊎ (k ≡ j → ⊥)
@@ -207,7 +207,7 @@ falls_behind (x ∷ front) tail (suc n) e f =
 pub is_last : (xs : List ℕ) → IsFalling xs → IsLast xs
 is_last xs f = record { none = λ q a b. greatest xs q f a b }
 
--- what stands behind the front, by its place in the whole
+-- the first number after a front, by its place in the whole list
 pub behind : (front tail : List ℕ) (n : ℕ) → length front ≡ n → slice_index (front ++ tail) n ≡ slice_index tail 0
 behind [] tail n e = subst (λ (m : ℕ). slice_index tail m ≡ slice_index tail 0) e refl
 behind (x ∷ front) tail zero e = absurd (omega arith)

@@ -1,11 +1,11 @@
--- All orders, one after another.
+-- All orders of a schedule's moves, played one after another.
 use Rattle.std.proofs.Common.{◌≡◌, ℕ, suc, zero, ◌+◌, ◌<◌, ◌≤◌, Bool, true, false, List, [], ◌∷◌, ◌++◌, length, refl, ap, sym, subst, ◌∙◌, inl, inr, arith, replicate, take}
 use Rattle.std.specs.Prelude.{◌⊎◌, ◌-◌, min, slice_index}
 use Rattle.std.specs.List.{AllByRecursion}
 use Rattle.hek_rules.specs.Plan.{Plan}
 use Rattle.hek_permute.specs.declared.moves.Form.{Form}
 use Rattle.hek_permute.specs.Found.{Line}
-use Rattle.hek_permute.specs.Moves.{Work, AreMoves, counts_of, first_of}
+use Rattle.hek_permute.specs.Moves.{Work, AreMoves, counts_of, first_order_from}
 use Rattle.hek_permute.specs.Orders.{IsBelow, AreAlike, IsNext, IsLast, IsAmong, AreFalling}
 use Rattle.hek_permute.specs.Tallies.{Goes, IsTally, is_between, total, one_if}
 use Rattle.hek_permute.specs.Wholes.{IsWhole, first_in}
@@ -43,7 +43,7 @@ compared [] (y ∷ b) = inl tt
 compared (x ∷ a) [] = inr (inr tt)
 compared (x ∷ a) (y ∷ b) = heads_meet x y a b (three x y) (compared a b)
 
--- the first order rises
+-- a list rises, from b on
 abbrev pub RisesFrom : ℕ → List ℕ → Type 0
 RisesFrom b [] = Unit {0}
 RisesFrom b (x ∷ xs) = (b ≤ x) × RisesFrom x xs
@@ -56,9 +56,9 @@ copies_rise : (n t : ℕ) (xs : List ℕ) → RisesFrom t xs → RisesFrom t (re
 copies_rise zero t xs r = r
 copies_rise (suc n) t xs r = (omega arith, copies_rise n t xs r)
 
-first_rises : (t : ℕ) (ns : List ℕ) → RisesFrom t (first_of t ns)
+first_rises : (t : ℕ) (ns : List ℕ) → RisesFrom t (first_order_from t ns)
 first_rises t [] = tt
-first_rises t (n ∷ ns) = copies_rise n t (first_of (t + 1) ns) (rises_lower t (t + 1) (first_of (t + 1) ns) (omega arith) (first_rises (t + 1) ns))
+first_rises t (n ∷ ns) = copies_rise n t (first_order_from (t + 1) ns) (rises_lower t (t + 1) (first_order_from (t + 1) ns) (omega arith) (first_rises (t + 1) ns))
 
 lowest : (b : ℕ) (xs : List ℕ) (k : ℕ) → RisesFrom b xs → k < length xs → b ≤ slice_index xs k
 lowest b [] k r h = absurd (omega arith)
@@ -72,10 +72,10 @@ rising b (x ∷ xs) r zero (suc k) low h = lowest x xs k r.1 (omega arith)
 rising b (x ∷ xs) r (suc i) zero low h = absurd (omega arith)
 rising b (x ∷ xs) r (suc i) (suc k) low h = rising x xs r.1 i k (omega arith) (omega arith)
 
-pub none_below : (ns : List ℕ) (q : List ℕ) → AreAlike (first_of 1 ns) q → IsBelow q (first_of 1 ns) → ⊥
-none_below ns q a b = least (first_of 1 ns) q (rising 1 (first_of 1 ns) (first_rises 1 ns)) a b
+pub none_below : (ns : List ℕ) (q : List ℕ) → AreAlike (first_order_from 1 ns) q → IsBelow q (first_order_from 1 ns) → ⊥
+none_below ns q a b = least (first_order_from 1 ns) q (rising 1 (first_order_from 1 ns) (first_rises 1 ns)) a b
 
--- the orders before one, the last first, and the tally of those in the part
+-- the orders before one, with the last first, and the tally of those in the part
 pub record IsSoFar (p : Plan) (form : Form) (from to number : ℕ) (moves : List Work) (order : List ℕ) (rows : List Line) : Type 0 where
   pub are : AreMoves p moves
   pub past : List (List ℕ)
@@ -107,7 +107,7 @@ all_below : (old new : List ℕ) (past : List (List ℕ)) → IsBelow old new �
 all_below old new [] h all = tt
 all_below old new (q ∷ past) h all = (below_trans q old new all.0 h, all_below old new past h all.1)
 
--- what is like the first and not behind the order is the order or among those before
+-- an order of the same moves that does not come after this one is this one or among those before it
 here_or_before : (first order : List ℕ) (past : List (List ℕ)) (q : List ℕ) → ((q : List ℕ) → AreAlike first q → IsBelow q order → IsAmong q past) → AreAlike first q
     → (IsBelow order q → ⊥) → IsBelow q order ⊎ ((q ≡ order) ⊎ IsBelow order q) → IsAmong q (order ∷ past)
 here_or_before first order past q all a not_behind (inl h) = inr (all q a h)
@@ -166,7 +166,7 @@ front_of [] rest (suc n) e = absurd (omega arith)
 front_of (x ∷ new) rest zero e = absurd (omega arith)
 front_of (x ∷ new) rest (suc n) e = ap (λ (l : List ℕ). x ∷ l) (front_of new rest n (omega arith))
 
--- what an event of the walk did, by the test and the slices that it was given
+-- what the loop did with an order, by the test and the slices that it was given
 pub goes_with : (p : Plan) (form : Form) (works moves : List Work) (from to number : ℕ) (part : Bool) (order slice : List ℕ) (was rows : List Line) → moves ≡ works
     → part ≡ is_between from to number → slice ≡ order → Goes p form moves part slice was rows → Goes p form works (is_between from to number) order was rows
 goes_with p form works moves from to number part order slice was rows same e is g =

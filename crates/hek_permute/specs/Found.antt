@@ -1,21 +1,21 @@
--- What an order comes to.
+-- The outcome of an order.
 use Rattle.std.specs.Prelude.{ℕ, ◌≡◌, Bool, List}
 use Rattle.hek_permute.specs.declared.outcome.Ending.{Ending}
 
--- how each transaction ended, the committed rows, whether it is serial, and whether one waited
+-- how each transaction ended, the committed rows, whether the history is serial, and whether a transaction had to wait
 pub record Found : Type 0 where
   pub ends : List Ending
   pub rows : List (ℕ × ℕ)
   pub serial : Bool
   pub waited : Bool
 
--- the same outcome, whoever waited
+-- two equal outcomes; whether a transaction had to wait does not count
 pub record IsSame (x y : Found) : Type 0 where
   pub ends : x.ends ≡ y.ends
   pub rows : x.rows ≡ y.rows
   pub serial : x.serial ≡ y.serial
 
--- an outcome, how many orders have it, in how many of them one waited, and the first
+-- an outcome, how many orders have it, in how many of them a transaction had to wait, and the first order
 pub record Line : Type 0 where
   pub outcome : Found
   pub orders : ℕ

@@ -1,4 +1,4 @@
--- What a history comes to.
+-- The outcome of a history.
 use Rattle.std.specs.Prelude.{ℕ, suc, zero, ◌≡◌, ◌+◌, ◌↔◌, Bool, true, false, ◌==◌, ◌||◌, if◌then◌else◌, IsTrue, List, [], ◌∷◌, ◌++◌, length}
 use Rattle.hek_rules.specs.declared.event.Cause.TheVariants as cause
 use Rattle.hek_rules.specs.declared.event.Level.TheVariants.{Serializable}
@@ -12,25 +12,25 @@ use Rattle.hek_rules.specs.Shown.{committed_rows}
 use Rattle.hek_rules.specs.Run.{run}
 use Rattle.hek_machine.specs.Observed.{opening_of}
 use Rattle.hek_serial.specs.Leveled.{at_level}
-use Rattle.hek_threads.specs.declared.entry.Entry.{Entry}
-use Rattle.hek_threads.specs.History.{events_of, recorded_by}
+use Rattle.hek_worker.specs.declared.entry.Entry.{Entry}
+use Rattle.hek_worker.specs.History.{history_events, recorded_by}
 use Rattle.hek_permute.specs.declared.outcome.Ending.{Ending}
 use Rattle.hek_permute.specs.declared.outcome.Ending.TheVariants as ending
 use Rattle.hek_permute.specs.Found.{Found}
 
--- how a transaction ends with a reply, or else later on
+-- how a transaction ends with a reply, or by a later one
 abbrev pub ends_with : Reply → Ending → Ending
 ends_with reply.Committed later = ending.Committed
 ends_with (reply.Aborted why) later = ending.Aborted why
 ends_with reply.Failed later = ending.Aborted cause.Asked
 ends_with r later = later
 
--- how t ends
+-- how t ends in a history
 abbrev pub end_in : ℕ → List Entry → Ending
 end_in t [] = ending.Unended
 end_in t (x ∷ xs) = if x.worker == t then ends_with x.reply (end_in t xs) else end_in t xs
 
--- how so many transactions end, that of ID 1 first
+-- how the first transactions end, by ID
 abbrev pub ends_upto : ℕ → List Entry → List Ending
 ends_upto zero xs = []
 ends_upto (suc n) xs = ends_upto n xs ++ end_in (n + 1) xs ∷ []
@@ -40,18 +40,18 @@ is_wait (reply.Waiting n) = true
 is_wait (reply.WaitingCommits n) = true
 is_wait r = false
 
--- somebody was told to wait
-abbrev pub waits_in : List Entry → Bool
-waits_in [] = false
-waits_in (x ∷ xs) = is_wait x.reply || waits_in xs
+-- some transaction had to wait
+abbrev pub has_wait : List Entry → Bool
+has_wait [] = false
+has_wait (x ∷ xs) = is_wait x.reply || has_wait xs
 
--- what a checker is told of a history, with all taken as serializable
+-- the transcript of a history, with all transactions taken as serializable
 abbrev pub told_as_serializable : Plan → List Entry → Recorded
 told_as_serializable p xs = at_level Serializable (recorded_by p xs)
 
 -- the outcome of a history
 pub record IsOutcomeOf (p : Plan) (history : List Entry) (o : Found) : Type 0 where
   pub ends : o.ends ≡ ends_upto (length p.txns) history
-  pub rows : o.rows ≡ committed_rows (run (opening_of p 1) (events_of history))
+  pub rows : o.rows ≡ committed_rows (run (opening_of p 1) (history_events history))
   pub serial : IsTrue o.serial ↔ IsVerdict (told_as_serializable p history) Serial
-  pub waited : o.waited ≡ waits_in history
+  pub waited : o.waited ≡ has_wait history

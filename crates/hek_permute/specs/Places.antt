@@ -1,26 +1,26 @@
--- Where all transactions stand in the midst of a play.
+-- Where all transactions are during a play.
 use Rattle.std.specs.Prelude.{ℕ, ◌≡◌, ◌+◌, ◌⊎◌, ◌==◌, false, IsTrue, Some, List, [], ◌∷◌, ◌++◌, length, map, slice_get, slice_set}
 use Rattle.hek_rules.specs.declared.event.Event.{Event}
 use Rattle.hek_rules.specs.declared.reply.Reply.{Reply}
-use Rattle.hek_threads.specs.declared.entry.Entry.{Entry}
-use Rattle.hek_threads.specs.declared.stage.Stage.TheVariants.{Start}
-use Rattle.hek_threads.specs.Grammar.{event_at}
-use Rattle.hek_threads.specs.History.{part_of}
+use Rattle.hek_worker.specs.declared.entry.Entry.{Entry}
+use Rattle.hek_worker.specs.declared.stage.Stage.TheVariants.{Start}
+use Rattle.hek_worker.specs.Grammar.{event_at}
+use Rattle.hek_worker.specs.History.{part_of}
 use Rattle.hek_permute.specs.declared.moves.Form.{Form}
 use Rattle.hek_permute.specs.declared.play.Place.{Place}
 use Rattle.hek_permute.specs.Moves.{Work}
-use Rattle.hek_permute.specs.Orders.{times}
+use Rattle.hek_permute.specs.Orders.{name_count}
 use Rattle.hek_permute.specs.Tallies.{one_if}
 use Rattle.hek_permute.specs.Plays.{Standing, at_start, may_go, turned, after_reply, Walks}
 
--- before the first event, and before any move
+-- a transaction's place before its first event and before any move
 abbrev pub first_place : Place
 first_place = record { stage = Start; moves = 0; waits = false }
 
 abbrev pub standing_of : Place → Standing
 standing_of p = record { stage = p.stage; waits = p.waits }
 
--- it goes no further
+-- a transaction goes no further: it waits, or no event of it belongs to a move that has come
 abbrev pub IsResting : Form → Work → Place → Type 0
 IsResting form w p = IsTrue p.waits ⊎ (may_go form w p.moves p.stage ≡ false)
 
@@ -34,55 +34,55 @@ pub record IsMade (form : Form) (t : ℕ) (w : Work) (p q : Place) (old new : Li
   pub standing : after_reply form t w p.stage reply ≡ Some (standing_of q)
   pub moves : q.moves ≡ p.moves
 
--- events of t did
+-- events of t led from place p to place q
 pub record HasGone (form : Form) (t : ℕ) (w : Work) (p q : Place) (old new : List Entry) : Type 0 where
   pub made : List (Event × Reply)
   pub grown : new ≡ old ++ map (entry_of t) made
   pub walk : Walks form t w p.moves (standing_of p) made (standing_of q)
   pub moves : q.moves ≡ p.moves
 
--- as far as it goes
+-- events of t led from place p to place q, where t goes no further
 pub record HasCome (form : Form) (t : ℕ) (w : Work) (p q : Place) (old new : List Entry) : Type 0 where
   pub gone : HasGone form t w p q old new
   pub rest : IsResting form w q
 
--- what each has done leads to its place
+-- what each transaction has done leads to its place
 pub record AreAt (form : Form) (works : List Work) (places : List Place) (h : List Entry) : Type 0 where
   pub long : length places ≡ length works
   pub walks : (i : ℕ) (w : Work) (p : Place) → slice_get works i ≡ Some w → slice_get places i ≡ Some p
       → Walks form (i + 1) w p.moves at_start (part_of (i + 1) h) (standing_of p)
 
--- and all rest
+-- all transactions are at their places and go no further
 pub record AllRest (form : Form) (works : List Work) (places : List Place) (h : List Entry) : Type 0 where
   pub at : AreAt form works places h
   pub rest : (i : ℕ) (w : Work) (p : Place) → slice_get works i ≡ Some w → slice_get places i ≡ Some p → IsResting form w p
 
--- and all but t rest
+-- all transactions are at their places, and all but t go no further
 pub record RestBut (form : Form) (works : List Work) (t : ℕ) (places : List Place) (h : List Entry) : Type 0 where
   pub at : AreAt form works places h
   pub rest : (i : ℕ) (w : Work) (p : Place) → (t ≡ i + 1 → ⊥) → slice_get works i ≡ Some w → slice_get places i ≡ Some p → IsResting form w p
 
 -- one more move of t has come
-pub record IsCounted (t : ℕ) (old new : List Place) : Type 0 where
+pub record IsMoveCounted (t : ℕ) (old new : List Place) : Type 0 where
   pub place : ℕ
   pub was : Place
   pub mover : t ≡ place + 1
   pub is : slice_get old place ≡ Some was
   pub counted : new ≡ slice_set old place (record was { moves = was.moves + 1 })
 
--- events were made, and no move has come
+-- events were made after the history h, and no move has come
 pub record IsLater (places : List Place) (h : List Entry) (later : List Place) (now : List Entry) : Type 0 where
   pub more : List Entry
   pub grown : now ≡ h ++ more
   pub moves : (i : ℕ) (p : Place) → slice_get later i ≡ Some p → (q : Place) × (slice_get places i ≡ Some q) × (p.moves ≡ q.moves)
 
--- one move of t has come, and events were made
+-- one move of t has come, and events were made after the history h
 pub record HasMoved (t : ℕ) (places : List Place) (h : List Entry) (later : List Place) (now : List Entry) : Type 0 where
   pub more : List Entry
   pub grown : now ≡ h ++ more
   pub moves : (i : ℕ) (p : Place) → slice_get later i ≡ Some p
       → (q : Place) × (slice_get places i ≡ Some q) × (p.moves ≡ one_if (t == i + 1) + q.moves)
 
--- so many moves of each have come as it has among these names
-abbrev pub AreCounted : List Place → List ℕ → Type 0
-AreCounted places names = (i : ℕ) (p : Place) → slice_get places i ≡ Some p → p.moves ≡ times (i + 1) names
+-- as many moves of each transaction have come as it has among these names
+abbrev pub MovesAreCounted : List Place → List ℕ → Type 0
+MovesAreCounted places names = (i : ℕ) (p : Place) → slice_get places i ≡ Some p → p.moves ≡ name_count (i + 1) names

@@ -1,8 +1,8 @@
--- How often each outcome was met.
+-- How often each outcome occurred.
 use Rattle.std.specs.Prelude.{ℕ, ◌≡◌, ◌+◌, ◌<◌, ◌⊎◌, Bool, true, false, ◌&&◌, cond, nat_le, nat_lt, List, [], ◌∷◌, ◌++◌, length, reverse, slice_get, slice_set, Some, sum_by}
 use Rattle.hek_rules.specs.Plan.{Plan}
-use Rattle.hek_threads.specs.declared.entry.Entry.{Entry}
-use Rattle.hek_threads.specs.History.{IsHistory, events_of, replies_in}
+use Rattle.hek_worker.specs.declared.entry.Entry.{Entry}
+use Rattle.hek_worker.specs.History.{IsHistory, history_events, replies_in}
 use Rattle.hek_rules.specs.declared.event.Event.{Event}
 use Rattle.hek_rules.specs.declared.reply.Reply.{Reply}
 use Rattle.hek_rules.specs.Run.{transcript}
@@ -17,31 +17,31 @@ use Rattle.std.specs.Prelude.{map}
 abbrev pub one_if : Bool → ℕ
 one_if b = cond b 1 0
 
--- one more order
+-- a row that counts one more order
 abbrev pub more : Line → Bool → Line
 more r waited = record r { orders = r.orders + 1; waited = r.waited + one_if waited }
 
--- a new outcome
+-- a row for a new outcome
 abbrev pub row_of : Found → List ℕ → Line
 row_of o order = record { outcome = o; orders = 1; waited = one_if o.waited; first = order }
 
 abbrev pub NoneSame : List Line → Found → Type 0
 NoneSame rows o = (i : ℕ) (r : Line) → slice_get rows i ≡ Some r → IsSame r.outcome o → ⊥
 
--- the row at the place has the same outcome, and none before it
+-- the row at the place is the first one with the outcome
 pub record IsFirstSame (rows : List Line) (o : Found) (place : ℕ) : Type 0 where
   pub row : Line
   pub is : slice_get rows place ≡ Some row
   pub same : IsSame row.outcome o
   pub first : (i : ℕ) (r : Line) → i < place → slice_get rows i ≡ Some r → IsSame r.outcome o → ⊥
 
--- the row of that outcome counts one more
+-- the row of the outcome counts one more order
 pub record IsCounted (old new : List Line) (o : Found) : Type 0 where
   pub place : ℕ
   pub found : IsFirstSame old o place
   pub counted : new ≡ slice_set old place (more found.row o.waited)
 
--- there was no row of that outcome, and there is one
+-- the tally had no row of the outcome, and has one now
 pub record IsAdded (old new : List Line) (o : Found) (order : List ℕ) : Type 0 where
   pub none : NoneSame old o
   pub added : new ≡ old ++ row_of o order ∷ []
@@ -58,7 +58,7 @@ total rows = sum_by (λ r. r.orders) rows
 pub record IsPlayed (p : Plan) (form : Form) (works : List Work) (order : List ℕ) (o : Found) : Type 0 where
   pub history : List Entry
   pub formed : IsHistory (length p.txns) history
-  pub replies : replies_in history ≡ map (λ (x : Event × Reply). x.1) (transcript (opening_of p 1) (events_of history))
+  pub replies : replies_in history ≡ map (λ (x : Event × Reply). x.1) (transcript (opening_of p 1) (history_events history))
   pub play : IsPlay form works (reverse order) history
   pub outcome : IsOutcomeOf p history o
 
@@ -66,12 +66,12 @@ pub record IsPlayed (p : Plan) (form : Form) (works : List Work) (order : List �
 abbrev pub is_between : ℕ → ℕ → ℕ → Bool
 is_between from to n = nat_le from n && nat_lt n to
 
--- an order of the part is played and noted, another is passed over
+-- an order in the part is played and noted, another is skipped
 abbrev pub Goes : Plan → Form → List Work → Bool → List ℕ → List Line → List Line → Type 0
 Goes p form works true order old new = (o : Found) × IsPlayed p form works order o × IsNoted old new o order
 Goes p form works false order old new = new ≡ old
 
--- the tally of these orders, of which the last stands first
+-- the tally of these orders; the list has the last order first
 abbrev pub IsTally : Plan → Form → List Work → ℕ → ℕ → List (List ℕ) → List Line → Type 0
 IsTally p form works from to [] rows = rows ≡ []
 IsTally p form works from to (order ∷ past) rows =

@@ -3,13 +3,13 @@ use Rattle.std.specs.Prelude.{ℕ, ◌≡◌, ◌-◌, min, List, length}
 use Rattle.hek_rules.specs.Plan.{Plan}
 use Rattle.hek_permute.specs.declared.moves.Form.{Form}
 use Rattle.hek_permute.specs.Found.{Line}
-use Rattle.hek_permute.specs.Moves.{Work, AreMoves, counts_of, first_of}
+use Rattle.hek_permute.specs.Moves.{Work, AreMoves, counts_of, first_order_from}
 use Rattle.hek_permute.specs.Orders.{AreAll}
 use Rattle.hek_permute.specs.Tallies.{IsTally, total}
 
 -- the first order of a schedule's moves
 abbrev pub first_in : Form → List Work → List ℕ
-first_in form moves = first_of 1 (counts_of form moves)
+first_in form moves = first_order_from 1 (counts_of form moves)
 
 -- the tally of the orders from one number to another, of all orders of a schedule's moves
 pub record IsWhole (p : Plan) (form : Form) (from to : ℕ) (rows : List Line) : Type 0 where

@@ -1,18 +1,23 @@
-//! Why an order can't be played.
+//! Why an order cannot be played.
 use hek_rules::NoMemory;
-use hek_threads::ThreadFault;
+use hek_worker::ThreadFault;
 use std::alloc::{AllocError, AllocFailed};
+use thiserror::Error;
 
-/// Why there is no play of an order, or no tally of them.
-#[derive(Clone, Copy, Debug, PartialEq, Eq)]
+/// Why there is no play of an order, or no tally of the orders.
+#[derive(Clone, Copy, Debug, PartialEq, Eq, Error)]
 pub enum OrderFault {
+    #[error("no memory")]
     NoMemory,
-    /// A reply stands where the grammar of transactions has none, or an event is of no declared transaction. No play has shown
-    /// it.
+    /// A reply that the grammar of transactions does not allow at its place, or an event of an undeclared transaction.
+    /// No play has shown this fault.
+    #[error("mismatch")]
     Mismatch,
-    /// There are more orders than were said, or more than can be counted.
+    /// There are more orders than the limit, or too many to be counted.
+    #[error("too many orders")]
     TooMany,
-    /// Who watches wants no more.
+    /// The watcher asks for no more orders.
+    #[error("stopped")]
     Stopped,
 }
 

@@ -1,4 +1,4 @@
-//! Every order of a schedule's moves: each is played on a machine of its own, and the outcomes are counted.
+//! Every order of a schedule's moves: each is played on a new machine, and the outcomes are counted.
 #![tactic(auto)]
 
 mod fault;

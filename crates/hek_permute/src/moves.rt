@@ -1,10 +1,10 @@
-//! The moves of transactions, and the orders that they can come in.
+//! The moves of transactions, and the orders in which they can come.
 ghost use Rattle.std.specs.Prelude.{◌≡◌, ◌+◌, ◌++◌, IfOk, OnOk, length, replicate};
-ghost use Rattle.hek_permute.specs.Moves.{AreMoves, counts_of, last_moves, fails, first_of};
-ghost use Rattle.hek_threads.specs.Grammar.{work_of};
+ghost use Rattle.hek_permute.specs.Moves.{AreMoves, counts_of, last_moves, has_fail, first_order_from};
+ghost use Rattle.hek_worker.specs.Grammar.{work_of};
 
 use hek_rules::{Event, NoMemory, Schedule, TxnId};
-use hek_threads::is_work;
+use hek_worker::is_work;
 use std::alloc::Global;
 use std::marker::Model;
 
@@ -13,7 +13,7 @@ use std::marker::Model;
 pub enum Form {
     /// One move, from `finish` to `end`.
     Whole,
-    /// Two: `finish` and `precommit`, and then what is left.
+    /// Two moves: `finish` and `precommit`, and then the rest.
     Split,
 }
 
@@ -90,7 +90,7 @@ fn own_work(alloc: Global, txn: TxnId, steps: &[Event]) -> Result<Vec<Event>, No
 
 // Whether a transaction has a step `fail`.
 fn has_fail(txn: TxnId, steps: &[Event]) -> bool
-    ensures { result ≡ fails txn steps.now }
+    ensures { result ≡ has_fail txn steps.now }
 {
     let mut rest = steps;
     while let Some((step, later)) = rest.split_first() {
@@ -102,10 +102,10 @@ fn has_fail(txn: TxnId, steps: &[Event]) -> bool
     false
 }
 
-ghost use Rattle.hek_permute.specs.Moves.{is_fail};
+ghost use Rattle.hek_permute.specs.Moves.{is_fail_of};
 
 fn is_fail(txn: TxnId, event: Event) -> bool
-    ensures { result ≡ is_fail txn event }
+    ensures { result ≡ is_fail_of txn event }
 {
     match event {
         Event::Fail(t) => t == txn,
@@ -115,7 +115,7 @@ fn is_fail(txn: TxnId, event: Event) -> bool
 
 /// The first order: all moves of the first transaction, then those of the second, and so on.
 pub fn first_order(alloc: Global, moves: &[Moves], form: Form) -> Result<Vec<TxnId>, NoMemory>
-    ensures { IfOk result (λ order. order.items ≡ first_of 1 (counts_of form moves.now)) }
+    ensures { IfOk result (λ order. order.items ≡ first_order_from 1 (counts_of form moves.now)) }
 {
     let mut order = Vec::new(alloc);
     let mut rest = moves;
@@ -145,7 +145,7 @@ pub(crate) fn move_count(of_one: &Moves, form: Form) -> usize
     of_one.work().len() + form.last_moves()
 }
 
-/// How many orders there are; None where the number is 2^64 or more, or passes it on the way.
+/// How many orders there are; None if the number, or a product on the way to it, is 2^64 or more.
 pub fn order_count(moves: &[Moves], form: Form) -> Option<u64> {
     let mut count = 1u64;
     let mut length = 0u64;

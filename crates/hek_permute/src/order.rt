@@ -1,11 +1,11 @@
-//! Orders of moves, one after another as the words of a dictionary.
+//! Orders of moves, one after another, as words in a dictionary.
 ghost use Rattle.std.specs.Prelude.{◌≡◌, ◌+◌, ◌<◌, ◌≤◌, ◌++◌, ℕ, MatchBool, MatchOption, length, slice_index, drop, take, slice_set, reverse};
 ghost use Rattle.hek_permute.specs.Orders.{IsLast, IsNext};
 ghost use Rattle.hek_permute.specs.Falls.{IsFalling, IsLastAbove, IsTurn};
 
 use hek_rules::TxnId;
 
-/// Puts the next order of the same moves in place of one. After the last one it stays, and the answer is false.
+/// Replaces an order by the next one of the same moves. Answers false for the last order, which stays.
 pub fn next_order(order: &mut [TxnId]) -> bool
     ensures { MatchBool result (IsNext order.old order.new) (IsLast order.old × (order.new ≡ order.old)) }
 {
@@ -18,7 +18,7 @@ pub fn next_order(order: &mut [TxnId]) -> bool
     }
 }
 
-/// The last place whose transaction is below the next one's; behind it they fall, or stay.
+/// The last place whose transaction is below the next one; the transactions after the place fall or stay equal.
 fn turn_of(order: &[TxnId]) -> Option<usize>
     ensures { MatchOption result (IsFalling order.now) (IsTurn order.now) }
 {
@@ -32,7 +32,8 @@ fn turn_of(order: &[TxnId]) -> Option<usize>
     None
 }
 
-/// Makes the turn: the least that is greater comes to the place, and what is behind it rises.
+/// Makes the turn at a place: the least transaction after the place that is greater moves to it, and those after it
+/// then rise.
 fn turn(order: &mut [TxnId], place: usize)
     requires { IsTurn order.old place }
     ensures { IsNext order.old order.new }
@@ -45,7 +46,7 @@ fn turn(order: &mut [TxnId], place: usize)
     tail.reverse();
 }
 
-/// The last place of a transaction that is above this one, where they fall and the first is above it.
+/// The last place of a transaction above `less`, in a list that falls and whose first transaction is above `less`.
 fn last_above(tail: &[TxnId], less: TxnId) -> usize
     requires some { 0 < length tail.now }
     requires above { less < slice_index tail.now 0 }

@@ -1,14 +1,14 @@
-//! What an order comes to: how each transaction ended, the rows at the end, and the checker's verdict.
+//! The outcome of an order: how each transaction ended, the rows at the end, and the checker's verdict.
 ghost use Rattle.std.specs.Prelude.{◌≡◌, ◌↔◌, IfOk, IsTrue, length};
-ghost use Rattle.hek_threads.specs.History.{Replays};
-ghost use Rattle.hek_permute.specs.Outcomes.{IsOutcomeOf, end_in, ends_upto, told_as_serializable, waits_in};
+ghost use Rattle.hek_worker.specs.History.{Replays};
+ghost use Rattle.hek_permute.specs.Outcomes.{IsOutcomeOf, end_in, ends_upto, told_as_serializable, has_wait};
 ghost use Rattle.hek_rules.specs.Faults.{IsVerdict};
 ghost use Rattle.hek_rules.specs.declared.serial.Verdict.TheVariants as verdict;
 
 use crate::play::Play;
 use hek_rules::{Cause, Level, NoMemory, Pairs, Reply, Schedule, TxnId, Verdict};
 use hek_serial::check_at;
-use hek_threads::{Entry, transcript_of};
+use hek_worker::{Entry, transcript_of};
 use std::alloc::Global;
 use std::marker::Model;
 
@@ -17,12 +17,12 @@ use std::marker::Model;
 pub enum Ending {
     Committed,
     Aborted(Cause),
-    /// It did neither.
+    /// The transaction neither committed nor aborted.
     Unended,
 }
 
-/// How each transaction ended, that of ID 1 first; the committed rows at the end, by key; whether the checker finds the history
-/// serial with all taken as serializable; and whether a transaction was told to wait.
+/// How each transaction ended, by ID; the committed rows at the end, by key; whether the checker finds the history
+/// serial with all transactions taken as serializable; and whether a transaction had to wait.
 #[derive(Drop, Debug)]
 pub struct Outcome {
     ends: Vec<Ending>,
@@ -61,14 +61,14 @@ impl Outcome {
         self.serial
     }
 
-    /// Whether somebody was told to wait.
+    /// Whether a transaction had to wait.
     pub fn waited(&self) -> bool
         ensures { result ≡ self.now.waited }
     {
         self.waited
     }
 
-    /// Whether the endings, the rows and the verdict are equal. Whether somebody waited is not looked at.
+    /// Whether the endings, the rows and the verdict are equal. Waits do not count.
     pub fn same(&self, other: &Outcome) -> bool
         ensures { IsTrue result ↔ IsSame self.now other.now }
     {
@@ -99,7 +99,7 @@ fn same_ends(ends: &[Ending], others: &[Ending]) -> bool
     others_rest.is_empty()
 }
 
-/// What a play came to.
+/// The outcome of a play.
 pub fn outcome_of(alloc: Global, schedule: &Schedule, play: Play) -> Result<Outcome, NoMemory>
     requires { Replays schedule.now play.machine play.history.items }
     ensures { IfOk result (IsOutcomeOf schedule.now play.history.items) }
@@ -146,9 +146,9 @@ fn end_of(txn: TxnId, history: &[Entry]) -> Ending
     Ending::Unended
 }
 
-/// Whether a transaction was told to wait.
+/// Whether a transaction had to wait.
 fn some_waited(history: &[Entry]) -> bool
-    ensures { result ≡ waits_in history.now }
+    ensures { result ≡ has_wait history.now }
 {
     let mut rest = history;
     while let Some((entry, later)) = rest.split_first() {
@@ -162,14 +162,14 @@ fn some_waited(history: &[Entry]) -> bool
 
 ghost use Rattle.hek_permute.specs.Outcomes.{is_wait};
 
-/// Whether a transaction is told to wait.
+/// Whether a reply says that the transaction must wait.
 pub(crate) fn is_wait(reply: &Reply) -> bool
     ensures { result ≡ is_wait reply.now }
 {
     matches!(reply, Reply::Waiting(_) | Reply::WaitingCommits(_))
 }
 
-/// Whether the checker finds no fault with the history, where all transactions are taken as serializable.
+/// Whether the checker finds no fault in the history, with all transactions taken as serializable.
 fn is_serial(alloc: Global, schedule: &Schedule, history: Vec<Entry>) -> Result<bool, NoMemory>
     ensures { IfOk result (λ b. IsTrue b ↔ IsVerdict (told_as_serializable schedule.now history.items) verdict.Serial) }
 {

@@ -1,25 +1,25 @@
-//! One order of moves, played on a machine of its own.
+//! One order of moves, played on a new machine.
 ghost use Rattle.std.specs.Prelude.{◌≡◌, ◌+◌, ◌<◌, ◌⊎◌, IfOk, IfSome, OnOk, false, length, reverse, slice_get};
-ghost use Rattle.hek_threads.specs.History.{Replays};
+ghost use Rattle.hek_worker.specs.History.{Replays};
 ghost use Rattle.hek_permute.specs.Plays.{IsPlay, may_go, turned};
-ghost use Rattle.hek_permute.specs.Places.{AllRest, HasCome, IsCounted, IsLater, IsMade, RestBut};
+ghost use Rattle.hek_permute.specs.Places.{AllRest, HasCome, IsMoveCounted, IsLater, IsMade, RestBut};
 
 use crate::fault::OrderFault;
 use crate::moves::{Form, Moves, move_count};
 use crate::outcome::is_wait;
 use hek_machine::Machine;
 use hek_rules::{Event, NoMemory, Reply, Schedule, TxnId};
-use hek_threads::{Book, Entry, Position, Stage};
+use hek_worker::{Book, Entry, Position, Stage};
 use std::alloc::Global;
 
-/// What an order comes to: the machine after it, and all events in the order in which they were made.
+/// A play: the machine after it, and all events in the order in which they were made.
 #[derive(Drop)]
 pub struct Play {
     pub machine: Machine,
     pub history: Vec<Entry>,
 }
 
-/// Where a transaction stands: what it does next, how many of its moves have come, and whether it was told to wait.
+/// Where a transaction is: what it does next, how many of its moves have come, and whether it had to wait.
 #[derive(Clone, Copy)]
 struct Place {
     stage: Stage,
@@ -28,12 +28,13 @@ struct Place {
 }
 
 impl Place {
-    /// Whether it has begun and not ended.
+    /// Whether the transaction has begun and not ended.
     fn is_running(&self) -> bool {
         self.stage != Stage::Start && self.stage != Stage::Ended
     }
 
-    /// Whether its next event belongs to a move that has come. What an aborted transaction gives back belongs to any.
+    /// Whether the transaction's next event belongs to a move that has come. What an aborted transaction gives back
+    /// belongs to any move.
     fn may_go(&self, of_one: &Moves, form: Form) -> bool
         ensures { result ≡ may_go form of_one.now self.now.moves self.now.stage }
     {
@@ -47,7 +48,7 @@ impl Place {
         }
     }
 
-    /// What it does next: where its last move is due, a transaction that fails turns to `fail`.
+    /// What the transaction does next: one that fails does `fail` where its last move is due.
     fn next_stage(&self, of_one: &Moves, form: Form) -> Stage
         ensures { result ≡ turned form of_one.now self.now.stage }
     {
@@ -69,10 +70,10 @@ impl Place {
     }
 }
 
-/// Plays an order of moves on a machine that is loaded with the schedule's rows and transactions. `begin` belongs to the
-/// first move of a transaction. A last move that waits is asked again after each move of another, in the order of the
-/// declarations, as long as one of them gets on; where all that have begun and not ended wait, there is a `detect`. Who is
-/// aborted gives everything back at once, and its remaining moves do nothing.
+/// Plays an order of moves on a machine that is loaded with the schedule's rows and transactions. `begin` belongs to
+/// the first move of a transaction. A last move that waits is tried again after each move of another transaction, in
+/// the order of the declarations, as long as one of them gets on. When all transactions that have begun and not ended
+/// wait, there is a `detect`. An aborted transaction gives everything back at once, and its remaining moves do nothing.
 pub fn play_order(
     alloc: Global,
     schedule: &Schedule,
@@ -123,7 +124,7 @@ fn move_in(
     one_move(book, moves, form, places.as_mut_slice(), mover)
 }
 
-/// All before their first event.
+/// The places of all transactions before their first event.
 fn at_start(alloc: Global, moves: &[Moves]) -> Result<Vec<Place>, NoMemory>
     ensures { IfOk result (λ places. places.items ≡ replicate (length moves.now) first_place) }
 {
@@ -141,7 +142,7 @@ fn at_start(alloc: Global, moves: &[Moves]) -> Result<Vec<Place>, NoMemory>
 ghost use Rattle.std.specs.Prelude.{[], replicate};
 ghost use Rattle.hek_permute.specs.Places.{first_place};
 
-/// The place of a transaction in lists of all.
+/// The place of a transaction in lists of all transactions.
 fn place_of(txn: TxnId) -> Result<usize, OrderFault>
     ensures { IfOk result (λ place. txn ≡ place + 1) }
 {
@@ -151,7 +152,7 @@ fn place_of(txn: TxnId) -> Result<usize, OrderFault>
     }
 }
 
-/// A move of a transaction comes, and what it sets off.
+/// Makes a move of a transaction, and everything that the move sets off.
 fn one_move(
     book: &mut Book<'_>,
     moves: &[Moves],
@@ -175,9 +176,9 @@ fn one_move(
 
 ghost use Rattle.hek_permute.specs.Places.{HasMoved};
 
-/// One more move of a transaction has come. The answer is whether the transaction isn't over.
+/// Counts one more move of a transaction. Answers whether the transaction isn't over.
 fn count_move(places: &mut [Place], mover: TxnId) -> Result<bool, OrderFault>
-    ensures { OnOk result (IsCounted mover places.old places.new) }
+    ensures { OnOk result (IsMoveCounted mover places.old places.new) }
 {
     let at = place_of(mover)?;
     let Some(place) = places.get(at) else {
@@ -196,8 +197,8 @@ fn count_move(places: &mut [Place], mover: TxnId) -> Result<bool, OrderFault>
     Ok(runs)
 }
 
-/// Makes the events of a transaction as far as its moves have come, or until it is told to wait. The answer is whether one of
-/// them was made.
+/// Makes the events of a transaction as far as its moves have come, or until it must wait. Answers whether one of them
+/// did not have to wait.
 fn go_on(
     book: &mut Book<'_>,
     moves: &[Moves],
@@ -219,7 +220,7 @@ fn go_on(
     Ok(got_on)
 }
 
-/// The place that a transaction comes to from this one, and whether an event was made on the way that it need not wait for.
+/// The place to which a transaction comes from this one, and whether it made an event that did not have to wait.
 fn go_from(
     book: &mut Book<'_>,
     of_one: &Moves,
@@ -245,7 +246,7 @@ fn go_from(
     Err(OrderFault::Mismatch)
 }
 
-/// Makes the next event of a transaction. The answer is its place then.
+/// Makes the next event of a transaction, and answers its place then.
 fn one_event(
     book: &mut Book<'_>,
     of_one: &Moves,
@@ -279,7 +280,7 @@ fn one_event(
     }
 }
 
-/// After a move: who waits is asked again, and where all wait a deadlock is looked for, until nobody gets on.
+/// After a move: tries each waiting transaction again, and looks for a deadlock when all wait, until none gets on.
 fn settle(
     book: &mut Book<'_>,
     moves: &[Moves],
@@ -303,7 +304,7 @@ fn settle(
     Err(OrderFault::Mismatch)
 }
 
-/// Asks each that waits again, but for the one that was just asked. The answer is whether one of them got on.
+/// Tries each waiting transaction again, except the one that was just tried. Answers whether one of them got on.
 fn ask_again(
     book: &mut Book<'_>,
     moves: &[Moves],
@@ -334,8 +335,8 @@ fn waits_at(places: &[Place], place: usize) -> bool {
     }
 }
 
-/// Looks for a deadlock where all that have begun and not ended wait. The answer is whether there was a victim, which has
-/// given everything back.
+/// Looks for a deadlock if all transactions that have begun and not ended wait. Answers whether there was a victim,
+/// which has then given everything back.
 fn break_deadlock(
     book: &mut Book<'_>,
     moves: &[Moves],
@@ -361,7 +362,7 @@ fn break_deadlock(
     }
 }
 
-/// Whether some have begun and not ended, and all of these wait.
+/// Whether some transactions have begun and not ended, and all of these wait.
 fn all_wait(places: &[Place]) -> bool {
     let mut some = false;
     for place in places {

@@ -1,4 +1,4 @@
-//! All orders, one after another.
+//! All orders of a schedule's moves, played one after another.
 ghost use Rattle.std.specs.Prelude.{◌≡◌, IfOk, MatchBool, OnOk};
 ghost use Rattle.hek_permute.specs.Found.{Found};
 ghost use Rattle.hek_permute.specs.Tallies.{Goes, IsNoted, IsPlayed, is_between};
@@ -14,14 +14,14 @@ use crate::tally::Tally;
 use hek_rules::{Schedule, TxnId};
 use std::alloc::Global;
 
-/// Who is shown each order with its outcome.
+/// Looks at each order with its outcome. No contract says what a watcher sees: tests alone show it.
 pub trait Watch {
-    /// Is called for each order that is played, in their order. Where it answers false no more are played.
+    /// `play_all` calls this for each order that it plays, in turn. After `false` it plays no more.
     fn see(&mut self, order: &[TxnId], outcome: &Outcome) -> bool;
 }
 
-/// Plays all orders of a schedule's moves that have a number from `from` on and below `to`, where the first in the order of a
-/// dictionary has the number 0. Each is played on a machine of its own.
+/// Plays all orders of a schedule's moves with a number from `from` on and below `to`, each on a new machine. The first
+/// order in a dictionary has the number 0.
 pub fn play_all<W: Watch>(
     alloc: Global,
     schedule: &Schedule,
@@ -68,7 +68,7 @@ fn advance(order: &mut Vec<TxnId>) -> bool
     next_order(order.as_mut_slice())
 }
 
-/// Plays one order, and notes its outcome, where it is in the part.
+/// Plays an order and notes its outcome, if the order is in the part.
 fn play_if<W: Watch>(
     alloc: Global,
     schedule: &Schedule,
@@ -88,7 +88,7 @@ fn play_if<W: Watch>(
     }
 }
 
-/// Plays one order, and notes its outcome.
+/// Plays an order and notes its outcome.
 fn play_one<W: Watch>(
     alloc: Global,
     schedule: &Schedule,

@@ -1,26 +1,26 @@
-//! What is asked of the command.
+//! What the command line asks the command to do.
 use hek_permute::Form;
 use hek_rules::{Level, number};
 
 /// What the words of the command line ask for.
 #[derive(Clone, Copy)]
 pub struct Choice<'a> {
-    /// The level of all transactions, where it isn't their own.
+    /// The level of all transactions, if not each one's own.
     pub level: Option<Level>,
     pub form: Form,
     /// The most orders that are played.
     pub limit: u64,
-    /// The part of this number, from 1, of so many.
+    /// The number of a part, from 1, and how many parts there are.
     pub part: (u64, u64),
-    /// A line for each order.
+    /// Whether to write a line for each order.
     pub each: bool,
-    /// The events of this order alone.
+    /// The names of one order, to write the events of that order alone.
     pub order: Option<&'a str>,
-    /// The outcomes at each level.
+    /// Whether to write the outcomes at each level.
     pub levels: bool,
 }
 
-/// The part that a text says, as `2/8`: its number, from 1, and the number of parts.
+/// The part that a text such as `2/8` names: its number, from 1, and the number of parts.
 pub fn part_of(text: &str) -> Option<(u64, u64)> {
     let (which, many) = text.split_once('/')?;
     let which = number(which.as_bytes())?;
@@ -31,15 +31,14 @@ pub fn part_of(text: &str) -> Option<(u64, u64)> {
     Some((which, many))
 }
 
-/// Of so many orders those of a part: the number of the first, from 0, and that behind the last. The parts are equal but for
-/// one order at most.
+/// The orders of a part: the number of the first, from 0, and the number after the last. Parts differ by one at most.
 pub(crate) fn range_of(count: u64, part: (u64, u64)) -> (u64, u64) {
     let (which, many) = part;
     let before = which.saturating_sub(1);
     (start_of(count, before, many), start_of(count, which, many))
 }
 
-/// The number of orders in so many of the first parts.
+/// How many of `count` orders the first `parts` of `many` parts have.
 fn start_of(count: u64, parts: u64, many: u64) -> u64 {
     let each = count.checked_div(many).unwrap_or(0);
     let rest = count.checked_rem(many).unwrap_or(0);

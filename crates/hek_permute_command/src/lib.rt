@@ -1,4 +1,4 @@
-//! The command `permute`: every order of a schedule's moves, and what they come to.
+//! The command `permute`: every order of a schedule's moves, and the outcomes.
 #![tactic(auto)]
 
 mod choice;

@@ -47,7 +47,7 @@ fn put_name(schedule: &Schedule, txn: TxnId, text: &mut Vec<u8>) -> Result<(), N
     Ok(())
 }
 
-/// An order: the names, with a space between.
+/// An order: the names, with one space between them.
 pub(crate) fn put_order(
     schedule: &Schedule,
     order: &[TxnId],
@@ -79,7 +79,7 @@ pub(crate) fn put_row(
     Ok(())
 }
 
-/// NoMemory where a text couldn't be written.
+/// NoMemory if a text could not be written.
 pub(crate) fn put_written(written: bool) -> Result<(), NoMemory> {
     if written { Ok(()) } else { Err(NoMemory) }
 }

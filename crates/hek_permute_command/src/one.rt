@@ -57,7 +57,7 @@ pub(crate) fn fault_of<'a>(fault: OrderFault) -> HekFault<'a> {
     }
 }
 
-/// The order that names say. It has each transaction as often as it has moves.
+/// The order that names give. Each transaction must occur in it as often as it has moves.
 fn order_named<'a>(
     alloc: Global,
     schedule: &Schedule,

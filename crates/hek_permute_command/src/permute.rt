@@ -1,18 +1,18 @@
-//! The command itself.
+//! The command `permute`: plays the orders that are asked for, and writes their outcomes.
 use crate::choice::{Choice, range_of};
 use crate::leveled::schedule_with;
 use crate::lines::{put_order, put_outcome, put_row, put_written};
 use crate::one::{fault_of, write_one};
-use crate::table::{LEVELS, put_table};
+use crate::table::put_table;
 use hek_commands::{HekFault, ScheduleFile, schedule_in, send};
 use hek_permute::{Form, Outcome, Tally, Watch, moves_of, order_count, play_all};
 use hek_rules::{Level, NoMemory, Schedule, TxnId};
 use std::alloc::Global;
 use std::io::{Read, Write};
 
-/// Plays all orders of the moves of the schedule that a file says, or what else the choice asks for, and writes what they come
-/// to. The answer is the exit status. Nothing is written before the last order is over. Where there are more orders than the
-/// limit, that is told to `faults`, and the status is 1.
+/// Plays all orders of the moves of the schedule in a file, or does what else the choice asks for, and writes the
+/// outcomes. Answers the exit status. Nothing is written before the last order is over. If there are more orders than
+/// the limit, `faults` says so, and the status is 1.
 pub fn permute_command<'a, R: Read + Drop, W: Write, E: Write>(
     alloc: Global,
     file: ScheduleFile<R>,
@@ -59,7 +59,7 @@ fn at_order<'a, W: Write>(
     write_one(alloc, &leveled, choice.form, names, out)
 }
 
-/// The orders of the part, from the number of the first to that behind the last; None where they are too many.
+/// The orders of the part: the number of the first and the number after the last; None if there are too many.
 fn range<'a, E: Write>(
     alloc: Global,
     schedule: &Schedule,
@@ -84,7 +84,7 @@ fn range<'a, E: Write>(
     Ok(Some((from, to)))
 }
 
-/// The lines of the orders at the level that is asked for.
+/// The lines of the orders at the chosen level.
 fn put_orders<'a>(
     alloc: Global,
     schedule: &Schedule,
@@ -103,7 +103,7 @@ fn put_orders<'a>(
     }
 }
 
-/// Who watches nothing.
+/// A watcher that looks at nothing.
 #[derive(Drop)]
 struct Blind;
 
@@ -113,7 +113,7 @@ impl Watch for Blind {
     }
 }
 
-/// The tally of the orders, those that are met most first.
+/// The tally of the orders, the most frequent outcomes first.
 fn tally_of<'a>(
     alloc: Global,
     schedule: &Schedule,
@@ -151,7 +151,7 @@ fn put_heading(orders: u64, outcomes: usize, text: &mut Vec<u8>) -> Result<(), N
     put_written(writeln!(text, "orders {orders} outcomes {outcomes}").is_ok())
 }
 
-/// Who gathers a line for each order.
+/// A watcher that gathers a line for each order.
 #[derive(Drop)]
 struct Lines<'s> {
     alloc: Global,
@@ -214,7 +214,7 @@ fn put_levels<'a>(
     text: &mut Vec<u8>,
 ) -> Result<(), HekFault<'a>> {
     let mut tallies = Vec::new(alloc);
-    for level in LEVELS {
+    for level in Level::ALL {
         let tally = tally_at(alloc, schedule, level, form, from, to)?;
         if tallies.push(tally).is_err() {
             return Err(HekFault::NoMemory);

@@ -5,11 +5,8 @@ use hek_rules::{Level, NoMemory, Schedule};
 use std::alloc::Global;
 use std::io::Write;
 
-/// The levels of the table, in the order of its columns.
-pub(crate) const LEVELS: [Level; 3] = [Level::Serializable, Level::Repeatable, Level::Snapshot];
-
-/// The levels in a line, and a line for each outcome: how many orders have it at each level, and the outcome. The tallies are
-/// those of the levels, in order.
+/// A line of the levels, and a line for each outcome: how many orders have it at each level, and the outcome. There is
+/// one tally for each level, in the order of the levels.
 pub(crate) fn put_table(
     alloc: Global,
     schedule: &Schedule,
@@ -30,7 +27,7 @@ pub(crate) fn put_table(
 }
 
 fn put_levels(text: &mut Vec<u8>) -> Result<(), NoMemory> {
-    for (place, level) in LEVELS.iter().enumerate() {
+    for (place, level) in Level::ALL.iter().enumerate() {
         if place > 0 {
             text.push(b' ')?;
         }

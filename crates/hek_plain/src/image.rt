@@ -1,4 +1,4 @@
-//! Images read plainly: all bytes are gathered first, and judged then.
+//! Images read in a plain way: all bytes are gathered first, and then judged.
 mod front;
 mod gather;
 mod judge;

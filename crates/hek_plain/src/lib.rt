@@ -1,4 +1,4 @@
-//! Naive bodies of an image's loader and of the checker of serial order, to hold the fast ones against.
+//! Naive versions of an image's loader and of the checker of serial order, to compare the fast ones with.
 #![tactic(auto)]
 
 mod image;

@@ -1,4 +1,4 @@
--- The table of transactions after one kind of list of the world has changed.
+-- The table of transactions after one list of the world has changed.
 use Rattle.std.proofs.Common.{◌≡◌, ℕ, List, length}
 use Rattle.hek_rules.specs.declared.event.WriteEntry.{WriteEntry}
 use Rattle.hek_rules.specs.Listing.{seconds_of}
@@ -12,7 +12,7 @@ use Rattle.hek_refinement.specs.Shows.{ShowsTxns}
 use Rattle.hek_refinement.proofs.Entries.{each-list, even-all_waits, even-all_deps, even-read_set, even-write_set, even-bucket_set, even-waiting_list, even-dependents}
 use Rattle.hek_refinement.proofs.Rooms.{place-in}
 
--- other versions, and so other counts of waits
+-- the table shows the world with other versions and other counts of waits
 pub shows-versions : (x : TxnTable) (w : World) (ys : List Version) (W : List ℕ) → length W ≡ length x.waits →
     ((u : ℕ) → entry_at 0 W u ≡ waits (record w { versions = ys }) u) → ShowsTxns x w →
     ShowsTxns (record x { waits = W }) (record w { versions = ys })
@@ -28,7 +28,7 @@ shows-versions x w ys W long count s = record {
   dependents = s.dependents;
 }
 
--- and other read locks of t
+-- the table shows the world with other versions, read locks of t and counts of waits
 pub shows-reads : (x : TxnTable) (w : World) (ys : List Version) (S : List (ℕ × ℕ)) (W : List ℕ) (t : ℕ) (e : Entries ℕ) → Declared x t → length W ≡ length x.waits →
     ((u : ℕ) → entry_at 0 W u ≡ waits (record w { versions = ys; read_locks = S }) u) →
     ((u : ℕ) → (u ≡ t → ⊥) → seconds_of S u ≡ seconds_of w.read_locks u) → e.items ≡ seconds_of S t → ShowsTxns x w →
@@ -45,7 +45,7 @@ shows-reads x w ys S W t e d long count others this s = record {
   dependents = s.dependents;
 }
 
--- other write entries of t
+-- the table shows the world with other write entries of t
 pub shows-writes : (x : TxnTable) (w : World) (ws : List (ℕ × WriteEntry)) (t : ℕ) (e : Entries WriteEntry) → Declared x t →
     ((u : ℕ) → (u ≡ t → ⊥) → entries_of ws u ≡ entries_of w.writes u) → e.items ≡ entries_of ws t → ShowsTxns x w →
     ShowsTxns (with_write_set x t e) (record w { writes = ws })
@@ -61,7 +61,7 @@ shows-writes x w ws t e d others this s = record {
   dependents = s.dependents;
 }
 
--- other bucket locks of t
+-- the table shows the world with other bucket locks of t
 pub shows-bucket_locks : (x : TxnTable) (w : World) (locks : List (ℕ × ℕ)) (t : ℕ) (e : Entries ℕ) → Declared x t →
     ((u : ℕ) → (u ≡ t → ⊥) → seconds_of locks u ≡ seconds_of w.bucket_locks u) → e.items ≡ seconds_of locks t → ShowsTxns x w →
     ShowsTxns (with_bucket_set x t e) (record w { bucket_locks = locks })
@@ -77,7 +77,7 @@ shows-bucket_locks x w locks t e d others this s = record {
   dependents = s.dependents;
 }
 
--- others that wait for t, and so other counts of waits
+-- the table shows the world with other waiters of t and other counts of waits
 pub shows-waiters : (x : TxnTable) (w : World) (waiters : List (ℕ × ℕ)) (W : List ℕ) (t : ℕ) (e : Entries ℕ) → Declared x t → length W ≡ length x.waits →
     ((u : ℕ) → entry_at 0 W u ≡ waits (record w { waiters = waiters }) u) →
     ((u : ℕ) → (u ≡ t → ⊥) → seconds_of waiters u ≡ seconds_of w.waiters u) → e.items ≡ seconds_of waiters t → ShowsTxns x w →
@@ -94,7 +94,7 @@ shows-waiters x w waiters W t e d long count others this s = record {
   dependents = s.dependents;
 }
 
--- others that depend on t, and so other counts of dependences
+-- the table shows the world with other dependents of t and other counts of dependencies
 pub shows-dependents : (x : TxnTable) (w : World) (ps : List (ℕ × ℕ)) (D : List ℕ) (t : ℕ) (e : Entries ℕ) → Declared x t → length D ≡ length x.commit_deps →
     ((u : ℕ) → entry_at 0 D u ≡ commit_deps (record w { dependents = ps }) u) →
     ((u : ℕ) → (u ≡ t → ⊥) → seconds_of ps u ≡ seconds_of w.dependents u) → e.items ≡ seconds_of ps t → ShowsTxns x w →

@@ -17,7 +17,7 @@ use Rattle.hek_refinement.proofs.Stores.{word-shown}
 use Rattle.hek_refinement.proofs.Known.{present-known}
 use Rattle.hek_refinement.proofs.Frees.{is_waiting, freed_waits, freed-long, freed-entry, writer_freed-is, word-freed}
 
--- the writer has aborted
+-- whether the writer of a version has aborted
 abbrev pub ender_stale : List Txn → Ender → Bool
 ender_stale ts (EndedAt time) = false
 ender_stale ts (Held None no_more) = false
@@ -40,7 +40,7 @@ word-cleared ts count (Held (Some u) no_more) = either (is_aborted (txn_in ts u)
     either true = word-freed count u no_more
     either false = refl
 
--- the word of a version once an aborted writer is gone
+-- the word of a version after an aborted writer is cleared
 pub clear-shown : (s : Stored) (x : TxnTable) (w : World) (v : ℕ) → ShowsStore s w.buckets w.versions w.read_locks → ShowsTxns x w →
     cleared_word x.cores (version_at s v).end ≡ end_word_by (readers w.read_locks v) (cleared w.txns (version_in w.versions v).ender)
 clear-shown s x w v h q =
@@ -69,7 +69,7 @@ pub cleared_waits-is : (x : TxnTable) (count : ℕ) (e : Ender) → cleared_wait
 cleared_waits-is x count e =
     ap (λ b. if b then writer_freed x (end_word_by count e) else x) (stale-shown x.cores count e) ∙ stale-is (ender_stale x.cores e) x count e
 
--- the counters of a table, once an aborted writer of the version is gone
+-- the counters after an aborted writer of the version is cleared
 pub waits-cleared : (s : Stored) (x : TxnTable) (w : World) (v : ℕ) → ShowsStore s w.buckets w.versions w.read_locks → ShowsTxns x w →
     cleared_waits x (version_at s v).end
     ≡ record x { waits = stale_waits (ender_stale w.txns (version_in w.versions v).ender) x.waits (readers w.read_locks v) (version_in w.versions v).ender }
@@ -78,7 +78,7 @@ waits-cleared s x w v h q =
     ∙ cleared_waits-is x (readers w.read_locks v) (version_in w.versions v).ender
     ∙ ap (λ ts. record x { waits = stale_waits (ender_stale ts (version_in w.versions v).ender) x.waits (readers w.read_locks v) (version_in w.versions v).ender }) q.cores
 
--- ---- what the calls ask
+-- ---- what the calls require
 
 knows : (x : TxnTable) (w : World) (count : ℕ) (e : Ender) → ShowsTxns x w → IsSoundEnder w e → KnowsWriter x (end_word_by count e)
 knows x w count (EndedAt time) q k = tt

@@ -1,4 +1,4 @@
--- A transaction commits or aborts: none depends on it any more, and the counters of those that did fall.
+-- A transaction commits or aborts: no transaction depends on it any more, and the counters of its dependents fall.
 use Rattle.std.proofs.Common.{◌≡◌, ℕ, ◌+◌, ◌-◌, ◌<◌, ◌≤◌, List, [], ◌∷◌, refl, ◌∙◌, ap, sym, arith, length}
 use Rattle.std.proofs.lemmas.Bool.Decides.{nat_tests}
 use Rattle.std.specs.Prelude.{◌==◌}
@@ -11,7 +11,7 @@ use Rattle.hek_rules.specs.Shown.{dependents_of}
 use Rattle.hek_txn.specs.Entries.{Entries}
 use Rattle.hek_txn.specs.TxnTable.{TxnTable, Declared, entry_at, set_at, dependents_of as dependents_in, with_dependents}
 use Rattle.hek_txn.specs.TxnLemmas.{length_set_at, length_set_txn}
-use Rattle.hek_commit.specs.Committed.{AreCounted, lowered, in_state, committed, aborted}
+use Rattle.hek_commit.specs.Committed.{AreCounted, lowered, in_state, table_after_commit, table_after_abort}
 use Rattle.hek_laws.specs.Lists.{Once}
 use Rattle.hek_refinement.specs.Shows.{ShowsTxns}
 use Rattle.hek_refinement.proofs.Pairs.{bit, head-once, seconds-without_same, seconds-without_other, firsts-without_count}
@@ -20,7 +20,7 @@ use Rattle.hek_refinement.proofs.Rooms.{place-in}
 use Rattle.hek_refinement.proofs.Raised.{entry-lowered}
 use Rattle.hek_laws.proofs.Table.SetTxns.{length-doom}
 
--- how often a number stands in a list
+-- how often a number is in a list
 abbrev pub times_in : List ℕ → ℕ → ℕ
 times_in [] u = 0
 times_in (x ∷ xs) u = bit (x == u) + times_in xs u
@@ -34,7 +34,7 @@ pub length-lowered : (commit_deps xs : List ℕ) → length (lowered commit_deps
 length-lowered commit_deps [] = refl
 length-lowered commit_deps (x ∷ xs) = length-lowered (set_at commit_deps x (entry_at 0 commit_deps x - 1)) xs ∙ length_set_at commit_deps x _
 
--- a pair stands once, so the second stands once beside the first
+-- a pair that occurs once has its second part once among those of its first part
 times-seconds : (ps : List (ℕ × ℕ)) (t u : ℕ) → Once ps → times_in (seconds_of ps t) u ≡ bit (has ps t u)
 times-seconds [] t u o = refl
 times-seconds (p ∷ ps) t u o =
@@ -49,7 +49,7 @@ counted-by commit_deps (x ∷ xs) h = (
   counted-by (set_at commit_deps x (entry_at 0 commit_deps x - 1)) xs (λ u. let low = entry-lowered commit_deps x u in let old = h u in omega (arith, low, old)),
 )
 
--- who stands beside another is counted there
+-- a pair counts among the first parts of its second part
 has-counts : (ps : List (ℕ × ℕ)) (t u : ℕ) → bit (has ps t u) ≤ length (firsts_of ps u)
 has-counts [] t u = omega arith
 has-counts (p ∷ ps) t u = let rest = has-counts ps t u in grind (arith, nat_tests, rest)
@@ -60,7 +60,7 @@ dependents-counted x w t once s =
     let listed = ap (λ xs. times_in xs u) (s.dependents t) ∙ times-seconds w.dependents t u once in
     let counts = has-counts w.dependents t u in let shown = s.commit_deps u in omega (arith, listed, counts, shown))
 
--- the table once none depends on t any more
+-- the table without dependents of t
 abbrev pub undepended : TxnTable → ℕ → List Txn → Entries ℕ → TxnTable
 undepended x t cores e = with_dependents (record x { cores = cores; commit_deps = lowered x.commit_deps (dependents_in x t).items }) t e
 
@@ -90,13 +90,13 @@ shows-undepended x w t cores txns e d once long same empty s =
     }
 
 pub shows-commit : (x : TxnTable) (w : World) (t : ℕ) (e : Entries ℕ) → Declared x t → Once w.dependents → e.items ≡ [] → ShowsTxns x w →
-    ShowsTxns (with_dependents (committed x t) t e) (commit w t)
+    ShowsTxns (with_dependents (table_after_commit x t) t e) (commit w t)
 shows-commit x w t e d once empty s =
     shows-undepended x w t (in_state x.cores t Committed) _ e d once (length_set_txn x.cores t _)
     (ap (λ ts. in_state ts t Committed) s.cores) empty s
 
 pub shows-abort : (x : TxnTable) (w : World) (t : ℕ) (cause : Cause) (e : Entries ℕ) → Declared x t → Once w.dependents → e.items ≡ [] → ShowsTxns x w →
-    ShowsTxns (with_dependents (aborted x t cause) t e) (abort w t cause)
+    ShowsTxns (with_dependents (table_after_abort x t cause) t e) (abort w t cause)
 shows-abort x w t cause e d once empty s =
     let ts : List Txn = in_state x.cores t (Aborted cause) in
     shows-undepended x w t (doom (in_state x.cores t (Aborted cause)) (dependents_in x t).items) _ e d once

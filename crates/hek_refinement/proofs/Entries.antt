@@ -1,4 +1,4 @@
--- One list for each transaction: what each ID leads to once one of them is another.
+-- A list for each transaction: the elements of all IDs after one element changes.
 use Rattle.std.proofs.Common.{◌≡◌, ℕ, ◌<◌, ◌≤◌, List, ◌∙◌, sym, subst, ⊎_elim, length}
 use Rattle.std.proofs.lemmas.Bool.{cases_eq}
 use Rattle.hek_rules.specs.declared.event.WriteEntry.{WriteEntry}
@@ -13,7 +13,7 @@ pub record HasPlace {X : Type 0} (xs : List X) (t : ℕ) : Type 0 where
   pub named : 0 < t
   pub within : t ≤ length xs
 
--- what holds at each ID, after one of them leads to another thing
+-- a property of each ID holds after one element changes, if it holds of the new element
 pub each-entry : {X : Type 0} (P : ℕ → X → Type 0) (d : X) (xs : List X) (t : ℕ) (x : X) → HasPlace xs t →
     ((u : ℕ) → (u ≡ t → ⊥) → P u (entry_at d xs u)) → P t x → (u : ℕ) → P u (entry_at d (set_at xs t x) u)
 each-entry P d xs t x h others this u =
@@ -22,7 +22,7 @@ each-entry P d xs t x h others this u =
     (λ ne. subst (P u) (sym (entry_at-other d xs t u x ne)) (others u ne))
     (cases_eq u t)
 
--- the members of each list, after one list is another
+-- the members of each list after one list changes
 pub each-list : {T : Type 0} (xs : List (Entries T)) (t : ℕ) (e : Entries T) (old new : ℕ → List T) → HasPlace xs t →
     ((u : ℕ) → (entry_at no_entries xs u).items ≡ old u) → ((u : ℕ) → (u ≡ t → ⊥) → new u ≡ old u) → e.items ≡ new t →
     (u : ℕ) → (entry_at no_entries (set_at xs t e) u).items ≡ new u

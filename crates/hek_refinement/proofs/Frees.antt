@@ -25,7 +25,7 @@ use Rattle.hek_refinement.proofs.Known.{present-known}
 abbrev pub is_waiting : ℕ → ℕ → Ender → Bool
 is_waiting u count e = is_held_by u e && nat_lt 0 count
 
--- the counters once the writer of a version waits for its readers no more
+-- the counters after the writer of a version stops waiting for its readers
 abbrev pub freed_waits : List ℕ → ℕ → Ender → List ℕ
 freed_waits ws count (EndedAt time) = ws
 freed_waits ws count (Held None no_more) = ws
@@ -54,7 +54,7 @@ freed-entry ws count (EndedAt time) u = omega arith
 freed-entry ws count (Held None no_more) u = omega arith
 freed-entry ws count (Held (Some x) no_more) u = freed_if ws x u (nat_lt 0 count)
 
--- the writer of a version, by its word
+-- the counter of the writer of a version, by its word
 readers_word-freed : (x : TxnTable) (count : ℕ) → writer_freed x (readers_alone count) ≡ x
 readers_word-freed x zero = refl
 readers_word-freed x (suc n) = refl
@@ -72,9 +72,9 @@ pub word-freed : (count u : ℕ) (no_more : Bool) → without_writer (end_word_b
 word-freed zero u no_more = refl
 word-freed (suc n) u no_more = cond-false (suc n == 0) (Until infinity) (Lock (suc n) None false) (grind (arith, nat_tests))
 
--- ---- what the calls ask
+-- ---- what the calls require
 
--- a version that it writes and others read counts
+-- a version that u writes and others read counts among u's waits
 pub waits-some : (R : List (ℕ × ℕ)) (vs : List Version) (v u : ℕ) → v < length vs → bit (is_waited_for R u v (version_in vs v)) ≤ version_waits R vs u
 waits-some R vs v u l =
     let gone : is_waited_for R u v (version_in (set_ender vs v (EndedAt 0)) v) ≡ false =

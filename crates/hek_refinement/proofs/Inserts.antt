@@ -1,4 +1,4 @@
--- A version is added: its maker comes to wait for those who lock its bucket.
+-- A version is added: its creator waits for the transactions that lock its bucket.
 use Rattle.std.proofs.Common.{◌≡◌, ℕ, zero, suc, ◌+◌, Bool, true, false, List, [], ◌∷◌, ◌++◌, refl, ◌∙◌, ap, sym, arith, None, ⊎_elim, length}
 use Rattle.std.proofs.lemmas.Bool.{cond-true, cond-false, cases_Bool, cases_eq}
 use Rattle.std.proofs.lemmas.Bool.Decides.{nat_tests}
@@ -56,7 +56,7 @@ length-added (y ∷ ys) x = let rest = length-added ys x in omega (arith, rest)
 new_version : ℕ → ℕ → ℕ → Version
 new_version t key value = record { key = key; value = value; creator = By t; ender = Held None false }
 
--- nobody read-locks a version that is not there yet
+-- nobody read-locks a version that does not exist yet
 unread : (w : World) → Sound w → readers w.read_locks (length w.versions) ≡ 0
 unread w o = ap length (firsts-none w.read_locks (length w.versions) (λ t h. let l = o.read_there t (length w.versions) h in absurd (omega (arith, l))))
 
@@ -97,7 +97,7 @@ places-added test i [] y h = ap length (cond-false (test i y) (i ∷ []) [] (h i
 places-added test i (x ∷ xs) y h =
     let a = step test i x (xs ++ y ∷ []) in let b = step test i x xs in let rest = places-added test (i + 1) xs y h in omega (arith, a, b, rest)
 
--- the write entry of the new version
+-- the table with the write entry of the new version
 pub shows-made_txns : (x : TxnTable) (w : World) (t key value : ℕ) (e : Entries WriteEntry) → Declared x t → Sound w →
     e.items ≡ joined same_entry (write_set_of x t).items (BeginOf (length w.versions)) → ShowsTxns x w →
     ShowsTxns (with_write_set x t e) (record w {
@@ -118,7 +118,7 @@ shows-made_txns x w t key value e d o items q =
 
 -- ---- waits for the holders
 
--- waiting lists, and how much t waits for by them, show the pairs
+-- waiting lists, and the count of t's waits in them, show the pairs
 record ShowsWaiting (z : Waiting) (t base : ℕ) (P : List (ℕ × ℕ)) : Type 0 where
   lists : (h : ℕ) → entry_at [] z.lists h ≡ seconds_of P h
   waits : z.waits ≡ base + length (firsts_of P t)

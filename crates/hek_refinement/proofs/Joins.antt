@@ -1,4 +1,4 @@
--- A pair joins: a bucket is locked, a transaction comes to depend on another, or to wait for it by a bucket.
+-- A pair joins: a bucket is locked, a transaction depends on another, or waits for another because of a bucket.
 use Rattle.std.proofs.Common.{◌≡◌, ℕ, ◌+◌, ◌<◌, Bool, true, false, List, [], ◌∷◌, ◌++◌, refl, ◌∙◌, ap, sym, arith, ⊎_elim, length, nat_eq}
 use Rattle.std.proofs.lemmas.Bool.{cond-true, cond-false, cases_Bool, cases_eq}
 use Rattle.std.proofs.lemmas.Bool.Decides.{nat_tests}
@@ -27,7 +27,7 @@ join-there ps a b h = cond-true (has ps a b) ps (ps ++ (a, b) ∷ []) h
 join-new : (ps : List (ℕ × ℕ)) (a b : ℕ) → has ps a b ≡ false → join ps a b ≡ ps ++ (a, b) ∷ []
 join-new ps a b h = cond-false (has ps a b) ps (ps ++ (a, b) ∷ []) h
 
--- a list joins a member as pairs do
+-- a list that has the member stays, as pairs do
 pub joined-there : (xs : List ℕ) (x : ℕ) → is_among xs x ≡ true → joined nat_eq xs x ≡ xs
 joined-there xs x h = cond-true _ xs (xs ++ x ∷ []) (among_flipped xs x ∙ h)
 
@@ -60,7 +60,7 @@ length-add : (xs : List ℕ) (x : ℕ) → length (xs ++ x ∷ []) ≡ length xs
 length-add [] x = refl
 length-add (y ∷ ys) x = let rest = length-add ys x in omega (arith, rest)
 
--- how many firsts each second has then
+-- how many first parts each second part has after a pair joins
 pub firsts-join_count : (ps : List (ℕ × ℕ)) (a b c : ℕ) → length (firsts_of (join ps a b) c) ≡ length (firsts_of ps c) + bit (not (has ps a b) && (b == c))
 firsts-join_count ps a b c =
     ⊎_elim
@@ -102,7 +102,7 @@ shows-locked_txns x w t b e d items s =
 
 -- ---- counters
 
--- one counter is higher, unless the pair stands already
+-- the counters after a pair joins: one is higher, unless the pair was there
 abbrev pub raised : Bool → List ℕ → ℕ → List ℕ
 raised there ns u = if there then ns else set_at ns u (entry_at 0 ns u + 1)
 

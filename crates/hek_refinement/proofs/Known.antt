@@ -1,4 +1,4 @@
--- Who is named in a list or a word of a sound world is declared.
+-- A transaction that a list or a word of a sound world names is declared.
 use Rattle.std.proofs.Common.{◌≡◌, ℕ, zero, suc, ◌<◌, true, false, List, [], ◌∷◌, ◌∙◌, ap, sym, arith, length}
 use Rattle.std.specs.Prelude.{slice_index_or}
 use Rattle.std.proofs.lemmas.Bool.Decides.{nat_tests}
@@ -18,7 +18,7 @@ begun-known x w u s h =
 pub present-known : (x : TxnTable) (w : World) (u : ℕ) → ShowsTxns x w → is_present (txn_in w.txns u).state ≡ true → Declared x u
 present-known x w u s h = begun-known x w u s (present-begun (txn_in w.txns u).state h)
 
--- what stands at a place of a list is in it
+-- an element at a place of a list is in the list
 pub among-at : (xs : List ℕ) (k d : ℕ) → k < length xs → is_among xs (slice_index_or xs k d) ≡ true
 among-at [] k d h = absurd (omega (arith, h))
 among-at (x ∷ xs) zero d h = grind (arith, nat_tests)

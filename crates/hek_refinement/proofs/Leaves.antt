@@ -1,4 +1,4 @@
--- A bucket lock goes, and a wait by a bucket.
+-- A bucket lock leaves, or a wait because of a bucket.
 use Rattle.std.proofs.Common.{◌≡◌, ℕ, ◌+◌, ◌-◌, ◌<◌, true, false, List, ◌∙◌, ap, sym, subst, arith, ⊎_elim, length, nat_eq, length-set, get_or-set_same, get_or-set_other}
 use Rattle.std.proofs.lemmas.Bool.{cases_eq}
 use Rattle.std.proofs.lemmas.Bool.Decides.{nat_tests}
@@ -16,7 +16,7 @@ use Rattle.hek_refinement.proofs.Pairs.{bit, has-readers, firsts-leave_count, fi
 use Rattle.hek_refinement.proofs.Raised.{entry-lowered}
 use Rattle.hek_refinement.proofs.Changes.{shows-bucket_locks, shows-waiters}
 
--- another list of one bucket
+-- the lists show the bucket locks after the list of one bucket changes
 pub shows-holders : (lists : List (Entries ℕ)) (n : ℕ) (P Q : List (ℕ × ℕ)) (b : ℕ) (e : Entries ℕ) → b < n →
     ((c : ℕ) → (c ≡ b → ⊥) → firsts_of Q c ≡ firsts_of P c) → e.items ≡ firsts_of Q b → ShowsBuckets lists n P → ShowsBuckets (with_holders lists b e) n Q
 shows-holders lists n P Q b e l others this h = record {
@@ -42,7 +42,7 @@ shows-unlocked_txns x w t b e d once items s =
     shows-bucket_locks x w (leave w.bucket_locks t b) t e d (λ u ne. seconds-leave_other w.bucket_locks t b u ne)
     (items ∙ ap (remove_key (nat_eq b)) (s.bucket_sets t) ∙ sym (seconds-leave_same w.bucket_locks t b once)) s
 
--- a pair leaves, and each second part has one first part less, or as many
+-- how many first parts each second part has after a pair leaves: one less for its own
 firsts-leave_each : (ps : List (ℕ × ℕ)) (a b c : ℕ) → Once ps → has ps a b ≡ true → length (firsts_of (leave ps a b) c) + bit (b == c) ≡ length (firsts_of ps c)
 firsts-leave_each ps a b c once h =
     ⊎_elim
@@ -63,6 +63,6 @@ shows-unwaited x w t u e d once h items s =
     (λ v ne. seconds-leave_other w.waiters t u v ne)
     (items ∙ ap (remove_key (nat_eq u)) (s.waiting_lists t) ∙ sym (seconds-leave_same w.waiters t u once)) s
 
--- who waits counts that
+-- a transaction that waits counts that wait
 pub waiter-counted : (x : TxnTable) (w : World) (t u : ℕ) → has w.waiters t u ≡ true → ShowsTxns x w → 0 < waits_of x u
 waiter-counted x w t u h s = let some = has-readers w.waiters t u h in let n = s.waits u in omega (arith, some, n)

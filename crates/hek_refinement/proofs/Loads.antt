@@ -1,4 +1,4 @@
--- What was loaded shows the opening world.
+-- A loaded store, table and lock lists show the opening world.
 use Rattle.std.proofs.Common.{◌≡◌, ℕ, zero, suc, ◌+◌, List, [], ◌∷◌, map, refl, ◌∙◌, ap, sym, length}
 use Rattle.std.specs.Prelude.{replicate, slice_index_or}
 use Rattle.std.proofs.lemmas.List.{length-map}

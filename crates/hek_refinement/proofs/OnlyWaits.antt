@@ -1,4 +1,4 @@
--- Which calls change counters of waits or of dependences alone.
+-- Calls that change counters of waits or of dependencies alone.
 use Rattle.std.proofs.Common.{◌≡◌, ℕ, ◌+◌, Bool, true, false, Some, None, refl, ◌∙◌, ap}
 use Rattle.std.specs.Prelude.{◌==◌, nat_lt, if◌then◌else◌}
 use Rattle.hek_rules.specs.Listing.{is_among}

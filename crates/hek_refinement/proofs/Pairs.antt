@@ -1,4 +1,4 @@
--- Lists of pairs as one transaction, or one bucket or version, sees them: what joins, and what leaves.
+-- The pairs of one transaction, bucket or version in a list of pairs, after a pair joins or leaves.
 use Rattle.std.proofs.Common.{◌≡◌, ℕ, ◌+◌, ◌<◌, Bool, true, false, List, [], ◌∷◌, ◌++◌, refl, arith, Some, ⊎_elim, length}
 use Rattle.std.proofs.lemmas.Bool.{cases_Bool}
 use Rattle.std.proofs.lemmas.Bool.Decides.{nat_tests}
@@ -15,11 +15,11 @@ abbrev pub bit : Bool → ℕ
 bit true = 1
 bit false = 0
 
--- what stands nowhere is not found
+-- a pair that is not in the list is not found
 pub has-not : (ps : List (ℕ × ℕ)) (a b : ℕ) → (In (a, b) ps → ⊥) → has ps a b ≡ false
 has-not ps a b h = ⊎_elim (λ yes. absurd (h (has-In ps a b yes))) (λ no. no) (cases_Bool (has ps a b))
 
--- the head of a list stands nowhere else in it
+-- the head of a list of distinct pairs is not in its tail
 pub head-once : (p : ℕ × ℕ) (ps : List (ℕ × ℕ)) → Once (p ∷ ps) → has ps p.0 p.1 ≡ false
 head-once p ps h = has-not ps p.0 p.1 h.0
 

@@ -28,7 +28,7 @@ lowered_place (x ∷ xs) zero (suc j) = less_none (slice_index_or xs j 0) _ (no_
 lowered_place (x ∷ xs) (suc i) zero = less_none x _ (no_bit_back i)
 lowered_place (x ∷ xs) (suc i) (suc j) = lowered_place xs i j ∙ ap (λ b. slice_index_or xs j 0 - b) (sym (same_bit i j))
 
--- at whatever ID: one that has no place leads to 0, and stays there
+-- the counter of any ID after one is lowered; an ID without a place has 0
 pub entry-lowered : (xs : List ℕ) (x u : ℕ) → entry_at 0 (set_at xs x (entry_at 0 xs x - 1)) u ≡ entry_at 0 xs u - bit (x == u)
 entry-lowered xs zero zero = refl
 entry-lowered xs zero (suc j) = less_none (slice_index_or xs j 0) _ (no_bit j)

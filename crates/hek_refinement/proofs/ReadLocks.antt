@@ -10,7 +10,7 @@ use Rattle.hek_rules.specs.World.{World, Version, Txn, Ender, EndedAt, Held, ver
 use Rattle.hek_rules.specs.Waits.{readers, waits, is_waited_for}
 use Rattle.hek_rules.specs.Locks.{cleared, set_ender, reads_freely, read_refusal, add_read}
 use Rattle.hek_rules.specs.Shown.{end_word_by, readers_alone}
-use Rattle.hek_store.specs.Stored.{Stored, version_at, with_end}
+use Rattle.hek_store.specs.Stored.{Stored, version_at, with_end_word}
 use Rattle.hek_txn.specs.Entries.{Entries, joined}
 use Rattle.hek_txn.specs.TxnTable.{TxnTable, Declared, entry_at, set_at, waits_of, read_set_of, with_read_set}
 use Rattle.hek_txn.specs.TxnLemmas.{length_set_at}
@@ -31,7 +31,7 @@ use Rattle.hek_refinement.proofs.Frees.{is_waiting, waits-some}
 use Rattle.hek_refinement.proofs.Clears.{ender_stale, clear-shown, stale_waits, stale-long, stale-entry, waits-cleared}
 use Rattle.hek_refinement.proofs.Joins.{firsts-join_other, firsts-join_count, seconds-join_same, seconds-join_other}
 
--- ---- who needs no lock
+-- ---- transactions that need no lock
 
 pub free-same : (s : Stored) (x : TxnTable) (w : World) (t v : ℕ) → ShowsStore s w.buckets w.versions w.read_locks → ShowsTxns x w → freely s x t v ≡ reads_freely w t v
 free-same s x w t v h q =
@@ -56,7 +56,7 @@ may_add ts count (Held (Some u) false) h o n = (o.room, refl)
 
 -- ---- counters
 
--- the writer waits for the first reader
+-- the counters after a reader comes: the writer waits for its first reader
 abbrev pub first_waits : List ℕ → ℕ → Ender → List ℕ
 first_waits ws count (EndedAt time) = ws
 first_waits ws count (Held None no_more) = ws
@@ -96,9 +96,9 @@ first-is y zero (Held None no_more) = refl
 first-is y (suc n) (Held None no_more) = refl
 first-is y count (Held (Some u) no_more) = first_table (count == 0) y u
 
--- ---- the square
+-- ---- the call and the rule
 
--- one that it needs a lock for
+-- a version that t needs a read lock for, and may have one
 record NewReader (w : World) (t v : ℕ) : Type 0 where
   made : v < length w.versions
   free : Open w.txns (readers w.read_locks v) (cleared w.txns (version_in w.versions v).ender)
@@ -135,7 +135,7 @@ same_but w t v l =
     record { there = same.there; long = same.long; versions = same.versions; counts = λ j ne. ap length (firsts-join_other w.read_locks t v j ne) }
 
 joined_store : (s : Stored) (x : TxnTable) (w : World) (t v : ℕ) → NewReader w t v → ShowsStore s w.buckets w.versions w.read_locks → ShowsTxns x w →
-    ShowsStore (with_end s v (with_reader (cleared_word x.cores (version_at s v).end))) w.buckets (set_ender w.versions v (cleared w.txns (version_in w.versions v).ender)) (join w.read_locks t v)
+    ShowsStore (with_end_word s v (with_reader (cleared_word x.cores (version_at s v).end))) w.buckets (set_ender w.versions v (cleared w.txns (version_in w.versions v).ender)) (join w.read_locks t v)
 joined_store s x w t v r h q =
     let e : Ender = cleared w.txns (version_in w.versions v).ender in
     shows-end s w.buckets w.versions (set_ender w.versions v (cleared w.txns (version_in w.versions v).ender)) w.read_locks (join w.read_locks t v) v
@@ -143,7 +143,7 @@ joined_store s x w t v r h q =
     (same_but w t v r.made) (set_ender-same w.versions v e r.made)
     (ap with_reader (clear-shown s x w v h q) ∙ word-more (readers w.read_locks v) e r.held ∙ ap (λ n. end_word_by n e) (sym r.more)) h
 
--- who waits more, and who less
+-- the count of u's waits for the version, before and after a reader comes
 read_bits : (ts : List Txn) (count : ℕ) (e : Ender) (u : ℕ) →
     bit (is_held_by u (cleared ts e) && (count == 0)) + bit (is_waiting u count e)
     ≡ bit (ender_stale ts e && is_waiting u count e) + bit (is_held_by u (cleared ts e) && nat_lt 0 (suc count))
@@ -227,7 +227,7 @@ shows-read_store s x w t v m h q =
     (λ free. subst (λ z. ShowsStore z w.buckets (add_read w t v).versions (add_read w t v).read_locks) (sym (cond-true (freely s x t v) s _ (free-same s x w t v h q ∙ free)))
     (subst (λ (z : World). ShowsStore s w.buckets z.versions z.read_locks) (sym (cond-true (reads_freely w t v) w (joined_world w t v) free)) h))
     (λ bound. subst (λ z. ShowsStore z w.buckets (add_read w t v).versions (add_read w t v).read_locks) (sym (cond-false (freely s x t v) s _ (free-same s x w t v h q ∙ bound)))
-    (subst (λ (z : World). ShowsStore (with_end s v (with_reader (cleared_word x.cores (version_at s v).end))) w.buckets z.versions z.read_locks) (sym (cond-false (reads_freely w t v) w (joined_world w t v) bound))
+    (subst (λ (z : World). ShowsStore (with_end_word s v (with_reader (cleared_word x.cores (version_at s v).end))) w.buckets z.versions z.read_locks) (sym (cond-false (reads_freely w t v) w (joined_world w t v) bound))
     (joined_store s x w t v (new-reader w t v m bound) h q)))
     (cases_Bool (reads_freely w t v))
 
@@ -246,7 +246,7 @@ shows-read_txns s x w t v e d o m items h q =
     (joined_txns s x w t v e d o (new-reader w t v m bound) (items ∙ cond-false (freely s x t v) (read_set_of x t).items _ f) h q)))
     (cases_Bool (reads_freely w t v))
 
--- ---- what the call asks
+-- ---- what the call requires
 
 pub may-add : (s : Stored) (x : TxnTable) (w : World) (t v : ℕ) → MayRead w t v → ShowsStore s w.buckets w.versions w.read_locks → ShowsTxns x w →
     freely s x t v ≡ false → CanAdd (cleared_word x.cores (version_at s v).end)

@@ -14,7 +14,7 @@ use Rattle.hek_rules.specs.Waits.{readers, waits, is_waited_for}
 use Rattle.hek_rules.specs.Locks.{with_ender, set_ender}
 use Rattle.hek_rules.specs.Table.{drop_read, sealed, writer_left}
 use Rattle.hek_rules.specs.Shown.{end_word_by}
-use Rattle.hek_store.specs.Stored.{Stored, version_at, with_end}
+use Rattle.hek_store.specs.Stored.{Stored, version_at, with_end_word}
 use Rattle.hek_txn.specs.Entries.{Entries}
 use Rattle.hek_txn.specs.TxnTable.{TxnTable, Declared, entry_at, set_at, waits_of, read_set_of, with_read_set}
 use Rattle.hek_txn.specs.TxnLemmas.{length_set_at}
@@ -31,7 +31,7 @@ use Rattle.hek_refinement.proofs.Known.{present-known}
 
 -- ---- the version and its word
 
--- the versions once so many readers are left
+-- the versions after a reader leaves `count` readers
 abbrev pub after_leave : List Version → ℕ → ℕ → List Version
 after_leave vs v count = if count == 0 then set_ender vs v (sealed (version_in vs v).ender) else vs
 
@@ -57,7 +57,7 @@ leave-same vs v count l =
 held-sealed_at : (u count : ℕ) (e : Ender) → is_held_by u (sealed_at count e) ≡ is_held_by u e
 held-sealed_at u count e = cond_both (count == 0) (sealed e) e (λ x. is_held_by u x ≡ is_held_by u e) (λ _. held-sealed u e) (λ _. refl)
 
--- which reader goes, from how many are left and the writer
+-- what a reader that goes leaves, by the count of readers left and the writer
 abbrev pub drop_kind : ℕ → Option ℕ → Dropped
 drop_kind count w = if count == 0 then last_of w else More
 
@@ -96,7 +96,7 @@ told-kind zero (Held None no_more) = refl
 told-kind zero (Held (Some u) no_more) = refl
 told-kind (suc n) e = ap left_writer (cond-false (suc n == 0) (last_of (ender_writer e)) More (none_of n)) ∙ sym (cond-false (suc n == 0) (ender_writer e) None (none_of n))
 
--- ---- the writer that is told
+-- ---- the writer that a last reader leaves
 
 abbrev pub is_told : ℕ → Dropped → Bool
 is_told u More = false
@@ -109,7 +109,7 @@ is_told-kind u zero (Held None no_more) = refl
 is_told-kind u zero (Held (Some x) no_more) = grind (arith, nat_tests)
 is_told-kind u (suc n) e = let z = none_of n in ap (is_told u) (cond-false (suc n == 0) (last_of (ender_writer e)) More z) ∙ grind (arith, nat_tests)
 
--- counters once the writer is told
+-- the counters after a reader goes: the writer that a last reader leaves waits for one less
 abbrev pub less_waits : Dropped → List ℕ → List ℕ
 less_waits More ws = ws
 less_waits Free ws = ws
@@ -130,9 +130,9 @@ less-entry More ws u = omega arith
 less-entry Free ws u = omega arith
 less-entry (Last x) ws u = entry-lowered ws x u
 
--- ---- the square
+-- ---- the call and the rule
 
--- t read-locks v
+-- a version v that t read-locks: it exists, is held, and has one reader less after t leaves
 pub record Reading (w : World) (t v : ℕ) : Type 0 where
   pub made : v < length w.versions
   pub held : is_held (version_in w.versions v).ender ≡ true
@@ -166,7 +166,7 @@ pub told-same : (s : Stored) (w : World) (t v : ℕ) → Reading w t v → Shows
 told-same s w t v r h = ap left_writer (dropped s w t v r h) ∙ told-kind (readers (leave w.read_locks t v) v) (version_in w.versions v).ender
 
 pub shows-released_store : (s : Stored) (w : World) (t v : ℕ) → Reading w t v → ShowsStore s w.buckets w.versions w.read_locks →
-    ShowsStore (with_end s v (without_reader (version_at s v).end)) w.buckets (drop_read w t v).versions (drop_read w t v).read_locks
+    ShowsStore (with_end_word s v (without_reader (version_at s v).end)) w.buckets (drop_read w t v).versions (drop_read w t v).read_locks
 shows-released_store s w t v r h =
     let count : ℕ = readers (leave w.read_locks t v) v in
     shows-end s w.buckets w.versions (after_leave w.versions v (readers (leave w.read_locks t v) v)) w.read_locks (leave w.read_locks t v) v
@@ -181,7 +181,7 @@ bits true count before after all h e = let one = ap bit (lt-ltb 0 before h) in c
     counted (suc n) r = let was = ap bit (lt-ltb 0 before h) in let now = ap bit (lt-ltb 0 (suc n) (omega arith)) in let b = ap bit (none_of n) in omega (arith, r, was, now, b)
 bits false count before after all h e = omega (arith, e)
 
--- who writes a version whose last reader goes waits for one less
+-- the writer of a version whose last reader goes waits for one less
 waits-drop : (w : World) (t v u : ℕ) → Reading w t v →
     waits (drop_read w t v) u + bit (is_held_by u (version_in w.versions v).ender && (readers (leave w.read_locks t v) v == 0)) ≡ waits w u
 waits-drop w t v u r =
@@ -218,7 +218,7 @@ shows-released_txns s x w t v e d o r items h q =
     (λ u ne. seconds-leave_other w.read_locks t v u ne)
     (items ∙ ap (remove_key (nat_eq v)) (q.read_sets t) ∙ sym (seconds-leave_same w.read_locks t v o.reads_once)) q)
 
--- ---- what the call asks
+-- ---- what the call requires
 
 pub has-reader : (s : Stored) (w : World) (t v : ℕ) → Reading w t v → ShowsStore s w.buckets w.versions w.read_locks → 0 < readers_of (version_at s v).end
 has-reader s w t v r h =

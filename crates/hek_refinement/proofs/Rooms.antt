@@ -1,4 +1,4 @@
--- Room says nothing of the world.
+-- Lists with other room show the same world.
 use Rattle.std.proofs.Common.{◌≡◌, ℕ, List, refl, ◌∙◌, arith, length}
 use Rattle.hek_rules.specs.declared.event.WriteEntry.{WriteEntry}
 use Rattle.hek_rules.specs.World.{World}
@@ -8,7 +8,7 @@ use Rattle.hek_txn.specs.TxnTable.{TxnTable, Declared, read_set_of, write_set_of
 use Rattle.hek_refinement.specs.Shows.{ShowsTxns}
 use Rattle.hek_refinement.proofs.Entries.{HasPlace, each-list, even-read_set, even-write_set, even-bucket_set, even-waiting_list, even-dependents}
 
--- who is declared has a place in a list that is as long
+-- a declared transaction has a place in a list of the table's length
 pub place-in : {X : Type 0} (xs : List X) (x : TxnTable) (t : ℕ) → length xs ≡ length x.cores → Declared x t → HasPlace xs t
 place-in xs x t e d = record { named = d.named; within = let l = d.within in omega (arith, l, e) }
 

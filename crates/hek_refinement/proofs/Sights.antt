@@ -1,4 +1,4 @@
--- What a reader sees by the words is what it sees in the world, and so is what refuses it a lock.
+-- What a reader sees by the words is what it sees in the world, and a lock is refused by the words as in the world.
 use Rattle.std.proofs.Common.{◌≡◌, ℕ, zero, suc, ◌<◌, Bool, true, false, List, refl, ◌∙◌, ap, sym, arith, Some, None}
 use Rattle.std.proofs.lemmas.Bool.{cond-false}
 use Rattle.std.proofs.lemmas.Bool.Decides.{nat_tests}
@@ -23,9 +23,9 @@ use Rattle.hek_refinement.proofs.Clears.{clear-shown}
 use Rattle.hek_refinement.proofs.ReadLocks.{free-same}
 use Rattle.hek_refinement.proofs.WriteLocks.{cleared-flag}
 
--- ---- who ended a version, by its word
+-- ---- the ender of a version, by its word
 
--- the word says who ended the version
+-- the ender that a word shows is that of its version
 pub ender-same : (w : World) (n : ℕ) (e : Ender) → w.clock < infinity → IsSoundEnder w e → IsSoundFlag n e → ender_of (end_word_by n e) ≡ e
 ender-same w n (EndedAt time) l k f = let ne : (time == infinity) ≡ false = grind (arith, nat_tests, l, k) in cond-false (time == infinity) (Held None false) (EndedAt time) ne
 ender-same w zero (Held None no_more) l k f = ap (Held None) (sym f)
@@ -81,7 +81,7 @@ write-refused s x w v o h q =
     ∙ ap write_refusal (ender-same w (readers w.read_locks v) (cleared w.txns (version_in w.versions v).ender) o.bounded
     (sound-cleared w (version_in w.versions v).ender (o.enders v)) (cleared-flag w.txns (readers w.read_locks v) (version_in w.versions v).ender (o.flags v)))
 
--- ---- what the calls ask
+-- ---- what the calls require
 
 creator-named : (x : TxnTable) (w : World) (b : BeginRecord) → ShowsTxns x w → IsSoundCreator w b → NamesCreator x b
 creator-named x w (At time) q k = tt

@@ -1,4 +1,4 @@
--- Words are stamped, and write entries go.
+-- Words are stamped, and write entries leave.
 use Rattle.std.proofs.Common.{◌≡◌, ℕ, zero, suc, ◌+◌, ◌<◌, true, false, List, [], ◌∷◌, refl, ◌∙◌, ap, sym, arith, inl, inr, Some, None, ⊎_elim, length}
 use Rattle.std.proofs.lemmas.Bool.{cond-true, cond-false, cases_Bool, cases_eq}
 use Rattle.std.proofs.lemmas.Bool.Decides.{nat_tests}
@@ -12,7 +12,7 @@ use Rattle.hek_rules.specs.Waits.{readers, waits, is_waited_for}
 use Rattle.hek_rules.specs.Locks.{set_ender}
 use Rattle.hek_rules.specs.Table.{entries_of, without_entry, set_creator, given_back}
 use Rattle.hek_rules.specs.Shown.{end_word_by}
-use Rattle.hek_store.specs.Stored.{Stored, version_at, with_begin, with_end}
+use Rattle.hek_store.specs.Stored.{Stored, version_at, with_begin_word, with_end_word}
 use Rattle.hek_txn.specs.Entries.{Entries}
 use Rattle.hek_txn.specs.TxnTable.{TxnTable, Declared, write_set_of, with_write_set}
 use Rattle.hek_locks.specs.Locked.{writer_freed}
@@ -38,21 +38,21 @@ first-written (p ∷ ps) t e es h =
     (λ no. inr (first-written ps t e es (sym (cond-false (p.0 == t) (p.1 ∷ entries_of ps t) (entries_of ps t) no) ∙ h)))
     (cases_Bool (p.0 == t))
 
--- the entry of t goes
+-- the table after the first entry of t's write set leaves
 pub shows-unwritten : (x : TxnTable) (w : World) (t : ℕ) (e : Entries WriteEntry) → Declared x t → e.items ≡ rest_of (write_set_of x t).items → ShowsTxns x w →
     ShowsTxns (with_write_set x t e) (record w { writes = without_entry w.writes t })
 shows-unwritten x w t e d items s =
     shows-writes x w (without_entry w.writes t) t e d (λ u ne. entries-without_other w.writes t u ne)
     (items ∙ ap rest_of (s.write_sets t) ∙ sym (entries-without_same w.writes t)) s
 
--- nobody comes to wait, and nobody ceases to
+-- the table shows the world with other versions, if no count of waits changes
 quiet : (x : TxnTable) (w : World) (ys : List Version) → ((u : ℕ) → waits (record w { versions = ys }) u ≡ waits w u) → ShowsTxns x w → ShowsTxns x (record w { versions = ys })
 quiet x w ys same s = shows-versions x w ys x.waits refl (λ u. s.waits u ∙ sym (same u)) s
 
 -- ---- a Begin word
 
 pub shows-begun_store : (s : Stored) (w : World) (v : ℕ) (b : BeginRecord) → v < length w.versions → ShowsStore s w.buckets w.versions w.read_locks →
-    ShowsStore (with_begin s v b) w.buckets (set_creator w.versions v b) w.read_locks
+    ShowsStore (with_begin_word s v b) w.buckets (set_creator w.versions v b) w.read_locks
 shows-begun_store s w v b l h = shows-begin s w.buckets w.versions w.read_locks v b l h
 
 creator-waits : (w : World) (v : ℕ) (b : BeginRecord) (u : ℕ) → v < length w.versions → waits (record w { versions = set_creator w.versions v b }) u ≡ waits w u
@@ -70,7 +70,7 @@ shows-begun_txns x w t v b e d l items s =
 
 -- ---- an End word
 
--- who is no more the writer of a version waits for its readers no more
+-- the counts after the writer of a version goes: it no longer waits for the version's readers
 ender-waits : (w : World) (v : ℕ) (e : Ender) (u : ℕ) → v < length w.versions → ((y : ℕ) → is_held_by y e ≡ false) →
     waits (record w { versions = set_ender w.versions v e }) u + bit (is_waited_for w.read_locks u v (version_in w.versions v)) ≡ waits w u
 ender-waits w v e u l free =
@@ -79,7 +79,7 @@ ender-waits w v e u l free =
     ap (λ (y : Version). is_waited_for w.read_locks u v y) (set_ender-same w.versions v e l) ∙ ap (λ b. b && nat_lt 0 (readers w.read_locks v)) (free u) in
     let none = ap bit here in omega (arith, at, none)
 
--- a committed writer waits for nobody any more
+-- a committed writer waits for nobody, so its stamp changes no count
 settled : (w : World) (t v u : ℕ) → Sound w → v < length w.versions → is_held_by t (version_in w.versions v).ender ≡ true → is_committed (txn_in w.txns t).state ≡ true →
     waits (record w { versions = set_ender w.versions v (EndedAt (txn_in w.txns t).end) }) u ≡ waits w u
 settled w t v u o l mine done =
@@ -99,7 +99,7 @@ settled w t v u o l mine done =
     held-alone (Held (Some x) no_more) t u h ne = grind (arith, nat_tests, h, ne)
 
 pub shows-ended_store : (s : Stored) (w : World) (v time : ℕ) → v < length w.versions → ShowsStore s w.buckets w.versions w.read_locks →
-    ShowsStore (with_end s v (Until time)) w.buckets (set_ender w.versions v (EndedAt time)) w.read_locks
+    ShowsStore (with_end_word s v (Until time)) w.buckets (set_ender w.versions v (EndedAt time)) w.read_locks
 shows-ended_store s w v time l h =
     shows-end s w.buckets w.versions (set_ender w.versions v (EndedAt time)) w.read_locks w.read_locks v (Until time) (EndedAt time)
     (same-set w.read_locks w.versions v _ l) (set_ender-same w.versions v (EndedAt time) l) refl h
@@ -135,7 +135,7 @@ word-back t count (EndedAt time) h = cc
 word-back t count (Held None no_more) h = cc
 word-back t count (Held (Some u) no_more) h = word-freed count u no_more
 
--- a version that stays as it is
+-- a version that is set to its own ender stays
 set_ender-own : (vs : List Version) (v : ℕ) → v < length vs → set_ender vs v (version_in vs v).ender ≡ vs
 set_ender-own [] v l = absurd (omega (arith, l))
 set_ender-own (x ∷ xs) zero l = refl
@@ -147,7 +147,7 @@ left-as_is w t v l h = ap (set_ender w.versions v) (back-other t (version_in w.v
 
 pub shows-back_store : (s : Stored) (w : World) (t v : ℕ) → v < length w.versions → is_held_by t (version_in w.versions v).ender ≡ true →
     ShowsStore s w.buckets w.versions w.read_locks →
-    ShowsStore (with_end s v (without_writer (version_at s v).end)) w.buckets (set_ender w.versions v (given_back t (version_in w.versions v).ender)) w.read_locks
+    ShowsStore (with_end_word s v (without_writer (version_at s v).end)) w.buckets (set_ender w.versions v (given_back t (version_in w.versions v).ender)) w.read_locks
 shows-back_store s w t v l mine h =
     let e : Ender = given_back t (version_in w.versions v).ender in
     shows-end s w.buckets w.versions (set_ender w.versions v (given_back t (version_in w.versions v).ender)) w.read_locks w.read_locks v (without_writer (version_at s v).end) (given_back t (version_in w.versions v).ender)

@@ -1,4 +1,4 @@
--- One word of the store changes as its version does in the world.
+-- A word of the store changes as its version does in the world.
 use Rattle.std.proofs.Common.{◌≡◌, ℕ, ◌<◌, List, refl, ◌∙◌, ap, sym, subst, arith, ⊎_elim, length, length-set, get_or-set_same, get_or-set_other}
 use Rattle.std.proofs.lemmas.Bool.{cases_eq}
 use Rattle.std.specs.Prelude.{slice_set}
@@ -10,18 +10,18 @@ use Rattle.hek_rules.specs.Shown.{end_word_by}
 use Rattle.hek_rules.specs.Locks.{with_ender, set_ender}
 use Rattle.hek_rules.specs.Table.{set_creator}
 use Rattle.hek_store.specs.declared.version.Version.{Version as StoredVersion}
-use Rattle.hek_store.specs.Stored.{Stored, version_at, no_version, with_begin, with_end}
+use Rattle.hek_store.specs.Stored.{Stored, version_at, no_version, with_begin_word, with_end_word}
 use Rattle.hek_refinement.specs.Shows.{ShowsStore, version_shown}
 use Rattle.hek_refinement.proofs.Counts.{SameBut, version-set_same, version-set_other}
 
--- the word that a version with so many readers shows
+-- the word of a version is shown with the count of its readers
 pub word-shown : (s : Stored) (n : ℕ) (vs : List Version) (R : List (ℕ × ℕ)) (v : ℕ) → ShowsStore s n vs R → (version_at s v).end ≡ end_word_by (readers R v) (version_in vs v).ender
 word-shown s n vs R v h = ap (λ (x : StoredVersion). x.end) (h.versions v)
 
 pub begin-shown : (s : Stored) (n : ℕ) (vs : List Version) (R : List (ℕ × ℕ)) (v : ℕ) → ShowsStore s n vs R → (version_at s v).begin ≡ (version_in vs v).creator
 begin-shown s n vs R v h = ap (λ (x : StoredVersion). x.begin) (h.versions v)
 
--- another version at one place
+-- the store shows the world after the version at one place changes
 shows-set : (s : Stored) (n : ℕ) (vs ys : List Version) (R S : List (ℕ × ℕ)) (v : ℕ) (x : StoredVersion) → SameBut R S vs ys v →
     x ≡ version_shown (readers S v) (version_in ys v) → ShowsStore s n vs R → ShowsStore (record s { versions = slice_set s.versions v x }) n ys S
 shows-set s n vs ys R S v x same is h = record {
@@ -37,9 +37,9 @@ shows-set s n vs ys R S v x same is h = record {
       (cases_eq j v);
 }
 
--- another End word
+-- the store shows the world after an End word changes
 pub shows-end : (s : Stored) (n : ℕ) (vs ys : List Version) (R S : List (ℕ × ℕ)) (v : ℕ) (word : EndRecord) (e : Ender) → SameBut R S vs ys v →
-    version_in ys v ≡ with_ender (version_in vs v) e → word ≡ end_word_by (readers S v) e → ShowsStore s n vs R → ShowsStore (with_end s v word) n ys S
+    version_in ys v ≡ with_ender (version_in vs v) e → word ≡ end_word_by (readers S v) e → ShowsStore s n vs R → ShowsStore (with_end_word s v word) n ys S
 shows-end s n vs ys R S v word e same here is h =
     shows-set s n vs ys R S v (record (version_at s v) { end = word }) same
     (ap (λ (x : StoredVersion). record x { end = word }) (h.versions v)
@@ -54,9 +54,9 @@ same-set R vs v x l = record {
   counts = λ j ne. refl;
 }
 
--- another Begin word
+-- the store shows the world after a Begin word changes
 pub shows-begin : (s : Stored) (n : ℕ) (vs : List Version) (R : List (ℕ × ℕ)) (v : ℕ) (b : BeginRecord) → v < length vs →
-    ShowsStore s n vs R → ShowsStore (with_begin s v b) n (set_creator vs v b) R
+    ShowsStore s n vs R → ShowsStore (with_begin_word s v b) n (set_creator vs v b) R
 shows-begin s n vs R v b l h =
     shows-set s n vs (set_creator vs v b) R R v (record (version_at s v) { begin = b }) (same-set R vs v _ l)
     (ap (λ (x : StoredVersion). record x { begin = b }) (h.versions v)

@@ -35,7 +35,7 @@ use Rattle.hek_refinement.proofs.Clears.{ender_stale, clear-shown, stale_waits, 
 
 -- ---- a version that may be write-locked
 
--- nobody holds it, once an aborted writer is gone
+-- a version that may be write-locked has no writer after Clear
 free_ender : (e : Ender) (n : ℕ) → IsSoundFlag n e → write_refusal e ≡ None → e ≡ Held None false
 free_ender (EndedAt time) n f h = cc
 free_ender (Held None no_more) n f h = ap (Held None) f
@@ -55,7 +55,7 @@ is-free w t v o m =
     free_ender (cleared w.txns (version_in w.versions v).ender) (readers w.read_locks v)
     (cleared-flag w.txns (readers w.read_locks v) (version_in w.versions v).ender (o.flags v)) m.allowed
 
--- so its writer, if it has one, has aborted
+-- the writer of a version that may be write-locked has aborted
 stale-held : (ts : List Txn) (e : Ender) (u : ℕ) → cleared ts e ≡ Held None false → is_held_by u e ≡ true → (ender_stale ts e ≡ true) × (is_aborted (txn_in ts u).state ≡ true)
 stale-held ts (EndedAt time) u h k = cc
 stale-held ts (Held None no_more) u h k = cc
@@ -74,7 +74,7 @@ without-alone : (n : ℕ) → without_reader (readers_alone (suc n)) ≡ readers
 without-alone zero = refl
 without-alone (suc n) = cond-false (suc (suc n) == 1) (Until infinity) (Lock (suc (suc n) - 1) None false) (grind (arith, nat_tests)) ∙ ap (λ k. Lock k None false) (omega arith)
 
--- the word before t takes it
+-- the word that t write-locks, without t's read lock
 own-gone : (w : World) (t v : ℕ) (b : Bool) → Sound w → has w.read_locks t v ≡ b →
     (if b then without_reader (readers_alone (readers w.read_locks v)) else readers_alone (readers w.read_locks v)) ≡ readers_alone (readers (leave w.read_locks t v) v)
 own-gone w t v true o h =
@@ -113,7 +113,7 @@ shows-write_store s x w t v o m h q =
 
 -- ---- counters
 
--- t waits for the readers that are left
+-- the counters after t takes the write lock: t waits for the readers that are left
 abbrev more_list : List ℕ → ℕ → ℕ → List ℕ
 more_list ws t count = if nat_lt 0 count then set_at ws t (entry_at 0 ws t + 1) else ws
 
@@ -125,7 +125,7 @@ more-long : (ws : List ℕ) (t : ℕ) (b : Bool) → length (if b then set_at ws
 more-long ws t true = length_set_at ws t _
 more-long ws t false = refl
 
--- a version that t comes to write: its aborted writer waits no more for it, and t waits where a reader is left
+-- the count of u's waits for the version: an aborted writer no longer waits, and t waits if a reader is left
 write_bits : (ts : List Txn) (count now t u : ℕ) (e : Ender) → cleared ts e ≡ Held None false →
     bit (ender_stale ts e && is_waiting u count e) ≡ bit (is_waiting u count e)
 write_bits ts count now t u e h =
@@ -152,7 +152,7 @@ same-entry (BeginOf a) (EndOf b) h = cc
 same-entry (EndOf a) (BeginOf b) h = cc
 same-entry (EndOf a) (EndOf b) h = ap EndOf (eqb-true a b h)
 
--- an entry that stands nowhere joins at the end
+-- an entry that is in no pair is not in the write set
 pub not-listed : (ps : List (ℕ × WriteEntry)) (t : ℕ) (e : WriteEntry) → (In (t, e) ps → ⊥) → list_any (same_entry e) (entries_of ps t) ≡ false
 not-listed [] t e h = refl
 not-listed (p ∷ ps) t e h =
@@ -235,7 +235,7 @@ shows-write_txns s x w t v reads writes d o m taken joins h q =
         let stale = write_bits w.txns (readers w.read_locks v) count t u old (is-free w t v o m) in
         omega (arith, more, less, was, some, at, b, stale)
 
--- ---- what the call asks
+-- ---- what the call requires
 
 can_take : (n : ℕ) → CanTakeWriter (readers_alone n)
 can_take zero = refl

@@ -1,5 +1,5 @@
--- When concrete lists show a world: each word, counter and list is the one that the image of the world names. In which
--- order the pairs of different transactions stand in the world is not shown, so this is a relation.
+-- A store, a table of transactions and lock lists that show a world: each word, counter and list is that of the world's
+-- image. They do not show the order between pairs of different transactions, so this is a relation.
 use Rattle.std.specs.Prelude.{ℕ, ◌≡◌, List, length}
 use Rattle.hek_rules.specs.World.{World, Version, version_in}
 use Rattle.hek_rules.specs.Listing.{firsts_of}
@@ -11,7 +11,7 @@ use Rattle.hek_txn.specs.Entries.{Entries}
 use Rattle.hek_txn.specs.TxnTable.{TxnTable, IsEven, waits_of, commit_deps_of, read_set_of, write_set_of, bucket_set_of, waiting_list_of, dependents_of as dependents_in}
 use Rattle.hek_buckets.specs.LockLists.{holders_of}
 
--- a version under so many readers
+-- the stored version of a version with `count` readers
 abbrev pub version_shown : ℕ → Version → StoredVersion
 version_shown count x =
     record { key = x.key; value = x.value; begin = x.creator; end = end_word_by count x.ender }
@@ -34,7 +34,7 @@ pub record ShowsTxns (x : TxnTable) (w : World) : Type 0 where
   pub waiting_lists : (t : ℕ) → (waiting_list_of x t).items ≡ waiting_list w t
   pub dependents : (t : ℕ) → (dependents_in x t).items ≡ dependents_of w t
 
--- the lists show who locks which of n buckets
+-- the lists show the locks of n buckets
 pub record ShowsBuckets (lists : List (Entries ℕ)) (n : ℕ) (bucket_locks : List (ℕ × ℕ)) : Type 0 where
   pub count : length lists ≡ n
   pub holders : (b : ℕ) → (holders_of lists b).items ≡ firsts_of bucket_locks b

@@ -1,4 +1,4 @@
--- Tests that agree everywhere have the same victim.
+-- Edge tests that agree everywhere have the same victim.
 use Rattle.std.proofs.Common.{ℕ, ◌≡◌, Bool, ap}
 use Rattle.hek_rules.specs.Victim.{victim_of}
 

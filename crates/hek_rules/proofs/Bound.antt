@@ -1,4 +1,4 @@
--- Beside a closed walk there is one with fewer members in between than there are numbers.
+-- If a closed walk exists, one exists with fewer members in between than there are numbers.
 use Rattle.std.proofs.Common.{ℕ, zero, suc, ◌≡◌, ◌+◌, ◌<◌, ◌≤◌, Bool, true, false, ◌&&◌, not, eqb, List, [], ◌∷◌, ◌++◌, length, refl, ap, ◌∙◌, subst, inl, inr, ◌⊎◌, arith}
 use Rattle.std.proofs.lemmas.Bool.{cases_lt, cases_eq, ne_eqb, eq-eqb}
 use Rattle.hek_rules.specs.Cycles.{Follows, JoinsBelow}
@@ -7,7 +7,7 @@ abbrev pub one_if : Bool → ℕ
 one_if true = 1
 one_if false = 0
 
--- how many numbers below n pass
+-- how many numbers below n pass the test
 unfoldable pub count : (ℕ → Bool) → ℕ → ℕ
 count p zero = 0
 count p (suc n) = count p n + one_if (p n)
@@ -66,11 +66,11 @@ unfolding count
 count_all zero = refl
 count_all (suc n) = rw (count_all n) (omega arith)
 
--- a walk from y on to t, all of whose members in between pass
+-- a walk from x to t whose members in between pass a test
 abbrev pub WalkWithin : (ℕ → ℕ → Bool) → (ℕ → Bool) → ℕ → ℕ → List ℕ → Type 0
 WalkWithin edge p x t ys = Follows edge x (ys ++ t ∷ []) × EachPasses p ys
 
--- a walk that doesn't come to y, or one from y that never comes back to it
+-- a walk that does not meet y, or the rest of it from its last y on
 cut : (edge : ℕ → ℕ → Bool) (p : ℕ → Bool) (y t z : ℕ) (ws : List ℕ) → Follows edge z (ws ++ t ∷ []) → EachPasses p ws → EachPasses (without p y) ws ⊎ ((vs : List ℕ) × WalkWithin edge (without p y) y t vs)
 cut edge p y t z [] f w = inl tt
 cut edge p y t z (a ∷ ws) f w =
@@ -83,7 +83,7 @@ cut edge p y t z (a ∷ ws) f w =
           ]
     ]
 
--- from y to t, never back to y
+-- a walk from y to t that does not come back to y
 from_here : (edge : ℕ → ℕ → Bool) (p : ℕ → Bool) (y t : ℕ) (ws : List ℕ) → WalkWithin edge p y t ws → (vs : List ℕ) × WalkWithin edge (without p y) y t vs
 from_here edge p y t ws w =
     elim (cut edge p y t y ws w.0 w.1) [ inl k ↦ (ws, (w.0, k)) | inr r ↦ r ]
@@ -107,7 +107,7 @@ each_passes : (ys : List ℕ) → EachPasses (λ z. true) ys
 each_passes [] = tt
 each_passes (y ∷ ys) = (refl, each_passes ys)
 
--- the law of this file
+-- a walk from t back to t exists with fewer than n members in between, if any does
 pub short_closed : (edge : ℕ → ℕ → Bool) (n : ℕ) → JoinsBelow edge n → (t : ℕ) → t < n → (ws : List ℕ) → Follows edge t (ws ++ t ∷ []) → (ys : List ℕ) × Follows edge t (ys ++ t ∷ []) × (length ys < n)
 short_closed edge n j t lt ws f =
     let k : count (without (λ z. true) t) n + 1 ≡ count (λ z. true) n = count_without (λ z. true) t n lt refl in

@@ -1,4 +1,4 @@
--- The computed walk: that it is one, of that length, and the first of those.
+-- The computed members in between are a walk of the asked length, and the first of those walks in dictionary order.
 use Rattle.std.proofs.Common.{ℕ, zero, suc, ◌≡◌, ◌<◌, Bool, true, ◌&&◌, List, [], ◌∷◌, ◌++◌, length, Some, refl, sym, subst, inl, inr, arith}
 use Rattle.std.proofs.lemmas.Bool.{cases_order, both_ways, and_parts, and_from}
 use Rattle.hek_rules.specs.Cycles.{Follows, IsNotAfter, JoinsBelow}
@@ -26,7 +26,7 @@ pub leads-zero : (edge : ℕ → ℕ → Bool) (n x t : ℕ) → leads edge n 0 
 unfolding leads
 leads-zero edge n x t = refl
 
--- every walk leads
+-- `leads` is true of each walk
 pub leads_of_walk : (edge : ℕ → ℕ → Bool) (n : ℕ) → JoinsBelow edge n → (t x : ℕ) (ys : List ℕ) → Follows edge x (ys ++ t ∷ []) → leads edge n (length ys) x t ≡ true
 unfolding leads
 leads_of_walk edge n j t x [] f = f.0

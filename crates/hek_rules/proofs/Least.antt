@@ -65,7 +65,7 @@ least_from test n y k =
     ] in
     at (least test n) refl
 
--- two tests that agree below n
+-- tests that agree below n have the same least number
 pub least_agree : (f g : ℕ → Bool) (n : ℕ) → ((z : ℕ) → z < n → f z ≡ g z) → least f n ≡ least g n
 unfolding least
 least_agree f g zero h = refl
@@ -83,7 +83,7 @@ least_found test n e =
     let s : (y : ℕ) × (least test n ≡ Some y) = found_some (least test n) e in
     (s.0, IsLeast-least test n s.0 s.1)
 
--- what passes below n is found
+-- a least number is found if some number below n passes
 pub found_from : (test : ℕ → Bool) (n y : ℕ) → y < n → test y ≡ true → is_found (least test n) ≡ true
 found_from test n y lt e =
     let at : (o : Option ℕ) → least test n ≡ o → is_found o ≡ true =
@@ -93,7 +93,7 @@ found_from test n y lt e =
     ] in
     at (least test n) refl
 
--- a least one, where one passes
+-- the least number below n that passes, if some number passes
 pub least_of : (test : ℕ → Bool) (n y : ℕ) → y < n → test y ≡ true → (x : ℕ) × (least test n ≡ Some x) × IsLeast test n x
 least_of test n y lt e =
     let s : (x : ℕ) × IsLeast test n x = least_found test n (found_from test n y lt e) in

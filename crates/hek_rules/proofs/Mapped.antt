@@ -1,4 +1,4 @@
--- A list that grows as the image of another.
+-- A list that grows as the image of another list.
 use Rattle.std.proofs.Common.{◌≡◌, ℕ, zero, suc, ◌+◌, ◌<◌, Some, List, [], ◌∷◌, ◌++◌, length, take, get_or, refl, ◌∙◌, sym, ap, arith}
 use Rattle.std.specs.Prelude.{map, slice_get}
 use Rattle.std.proofs.lemmas.List.{map_push, take_more}
@@ -13,7 +13,7 @@ get_or-slice_get [] i x h = refl
 get_or-slice_get (y ∷ ys) zero x h = cc
 get_or-slice_get (y ∷ ys) (suc i) x h = get_or-slice_get ys i x h
 
--- the image of one more element
+-- the image of one more element of a list
 pub mapped-more : {X Y : Type 0} (f : X → Y) (xs : List X) (ys new : List Y) (x : X) (i : ℕ) → ys ≡ map f (take i xs) → slice_get xs i ≡ Some x → new ≡ ys ++ f x ∷ [] →
     new ≡ map f (take (i + 1) xs)
 mapped-more f xs ys new x i so_far at pushed =

@@ -1,4 +1,4 @@
--- A name is ASCII, and what is no name is declared nowhere.
+-- A name is ASCII, and a word that is not a name is not declared.
 use Rattle.std.proofs.Common.{◌≡◌, ℕ, zero, suc, ◌+◌, ◌<◌, true, false, ◌&&◌, ◌||◌, not, List, [], ◌∷◌, length, None, refl, sym, ap, subst, arith, IsTrue, inl, inr}
 use Rattle.std.specs.Prelude.{position, nat_le, ◌==◌}
 use Rattle.std.specs.List.{list_all, AllByRecursion, position_or_len}
@@ -28,7 +28,7 @@ name_ascii w h =
     let front = and_parts ((begins_with_letter w && nat_le (length w) 32) && list_all is_name_byte w) (not (is_reserved w)) h in
     all_low w (and_parts (begins_with_letter w && nat_le (length w) 32) (list_all is_name_byte w) front.0).1
 
--- what is no name stands in no list of names
+-- a word that is not a name is in no list of names
 absent_from : (w : List ℕ) (ns : List (List ℕ)) → is_name w ≡ false → AllByRecursion (λ n. IsTrue (is_name n)) ns → position_or_len (bytes_eq w) ns ≡ length ns
 absent_from w [] e h = refl
 absent_from w (n ∷ ns) e h = elim (cases_Bool (bytes_eq w n)) [

@@ -13,7 +13,7 @@ use Rattle.std.proofs.lemmas.Str.Parse.{numerals_by_value, tells_all_ascii_digit
 use Rattle.std.proofs.lemmas.Int.Digits.{digits_value-lt, digits_more, digits_value_more}
 use Rattle.hek_rules.specs.Text.{is_number, number_of}
 
--- what stands before the last of 20 digits is below 10 ^ 19
+-- the digits before the last of 20 write a number below 10 ^ 19
 pub small : (text : List ℕ) (i : ℕ) → AllDigits 10 (take i text) → i < length text → length text ≤ 20 → digits_value 10 (take i text) < 10 ^ 19
 small text i digits below short =
     let size : length (take i text) ≡ i = length-take-le i text (omega arith) in
@@ -22,7 +22,7 @@ small text i digits below short =
     let most : 10 ^ length (take i text) ≤ 10 ^ 19 = pow-le-pow_right (omega arith) few in
     omega arith
 
--- one more digit
+-- the first digits of a word with one more digit are digits
 pub more_digits : (text : List ℕ) (i : ℕ) → AllDigits 10 (take i text) → i < length text → IsInRange 48 57 (get_or text i 0) → AllDigits 10 (take (i + 1) text)
 more_digits text i digits below is_digit =
     digits_more 10 text i below digits (omega (arith, digit_value_digit (get_or text i 0) is_digit))
@@ -31,7 +31,7 @@ pub more_value : (text : List ℕ) (i : ℕ) → i < length text → IsInRange 4
 more_value text i below is_digit =
     omega (arith, digits_value_more 10 text i below, digit_value_digit (get_or text i 0) is_digit)
 
--- what a number is, as facts
+-- the conditions of a number
 pub record IsNumber (word : List ℕ) : Type 0 where
   pub numeral : IsNumeral 10 word
   pub short : length word ≤ 20
@@ -54,7 +54,7 @@ from_is_number word e =
       fits = ltb-true (digits_value 10 word) (2 ^ 64) all.1;
     }
 
--- what is read is the number that the word is
+-- the result of the reader is the number that the word writes
 pub number_read : (word : List ℕ) (r : Option ℕ) → SomeIff r (IsNumber word) (digits_value 10 word) → r ≡ number_of word
 number_read word None h = elim (cases_Bool (is_number word)) [
   | inl e ↦ absurd (h (from_is_number word e))
@@ -62,7 +62,7 @@ number_read word None h = elim (cases_Bool (is_number word)) [
 ]
 number_read word (Some n) h = rw (is_number_from word h.0) (ap (λ (m : ℕ). Some m) h.1)
 
--- the value of all digits, where it fits
+-- the value of all digits, if it is below 2 ^ 64
 pub value_read : {E : Type 0} (word : List ℕ) (i value : ℕ) (r : Result ℕ E) → 0 < length word → length word ≤ 20 → length word ≤ i → AllDigits 10 (take i word) → value ≡ digits_value 10 (take i word) → OkIff r (value < 2 ^ 64) value → result_ok r ≡ number_of word
 value_read {E = E} word i value r some short past digits so_far read =
     let whole : take i word ≡ word = take_all i word past in

@@ -15,12 +15,12 @@ use Rattle.hek_rules.specs.declared.event.Event.TheVariants as event
 use Rattle.hek_rules.specs.Name.{is_name}
 use Rattle.hek_rules.specs.Plan.{Plan, IsPlan, IsDeclared, IsRow, IsStep, names_of, row_fits, txn_fits, has_key, has_name}
 
--- one more at the end
+-- what holds of all elements and of a last one holds of the longer list
 pub all_push : {X : Type 0} (P : X → Type 0) (xs : List X) (y : X) → AllByRecursion P xs → P y → AllByRecursion P (xs ++ y ∷ [])
 all_push P [] y h p = (p, tt)
 all_push P (x ∷ xs) y h p = (h.0, all_push P xs y h.1 p)
 
--- what has no look-up
+-- a look-up that is not Some is None
 pub none_from_not_some : {X : Type 0} (o : Option X) → is_some o ≡ false → o ≡ None
 none_from_not_some None e = refl
 none_from_not_some (Some x) e = absurd cc
@@ -28,7 +28,7 @@ none_from_not_some (Some x) e = absurd cc
 pub absent : {K X : Type 0} (test : K → Bool) (es : List (K × X)) → list_any test (keys_of es) ≡ false → lookup test es ≡ None
 absent test es e = none_from_not_some (lookup test es) (is_some-lookup test es ∙ e)
 
--- ---- keys seen by what they hold
+-- ---- keys seen through a function of them
 prefix_len-map : {X Y : Type 0} (p : Y → Bool) (f : X → Y) (xs : List X) → prefix_len p (map f xs) ≡ prefix_len (λ x. p (f x)) xs
 prefix_len-map p f [] = refl
 prefix_len-map p f (x ∷ xs) = rw (prefix_len-map p f xs) refl
@@ -63,7 +63,7 @@ module _ {K L : Type 0} (f : K → List ℕ) where
   pub distinct-texts : (es : List (K × L)) → IsDistinct (λ a b. bytes_eq (f a) (f b)) (keys_of es) → IsDistinct bytes_eq (keys_of (texts es))
   distinct-texts es h = subst (IsDistinct bytes_eq) (sym (keys_of-texts es)) (distinct_map bytes_eq f (keys_of es) h)
 
-  -- a new name goes last
+  -- a new name is the last in the list of names
   pub texts_push : (es fs : List (K × L)) (k : K) (l : L) (w : List ℕ) → fs ≡ es ++ (k, l) ∷ [] → f k ≡ w → texts fs ≡ texts es ++ (w, l) ∷ []
   texts_push es fs k l w e same = ap texts e ∙ map_push (λ (p : K × L). (f p.0, p.1)) es (k, l) ∙ ap (λ (x : List ℕ). texts es ++ (x, l) ∷ []) same
 
@@ -122,7 +122,7 @@ txn_fits_parts p w h =
     let front = and_parts (nat_lt (length p.txns) 1024) (is_name w) both.0 in
     (ltb-true (length p.txns) 1024 front.0, front.1, not-true (has_name p w) both.1)
 
--- a step stays one where there are more transactions
+-- a declared transaction stays declared if there are more
 more_declared : (m n t : ℕ) → m ≤ n → IsDeclared m t → IsDeclared n t
 more_declared m n t le h = (h.0, omega (arith, h.1))
 

@@ -1,4 +1,4 @@
--- Where lines and words are cut.
+-- The ends of lines and words in a text.
 use Rattle.std.proofs.Common.{◌≡◌, ℕ, suc, ◌+◌, ◌-◌, ◌<◌, Bool, true, false, not, ◌||◌, cond, List, [], ◌∷◌, length, take, drop, get_or, refl, sym, ap, ◌∙◌, arith, add-one, drop-cons, inl, inr, length-drop}
 use Rattle.std.specs.Prelude.{◌==◌}
 use Rattle.std.proofs.lemmas.List.{take_all}
@@ -6,7 +6,7 @@ use Rattle.std.specs.List.{prefix_len, position_or_len, onto_first}
 use Rattle.std.proofs.lemmas.Bool.{cases_Bool}
 use Rattle.hek_rules.specs.Text.{lines_of, words_of, is_line_end, is_blank, is_comment, ends_word}
 
--- what is at a place, and what follows it
+-- the item at a place, and the list after it
 pub at_place : (xs : List ℕ) (i : ℕ) → i < length xs → drop i xs ≡ get_or xs i 0 ∷ drop (i + 1) xs
 at_place xs i h = rw (add-one, drop-cons xs i 0) refl
 
@@ -36,7 +36,7 @@ pub lines_cut : (text : List ℕ) (n : ℕ) → 0 < length text → n ≡ positi
 lines_cut [] n h e = absurd (omega arith)
 lines_cut (b ∷ bs) n h e = rw (add-one, e) (lines_first b bs)
 
--- a blank at the front adds nothing
+-- blanks at the front add no word
 pub words_skip : (bs : List ℕ) → words_of (drop (prefix_len is_blank bs) bs) ≡ words_of bs
 words_skip [] = refl
 words_skip (b ∷ bs) = elim (cases_Bool (is_blank b)) [
@@ -64,7 +64,7 @@ words_first b (c ∷ cs) e =
           words ∙ ap (onto_first b) (words_first c cs g) ∙ ap (λ (m : ℕ). take m (b ∷ c ∷ cs) ∷ words_of (drop m (b ∷ c ∷ cs))) (sym here)
     ]
 
--- after the blanks at the front stands none
+-- the byte after the blanks at the front is not a blank
 pub no_blank : (bs : List ℕ) → at_blank (drop (prefix_len is_blank bs) bs) ≡ false
 no_blank [] = refl
 no_blank (b ∷ bs) = elim (cases_Bool (is_blank b)) [
@@ -79,7 +79,7 @@ words_cut (b ∷ bs) n h e = elim (cases_Bool (ends_word b)) [
   | inr g ↦ rw e (words_first b bs g)
 ]
 
--- what follows a place, as a slice gives it
+-- the list from a place on, as a slice gives it
 pub from_place : (n : ℕ) (xs : List ℕ) → take (length xs - n) (drop n xs) ≡ drop n xs
 from_place n xs = take_all (length xs - n) (drop n xs) (omega (arith, length-drop n xs))
 

@@ -1,4 +1,4 @@
--- The computed victim is that of the walks.
+-- The computed victim is that of closed walks.
 use Rattle.std.proofs.Common.{ℕ, zero, suc, ◌≡◌, ◌<◌, ◌≤◌, Bool, List, [], ◌∷◌, ◌++◌, length, Option, Some, None, refl, sym, ap, ◌∙◌, subst, inl, inr, arith}
 use Rattle.std.proofs.lemmas.Bool.{cases_lt, both_ways}
 use Rattle.std.proofs.lemmas.Option.{some_pair_parts}
@@ -8,7 +8,7 @@ use Rattle.hek_rules.proofs.Least.{IsLeast, IsLeast-least, least_none}
 use Rattle.hek_rules.proofs.Leads.{leads_of_walk, IsFirst, IsFirst-between}
 use Rattle.hek_rules.proofs.Bound.{short_closed}
 
--- where no least number of members is found, no walk is closed
+-- no walk from u is closed if no least number of members is found
 pub none_closed : (edge : ℕ → ℕ → Bool) (n : ℕ) → JoinsBelow edge n → (u : ℕ) → fewest edge n u n u ≡ None → (walk : List ℕ) → IsClosedWalk edge u walk → ⊥
 unfolding fewest
 none_closed edge n j u e [] c = c
@@ -22,7 +22,7 @@ none_closed edge n j u e (x ∷ ws) c =
     below [] f = j.from u u f.0
     below (w ∷ ws) f = j.from u w f.0
 
--- where one is found, the cycle is the first of the shortest
+-- the cycle from u is closed, the shortest, and the first of the shortest
 pub record IsBest (edge : ℕ → ℕ → Bool) (u : ℕ) (cycle : List ℕ) : Type 0 where
   pub closed : IsClosedWalk edge u cycle
   pub shortest : (walk : List ℕ) → IsClosedWalk edge u walk → length cycle ≤ length walk
@@ -55,7 +55,7 @@ IsBest-between edge n j u m e =
     best : IsLeast (λ m. leads edge n m u u) n m → (ys : List ℕ) → IsFirst edge m u u ys → IsBest edge u (u ∷ ys)
     best k ys r = record { closed = (refl, r.follows); shortest = shortest k ys r; least = first ys r }
 
--- what an answer below a limit says
+-- an answer for candidates below a limit: the best cycle of the greatest of them
 pub record IsFoundBelow (edge : ℕ → ℕ → Bool) (n limit u : ℕ) (cycle : List ℕ) : Type 0 where
   pub best : IsBest edge u cycle
   pub above : (v : ℕ) → u < v → v < limit → fewest edge n v n v ≡ None
@@ -101,7 +101,7 @@ none_below edge n zero e v lt = absurd (omega arith)
 none_below edge n (suc u) e v lt =
     none_at edge n u v (λ e lt. none_below edge n u e v lt) (fewest edge n u n u) refl (sym (victim_below-suc edge n u (fewest edge n u n u) refl) ∙ e) lt
 
--- a closed walk is among the numbers below n
+-- a closed walk begins at a number below n
 pub closed_below : (edge : ℕ → ℕ → Bool) (n : ℕ) → JoinsBelow edge n → (u : ℕ) (walk : List ℕ) → IsClosedWalk edge u walk → u < n
 closed_below edge n j u [] c = absurd c
 closed_below edge n j u (x ∷ []) c = let same : x ≡ u = c.0 in let lt : x < n = j.from x u c.1.0 in omega arith
@@ -145,7 +145,7 @@ not_after_both (x ∷ xs) (y ∷ ys) l a b =
           ]
     ]
 
--- there is one victim at most, with one cycle
+-- a graph has at most one victim, with one cycle
 pub same_victim : (edge : ℕ → ℕ → Bool) (u v : ℕ) (c d : List ℕ) → IsVictim edge u c → IsVictim edge v d → (u ≡ v) × (c ≡ d)
 same_victim edge u v c d k l =
     let le : u ≤ v = l.greatest u c k.closed in

@@ -1,4 +1,4 @@
--- Two lists of one length as one list of pairs.
+-- Two lists of one length as a list of pairs.
 use Rattle.std.proofs.Common.{◌≡◌, ℕ, zero, suc, ◌<◌, List, [], ◌∷◌, ◌++◌, length, refl, ap, arith, take, drop, map, get_or}
 use Rattle.std.specs.Prelude.{slice_get, Some}
 use Rattle.std.specs.List.{zip}
@@ -13,7 +13,7 @@ pub zip-parts : {A B : Type 0} (ps : List (A × B)) → zip (map (λ (p : A × B
 zip-parts [] = refl
 zip-parts (p ∷ ps) = ap (λ zs. p ∷ zs) (zip-parts ps)
 
--- the pairs from a place on, where the lists have something there
+-- the pairs from a place on, if both lists have an item there
 pub zip-drop : {A B : Type 0} (xs : List A) (ys : List B) (i : ℕ) (x : A) (y : B) → i < length xs → i < length ys → get_or xs i x ≡ x → get_or ys i y ≡ y →
     drop i (zip xs ys) ≡ (x, y) ∷ drop (suc i) (zip xs ys)
 zip-drop [] ys i x y l m p q = absurd (omega (arith, l))

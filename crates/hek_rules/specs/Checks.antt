@@ -1,4 +1,4 @@
--- The checks before a rule, on a transaction and whether it holds nothing: the first that fits gives the answer.
+-- The checks before a rule, on a transaction and on whether it holds nothing: the first that fits gives the answer.
 use Rattle.std.specs.Prelude.{ℕ, ◌-◌, ◌^◌, Bool, true, false, not, ◌&&◌, ◌||◌, ◌==◌, if◌then◌else◌}
 use Rattle.hek_rules.specs.declared.event.State.{State}
 use Rattle.hek_rules.specs.declared.event.State.TheVariants as state
@@ -9,7 +9,7 @@ use Rattle.hek_rules.specs.declared.check.Check.{Check}
 use Rattle.hek_rules.specs.declared.check.Check.TheVariants.{Refused, Doomed, StillAborted, Passed}
 use Rattle.hek_rules.specs.World.{Txn, is_not_begun, is_active, is_preparing, is_terminated, is_live, is_decided}
 
--- the last clock value, at which nothing is drawn
+-- the last clock value: no event draws it
 abbrev pub clock_end : ℕ
 clock_end = 2 ^ 63 - 2
 
@@ -23,7 +23,7 @@ draws (event.Begin t) = true
 draws (event.Precommit t) = true
 draws e = false
 
--- the events that an aborted transaction is answered with its cause
+-- the events whose reply, after an abort, repeats the cause
 abbrev pub repeats_cause : Event → Bool
 repeats_cause (event.Read t key) = true
 repeats_cause (event.Scan t bucket) = true
@@ -36,11 +36,11 @@ repeats_cause (event.Commit t) = true
 repeats_cause (event.Fail t) = true
 repeats_cause e = false
 
--- active, and NoMoreWaitFors clear
+-- a transaction that is Active and has not finished
 abbrev pub is_open : Txn → Bool
 is_open x = is_active x.state && not x.no_more_waits
 
--- the phase that each event is for; an event `end` is for one that holds nothing
+-- whether an event is in its phase; `idle` says that the transaction holds nothing, as `end` needs
 abbrev pub in_phase : Txn → Bool → Event → Bool
 in_phase x idle (event.Begin t) = is_not_begun x.state
 in_phase x idle (event.Read t key) = is_open x
@@ -57,12 +57,12 @@ in_phase x idle (event.Stamp t) = is_decided x.state
 in_phase x idle (event.End t) = is_decided x.state && idle
 in_phase x idle event.Detect = false
 
--- out of its phase
+-- the check of an event out of its phase
 abbrev pub missed : State → Event → Check
 missed (state.Aborted cause) e = if repeats_cause e then StillAborted cause else Refused refusal.WrongPhase
 missed s e = Refused refusal.WrongPhase
 
--- the checks of one that has begun and not ended
+-- the checks of a transaction that has begun and not ended
 abbrev pub check_phase : Txn → Bool → ℕ → Event → Check
 check_phase x idle clock e =
     if is_live x.state && x.abort_now then Doomed
@@ -70,7 +70,7 @@ check_phase x idle clock e =
     else if draws e && clock == clock_end then Refused refusal.ClockFull
     else Passed
 
--- the first check that fits, for a declared transaction
+-- the first check that fits an event of a declared transaction
 abbrev pub check_of : Txn → Bool → ℕ → Event → Check
 check_of x idle clock e =
     if begins e && not (is_not_begun x.state) then Refused refusal.BegunTwice

@@ -92,7 +92,7 @@ operand_count kind.Stamp = 0
 operand_count kind.End = 0
 operand_count kind.Detect = 0
 
--- the two kinds that texts and images treat apart: of no transaction, and over a bucket
+-- `Detect` is the one kind without a transaction, `Scan` the one kind with a bucket as operand
 abbrev pub is_detect : EventKind → Bool
 is_detect kind.Detect = true
 is_detect other = false
@@ -101,7 +101,7 @@ abbrev pub is_scan : EventKind → Bool
 is_scan kind.Scan = true
 is_scan other = false
 
--- the event of a kind, which takes the transaction and the operands that the kind has
+-- the event of a kind, from a transaction and two operands; a part that the kind lacks is dropped
 abbrev pub event_of : EventKind → ℕ → ℕ → ℕ → Event
 event_of kind.Begin t a b = event.Begin t
 event_of kind.Read t a b = event.Read t a
@@ -151,7 +151,7 @@ txn_of (event.Stamp t) = Some t
 txn_of (event.End t) = Some t
 txn_of event.Detect = None
 
--- the operands, 0 where there is none
+-- the operands of an event; 0 is a missing operand
 abbrev pub first_of : Event → ℕ
 first_of (event.Begin t) = 0
 first_of (event.Read t a) = a
@@ -184,7 +184,7 @@ second_of (event.Stamp t) = 0
 second_of (event.End t) = 0
 second_of event.Detect = 0
 
--- an event is that of its kind with its parts; the word and the opcode of a kind name that kind
+-- each event is made of its kind, transaction and operands; the word and the opcode of a kind name that kind
 pub record IsItsParts : Type 0 where
   pub event : (e : Event) → event_of (kind_of e) (unwrap_or (txn_of e) 0) (first_of e) (second_of e) ≡ e
   pub word : (k : EventKind) → kind_named (word_of k) ≡ Some k

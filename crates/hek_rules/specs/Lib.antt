@@ -9,6 +9,7 @@ pub mod Visibility
 pub mod Waits
 pub mod Locks
 pub mod Walk
+pub mod Aims
 pub mod Cycles
 pub mod Victim
 pub mod WaitGraph

@@ -8,13 +8,13 @@ use Rattle.hek_rules.specs.declared.word.BeginRecord.TheVariants.{By}
 use Rattle.hek_rules.specs.World.{World, Version, Ender, EndedAt, Held, Txn, txn_in, version_in, is_made_by, is_aborted, bucket_of}
 use Rattle.hek_rules.specs.Waits.{readers}
 
--- the ender once a writer that is aborted is gone
+-- the ender after Clear: an aborted writer and its flag go
 abbrev pub cleared : List Txn → Ender → Ender
 cleared ts (EndedAt time) = EndedAt time
 cleared ts (Held None no_more) = Held None no_more
 cleared ts (Held (Some u) no_more) = if is_aborted (txn_in ts u).state then Held None false else Held (Some u) no_more
 
--- what keeps a reader out of a version with so many readers
+-- why a version with `count` readers refuses a read lock, if it does
 abbrev pub read_refusal : List Txn → ℕ → Ender → Option Cause
 read_refusal ts count (EndedAt time) = None
 read_refusal ts count (Held writer true) = Some NoMoreReads
@@ -24,7 +24,7 @@ read_refusal ts count (Held (Some u) false) =
     else if count == 0 && (txn_in ts u).no_more_waits then Some NoMoreWaits
     else None
 
--- t needs no read lock of the version
+-- t needs no read lock of the version: t made it, or read-locks it already
 abbrev pub reads_freely : World → ℕ → ℕ → Bool
 reads_freely w t v = is_made_by t (version_in w.versions v).creator || has w.read_locks t v
 
@@ -63,7 +63,7 @@ add_write w t v =
       writes = w.writes ++ (t, EndOf v) ∷ [];
     }
 
--- t joins the lists of all who hold the bucket
+-- t joins the waiting list of each other transaction that holds the bucket
 abbrev pub wait_for_holders : List ℕ → ℕ → List (ℕ × ℕ) → List (ℕ × ℕ)
 wait_for_holders [] t waiters = waiters
 wait_for_holders (h ∷ hs) t waiters = if h == t then wait_for_holders hs t waiters else wait_for_holders hs t (join waiters h t)

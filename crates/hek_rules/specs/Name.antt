@@ -15,11 +15,11 @@ abbrev pub begins_with_letter : List ℕ → Bool
 begins_with_letter [] = false
 begins_with_letter (b ∷ bs) = is_letter b
 
--- the words that begin a line of another kind
+-- the words that a name cannot be: each begins a line of another kind
 abbrev pub is_reserved : List ℕ → Bool
 is_reserved word =
     ((bytes_eq word (codes "buckets") || bytes_eq word (codes "row")) || bytes_eq word (codes "txn")) || bytes_eq word (codes "detect")
 
--- 1 to 32 lower-case letters, digits and '_', a letter first, and no reserved word
+-- a name: 1 to 32 lower-case letters, digits and '_', a letter first, and no reserved word
 abbrev pub is_name : List ℕ → Bool
 is_name word = ((begins_with_letter word && nat_le (length word) 32) && list_all is_name_byte word) && not (is_reserved word)

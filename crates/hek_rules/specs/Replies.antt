@@ -9,7 +9,7 @@ HasList (Rows pairs) = Unit {0}
 HasList (Victim t cycle) = Unit {0}
 HasList r = ⊥
 
--- the reply that was taken apart
+-- the reply that these parts make
 abbrev pub whole : ReplyParts → Reply
 whole (part.Plain r) = r
 whole (part.Rows pairs) = Rows pairs.now

@@ -1,5 +1,4 @@
--- The image of a world: what a machine that stands for it shows, each word, counter and list under its own name; and the
--- committed rows.
+-- The image of a world: each word, counter and list that a machine of that world shows; and the committed rows.
 use Rattle.std.specs.Prelude.{ℕ, zero, suc, ◌==◌, if◌then◌else◌, Bool, true, false, ◌&&◌, not, nat_lt, List, [], Some, None, length}
 use Rattle.hek_rules.specs.declared.event.WriteEntry.{WriteEntry}
 use Rattle.hek_rules.specs.declared.word.BeginRecord.{BeginRecord}
@@ -17,12 +16,12 @@ use Rattle.hek_rules.specs.Table.{pairs_of, entries_of}
 abbrev pub begin_word : World → ℕ → BeginRecord
 begin_word w v = (version_in w.versions v).creator
 
--- the lock that so many readers hold without a writer
+-- the End word of a version with so many readers and no writer
 abbrev pub readers_alone : ℕ → EndRecord
 readers_alone zero = Until infinity
 readers_alone (suc n) = Lock (suc n) None false
 
--- the End word of a version with so many readers
+-- the End word of a version with `count` readers
 abbrev pub end_word_by : ℕ → Ender → EndRecord
 end_word_by count (EndedAt time) = Until time
 end_word_by count (Held None no_more) = readers_alone count
@@ -31,7 +30,7 @@ end_word_by count (Held (Some u) no_more) = Lock count (Some u) no_more
 abbrev pub end_word : World → ℕ → EndRecord
 end_word w v = end_word_by (readers w.read_locks v) (version_in w.versions v).ender
 
--- and back: who ended a version, by its End word; the time infinity says that nobody did
+-- the ender that an End word shows; infinity is a version that nobody ended
 abbrev pub ender_of : EndRecord → Ender
 ender_of (Until time) = if time == infinity then Held None false else EndedAt time
 ender_of (Lock readers writer no_more) = Held writer no_more
@@ -50,17 +49,17 @@ write_set w t = entries_of w.writes t
 abbrev pub bucket_set : World → ℕ → List ℕ
 bucket_set w t = seconds_of w.bucket_locks t
 
--- who waits for t by a bucket: WaitingTxnList
+-- the transactions that wait for t because of a bucket: WaitingTxnList
 abbrev pub waiting_list : World → ℕ → List ℕ
 waiting_list w t = seconds_of w.waiters t
 
--- who depends on t: CommitDepSet
+-- the transactions that depend on t: CommitDepSet
 abbrev pub dependents_of : World → ℕ → List ℕ
 dependents_of w t = seconds_of w.dependents t
 
 -- ---- the lists and counters of a bucket
 
--- who locks the bucket
+-- the transactions that lock the bucket: LockList
 abbrev pub lock_list : World → ℕ → List ℕ
 lock_list w b = firsts_of w.bucket_locks b
 
@@ -78,6 +77,6 @@ lasts w (EndedAt time) = false
 lasts w (Held None no_more) = true
 lasts w (Held (Some u) no_more) = not (is_committed (txn_in w.txns u).state)
 
--- the rows that committed transactions made and none of them ended, by key
+-- the rows that the schedule or a committed transaction made and no committed transaction ended, by key
 abbrev pub committed_rows : World → List (ℕ × ℕ)
 committed_rows w = pairs_of w.versions [] (places (λ v x. was_made w x.creator && lasts w x.ender) 0 w.versions)

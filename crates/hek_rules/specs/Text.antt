@@ -24,13 +24,13 @@ is_comment b = b == 35
 abbrev pub ends_word : ℕ → Bool
 ends_word b = is_blank b || is_comment b
 
--- whether a word begins here
+-- whether a word begins at the front of these bytes
 abbrev pub at_word : List ℕ → Bool
 at_word [] = false
 at_word (b ∷ bs) = not (ends_word b)
 
--- the words of a line: a blank adds nothing, a comment has none, and each other byte goes onto the front of the word
--- that follows it, or is a word
+-- the words of a line: a blank adds nothing, a comment ends the line, and each other byte goes to the front of the word
+-- that follows it, or is a word of one byte
 abbrev pub words_of : List ℕ → List (List ℕ)
 words_of [] = []
 words_of (b ∷ bs) =

@@ -12,22 +12,22 @@ abbrev pub is_found : Option ℕ → Bool
 is_found (Some x) = true
 is_found None = false
 
--- whether a walk leads from x to t with so many members in between
+-- whether a walk leads from x to t with m members in between
 unfoldable pub leads : (ℕ → ℕ → Bool) → ℕ → ℕ → ℕ → ℕ → Bool
 leads edge n zero x t = edge x t
 leads edge n (suc m) x t = is_found (least (λ y. edge x y && leads edge n m y t) n)
 
--- the least number of members in between, of those below `limit`
+-- the least number of members in between, below `limit`, with which a walk leads from x to t
 unfoldable pub fewest : (ℕ → ℕ → Bool) → ℕ → ℕ → ℕ → ℕ → Option ℕ
 fewest edge n t limit x = least (λ m. leads edge n m x t) limit
 
--- so many members in between from x to t, each the least that still leads there
+-- m members in between from x to t, each the least that a walk can go on from
 unfoldable pub between : (ℕ → ℕ → Bool) → ℕ → ℕ → ℕ → ℕ → List ℕ
 between edge n zero x t = []
 between edge n (suc m) x t =
     elim (least (λ y. edge x y && leads edge n m y t) n) [ None ↦ [] | Some y ↦ y ∷ between edge n m y t ]
 
--- the greatest below `limit` on a closed walk, with its cycle
+-- the greatest number below `limit` on a closed walk, with its cycle
 unfoldable pub victim_below : (ℕ → ℕ → Bool) → ℕ → ℕ → Option (ℕ × List ℕ)
 victim_below edge n zero = None
 victim_below edge n (suc u) =
@@ -36,7 +36,7 @@ victim_below edge n (suc u) =
 unfoldable pub victim_of : (ℕ → ℕ → Bool) → ℕ → Option (ℕ × List ℕ)
 victim_of edge n = victim_below edge n n
 
--- the victim is computed exactly where there is one
+-- the computed victim and cycle are exactly those of `IsVictim`
 abbrev pub VictimIsFound : Type 0
 VictimIsFound =
     (edge : ℕ → ℕ → Bool) (n : ℕ) →
@@ -44,7 +44,7 @@ VictimIsFound =
     (u : ℕ) (cycle : List ℕ) →
     (victim_of edge n ≡ Some (u, cycle)) ↔ IsVictim edge u cycle
 
--- and none exactly where no walk is closed
+-- no victim is computed exactly if no walk is closed
 abbrev pub NoneIsRight : Type 0
 NoneIsRight =
     (edge : ℕ → ℕ → Bool) (n : ℕ) →

@@ -12,7 +12,7 @@ use Rattle.hek_rules.specs.declared.word.Dropped.TheVariants.{More, Free, Last}
 abbrev pub IsTime : ℕ → Type 0
 IsTime t = t < 2 ^ 63
 
--- the time that never comes
+-- the time that never comes, the last that a word can hold
 abbrev pub infinity : ℕ
 infinity = 2 ^ 63 - 1
 
@@ -20,7 +20,7 @@ infinity = 2 ^ 63 - 1
 abbrev pub IsTxn : ℕ → Type 0
 IsTxn u = (0 < u) × (u + 1 < 2 ^ 54)
 
--- which records a Begin word has
+-- the records that a Begin word can hold
 abbrev pub IsBegin : BeginRecord → Type 0
 IsBegin (At t) = IsTime t
 IsBegin (By u) = IsTxn u
@@ -43,12 +43,12 @@ abbrev pub IsHeld : ℕ → Option ℕ → Bool → Type 0
 IsHeld readers None no_more = (0 < readers) × (no_more ≡ false)
 IsHeld readers (Some u) no_more = IsTxn u × (no_more ≡ true → readers ≡ 0)
 
--- which records an End word has: a time, or a lock of at most 255 readers
+-- the records that an End word can hold: a time, or a lock of at most 255 readers
 abbrev pub IsEnd : EndRecord → Type 0
 IsEnd (Until t) = IsTime t
 IsEnd (Lock readers writer no_more) = (readers < 256) × IsHeld readers writer no_more
 
--- bits 0 to 53: the writer, or all ones for none
+-- bits 0 to 53 of a lock word: the writer, or all ones without a writer
 abbrev pub writer_number : Option ℕ → ℕ
 writer_number None = 2 ^ 54 - 1
 writer_number (Some u) = u
@@ -57,7 +57,7 @@ abbrev pub flag_number : Bool → ℕ
 flag_number true = 1
 flag_number false = 0
 
--- the number of an End word: bit 63 says that it is a lock, bit 62 is NoMoreReadLocks, from bit 54 on stands ReadLockCount
+-- the number of an End word: bit 63 marks a lock, bit 62 is NoMoreReadLocks, bits 54 to 61 are ReadLockCount
 abbrev pub end_number : EndRecord → ℕ
 end_number (Until t) = t
 end_number (Lock readers writer no_more) =
@@ -79,22 +79,22 @@ abbrev pub no_more_of : EndRecord → Bool
 no_more_of (Until t) = false
 no_more_of (Lock readers writer no_more) = no_more
 
--- no lock, or one that takes a further reader
+-- a version takes another reader: it is free, or has fewer than 255 readers and NoMoreReadLocks clear
 abbrev pub CanAdd : EndRecord → Type 0
 CanAdd (Until t) = t ≡ infinity
 CanAdd (Lock readers writer no_more) = (readers < 255) × (no_more ≡ false)
 
--- one reader more
+-- the End record after another reader comes
 abbrev pub with_reader : EndRecord → EndRecord
 with_reader (Until t) = Lock 1 None false
 with_reader (Lock readers writer no_more) = Lock (readers + 1) writer no_more
 
--- the last reader goes: the lock goes with it, or its writer stands alone and no reader may come
+-- the End record after the last reader goes: free without a writer; under a writer NoMoreReadLocks is set
 abbrev pub after_last : Option ℕ → EndRecord
 after_last None = Until infinity
 after_last (Some u) = Lock 0 (Some u) true
 
--- one reader less
+-- the End record after a reader goes
 abbrev pub without_reader : EndRecord → EndRecord
 without_reader (Until t) = Until t
 without_reader (Lock readers writer no_more) =
@@ -104,31 +104,31 @@ abbrev pub last_of : Option ℕ → Dropped
 last_of None = Free
 last_of (Some u) = Last u
 
--- which reader goes: the last one, freeing the version or leaving its writer alone, or another
+-- what a reader that goes leaves: more readers, a free version, or a writer that nobody reads under
 abbrev pub dropped_of : EndRecord → Dropped
 dropped_of (Until t) = More
 dropped_of (Lock readers writer no_more) = if readers == 1 then last_of writer else More
 
--- no lock, or one without a writer
+-- a version takes a writer: it is free, or has readers and no writer
 abbrev pub CanTakeWriter : EndRecord → Type 0
 CanTakeWriter (Until t) = t ≡ infinity
 CanTakeWriter (Lock readers writer no_more) = writer ≡ None
 
--- u is the writer
+-- the End record after the writer u comes
 abbrev pub with_writer : EndRecord → ℕ → EndRecord
 with_writer (Until t) u = Lock 0 (Some u) false
 with_writer (Lock readers writer no_more) u = Lock readers (Some u) no_more
 
--- the writer goes, and NoMoreReadLocks with it
+-- the End record after the writer goes; NoMoreReadLocks goes with the writer
 abbrev pub without_writer : EndRecord → EndRecord
 without_writer (Until t) = Until t
 without_writer (Lock readers writer no_more) = if readers == 0 then Until infinity else Lock readers None false
 
--- the one reader of a lock with a writer
+-- a lock of one reader and a writer
 abbrev pub IsLastUnderWriter : EndRecord → Type 0
 IsLastUnderWriter e = (readers_of e ≡ 1) × IsSome (writer_of e)
 
--- the WaitForCounter of the writer as a reader goes: one less where that was the last
+-- the writer's WaitForCounter after a reader goes: one less if that reader was the last
 abbrev pub waits_less : Dropped → ℕ → ℕ
 waits_less More waits = waits
 waits_less Free waits = waits

@@ -1,15 +1,14 @@
-//! What the checks before a rule come to.
+//! Results of the checks that come before a rule.
 use crate::event::Cause;
 use crate::reply::Refusal;
 
-/// What the checks of an event come to: it is refused, its transaction is to abort, or has been aborted and is told so, or
-/// its rule gives the answer.
+/// The result of an event's checks: a refusal, an abort, the cause of an earlier abort, or a pass to the event's rule.
 #[derive(Clone, Copy, Debug, PartialEq, Eq)]
 pub enum Check {
     Refused(Refusal),
-    /// Another's abort doomed the transaction: it aborts now.
+    /// AbortNow is set: the transaction aborts now, by the cause `Cascade`.
     Doomed,
-    /// It has aborted, and is told its cause again.
+    /// The transaction has aborted before, by this cause.
     StillAborted(Cause),
     Passed,
 }

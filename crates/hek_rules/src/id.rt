@@ -3,7 +3,7 @@ ghost use Rattle.std.specs.Prelude.{◌≡◌};
 
 use std::marker::Model;
 
-/// A transaction, by its number. Declared transactions have the numbers from 1 upward; any number may be asked about.
+/// A transaction, by its number. Declared transactions have the numbers from 1 upward, but an event may name any.
 /// A word can name 1 to 2^54 - 2.
 #[derive(Clone, Copy, Debug, PartialEq, Eq, PartialOrd, Ord, Hash)]
 pub struct TxnId {
@@ -21,7 +21,7 @@ impl Model for TxnId {
 }
 
 impl TxnId {
-    /// The ID with this number; that of a transaction is 1 or more.
+    /// The ID with this number. Transactions have numbers from 1 upward.
     pub fn new(number: u64) -> TxnId
         ensures { result ≡ number }
     {
@@ -85,7 +85,10 @@ impl Model for Time {
 }
 
 impl Time {
-    /// The time after so many ticks of the clock.
+    /// The ticks of the time that never comes, the last that a word can hold.
+    pub const INFINITY: u64 = 0x7FFF_FFFF_FFFF_FFFF;
+
+    /// The time after this many ticks of the clock.
     pub fn new(ticks: u64) -> Time
         ensures { result ≡ ticks }
     {

@@ -1,4 +1,4 @@
-//! The kinds of events: one table of their words, opcodes and operands, which texts, images and traces share.
+//! The kinds of events: the words, opcodes and operands that texts, images and traces share.
 ghost use Rattle.std.specs.Prelude.{◌≡◌};
 ghost use Rattle.hek_rules.specs.Events.{word_of, kind_named, opcode_of, kind_coded, operand_count, event_of, kind_of, txn_of, first_of, second_of, IsItsParts, is_detect, is_scan};
 
@@ -48,14 +48,14 @@ impl EventKind {
         }
     }
 
-    /// Whether events of the kind are of no transaction.
+    /// Whether this is the kind `Detect`, whose events have no transaction.
     pub fn is_detect(self) -> bool
         ensures { result ≡ is_detect self }
     {
         matches!(self, EventKind::Detect)
     }
 
-    /// Whether their operand is a bucket.
+    /// Whether this is the kind `Scan`, whose operand is a bucket.
     pub fn is_scan(self) -> bool
         ensures { result ≡ is_scan self }
     {
@@ -175,7 +175,7 @@ impl EventKind {
         }
     }
 
-    /// The event of this kind. It takes the transaction and the operands that the kind has, and drops the others.
+    /// The event of this kind. It takes the parts that the kind has, and drops the others.
     pub fn event(self, txn: TxnId, first: u64, second: u64) -> Event
         ensures { result ≡ event_of self txn first second }
     {
@@ -243,7 +243,7 @@ impl Event {
         }
     }
 
-    /// The first operand, a key or a bucket, or 0 where there is none.
+    /// The first operand, a key or a bucket; 0 if there is none.
     pub fn first(self) -> u64
         ensures { result ≡ first_of self }
     {
@@ -257,7 +257,7 @@ impl Event {
         }
     }
 
-    /// The second operand, a value, or 0 where there is none.
+    /// The second operand, a value; 0 if there is none.
     pub fn second(self) -> u64
         ensures { result ≡ second_of self }
     {
@@ -268,7 +268,7 @@ impl Event {
     }
 }
 
-/// An event is that of its kind with its transaction and operands, and words and opcodes name one kind each.
+/// Each event is made of its kind, transaction and operands; each word and each opcode names one kind.
 pub fn events_are_their_parts()
     ensures { IsItsParts }
 {}

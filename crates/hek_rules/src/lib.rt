@@ -1,5 +1,5 @@
-//! The words that all of Hek speaks: transactions, versions, times, the records of the two words of a version, events
-//! and replies; the definitions of the scheme stand in specs/.
+//! The types that all of Hek uses: transactions, versions, times, the records of the two words of a version, events
+//! and replies. The definitions of the scheme are in specs/.
 #![tactic(auto)]
 
 mod check;
@@ -23,7 +23,7 @@ pub use check::Check;
 pub use device::{
     Ending, FromRead, FromWrite, MemorySink, MemorySource, Sink, Source, WriteFault, put_all,
 };
-pub use event::{Cause, Effect, Event, Level, Sight, State, WriteEntry};
+pub use event::{Aim, Cause, Effect, Event, Level, Sight, State, WriteEntry};
 pub use id::{Time, TxnId, VersionId};
 pub use kind::{EventKind, events_are_their_parts};
 pub use laws::victim_is_that_of_walks;

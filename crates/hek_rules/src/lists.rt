@@ -1,11 +1,11 @@
-//! Lists that replies hold, and that contracts see as lists.
+//! Lists that replies hold: pairs of a scan, and members of a cycle.
 ghost use Rattle.std.specs.Prelude.{◌≡◌, ◌↔◌, IfOk, IsTrue};
 
 use crate::id::TxnId;
 use crate::memory::NoMemory;
 use std::marker::Model;
 
-/// Keys with their values. In a reply they stand by key, each key once.
+/// Keys with their values. In a reply they are sorted by key, each key once.
 #[derive(Debug, Drop)]
 pub struct Pairs {
     pairs: Vec<(u64, u64)>,
@@ -51,8 +51,8 @@ impl Pairs {
     }
 }
 
-/// The transactions of a cycle of waits, from the victim on: each waits for the next, and the last for the victim. Few replies have
-/// them, so they stand in a box, and a reply takes 32 bytes in place of 40.
+/// The transactions of a cycle of waits, from the victim on: each waits for the next, and the last for the victim. Few
+/// replies have them, and the box keeps a reply at 32 bytes instead of 40.
 #[derive(Debug, Drop)]
 pub struct Members {
     members: Box<Vec<TxnId>>,

@@ -50,7 +50,7 @@ pub fn name_ok(word: &[u8]) -> bool
     all_name_bytes(word)
 }
 
-/// A word as the name that it is, or None where it is no name.
+/// The word as a text, or None if it is not a name.
 pub fn name_text(word: &[u8]) -> Option<&str>
     ensures { MatchOption result (is_name word.now ≡ false) (λ name. (name.now ≡ word.now) × IsTrue (is_name word.now)) }
 {

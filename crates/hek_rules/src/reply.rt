@@ -1,4 +1,4 @@
-//! What an event is answered with.
+//! Replies to events.
 ghost use Rattle.std.specs.Prelude.{◌≡◌, ◌↔◌, IfOk, OnErr, IsTrue};
 ghost use Rattle.hek_rules.specs.Replies.{HasList, whole};
 
@@ -18,24 +18,24 @@ pub enum Refusal {
     ClockFull,
 }
 
-/// The answer to an event.
+/// The reply to an event.
 #[derive(Debug, Drop)]
 pub enum Reply {
-    /// The begin time that was drawn.
+    /// The begin time that the transaction drew.
     Began(Time),
     /// The value of the key.
     Found(u64),
     Absent,
-    /// The pairs of the bucket, by key.
+    /// The pairs of the bucket, sorted by key.
     Rows(Pairs),
     Done,
     Exists,
     Ready,
-    /// How much the transaction still waits for: its WaitForCounter.
+    /// How many things the transaction still waits for: its WaitForCounter.
     Waiting(u64),
-    /// The end time that was drawn.
+    /// The end time that the transaction drew.
     Precommitted(Time),
-    /// A read lock was given up; the writer that waited for it, if this was the last.
+    /// The version whose read lock was given up, and its writer if this was the last read lock under one.
     ReleasedRead(VersionId, Option<TxnId>),
     ReleasedBucket(u64),
     ReleasedWaiter(TxnId),
@@ -46,7 +46,7 @@ pub enum Reply {
     Failed,
     StampedBegin(VersionId),
     StampedEnd(VersionId),
-    /// The End word no longer names the transaction, and stays.
+    /// The End word no longer names the transaction, and is unchanged.
     Left(VersionId),
     Over,
     NoCycle,
@@ -56,7 +56,7 @@ pub enum Reply {
     Refused(Refusal),
 }
 
-/// A reply taken apart: an equal one where it has no list, else the list and what stands beside it.
+/// A reply taken apart: an equal reply if it has no list, otherwise its list and its other part.
 #[derive(Drop)]
 pub enum ReplyParts<'a> {
     Plain(Reply),
@@ -65,7 +65,7 @@ pub enum ReplyParts<'a> {
 }
 
 impl Reply {
-    /// The reply taken apart, with no memory taken.
+    /// The reply taken apart. This needs no memory.
     pub fn parts(&self) -> ReplyParts<'_>
         ensures { whole result ≡ self.now }
     {

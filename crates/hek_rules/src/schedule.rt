@@ -1,6 +1,6 @@
-//! Schedules: rows, transactions and steps, within all limits.
+//! Schedules: a number of buckets, rows, transactions and steps, within all limits.
 ghost use Rattle.std.specs.Prelude.{◌≡◌, ◌+◌, ◌-◌, ◌<◌, ◌≤◌, ◌↔◌, [], ◌∷◌, ◌++◌, length, slice_get, IsTrue, OnOk, OnErr, IfSome, Some};
-ghost use Rattle.hek_rules.specs.Plan.{IsPlan, IsDeclared, IsStep, row_fits, txn_fits, StepFits, has_key, has_name, id_of, names_of, levels_of};
+ghost use Rattle.hek_rules.specs.Plan.{IsPlan, IsDeclared, IsStep, row_fits, txn_fits, StepFits, has_key, has_name, id_of, names_of, levels_of, max_buckets};
 
 use crate::event::{Event, Level};
 use crate::id::TxnId;
@@ -22,8 +22,8 @@ pub const MAX_TXNS: usize = 1_024;
 /// The most steps that a schedule has.
 pub const MAX_STEPS: usize = 1_000_000;
 
-/// What a machine is loaded with, and what is asked of it: a number of buckets, rows, transactions, and steps. Each
-/// key and each name stands once, and a step's transaction and bucket are there.
+/// What a machine is loaded with, and the events that it runs: a number of buckets, rows, transactions, and steps. Each
+/// key and each name occurs once, and a step's transaction and bucket exist.
 #[derive(Drop)]
 pub struct Schedule {
     buckets: u64,
@@ -45,9 +45,16 @@ impl Model for Schedule {
 }
 
 impl Schedule {
-    /// A schedule of no rows, transactions or steps.
+    /// Does nothing. Its contract gives a caller's proof the limits and the distinct keys and names of the schedule.
+    pub fn known(&self)
+        ensures { IsPlan self.now }
+    {
+        let _buckets = self.buckets;
+    }
+
+    /// A schedule without rows, transactions or steps.
     pub fn new(alloc: Global, buckets: u64) -> Schedule
-        requires { (0 < buckets) × (buckets ≤ 1024) }
+        requires { (0 < buckets) × (buckets ≤ max_buckets) }
         ensures { result ≡ record { buckets = buckets; rows = []; txns = []; steps = [] } }
     {
         Schedule {
@@ -96,7 +103,7 @@ impl Schedule {
         self.rows.len() < MAX_ROWS && !self.has_key(key)
     }
 
-    /// Adds a row at the end. Without memory the schedule is unchanged.
+    /// Adds a row at the end. Out of memory, the schedule is unchanged.
     pub fn add_row(&mut self, key: u64, value: u64) -> Result<(), NoMemory>
         requires { IsTrue (row_fits self.old key) }
         ensures ok { OnOk result (self.new ≡ record self.old { rows = self.old.rows ++ (key, value) ∷ [] }) }
@@ -113,7 +120,7 @@ impl Schedule {
         self.names.len()
     }
 
-    /// The transaction whose name this is, if there is one.
+    /// The transaction with this name, if there is one.
     pub fn id_of(&self, name: &[u8]) -> Option<TxnId>
         ensures value { result ≡ id_of self.now name.now }
         ensures declared { IfSome result (λ t. IsDeclared (length self.now.txns) t) }
@@ -149,14 +156,14 @@ impl Schedule {
         *level
     }
 
-    /// Whether a transaction of this name may be added: there is room, and it is a new name.
+    /// Whether a transaction with this name may be added: there is room, the word is a name, and the name is new.
     pub fn txn_fits(&self, name: &str) -> bool
         ensures { result ≡ txn_fits self.now name.now }
     {
         self.names.len() < MAX_TXNS && name_ok(name.as_bytes()) && !self.has_name(name)
     }
 
-    /// Adds a transaction at the end. Its ID is the number of transactions. Without memory the schedule is unchanged.
+    /// Adds a transaction at the end; the new count is its ID. Out of memory, the schedule is unchanged.
     pub fn add_txn(&mut self, name: &str, level: Level) -> Result<(), NoMemory>
         requires { IsTrue (txn_fits self.old name.now) }
         ensures ok { OnOk result (self.new ≡ record self.old { txns = self.old.txns ++ (name.now, level) ∷ [] }) }
@@ -208,7 +215,7 @@ impl Schedule {
         self.steps.len() < MAX_STEPS && self.is_step(event)
     }
 
-    /// Adds a step at the end. Without memory the schedule is unchanged.
+    /// Adds a step at the end. Out of memory, the schedule is unchanged.
     pub fn add_step(&mut self, event: Event) -> Result<(), NoMemory>
         requires { StepFits self.old event }
         ensures ok { OnOk result (self.new ≡ record self.old { steps = self.old.steps ++ event ∷ [] }) }

@@ -1,13 +1,13 @@
-//! What serial order speaks of: writes, and verdicts.
+//! The parts of serial order that programs use: writes, and verdicts.
 
-/// A change of one key: it gets a value, or goes.
+/// A change of one key: it gets a value, or is removed.
 #[derive(Clone, Copy, Debug, PartialEq, Eq)]
 pub enum Write {
     Put(u64, u64),
     Remove(u64),
 }
 
-/// Whether a transcript is serial, or the least number, from 1, of an event at fault.
+/// A verdict on a transcript: serial, or the least number, from 1, of an event at fault.
 #[derive(Clone, Copy, Debug, PartialEq, Eq)]
 pub enum Verdict {
     Serial,

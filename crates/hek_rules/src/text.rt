@@ -1,10 +1,10 @@
-//! What is read of texts: lines, words and numbers.
+//! Reading texts: lines, words and numbers.
 ghost use Rattle.std.specs.Prelude.{◌≡◌, ◌<◌, ◌≤◌, [], ◌∷◌, length, MatchOption, IfSome};
 ghost use Rattle.std.specs.List.{position_or_len, prefix_len};
 ghost use Rattle.std.specs.Str.{bytes_eq};
 ghost use Rattle.hek_rules.specs.Text.{lines_of, words_of, is_line_end, is_blank, ends_word, number_of};
 
-// How long the line at the front is.
+// The length of the line at the front.
 fn line_len(text: &[u8]) -> usize
     ensures { result ≡ position_or_len is_line_end text.now }
 {
@@ -16,7 +16,7 @@ fn line_len(text: &[u8]) -> usize
     text.len()
 }
 
-/// The first line of a text without its LF, and what follows that LF, or None where no line is left. The last line needs
+/// The first line of a text without its LF, and what follows that LF, or None if no line is left. The last line needs
 /// no LF.
 pub fn next_line(text: &[u8]) -> Option<(&[u8], &[u8])>
     ensures line { MatchOption result (lines_of text.now ≡ []) (λ r. lines_of text.now ≡ r.0.now ∷ lines_of r.1.now) }
@@ -45,7 +45,7 @@ fn ends_word(byte: u8) -> bool
     is_blank(byte) || byte == b'#'
 }
 
-// How many blanks stand at the front.
+// How many blanks are at the front.
 fn blanks_len(line: &[u8]) -> usize
     ensures len { result ≡ prefix_len is_blank line.now }
     ensures within { result ≤ length line.now }
@@ -58,7 +58,7 @@ fn blanks_len(line: &[u8]) -> usize
     line.len()
 }
 
-// How long the word at the front is.
+// The length of the word at the front.
 fn word_len(line: &[u8]) -> usize
     ensures len { result ≡ position_or_len ends_word line.now }
     ensures within { result ≤ length line.now }
@@ -71,8 +71,8 @@ fn word_len(line: &[u8]) -> usize
     line.len()
 }
 
-/// The first word of a line and what follows the word, or None where no word is left. Space, tab and CR part words, and
-/// `#` begins a comment, which has no words.
+/// The first word of a line and what follows the word, or None if no word is left. Space, tab and CR separate words,
+/// and `#` begins a comment, which has no words.
 pub fn next_word(line: &[u8]) -> Option<(&[u8], &[u8])>
     ensures word { MatchOption result (words_of line.now ≡ []) (λ r. words_of line.now ≡ r.0.now ∷ words_of r.1.now) }
     ensures shorter { IfSome result (λ r. length r.1.now < length line.now) }
@@ -86,8 +86,7 @@ pub fn next_word(line: &[u8]) -> Option<(&[u8], &[u8])>
     Some(line.split_at(len))
 }
 
-/// Whether both are the same bytes. It is written out at each call, so that no loop is left where one of them is a
-/// literal.
+/// Whether the bytes are equal. Each call is inlined, so that a comparison with a literal compiles without a loop.
 #[inline(always)]
 pub fn same_bytes(bytes: &[u8], other: &[u8]) -> bool
     ensures { result ≡ bytes_eq bytes.now other.now }
@@ -103,7 +102,7 @@ pub fn same_bytes(bytes: &[u8], other: &[u8]) -> bool
     true
 }
 
-/// The value of 1 to 20 decimal digits, if it is below 2^64. Leading zeros are accepted, signs and blanks are not.
+/// The value of 1 to 20 decimal digits, or None from 2^64 on. Leading zeros are accepted, signs and blanks are not.
 pub fn number(word: &[u8]) -> Option<u64>
     ensures { result ≡ number_of word.now }
 {

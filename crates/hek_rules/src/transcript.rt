@@ -1,4 +1,4 @@
-//! Transcripts: what happened, event by event, over the rows and levels of a schedule.
+//! Transcripts: the events of a run with their replies, over the rows and levels of a schedule.
 ghost use Rattle.std.specs.Prelude.{◌≡◌, ◌-◌, ◌<◌, ◌++◌, [], ◌∷◌, map, length, slice_get, OnOk, OnErr, IfOk, Some};
 ghost use Rattle.hek_rules.specs.Plan.{IsDeclared, levels_of};
 
@@ -53,7 +53,7 @@ fn copy_levels(alloc: Global, schedule: &Schedule) -> Result<Vec<Level>, NoMemor
 }
 
 impl Transcript {
-    /// A transcript of no events over a schedule's rows and levels.
+    /// A transcript without events, over a schedule's rows and levels.
     pub fn new(alloc: Global, schedule: &Schedule) -> Result<Transcript, NoMemory>
         ensures { IfOk result (λ t. t ≡ record { buckets = schedule.now.buckets; rows = schedule.now.rows; levels = levels_of schedule.now; history = [] }) }
     {
@@ -66,7 +66,7 @@ impl Transcript {
         })
     }
 
-    /// Appends an event with its reply. Without memory the reply is dropped and the transcript is unchanged.
+    /// Appends an event with its reply. Out of memory, the reply is dropped and the transcript is unchanged.
     pub fn push(&mut self, event: Event, reply: Reply) -> Result<(), NoMemory>
         ensures ok { OnOk result (self.new ≡ record self.old { history = self.old.history ++ (event, reply) ∷ [] }) }
         ensures err { OnErr result (self.new ≡ self.old) }

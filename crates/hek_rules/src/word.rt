@@ -1,15 +1,15 @@
-//! What the two words of a version say (sections 2 and 4 of the paper: the fields of a version, record locks).
+//! The records of a version's two words (sections 2 and 4 of the paper: the fields of a version, record locks).
 use crate::id::{Time, TxnId};
 
-/// What a Begin word says: the time from which the version is valid, or the transaction that made it.
+/// The content of a Begin word: the time from which the version is valid, or the transaction that made it.
 #[derive(Clone, Copy, Debug, PartialEq, Eq)]
 pub enum BeginRecord {
     At(Time),
     By(TxnId),
 }
 
-/// What an End word says: the time until which the version is valid, or a record lock. Time infinity is that of the
-/// latest version while nobody holds it.
+/// The content of an End word: the time until which the version is valid, or a record lock. The latest version has the
+/// time infinity while no transaction holds it.
 #[derive(Clone, Copy, Debug, PartialEq, Eq)]
 pub enum EndRecord {
     Until(Time),
@@ -21,8 +21,8 @@ pub enum EndRecord {
     },
 }
 
-/// What the going of one reader left behind: more readers, a free version, or a writer that waits for no reader of
-/// this version any more.
+/// What a reader leaves when it goes: more readers, a free version, or a writer that no longer waits for a reader of
+/// this version.
 #[derive(Clone, Copy, Debug, PartialEq, Eq)]
 pub enum Dropped {
     More,

@@ -1,4 +1,4 @@
--- The end times of those that committed so far, as a list.
+-- The end times of the transactions that committed so far, as a list.
 use Rattle.std.proofs.Common.{◌≡◌, ℕ, List, [], ◌∷◌, ◌++◌, refl, ◌∙◌, ap, Some}
 use Rattle.std.specs.Prelude.{◌==◌, ◌||◌}
 use Rattle.std.specs.List.{list_any}

@@ -1,4 +1,4 @@
--- The places of each transaction, with one event more in front.
+-- The places of each transaction, with one more event in front.
 use Rattle.std.proofs.Common.{◌≡◌, ℕ, zero, suc, ◌+◌, ◌<◌, ◌≤◌, Bool, true, false, List, [], ◌∷◌, ◌++◌, take, length, refl, ◌∙◌, ap, sym, subst, Some, None, Option, arith, ⊎_elim, get_or, set, replicate}
 use Rattle.std.proofs.lemmas.List.{length-set, length-replicate, get_or-replicate, get_or-set_same, get_or-set_other}
 use Rattle.std.proofs.Math.Seq.{take-append_seam}
@@ -9,13 +9,13 @@ use Rattle.hek_rules.specs.Events.{txn_of}
 use Rattle.hek_rules.specs.Serial.{is_of}
 use Rattle.hek_rules.specs.Listing.{put, value_of}
 use Rattle.hek_laws.proofs.Lists.Overlay.{value_of-put}
-use Rattle.hek_serial.specs.Links.{comes_at, is_event_of, IsNextOf, AreLinks, place_in, next_in, with_near, with_far}
+use Rattle.hek_serial.specs.Links.{comes_at, is_event_of, IsNextOf, AreEventLinks, linked_place, next_in, with_near, with_far}
 use Rattle.hek_serial.proofs.Verdicts.{is_of-to, named, is_of-named}
 
 -- the links of the events from a place on
 pub record AreFrom (es : List Event) (i : ℕ) (near : List ℕ) (far : List (ℕ × ℕ)) (next : List ℕ) : Type 0 where
   pub long : length next ≡ length es
-  pub starts : (t : ℕ) → IsNextOf t es i (place_in near far (length es) t)
+  pub starts : (t : ℕ) → IsNextOf t es i (linked_place near far (length es) t)
   pub follows : (t j : ℕ) → i ≤ j → comes_at t es j ≡ true → IsNextOf t es (j + 1) (slice_index next j)
 
 pub event-at : (es : List Event) (i : ℕ) (e : Event) → i < length es → e ≡ get_or es i e → slice_get es i ≡ Some e
@@ -28,8 +28,8 @@ past t [] i l = refl
 past t (e ∷ es) zero l = absurd (omega (arith, l))
 past t (e ∷ es) (suc i) l = past t es i (omega (arith, l))
 
--- before any event is put there is a place for none
-none_kept : (below count t : ℕ) → place_in (replicate below count) [] count t ≡ count
+-- before the first event no place is kept
+none_kept : (below count t : ℕ) → linked_place (replicate below count) [] count t ≡ count
 none_kept below count t =
     cond_both (nat_lt t (length (replicate below count))) (slice_index (replicate below count) t) count (λ n. n ≡ count)
     (λ y. get_or-replicate below t count 0 (low (ltb-true t (length (replicate below count)) y) (length-replicate below count)))
@@ -43,36 +43,36 @@ none_linked es below near next far all none long =
     record {
       long = long;
       starts = λ t.
-          subst (IsNextOf t es (length es)) (sym (ap (λ ns. place_in ns far (length es) t) all ∙ ap (λ m. place_in (replicate below (length es)) m (length es) t) none ∙ none_kept below (length es) t))
+          subst (IsNextOf t es (length es)) (sym (ap (λ ns. linked_place ns far (length es) t) all ∙ ap (λ m. linked_place (replicate below (length es)) m (length es) t) none ∙ none_kept below (length es) t))
           (record { on = omega arith; within = omega arith; between = λ j a l. absurd (omega (arith, a, l)); there = λ l. absurd (omega (arith, l)) });
       follows = λ t j l c. absurd (false≢true (sym (past t es j l) ∙ c));
     }
 
-pub all_linked : (es : List Event) (near : List ℕ) (far : List (ℕ × ℕ)) (next : List ℕ) → AreFrom es 0 near far next → AreLinks es near far next
+pub all_linked : (es : List Event) (near : List ℕ) (far : List (ℕ × ℕ)) (next : List ℕ) → AreFrom es 0 near far next → AreEventLinks es near far next
 all_linked es near far next a = record { long = a.long; starts = a.starts; follows = λ t i c. a.follows t i (omega arith) c }
 
--- the place kept for another stays
-other_set : (near : List ℕ) (far : List (ℕ × ℕ)) (i count t x : ℕ) → (x == t) ≡ false → place_in (set near x i) far count t ≡ place_in near far count t
+-- the place kept for another transaction stays
+other_set : (near : List ℕ) (far : List (ℕ × ℕ)) (i count t x : ℕ) → (x == t) ≡ false → linked_place (set near x i) far count t ≡ linked_place near far count t
 other_set near far i count t x n =
     ap (λ m. if nat_lt t m then slice_index (set near x i) t else unwrap_or (value_of far t) count) (length-set near x i)
     ∙ ap (λ v. if nat_lt t (length near) then v else unwrap_or (value_of far t) count) (get_or-set_other near x t i 0 (λ e. eqb-false x t n (sym e)))
 
-other_put : (near : List ℕ) (far : List (ℕ × ℕ)) (i count t x : ℕ) → (x == t) ≡ false → place_in near (put x i far) count t ≡ place_in near far count t
+other_put : (near : List ℕ) (far : List (ℕ × ℕ)) (i count t x : ℕ) → (x == t) ≡ false → linked_place near (put x i far) count t ≡ linked_place near far count t
 other_put near far i count t x n =
     ap (λ o. if nat_lt t (length near) then slice_index near t else unwrap_or o count) (value_of-put far x i t ∙ cond-false (x == t) (Some i) (value_of far t) n)
 
-other_place : (near : List ℕ) (far : List (ℕ × ℕ)) (i count t : ℕ) (o : Option ℕ) → named o t ≡ false → place_in (with_near near i o) (with_far near far i o) count t ≡ place_in near far count t
+other_place : (near : List ℕ) (far : List (ℕ × ℕ)) (i count t : ℕ) (o : Option ℕ) → named o t ≡ false → linked_place (with_near near i o) (with_far near far i o) count t ≡ linked_place near far count t
 other_place near far i count t None n = refl
 other_place near far i count t (Some x) n = either (nat_lt x (length near))
   where
-    either : (b : Bool) → place_in (if b then set near x i else near) (if b then far else put x i far) count t ≡ place_in near far count t
+    either : (b : Bool) → linked_place (if b then set near x i else near) (if b then far else put x i far) count t ≡ linked_place near far count t
     either true = other_set near far i count t x n
     either false = other_put near far i count t x n
 
-own_place : (near : List ℕ) (far : List (ℕ × ℕ)) (i count t : ℕ) → place_in (with_near near i (Some t)) (with_far near far i (Some t)) count t ≡ i
+own_place : (near : List ℕ) (far : List (ℕ × ℕ)) (i count t : ℕ) → linked_place (with_near near i (Some t)) (with_far near far i (Some t)) count t ≡ i
 own_place near far i count t = either (nat_lt t (length near)) refl
   where
-    either : (b : Bool) → nat_lt t (length near) ≡ b → place_in (if b then set near t i else near) (if b then far else put t i far) count t ≡ i
+    either : (b : Bool) → nat_lt t (length near) ≡ b → linked_place (if b then set near t i else near) (if b then far else put t i far) count t ≡ i
     either true y =
         ap (λ m. if nat_lt t m then slice_index (set near t i) t else unwrap_or (value_of far t) count) (length-set near t i)
         ∙ cond-true (nat_lt t (length near)) (slice_index (set near t i) t) (unwrap_or (value_of far t) count) y ∙ get_or-set_same near t i 0 (ltb-true t (length near) y)
@@ -94,13 +94,13 @@ from_here t es i n off is =
     }
 
 starts_here : (es : List Event) (i : ℕ) (e : Event) (near : List ℕ) (far : List (ℕ × ℕ)) → i < length es → slice_get es i ≡ Some e →
-    ((t : ℕ) → IsNextOf t es (i + 1) (place_in near far (length es) t)) → (t : ℕ) → IsNextOf t es i (place_in (with_near near i (txn_of e)) (with_far near far i (txn_of e)) (length es) t)
+    ((t : ℕ) → IsNextOf t es (i + 1) (linked_place near far (length es) t)) → (t : ℕ) → IsNextOf t es i (linked_place (with_near near i (txn_of e)) (with_far near far i (txn_of e)) (length es) t)
 starts_here es i e near far l at starts t =
     let here : comes_at t es i ≡ is_of t e = ap (is_event_of t) at in
     ⊎_elim
     (λ y.
-    let place : place_in (with_near near i (txn_of e)) (with_far near far i (txn_of e)) (length es) t ≡ i =
-    ap (λ o. place_in (with_near near i o) (with_far near far i o) (length es) t) (is_of-to e t y) ∙ own_place near far i (length es) t in
+    let place : linked_place (with_near near i (txn_of e)) (with_far near far i (txn_of e)) (length es) t ≡ i =
+    ap (λ o. linked_place (with_near near i o) (with_far near far i o) (length es) t) (is_of-to e t y) ∙ own_place near far i (length es) t in
     subst (IsNextOf t es i) (sym place) (record { on = omega arith; within = omega (arith, l); between = λ j a b. absurd (omega (arith, a, b)); there = λ _. here ∙ y }))
     (λ n.
     subst (IsNextOf t es i) (sym (other_place near far i (length es) t (txn_of e) (sym (is_of-named e t) ∙ n))) (from_here t es i _ (here ∙ n) (starts t)))
@@ -118,9 +118,9 @@ one_linked es i e near far next l at a =
           ⊎_elim
           (λ same.
           let mine : is_of t e ≡ true = sym (ap (is_event_of t) at) ∙ ap (comes_at t es) (sym same) ∙ c in
-          let is : slice_index (set next i new) j ≡ place_in near far (length es) t =
+          let is : slice_index (set next i new) j ≡ linked_place near far (length es) t =
           ap (slice_index (set next i new)) same ∙ get_or-set_same next i new 0 (omega (arith, l, long)) ∙ ap (next_in near far (length es)) (is_of-to e t mine) in
-          subst (IsNextOf t es (j + 1)) (sym is) (subst (λ m. IsNextOf t es (m + 1) (place_in near far (length es) t)) (sym same) (a.starts t)))
+          subst (IsNextOf t es (j + 1)) (sym is) (subst (λ m. IsNextOf t es (m + 1) (linked_place near far (length es) t)) (sym same) (a.starts t)))
           (λ other. subst (IsNextOf t es (j + 1)) (sym (get_or-set_other next i j new 0 other)) (a.follows t j (above j i b other) c)) (cases_eq j i);
     }
 
@@ -134,6 +134,6 @@ near_back near new rest i n o is long =
     let same : n ≡ length new = long ∙ sym (near_long near i o) ∙ ap length (sym is) in
     ap (λ m. take m (new ++ rest)) same ∙ take-append_seam new rest ∙ is
 
--- the first place, as it is looked up
-pub first_is : (es : List Event) (near : List ℕ) (far : List (ℕ × ℕ)) (next : List ℕ) (t n : ℕ) → AreLinks es near far next → n ≡ place_in near far (length next) t → IsNextOf t es 0 n
-first_is es near far next t n a is = subst (IsNextOf t es 0) (sym (is ∙ ap (λ m. place_in near far m t) a.long)) (a.starts t)
+-- the first place of t, as it is looked up
+pub first_is : (es : List Event) (near : List ℕ) (far : List (ℕ × ℕ)) (next : List ℕ) (t n : ℕ) → AreEventLinks es near far next → n ≡ linked_place near far (length next) t → IsNextOf t es 0 n
+first_is es near far next t n a is = subst (IsNextOf t es 0) (sym (is ∙ ap (λ m. linked_place near far m t) a.long)) (a.starts t)

@@ -12,21 +12,21 @@ use Rattle.hek_laws.proofs.Lists.Overlay.{left_by, value_of-put, value_of-lay}
 use Rattle.hek_laws.proofs.Lists.Rising.{same_rows, rising-put, rising-filter, rising-lay_all, value_of-filter}
 use Rattle.hek_laws.specs.Rows.{AreRising, key_of}
 use Rattle.hek_laws.proofs.Worlds.Histories.{option_or-none}
-use Rattle.hek_serial.specs.BucketRows.{joined, gathered, part_at, AreParts}
+use Rattle.hek_serial.specs.BucketRows.{joined_rows, gathered, part_at, AreParts}
 
 or_if : (b : Bool) (x : ℕ) (a o : Option ℕ) → (if b then Some x else option_or a o) ≡ option_or (if b then Some x else a) o
 or_if true x a o = refl
 or_if false x a o = refl
 
-value_of-joined : (xs others : List (ℕ × ℕ)) (q : ℕ) → value_of (joined xs others) q ≡ option_or (value_of xs q) (value_of others q)
+value_of-joined : (xs others : List (ℕ × ℕ)) (q : ℕ) → value_of (joined_rows xs others) q ≡ option_or (value_of xs q) (value_of others q)
 value_of-joined [] others q = refl
 value_of-joined (p ∷ ps) others q =
-    value_of-put (joined ps others) p.0 p.1 q ∙ ap (λ o. if p.0 == q then Some p.1 else o) (value_of-joined ps others q)
+    value_of-put (joined_rows ps others) p.0 p.1 q ∙ ap (λ o. if p.0 == q then Some p.1 else o) (value_of-joined ps others q)
     ∙ or_if (p.0 == q) p.1 (value_of ps q) (value_of others q)
 
-rising-joined : (xs others : List (ℕ × ℕ)) → AreRising others → AreRising (joined xs others)
+rising-joined : (xs others : List (ℕ × ℕ)) → AreRising others → AreRising (joined_rows xs others)
 rising-joined [] others r = r
-rising-joined (p ∷ ps) others r = rising-put (joined ps others) p.0 p.1 (rising-joined ps others r)
+rising-joined (p ∷ ps) others r = rising-put (joined_rows ps others) p.0 p.1 (rising-joined ps others r)
 
 pub rising-gathered : (parts : List (List (ℕ × ℕ))) → AreRising (gathered parts)
 rising-gathered [] = tt
@@ -37,7 +37,7 @@ gathered-none [] q h = refl
 gathered-none (p ∷ ps) q h =
     value_of-joined p (gathered ps) q ∙ ap (λ o. option_or o (value_of (gathered ps) q)) (h 0) ∙ gathered-none ps q (λ i. h (suc i))
 
--- what a key has that only one part can have
+-- a value that only one part can have for a key is that of all parts together
 gathered-one : (parts : List (List (ℕ × ℕ))) (m q : ℕ) → ((i : ℕ) → (m ≡ i → ⊥) → value_of (part_at parts i) q ≡ None) → value_of (gathered parts) q ≡ value_of (part_at parts m) q
 gathered-one [] m q h = refl
 gathered-one (p ∷ ps) zero q h =
@@ -50,7 +50,7 @@ gathered-one (p ∷ ps) (suc m) q h =
 pub value_of-gathered : (parts : List (List (ℕ × ℕ))) (q : ℕ) → AreParts parts → value_of (gathered parts) q ≡ value_of (part_at parts (q % length parts)) q
 value_of-gathered parts q a = gathered-one parts (q % length parts) q (λ i n. a.apart i q n)
 
--- what a key has in a part after a change of one of its bucket
+-- the value of a key in a part after a change in the part of its bucket
 part-changed : (parts : List (List (ℕ × ℕ))) (w : Write) (i q : ℕ) → key_of w % length parts < length parts →
     value_of (part_at (set parts (key_of w % length parts) (lay w (part_at parts (key_of w % length parts)))) i) q
     ≡ (if key_of w % length parts == i then (if key_of w == q then left_by w else value_of (part_at parts i) q) else value_of (part_at parts i) q)
@@ -90,7 +90,7 @@ parts-lay parts w l a =
           ∙ a.apart i q off;
     }
 
--- a change of the part of its bucket is a change of the rows
+-- a change in the part of its bucket is a change of the rows
 pub gathered-lay : (parts : List (List (ℕ × ℕ))) (w : Write) → key_of w % length parts < length parts → AreParts parts →
     gathered (set parts (key_of w % length parts) (lay w (part_at parts (key_of w % length parts)))) ≡ lay w (gathered parts)
 gathered-lay parts w l a =

@@ -1,4 +1,4 @@
--- What stands between two events of a transaction writes nothing for it, and is right for it.
+-- The events between two events of a transaction write nothing for it, and are right for it.
 use Rattle.std.proofs.Common.{◌≡◌, ℕ, zero, suc, ◌+◌, ◌<◌, ◌≤◌, false, List, [], ◌∷◌, ◌++◌, length, refl, ◌∙◌, ap, sym, subst, Some, None, take, arith, ⊎_elim}
 use Rattle.std.proofs.lemmas.Bool.{cond-false, false≢true, cases_eq, cases_lt}
 use Rattle.std.specs.Prelude.{slice_get, ◌==◌}
@@ -53,7 +53,7 @@ right-between level buckets t rows es rs j h =
 above : (a b : ℕ) → b ≤ a → (a ≡ b → ⊥) → b + 1 ≤ a
 above a b m n = omega (arith, m, n)
 
--- one place more, and those up to the next of the same transaction
+-- one more place, and those up to the next of the same transaction
 pub right-on : (level : Level) (buckets t : ℕ) (rows : List (ℕ × ℕ)) (es : List Event) (rs : List Reply) (i n : ℕ) → ((j : ℕ) → j < i → IsRightFor level buckets t rows (zip es rs) j) →
     IsRightFor level buckets t rows (zip es rs) i → ((j : ℕ) → i + 1 ≤ j → j < n → comes_at t es j ≡ false) → (j : ℕ) → j < n → IsRightFor level buckets t rows (zip es rs) j
 right-on level buckets t rows es rs i n before here between j l =
@@ -63,7 +63,7 @@ right-on level buckets t rows es rs i n before here between j l =
     (λ other. right-between level buckets t rows es rs j (between j (above j i more other) l)) (cases_eq j i))
     (cases_lt j i)
 
--- n is the first place before another at which a reply to t isn't right, or the number of places
+-- n is the first place before `at` at which a reply to t isn't right, or the number of places
 pub record IsWrongBefore (level : Level) (buckets t : ℕ) (rows : List (ℕ × ℕ)) (h : List (Event × Reply)) (at n : ℕ) : Type 0 where
   pub within : n ≤ length h
   pub early : n < length h → n < at
@@ -80,13 +80,13 @@ wrong-none level buckets t rows es rs n between =
       wrong = λ l. absurd (omega (arith, l));
     }
 
--- the first wrong one stands here
+-- the first wrong reply is at this place
 pub wrong-here : (level : Level) (buckets t : ℕ) (rows : List (ℕ × ℕ)) (h : List (Event × Reply)) (i n w : ℕ) → IsWrongBefore level buckets t rows h i w → w ≡ length h → i < length h → i < n →
     (IsRightFor level buckets t rows h i → ⊥) → IsWrongBefore level buckets t rows h n i
 wrong-here level buckets t rows h i n w before none l on bad =
     record { within = omega (arith, l); early = λ _. on; right = λ j a _. before.right j (omega (arith, a, l, none)) a; wrong = λ _. bad }
 
--- none stands here, or one stood before
+-- no wrong reply is at this place, or one was before it
 pub wrong-on : (level : Level) (buckets t : ℕ) (rows : List (ℕ × ℕ)) (es : List Event) (rs : List Reply) (i n w : ℕ) → IsWrongBefore level buckets t rows (zip es rs) i w → i < n →
     (i < w → IsRightFor level buckets t rows (zip es rs) i) → ((j : ℕ) → i + 1 ≤ j → j < n → comes_at t es j ≡ false) → IsWrongBefore level buckets t rows (zip es rs) n w
 wrong-on level buckets t rows es rs i n w before on here between =

@@ -1,4 +1,4 @@
--- Changes that are taken back, and the writes of a longer front of a history.
+-- Changes that are undone, and the writes of a longer front of a history.
 use Rattle.std.proofs.Common.{◌≡◌, ℕ, zero, suc, ◌+◌, List, [], ◌∷◌, ◌++◌, refl, ◌∙◌, ap, sym, Some, None, Option, ⊎_elim, take, add-one}
 use Rattle.std.proofs.lemmas.Bool.{cases_Bool, cond-true, cond-false, eqb-true}
 use Rattle.std.specs.Prelude.{◌==◌, slice_get, if◌then◌else◌}
@@ -22,13 +22,13 @@ laid_back-append (w ∷ us) u rows = ap (lay w) (laid_back-append us u rows)
 pub undone-append : (us : List Write) (u : Write) (s : BucketRows) → undone (us ++ u ∷ []) s ≡ undone us (record { buckets = s.buckets; rows = lay u s.rows })
 undone-append us u s = ap (λ rows. record { buckets = s.buckets; rows = rows }) (laid_back-append us u s.rows)
 
--- with one change more to take back
+-- one more change to undo
 pub undone-more : (us : List Write) (u : Write) (old new : BucketRows) → new.buckets ≡ old.buckets → lay u new.rows ≡ old.rows → undone (us ++ u ∷ []) new ≡ undone us old
 undone-more us u old new b r =
     let rows = laid_back-append us u new.rows ∙ ap (laid_back us) r in
     λ i. record { buckets = b i; rows = rows i }
 
--- what a key has once it has again what it had
+-- the values of all keys once a changed key has its old value again
 again : (w : Write) (rows : List (ℕ × ℕ)) (o : Option ℕ) → value_of rows (key_of w) ≡ o → (q : ℕ) → (if key_of w == q then o else value_of (lay w rows) q) ≡ value_of rows q
 again w rows o h q =
     ⊎_elim

@@ -1,4 +1,4 @@
--- What its parts say of a transcript is what it tells.
+-- What is known of a transcript's parts is known of the whole transcript.
 use Rattle.std.proofs.Common.{◌≡◌, ◌∙◌, ap, map, List, ℕ}
 use Rattle.std.specs.List.{zip}
 use Rattle.hek_rules.specs.declared.event.Event.{Event}

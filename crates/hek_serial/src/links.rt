@@ -1,14 +1,14 @@
-//! Where the events of each transaction stand, so that one can go along them.
+//! The places of each transaction's events, linked so that they can be followed.
 ghost use Rattle.std.specs.Prelude.{◌≡◌, ◌<◌, ℕ, Some, length, slice_index, IfOk, OnOk};
 ghost use Rattle.hek_rules.specs.Events.{txn_of as txn_in};
-ghost use Rattle.hek_serial.specs.Links.{AreLinks, place_in, next_in, with_near, with_far};
+ghost use Rattle.hek_serial.specs.Links.{AreEventLinks, linked_place, next_in, with_near, with_far};
 
 use crate::number_map::NumberMap;
 use hek_rules::{Event, NoMemory, TxnId};
 use std::alloc::Global;
 
-/// The first place of each transaction, and the next of the same behind each place. The first places of transactions of low
-/// numbers stand in a list.
+/// The first place of each transaction, and after each place the next one of the same transaction. The first places of
+/// transactions with low numbers are in a list, the others in a map.
 #[derive(Drop)]
 pub(crate) struct Links {
     near: Vec<usize>,
@@ -18,7 +18,7 @@ pub(crate) struct Links {
 
 /// The place that is kept for t, or the number of places.
 pub(crate) fn place_of(near: &[usize], far: &NumberMap, t: TxnId, count: usize) -> usize
-    ensures { result ≡ place_in near.now far.now count t }
+    ensures { result ≡ linked_place near.now far.now count t }
 {
     if t.number() < near.len() as u64 {
         near[t.number() as usize]
@@ -30,7 +30,7 @@ pub(crate) fn place_of(near: &[usize], far: &NumberMap, t: TxnId, count: usize) 
     }
 }
 
-/// A place is kept for t. Answers the one that was kept before, or the number of places.
+/// Keeps a place for t. Answers the place that was kept before, or the number of places.
 pub(crate) fn keep_place(
     near: &mut [usize],
     far: &mut NumberMap,
@@ -38,7 +38,7 @@ pub(crate) fn keep_place(
     place: usize,
     count: usize,
 ) -> Result<usize, NoMemory>
-    ensures before { IfOk result (λ n. n ≡ place_in near.old far.old count t) }
+    ensures before { IfOk result (λ n. n ≡ linked_place near.old far.old count t) }
     ensures near { OnOk result (near.new ≡ with_near near.old place (Some t)) }
     ensures far { OnOk result (far.new ≡ with_far near.old far.old place (Some t)) }
 {
@@ -54,7 +54,7 @@ pub(crate) fn keep_place(
     }
 }
 
-/// An event is put before those of its transaction that follow. Answers the place of the first of these, or the number of
+/// Puts an event before those of its transaction that follow. Answers the place of the first of these, or the number of
 /// places.
 pub(crate) fn link(
     near: &mut [usize],
@@ -74,9 +74,9 @@ pub(crate) fn link(
 }
 
 impl Links {
-    /// The first places of transactions below a number stand in a list.
+    /// The links of events, with the first places of transactions below a number in a list.
     pub(crate) fn new(alloc: Global, below: usize, events: &[Event]) -> Result<Links, NoMemory>
-        ensures { IfOk result (λ links. AreLinks events.now links.near.items links.far links.next.items) }
+        ensures { IfOk result (λ links. AreEventLinks events.now links.near.items links.far links.next.items) }
     {
         let count = events.len();
         let mut near = vec![in alloc; count; below]?;
@@ -90,7 +90,7 @@ impl Links {
 
     /// The first place of t, or the number of places.
     pub(crate) fn first(&self, t: TxnId) -> usize
-        ensures { result ≡ place_in self.now.near.items self.now.far (length self.now.next.items) t }
+        ensures { result ≡ linked_place self.now.near.items self.now.far (length self.now.next.items) t }
     {
         place_of(&self.near, &self.far, t, self.next.len())
     }

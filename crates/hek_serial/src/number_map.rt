@@ -1,4 +1,4 @@
-//! Numbers by number.
+//! Maps from numbers to numbers.
 ghost use Rattle.std.specs.Prelude.{◌≡◌, ◌↔◌, [], ℕ, IsTrue, OnOk, OnErr, IfOk};
 ghost use Rattle.hek_rules.specs.Listing.{put as put_in, take_out as taken_out, value_of as value_in};
 ghost use Rattle.hek_rules.specs.Serial.{lay as laid};
@@ -35,7 +35,7 @@ impl NumberMap {
         }
     }
 
-    /// The key has this value from now on. Answers the one that it had.
+    /// Gives the key this value. Answers the value that it had.
     pub(crate) fn put(&mut self, key: u64, value: u64) -> Result<Option<u64>, NoMemory>
         ensures value { IfOk result (λ before. before ≡ value_in self.old key) }
         ensures ok { OnOk result (self.new ≡ put_in key value self.old) }
@@ -45,7 +45,7 @@ impl NumberMap {
         Ok(before)
     }
 
-    /// The key has no value from now on. Answers the one that it had.
+    /// Takes the value of the key away. Answers that value.
     pub(crate) fn take_out(&mut self, key: u64) -> Option<u64>
         ensures value { result ≡ value_in self.old key }
         ensures rest { self.new ≡ taken_out key self.old }
@@ -53,7 +53,7 @@ impl NumberMap {
         self.map.remove(&key)
     }
 
-    /// Makes a change.
+    /// Makes a change: gives a key a value, or takes its value away.
     pub(crate) fn lay(&mut self, write: Write) -> Result<(), NoMemory>
         ensures ok { OnOk result (self.new ≡ laid write self.old) }
         ensures err { OnErr result (self.new ≡ self.old) }
@@ -76,7 +76,7 @@ impl NumberMap {
         self.map.get(&key).copied()
     }
 
-    /// Whether these are the keys with their values.
+    /// Whether these are all keys with their values, in rising order of keys.
     pub(crate) fn is(&self, pairs: &[(u64, u64)]) -> bool
         ensures { IsTrue result ↔ (pairs.now ≡ self.now) }
     {
@@ -90,7 +90,7 @@ impl NumberMap {
         seen == pairs.len()
     }
 
-    /// The keys with their values.
+    /// All keys with their values, in rising order of keys.
     pub(crate) fn pairs(&self, alloc: Global) -> Result<Vec<(u64, u64)>, NoMemory>
         ensures { IfOk result (λ pairs. pairs.items ≡ self.now) }
     {

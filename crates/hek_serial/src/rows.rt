@@ -19,7 +19,7 @@ pub(crate) fn key_of(write: Write) -> u64
     }
 }
 
-/// Keys with their values, in so many buckets.
+/// Keys with their values, in a fixed number of buckets.
 #[derive(Drop)]
 pub(crate) struct Rows {
     parts: Vec<NumberMap>,
@@ -37,7 +37,7 @@ impl Model for Rows {
 }
 
 impl Rows {
-    /// No rows in so many buckets.
+    /// No rows, in this many buckets.
     pub(crate) fn new(alloc: Global, buckets: u64) -> Result<Rows, NoMemory>
         requires { 0 < buckets }
         ensures { IfOk result (λ rows. rows ≡ record { buckets = buckets; rows = [] }) }
@@ -49,7 +49,7 @@ impl Rows {
         Ok(Rows { parts })
     }
 
-    /// Makes a change.
+    /// Makes a change to the rows.
     pub(crate) fn lay(&mut self, write: Write) -> Result<(), NoMemory>
         ensures { OnOk result (self.new ≡ record self.old { rows = laid write self.old.rows }) }
     {
@@ -58,7 +58,7 @@ impl Rows {
         Ok(())
     }
 
-    /// Makes a change, and answers the one that takes it back.
+    /// Makes a change, and answers the change that undoes it.
     pub(crate) fn change(&mut self, write: Write) -> Result<Write, NoMemory>
         ensures laid { OnOk result (self.new ≡ record self.old { rows = laid write self.old.rows }) }
         ensures back { IfOk result (λ back. laid back self.new.rows ≡ self.old.rows) }

@@ -1,10 +1,10 @@
--- The remainder by a power of two is the last binary digits.
+-- The remainder by a power of two is the number's last binary digits.
 use Rattle.std.proofs.Common.{◌≡◌, ℕ, zero, suc, ◌+◌, ◌-◌, ◌*◌, ◌/◌, ◌%◌, ◌^◌, ◌<◌, refl, sym, ap, ◌∙◌, subst, arith, ⊎_elim, ◌⊎◌, inl, inr}
 use Rattle.std.proofs.lemmas.Nat.{and_block, and_mask}
 use Rattle.std.proofs.Math.Nat.{div-add-mod, mul-add-mod_self_left, mod-eq_of_lt}
 use Rattle.std.specs.Int.Bits.{bit_and, and_self}
 
--- the remainder by an even number, half by half
+-- the remainder by an even number, from the remainder of the half
 even_mod : (n c : ℕ) → 0 < c → n % (c * 2) ≡ (n / 2 % c) * 2 + n % 2
 even_mod n c some =
     let q = n / 2 in
@@ -12,7 +12,7 @@ even_mod n c some =
     let small : (q % c) * 2 + n % 2 < c * 2 = omega arith in
     ap (λ x. x % (c * 2)) (sym whole) ∙ mul-add-mod_self_left (c * 2) (q / c) ((q % c) * 2 + n % 2) ∙ mod-eq_of_lt small
 
--- a number is twice its half, or one more
+-- a number is twice its half, or that and one
 parity : (b : ℕ) → (b ≡ b / 2 * 2 ^ 1 + 0) ⊎ (b ≡ b / 2 * 2 ^ 1 + 1)
 parity b = digit (b % 2) refl
   where
@@ -21,11 +21,11 @@ parity b = digit (b % 2) refl
     digit (suc zero) e = inr (omega arith)
     digit (suc (suc r)) e = absurd (omega arith)
 
--- what an odd number shares with the number below it
+-- the digits that an odd number shares with the number below it
 odd_digits : (c : ℕ) → bit_and (c * 2 ^ 1 + 1) (c * 2 ^ 1 + 0) ≡ c * 2
 odd_digits c = and_block 1 c c 1 0 (omega arith) (omega arith) ∙ ap (λ x. x * 2 ^ 1 + 0) (and_self c) ∙ omega arith
 
--- what an even number shares with the number below it
+-- the digits that an even number shares with the number below it
 even_digits : (c : ℕ) → bit_and (suc c * 2 ^ 1 + 0) (c * 2 ^ 1 + 1) ≡ bit_and (suc c) c * 2
 even_digits c = and_block 1 (suc c) c 0 1 (omega arith) (omega arith) ∙ omega arith
 
@@ -45,7 +45,7 @@ even_masked n c half =
     ∙ ap (λ x. n / 2 % suc c * 2 ^ 1 + x) (and_mask (n % 2) 1)
     ∙ omega (arith, whole)
 
--- where a number and the one below it share no digit, what another shares with the one below is its remainder
+-- if m + 1 and m share no digit, the digits that n shares with m are n's remainder by m + 1
 masked_by : (fuel n m : ℕ) → m < fuel → bit_and (suc m) m ≡ 0 → bit_and n m ≡ n % suc m
 masked_by zero n m within apart = absurd (omega arith)
 masked_by (suc fuel) n m within apart = ⊎_elim (even (masked_by fuel (n / 2) (suc m / 2 - 1))) odd (parity (suc m))

@@ -1,4 +1,4 @@
--- The starts of a store's slots, once one of them has changed.
+-- The starts of a store's slots, after one of them has changed.
 use Rattle.std.proofs.Common.{◌≡◌, ℕ, zero, suc, ◌+◌, ◌%◌, ◌<◌, ◌≤◌, ◌≢◌, true, false, ◌==◌, List, [], ◌∷◌, ◌++◌, length, slice_index_or, slice_set, refl, sym, ap, subst, ◌∙◌, ⊎_elim, arith, get_or-set_same, get_or-set_other, mod-lt}
 use Rattle.std.specs.Prelude.{map, Option, Some, None, is_some}
 use Rattle.std.proofs.lemmas.List.{get_or-map}
@@ -30,7 +30,7 @@ shown_within slots slot time link vs links out ends h same s =
     let within = s.within in
     omega (arith, count, within)
 
--- what is listed along them from a start on
+-- the versions along the links from a start on are living ones
 pub shown_living : (slots key time link : ℕ) (vs shown : List Version) (links out : List ℕ) (ends : List Ends) (listed : List ℕ) → AreBuckets slots (keys_of vs) links ends → out ≡ links → shown ≡ vs →
     IsStart slots (key % slots) time vs link → listed ≡ left shown key out link → IsLiving vs key time listed
 shown_living slots key time link vs shown links out ends listed h same all s is =
@@ -38,7 +38,7 @@ shown_living slots key time link vs shown links out ends listed h same all s is 
 
 -- ---- the start of a slot
 
--- where its chain begins
+-- the first link of a slot's chain is a start
 pub start_of_ends : (slots slot time : ℕ) (vs : List Version) (links : List ℕ) (ends : List Ends) → AreBuckets slots (keys_of vs) links ends → slot < slots →
     IsStart slots slot time vs (slice_index_or ends slot no_ends).first
 start_of_ends slots slot time vs links ends h below = start_first slots slot time vs (slice_index_or ends slot no_ends).first (ap (λ e. e.first) (h.ended slot below))
@@ -49,13 +49,13 @@ start_of_end slots slot time vs links ends e h below at =
     let count = h.count in
     subst (λ x. IsStart slots slot time vs x.first) (sym (at ∙ same_item ends slot e no_ends (omega (arith, count, below)))) (start_of_ends slots slot time vs links ends h below)
 
--- the one that the store has
+-- the start that the store has is one for any later time
 pub start_of : (slots slot passed time : ℕ) (vs : List Version) (starts : List ℕ) (link : ℕ) → length starts ≡ slots → ((b : ℕ) → b < slots → IsStart slots b passed vs (slice_index_or starts b 0)) →
     slot < slots → passed ≤ time → link ≡ slice_index_or starts slot link → IsStart slots slot time vs link
 start_of slots slot passed time vs starts link begun are below later at =
     subst (λ l. IsStart slots slot time vs l) (sym (at ∙ same_item starts slot link 0 (omega (arith, begun, below)))) (start_later slots slot passed time vs (slice_index_or starts slot 0) later (are slot below))
 
--- ---- all starts, where that of one slot is another one now
+-- ---- all starts, after that of one slot has changed
 
 pub restarted : (slots slot time : ℕ) (vs : List Version) (starts : List ℕ) (link : ℕ) → length starts ≡ slots → slot < slots →
     ((b : ℕ) → b < slots → b ≢ slot → IsStart slots b time vs (slice_index_or starts b 0)) → IsStart slots slot time vs link →
@@ -67,14 +67,14 @@ restarted slots slot time vs starts link begun below others new = λ b l.
     (λ other. subst (λ n. IsStart slots b time vs n) (sym (get_or-set_other starts slot b link 0 other)) (others b l other))
     (cases_eq b slot)
 
--- a later time, and what is passed over by then
+-- the starts after one slot has passed over versions by a later time
 pub starts_passed : (slots slot passed time : ℕ) (vs : List Version) (starts : List ℕ) (link : ℕ) → length starts ≡ slots → slot < slots → passed ≤ time →
     ((b : ℕ) → b < slots → IsStart slots b passed vs (slice_index_or starts b 0)) → IsStart slots slot time vs link →
     (b : ℕ) → b < slots → IsStart slots b time vs (slice_index_or (slice_set starts slot link) b 0)
 starts_passed slots slot passed time vs starts link begun below later are new =
     restarted slots slot time vs starts link begun below (λ b l other. start_later slots b passed time vs (slice_index_or starts b 0) later (are b l)) new
 
--- a version more
+-- the starts after another version, in its slot or not
 pub starts_more : (slots slot time : ℕ) (vs : List Version) (x : Version) (starts : List ℕ) (link last : ℕ) → 0 < slots → slot ≡ x.key % slots → length starts ≡ slots →
     ((b : ℕ) → b < slots → IsStart slots b time vs (slice_index_or starts b 0)) → link ≡ slice_index_or starts slot link → last ≡ length vs + 1 →
     (b : ℕ) → b < slots → IsStart slots b time (vs ++ x ∷ []) (slice_index_or (slice_set starts slot (link_or link last)) b 0)
@@ -89,7 +89,7 @@ starts_more slots slot time vs x starts link last any hit begun are at is =
     by zero s = subst (λ n. IsStart slots slot time (vs ++ x ∷ []) n) (sym is) (start_new slots slot time vs x (sym hit) s)
     by (suc n) s = start_more slots slot time vs x (suc n) (λ e. absurd (omega (arith, e))) s
 
--- another version of the same key in place of one, and the start of its slot where its chain begins
+-- the starts after a version changes its words and its slot starts at its first version again
 pub starts_again : (slots time u : ℕ) (vs : List Version) (was x : Version) (links starts new : List ℕ) (ends : List Ends) → 0 < slots → u < length vs → was ≡ slice_index_or vs u was → x.key ≡ was.key →
     keys_of (slice_set vs u x) ≡ keys_of vs → AreBuckets slots (keys_of vs) links ends → length starts ≡ slots → ((b : ℕ) → b < slots → IsStart slots b time vs (slice_index_or starts b 0)) →
     new ≡ slice_set starts (was.key % slots) (slice_index_or ends (was.key % slots) no_ends).first →
@@ -104,7 +104,7 @@ starts_again slots time u vs was x links starts new ends any there at same keys 
     (start_first slots slot time (slice_set vs u x) first (ap (λ e. e.first) (h.ended slot below) ∙ ap (λ ks. first_link (λ k. k % slots == slot) 0 ks) (sym keys))) in
     λ b l. subst (λ ns. IsStart slots b time (slice_set vs u x) (slice_index_or ns b 0)) (sym is) (all b l)
 
--- the same, where what was over there still is
+-- the starts after a version changes its words, if it is over whenever it was before
 pub starts_stay : (slots time u : ℕ) (vs : List Version) (was x : Version) (starts : List ℕ) → u < length vs → was ≡ slice_index_or vs u was → x.key ≡ was.key →
     (is_over time was ≡ true → is_over time x ≡ true) → ((b : ℕ) → b < slots → IsStart slots b time vs (slice_index_or starts b 0)) →
     (b : ℕ) → b < slots → IsStart slots b time (slice_set vs u x) (slice_index_or starts b 0)
@@ -112,7 +112,7 @@ starts_stay slots time u vs was x starts there at same over are = λ b l.
     let old : was ≡ slice_index_or vs u no_version = at ∙ same_item vs u was no_version there in
     start_set slots b time vs (slice_index_or starts b 0) u x there (same ∙ ap (λ y. y.key) old) (λ _ o. over (ap (is_over time) old ∙ o)) (are b l)
 
--- which versions may be over
+-- a version whose Begin is a transaction is not over
 begin-none : (time : ℕ) (from until : Option ℕ) → is_some from ≡ false → is_over_by time from until ≡ true → false ≡ true
 begin-none time None until e o = o
 begin-none time (Some from) until e o = sym e
@@ -131,7 +131,7 @@ end-none time (Some from) until other e o =
 pub still_over : (time : ℕ) (x y : Version) → y.begin ≡ x.begin → is_past time (end_time x.end) ≡ false → is_over time x ≡ true → is_over time y ≡ true
 still_over time x y same e o = ap (λ w. is_over_by time (begin_time w) (end_time y.end)) same ∙ end-none time (begin_time x.begin) (end_time x.end) (end_time y.end) e o
 
--- a store whose starts are where the chains begin
+-- the first links of all chains are starts
 pub starts_fresh : (slots time : ℕ) (vs : List Version) (links starts : List ℕ) (ends : List Ends) → AreBuckets slots (keys_of vs) links ends → starts ≡ map (λ e. e.first) ends →
     (b : ℕ) → b < slots → IsStart slots b time vs (slice_index_or starts b 0)
 starts_fresh slots time vs links starts ends h is = λ b l.

@@ -1,4 +1,4 @@
--- The starts of slots: what stands before them is over, and a chain from one on has the places from there on.
+-- The starts of slots: versions before a start are over, and a chain from a start on has the places from there on.
 use Rattle.std.proofs.Common.{◌≡◌, ℕ, zero, suc, ◌+◌, ◌-◌, ◌%◌, ◌<◌, ◌≤◌, ◌≢◌, Bool, true, false, if◌then◌else◌, ◌==◌, List, [], ◌∷◌, ◌++◌, length, slice_index_or, slice_set, refl, sym, ap, subst, ◌∙◌, ⊎_elim, arith, eqb-true, eq-eqb, get_or-set_same, get_or-set_other, length-set, length-append}
 use Rattle.std.specs.Prelude.{filter, not, nat_lt, Option, Some, None}
 use Rattle.std.proofs.Math.Seq.{get_or-append_seam}
@@ -14,7 +14,7 @@ use Rattle.hek_store.specs.Places.{left}
 use Rattle.hek_store.proofs.Linked.{first-within, first-after, length_next, next-after, next_are_links, chain_places, chain_none, chain-here, chain-there}
 use Rattle.hek_store.proofs.Found.{length_keys, filter-places}
 
--- ---- where a first link leads, and what it passes
+-- ---- the place of a first link, and the places before it
 
 first-hit : (test : ℕ → Bool) (i m : ℕ) (ks : List ℕ) → first_link test i ks ≡ i + m + 1 → test (slice_index_or ks m 0) ≡ true
 first-hit test i m [] e = absurd (omega (arith, e))
@@ -47,7 +47,7 @@ first-miss test i (suc q) (k ∷ ks) l far =
     first-miss test (i + 1) q ks (omega (arith, l)) (λ p. let more = far (omega (arith, there, p)) in omega (arith, there, more)))
     (cases_Bool (test k))
 
--- ---- the same of the link behind a place
+-- ---- the place of the next link, and the places between
 
 next-hit : (class : ℕ → ℕ) (i p m : ℕ) (ks : List ℕ) → p < length ks → slice_index_or (next_links class i ks) p 0 ≡ i + m + 1 → class (slice_index_or ks m 0) ≡ class (slice_index_or ks p 0)
 next-hit class i p m [] l e = absurd (omega (arith, l))
@@ -73,7 +73,7 @@ place-at : (count link : ℕ) → 0 < link → place_of count link ≡ link - 1
 place-at count zero p = absurd (omega (arith, p))
 place-at count (suc link) p = omega arith
 
--- what stands before a link, and before none
+-- a place before that of a link is below the link
 place-before : (count link v : ℕ) → v < place_of count link → 0 < link → v + 1 < link
 place-before count zero v h p = absurd (omega (arith, p))
 place-before count (suc link) v h p = omega (arith, h)
@@ -105,7 +105,7 @@ start_later slots slot time later vs link h s = record {
   over = λ v before l same. over-later time later (slice_index_or vs v no_version) h (s.over v before l same);
 }
 
--- the first link of a slot is one
+-- the first link of a slot is a start
 pub start_first : (slots slot time : ℕ) (vs : List Version) (link : ℕ) → link ≡ first_link (λ k. k % slots == slot) 0 (keys_of vs) → IsStart slots slot time vs link
 start_first slots slot time vs link is =
     let test : ℕ → Bool = λ k. k % slots == slot in
@@ -122,7 +122,7 @@ start_first slots slot time vs link is =
           absurd (both_ways (test (slice_index_or (keys_of vs) v 0)) miss hit);
     }
 
--- the link behind a version that is over is one too
+-- the link after a version that is over is a start
 pub start_next : (slots slot time : ℕ) (vs : List Version) (links : List ℕ) (link : ℕ) → links ≡ next_links (λ k. k % slots) 0 (keys_of vs) → 0 < link →
     is_over time (slice_index_or vs (link - 1) no_version) ≡ true → IsStart slots slot time vs link → IsStart slots slot time vs (slice_index_or links (link - 1) 0)
 start_next slots slot time vs links link linked some over s =
@@ -152,7 +152,7 @@ start_next slots slot time vs links link linked some over s =
           (cases_order v p);
     }
 
--- ---- a start, once there is a version more, or another one at a place
+-- ---- a start after another version is added, or one at a place changes
 
 pub start_more : (slots slot time : ℕ) (vs : List Version) (x : Version) (link : ℕ) → (link ≡ 0 → x.key % slots ≢ slot) → IsStart slots slot time vs link → IsStart slots slot time (vs ++ x ∷ []) link
 start_more slots slot time vs x link none s =
@@ -180,7 +180,7 @@ start_more slots slot time vs x link none s =
     no-link zero v more count w h l = refl
     no-link (suc link) v more count w h l = absurd (omega (arith, w, h, l))
 
--- a slot that is passed over starts at the new version
+-- a slot whose versions are all passed over starts at the new version
 pub start_new : (slots slot time : ℕ) (vs : List Version) (x : Version) → x.key % slots ≡ slot → IsStart slots slot time vs 0 → IsStart slots slot time (vs ++ x ∷ []) (length vs + 1)
 start_new slots slot time vs x hit s =
     let long : length (vs ++ x ∷ []) ≡ length vs + 1 = length-append vs (x ∷ []) in
@@ -223,7 +223,7 @@ start_set slots slot time vs link u x there key over s =
 
 -- ---- the chain from a start on
 
--- of places that all stand from some place on, all are left; of those that all stand before it, none
+-- no place from `from` on is dropped; all places before it are
 all-left : (test : Version → Bool) (from i : ℕ) (xs : List Version) → from ≤ i → filter (λ v. not (nat_lt v from)) (places test i xs) ≡ places test i xs
 all-left test from i [] h = refl
 all-left test from i (x ∷ xs) h = by (test x) (places test (i + 1) xs) (not_from_false (nat_lt i from) (le-ltb i from h)) (all-left test from (i + 1) xs (omega (arith, h)))
@@ -283,7 +283,7 @@ start_chain slots slot time vs links (suc p) linked s =
     ∙ chain-from class slot 0 p vs (omega (arith, within)) (ap (λ u. class (slice_index_or vs u no_version).key) back ∙ s.in_slot (omega arith))
     ∙ ap (λ m. filter (λ v. not (nat_lt v m)) (places (λ x. x.key % slots == slot) 0 vs)) place
 
--- two tests in either order
+-- two filters in either order give one list
 filter-swap : (f g : ℕ → Bool) (xs : List ℕ) → filter f (filter g xs) ≡ filter g (filter f xs)
 filter-swap f g [] = refl
 filter-swap f g (x ∷ xs) =
@@ -305,7 +305,7 @@ filter-swap f g (x ∷ xs) =
     miss : (h : ℕ → Bool) (ys : List ℕ) → h x ≡ false → filter h (x ∷ ys) ≡ filter h ys
     miss h ys e = cond-false (h x) (x ∷ filter h ys) (filter h ys) e
 
--- what is listed from a start on are the living
+-- the versions listed from a start on are the living ones
 pub living_from : (slots key time : ℕ) (vs : List Version) (links : List ℕ) (link : ℕ) (listed : List ℕ) → links ≡ next_links (λ k. k % slots) 0 (keys_of vs) →
     IsStart slots (key % slots) time vs link → listed ≡ left vs key links link → IsLiving vs key time listed
 living_from slots key time vs links link listed linked s is =
@@ -321,7 +321,7 @@ living_from slots key time vs links link listed linked s is =
       over = λ v before l same. s.over v before l (ap (λ k. k % slots) same);
     }
 
--- all versions of a key, none of which is left out
+-- all versions of a key are living ones, with none left out
 pub living_all : (vs : List Version) (key time : ℕ) (listed : List ℕ) → listed ≡ of_key vs key → IsLiving vs key time listed
 living_all vs key time listed is = record { from = 0; left = is ∙ sym (none (of_key vs key)); over = λ v l. absurd (omega (arith, l)) }
   where

@@ -1,4 +1,4 @@
-//! The living: the versions of a key without some of the first, which are over.
+//! Living versions: the versions of a key without some of the first, which are over.
 ghost use Rattle.std.specs.Prelude.{◌≡◌, ℕ, ◌%◌, ◌<◌, ◌≤◌, length, slice_index_or, slice_set};
 ghost use Rattle.hek_rules.specs.Words.{end_time};
 ghost use Rattle.hek_store.specs.Chained.{AreLinks, keys_of, next_links, no_ends};
@@ -13,10 +13,7 @@ use crate::version::Version;
 use hek_rules::Time;
 use hek_word::EndWord;
 
-/// The number of the time that never comes.
-const INFINITY: u64 = 0x7FFF_FFFF_FFFF_FFFF;
-
-/// Whether the word is a time that isn't later than this one.
+/// Whether the word is a time that is not after this one.
 pub(crate) fn is_past(end: EndWord, time: Time) -> bool
     ensures { result ≡ is_past time (end_time end) }
 {
@@ -26,17 +23,18 @@ pub(crate) fn is_past(end: EndWord, time: Time) -> bool
     }
 }
 
-/// Whether nobody sees the version who looks at this time or later: its Begin never comes, or is a time, and its End has come.
+/// Whether no transaction that looks at this time or later sees the version: its Begin is infinity, or its Begin is a
+/// time and its End has come.
 fn is_over(version: &Version, time: Time) -> bool
     ensures { result ≡ is_over time version.now }
 {
     match version.begin.time() {
-        Some(from) => is_past(version.end, time) || from.number() == INFINITY,
+        Some(from) => is_past(version.end, time) || from.number() == Time::INFINITY,
         None => false,
     }
 }
 
-/// The link to the first version of a slot's chain, from a link on, that isn't over.
+/// The link to the first version on a slot's chain, from a link on, that is not over.
 fn next_left(links: &[u32], versions: &[Version], start: u32, time: Time) -> u32
     requires rising { AreLinks links.now }
     requires within { start ≤ length links.now }
@@ -53,7 +51,7 @@ fn next_left(links: &[u32], versions: &[Version], start: u32, time: Time) -> u32
     link
 }
 
-/// A version of this key that was passed over may be seen again: those of its slot are looked at anew.
+/// Starts the slot of this key at its first version again, since a version that was passed over may be seen again.
 pub(crate) fn look_again(starts: &mut Vec<u32>, ends: &Vec<Ends>, slots: u64, key: u64)
     requires any { 0 < slots }
     requires begun { length starts.old.items ≡ slots }
@@ -66,8 +64,8 @@ pub(crate) fn look_again(starts: &mut Vec<u32>, ends: &Vec<Ends>, slots: u64, ke
 }
 
 impl Store {
-    /// The versions of a key in order of creation, without some of the first, which are over by this time: nobody sees them who
-    /// looks then or later. Each takes time in the versions of other keys that share its slot.
+    /// The versions of a key in order of creation, without some of the first that are over: no transaction that looks
+    /// at this time or later sees them. Each takes time in the versions of other keys that share its slot.
     pub fn living_of(&self, key: u64, time: Time) -> KeyVersions<'_>
         ensures { IsLiving self.now.versions key time (key_versions_left result) }
     {
@@ -83,9 +81,9 @@ impl Store {
         }
     }
 
-    /// The first versions of the key's slot, as far as they are over by this time, are passed over from now on, for those who look
-    /// then or later; unless some are passed over for a later time. It takes time in those passed over, each of them once between two
-    /// growths of the store, which begin anew.
+    /// Passes over the first versions of the key's slot that are over by this time, unless versions are passed over for
+    /// a later time already. Takes time in the versions passed over; each is passed over once between two growths of
+    /// the store, and a growth starts again.
     pub fn pass_over(&mut self, key: u64, time: Time)
         ensures { self.new ≡ self.old }
     {

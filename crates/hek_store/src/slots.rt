@@ -1,4 +1,4 @@
-//! Slots: the keys of versions are spread over them, and each slot has a chain.
+//! Slots: classes of keys, each with a chain of versions.
 ghost use Rattle.std.specs.Prelude.{◌≡◌, ◌%◌, ◌<◌, ◌≤◌, ◌^◌, vec_len, vec_capacity, length, map, IfOk};
 ghost use Rattle.hek_store.specs.Chained.{keys_of};
 ghost use Rattle.hek_store.specs.Indexed.{AreBuckets};
@@ -7,7 +7,7 @@ use crate::chains::{Ends, append, no_ends};
 use crate::version::Version;
 use hek_rules::NoMemory;
 
-/// The number of slots, their chains, and the links to where these begin.
+/// The number of slots, the links and the ends of their chains, and the link that each slot starts at.
 #[derive(Drop)]
 pub(crate) struct Spread {
     pub(crate) slots: u64,
@@ -16,7 +16,7 @@ pub(crate) struct Spread {
     pub(crate) starts: Vec<u32>,
 }
 
-/// The slot of a key. A key below the number of slots spares the division.
+/// The slot of a key. A key below the number of slots needs no division.
 pub(crate) fn slot_of(key: u64, slots: u64) -> usize
     requires { 0 < slots }
     ensures { result ≡ key % slots }
@@ -28,7 +28,7 @@ pub(crate) fn slot_of(key: u64, slots: u64) -> usize
     }
 }
 
-/// The bucket of a key. Where there are a power of two of them, no division is needed.
+/// The bucket of a key. A number of buckets that is a power of two needs no division.
 #[tactic(auto, using(crate::proofs::Masks::masked))]
 pub(crate) fn bucket_in(key: u64, buckets: u64) -> u64
     requires { 0 < buckets }
@@ -53,7 +53,7 @@ pub(crate) fn spread_over(versions: &Vec<Version>) -> Result<Spread, NoMemory>
 {
     let alloc = *versions.allocator();
     let count = versions.capacity();
-    // An odd number: keys that are a power of two apart don't meet.
+    // An odd number of slots keeps keys apart that differ by a power of two.
     let slots = count as u64 / 2 * 2 + 1;
     let mut links = Vec::with_capacity(alloc, count)?;
     let mut ends = no_ends(alloc, slots)?;

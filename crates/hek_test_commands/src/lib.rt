@@ -1,12 +1,20 @@
-//! Tests of the commands that stand on libraries of their own: `page`, `permute`, and the reasons of `run --why`, `drive` and
-//! typed sessions.
+//! Tests of texts, images and commands that no case file of hek_gate_commands can say: library calls that no command makes, and
+//! devices and memory that fail.
 #![tactic(auto)]
 
 #[cfg(test)]
 mod asserts;
 #[cfg(test)]
-mod page;
+mod faults;
 #[cfg(test)]
-mod permute;
+mod images;
 #[cfg(test)]
-mod why;
+mod orders;
+#[cfg(test)]
+mod refusals;
+#[cfg(test)]
+mod replies;
+#[cfg(test)]
+mod sessions;
+#[cfg(test)]
+mod stored;

@@ -1,23 +1,20 @@
-//! Tests of the rules, the words and the layers, over what they make public. A library with tests of its own would be proved twice.
+//! Tests of the rules and the layers that the lines of hek_gate_layers can't say: devices, models beside which a layer is held, and
+//! what is there after memory was refused.
 #![tactic(auto)]
 
 #[cfg(test)]
 mod asserts;
 #[cfg(test)]
-mod buckets;
-#[cfg(test)]
-mod commit;
-#[cfg(test)]
 mod deadlock;
 #[cfg(test)]
-mod locks;
+mod device;
+#[cfg(test)]
+mod flat;
+#[cfg(test)]
+mod refused;
 #[cfg(test)]
 mod rules;
 #[cfg(test)]
-mod store;
+mod schedule;
 #[cfg(test)]
-mod txn;
-#[cfg(test)]
-mod visible;
-#[cfg(test)]
-mod word;
+mod weak;

@@ -1,41 +1,16 @@
-mod device;
-mod schedule;
-mod text;
-mod transcript;
-
-use crate::asserts::{is, is_at};
+//! Events, replies, lists and transcripts.
+use crate::asserts::{holds, is, is_at};
+use crate::schedule::made;
 use hek_rules::{
-    Cause, Event, EventKind, Level, Members, Pairs, Refusal, Reply, Time, TxnId, VersionId, number,
-    same_bytes,
+    Cause, Event, EventKind, Level, Members, Pairs, Refusal, Reply, Time, Transcript, TxnId,
+    VersionId,
 };
 use std::alloc::{AllocError, Global};
+use std::process::Abort;
 use std::test::Fail;
 
 #[test]
-fn reads_numbers(rt: HostRuntime) {
-    is(&rt, number(b"0"), Some(0));
-    is(&rt, number(b"00000000000000000012"), Some(12));
-    is(&rt, number(b"18446744073709551615"), Some(u64::MAX));
-    is(&rt, number(b"18446744073709551616"), None);
-    is(&rt, number(b"99999999999999999999"), None);
-    is(&rt, number(b"000000000000000000001"), None);
-    is(&rt, number(b""), None);
-    is(&rt, number(b"+1"), None);
-    is(&rt, number(b"1 "), None);
-    is(&rt, number(b"a"), None);
-}
-
-#[test]
-fn compares_bytes(rt: HostRuntime) {
-    is(&rt, same_bytes(b"read", b"read"), true);
-    is(&rt, same_bytes(b"", b""), true);
-    is(&rt, same_bytes(b"read", b"rear"), false);
-    is(&rt, same_bytes(b"read", b"reads"), false);
-    is(&rt, same_bytes(b"reads", b"read"), false);
-}
-
-#[test]
-fn wraps_numbers(rt: HostRuntime) {
+fn numbers_are_wrapped(rt: HostRuntime) {
     is(&rt, TxnId::new(7).number(), 7);
     is(&rt, VersionId::new(6).index(), 6);
     is(&rt, Time::new(8).number(), 8);
@@ -60,22 +35,31 @@ fn events_have_kinds(rt: HostRuntime) {
         (Event::End(a), "end", 13, 0, 0, 0),
     ];
     for (event, word, opcode, operands, first, second) in rows {
-        let kind = event.kind();
-        assert_eq!(rt; kind.word(), word);
-        assert_eq!(rt; EventKind::named(word.as_bytes()), Some(kind));
-        assert_eq!(rt; kind.opcode(), opcode);
-        assert_eq!(rt; EventKind::coded(opcode), Some(kind));
-        assert_eq!(rt; kind.operand_count(), operands);
-        assert_eq!(rt; event.txn(), Some(a));
-        assert_eq!(rt; event.first(), first);
-        assert_eq!(rt; event.second(), second);
-        assert_eq!(rt; kind.event(a, first, second), event);
+        let (is_of, has, same) = (event, event, event);
+        let kind = is_of.kind();
+        is_at(&rt, word, kind.word(), word);
+        is_at(&rt, word, EventKind::named(word.as_bytes()), Some(kind));
+        is_at(&rt, word, kind.opcode(), opcode);
+        is_at(&rt, word, EventKind::coded(opcode), Some(kind));
+        is_at(&rt, word, kind.operand_count(), operands);
+        assert_parts(&rt, &has, a, (first, second));
+        is_at(&rt, word, kind.event(a, first, second), same);
     }
-    assert_eq!(rt; Event::Detect.txn(), None);
-    assert_eq!(rt; EventKind::Detect.event(a, 5, 6), Event::Detect);
-    assert_eq!(rt; EventKind::coded(14), Some(EventKind::Detect));
-    assert_eq!(rt; EventKind::coded(0), None);
-    assert_eq!(rt; EventKind::named(b"snapshot"), None);
+}
+
+fn assert_parts(rt: &impl Abort, event: &Event, txn: TxnId, operands: (u64, u64)) {
+    is(rt, (*event).txn(), Some(txn));
+    is(rt, ((*event).first(), (*event).second()), operands);
+}
+
+#[test]
+fn a_detect_has_no_transaction(rt: HostRuntime) {
+    let a = TxnId::new(1);
+    is(&rt, Event::Detect.txn(), None);
+    is(&rt, EventKind::Detect.event(a, 5, 6), Event::Detect);
+    is(&rt, EventKind::coded(14), Some(EventKind::Detect));
+    is(&rt, EventKind::coded(0), None);
+    is(&rt, EventKind::named(b"snapshot"), None);
 }
 
 fn replies(alloc: Global) -> Result<Vec<Reply>, AllocError> {
@@ -119,6 +103,38 @@ fn lists_give_their_items(rt: HostRuntime) -> Result<(), Fail> {
     let victim = vec![in rt.alloc(); TxnId::new(2)]?;
     let members = Members::new(Box::new(rt.alloc(), victim)?);
     is(&rt, members.items(), [TxnId::new(2)].as_slice());
-    assert_ne!(rt; Level::Serializable, Level::Repeatable);
+    holds(&rt, Level::Serializable != Level::Repeatable);
+    Ok(())
+}
+
+fn assert_opened(rt: &impl Abort, transcript: &Transcript) {
+    is(rt, transcript.buckets(), 3);
+    is(rt, transcript.rows(), [(10, 100)].as_slice());
+    is(rt, transcript.levels(), [Level::Repeatable].as_slice());
+    holds(rt, transcript.events().is_empty());
+}
+
+fn assert_counts(rt: &impl Abort, transcript: &Transcript) {
+    assert!(rt; transcript.row_count() == 1 && transcript.txn_count() == 1);
+    is(rt, transcript.row(0), (10, 100));
+    is(rt, transcript.level_of(TxnId::new(1)), Level::Repeatable);
+}
+
+#[test]
+fn a_transcript_keeps_events_with_replies(rt: HostRuntime) -> Result<(), Fail> {
+    let schedule = made(&rt, rt.alloc(), 3, &[(10, 100)], &[Level::Repeatable])?;
+    let mut transcript = Transcript::new(rt.alloc(), &schedule)?;
+    assert_opened(&rt, &transcript);
+    assert_counts(&rt, &transcript);
+    let begin = Event::Begin(TxnId::new(1));
+    transcript.push(begin, Reply::Began(Time::new(1)))?;
+    transcript.push(Event::Detect, Reply::NoCycle)?;
+    let events = [Event::Begin(TxnId::new(1)), Event::Detect];
+    is(&rt, transcript.events(), events.as_slice());
+    is(&rt, transcript.replies().len(), 2);
+    holds(
+        &rt,
+        matches!(transcript.replies().last(), Some(Reply::NoCycle)),
+    );
     Ok(())
 }

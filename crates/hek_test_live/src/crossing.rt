@@ -2,7 +2,7 @@
 ghost use Rattle.std.specs.Prelude.{◌≡◌, ◌≢◌, ◌<◌};
 ghost use Rattle.hek_rules.specs.Words.{IsTxn};
 ghost use Rattle.hek_live.specs.Tokens.{newcomer};
-ghost use Rattle.hek_live.specs.Ends.{words_of, table_of, seat_table, view_of};
+ghost use Rattle.hek_live.specs.Ends.{word_count_of, table_id_of, seat_table, view_of};
 
 use crate::support::{is, made};
 use hek_live::{DropWrite, LiveWords, Seat, TryWrite};
@@ -24,8 +24,8 @@ fn crosses<R: Wait>(
     other: usize,
     id: TxnId,
 ) -> Answers
-    requires own { (seat_table seat ≡ table_of words.now) × (view_of seat ≡ newcomer) }
-    requires words { (mine < words_of words.now) × (other < words_of words.now) × (mine ≢ other) }
+    requires own { (seat_table seat ≡ table_id_of words.now) × (view_of seat ≡ newcomer) }
+    requires words { (mine < word_count_of words.now) × (other < word_count_of words.now) × (mine ≢ other) }
     requires id { IsTxn id }
 {
     let taken = words.try_write(&mut seat, mine, id);
@@ -50,9 +50,9 @@ fn both_cross<R: Threads + Wait + Sync>(
     one: Seat,
     two: Seat,
 ) -> (Answers, Answers)
-    requires one { (seat_table one ≡ table_of words.now) × (view_of one ≡ newcomer) }
-    requires two { (seat_table two ≡ table_of words.now) × (view_of two ≡ newcomer) }
-    requires words { words_of words.now ≡ 2 }
+    requires one { (seat_table one ≡ table_id_of words.now) × (view_of one ≡ newcomer) }
+    requires two { (seat_table two ≡ table_id_of words.now) × (view_of two ≡ newcomer) }
+    requires words { word_count_of words.now ≡ 2 }
 {
     let barrier = Barrier::new(2);
     let (first, second) = (TxnId::new(1), TxnId::new(2));

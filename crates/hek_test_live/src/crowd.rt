@@ -1,6 +1,6 @@
 //! Eight threads on 16 words.
 ghost use Rattle.std.specs.Prelude.{◌≡◌, ◌<◌, true};
-ghost use Rattle.hek_live.specs.Ends.{words_of, table_of, seat_table, view_of};
+ghost use Rattle.hek_live.specs.Ends.{word_count_of, table_id_of, seat_table, view_of};
 
 use crate::support::{is, made};
 use crate::worker::{WORDS, Worker, start};
@@ -27,8 +27,8 @@ fn workers<'a>(
     words: &'a LiveWords,
     maker: &mut Seat,
 ) -> Result<Vec<Worker<'a>>, AllocError>
-    requires own { seat_table maker.old ≡ table_of words.now }
-    requires words { words_of words.now ≡ 16 }
+    requires own { seat_table maker.old ≡ table_id_of words.now }
+    requires words { word_count_of words.now ≡ 16 }
     requires makes { (view_of maker.old).makes ≡ true }
     ensures { seat_table maker.new ≡ seat_table maker.old }
 {
@@ -57,8 +57,8 @@ fn takes_and_gives_up(mut worker: Worker<'_>) -> bool {
 
 // Each word is infinity.
 fn assert_free(rt: &impl Abort, words: &LiveWords, seat: &mut Seat)
-    requires own { seat_table seat.old ≡ table_of words.now }
-    requires words { words_of words.now ≡ 16 }
+    requires own { seat_table seat.old ≡ table_id_of words.now }
+    requires words { word_count_of words.now ≡ 16 }
     ensures { seat_table seat.new ≡ seat_table seat.old }
 {
     for word in 0..WORDS {
@@ -128,8 +128,8 @@ fn writer(workers: &[Worker<'_>], word: usize) -> Option<TxnId>
 
 // Each word says who holds its tokens.
 fn assert_counted(rt: &impl Abort, words: &LiveWords, seat: &mut Seat, workers: &[Worker<'_>])
-    requires own { seat_table seat.old ≡ table_of words.now }
-    requires words { words_of words.now ≡ 16 }
+    requires own { seat_table seat.old ≡ table_id_of words.now }
+    requires words { word_count_of words.now ≡ 16 }
     ensures { seat_table seat.new ≡ seat_table seat.old }
 {
     for word in 0..WORDS {

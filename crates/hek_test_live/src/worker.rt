@@ -2,7 +2,7 @@
 ghost use Rattle.std.specs.Prelude.{◌≡◌, ◌<◌, ℕ, Some, slice_get};
 ghost use Rattle.hek_rules.specs.Words.{IsTxn};
 ghost use Rattle.hek_live.specs.Tokens.{newcomer, reads_at, writes_at};
-ghost use Rattle.hek_live.specs.Ends.{words_of, table_of, seat_table, view_of};
+ghost use Rattle.hek_live.specs.Ends.{word_count_of, table_id_of, seat_table, view_of};
 
 use hek_live::{DropRead, DropWrite, LiveWords, Seat, TryRead, TryWrite, tokens_follow_replies};
 use hek_rules::TxnId;
@@ -18,8 +18,8 @@ pub struct Worker<'a> {
     id: TxnId,
     reads: [bool; WORDS],
     writes: [bool; WORDS],
-    ghost own: { seat_table seat ≡ table_of words.now },
-    ghost enough: { words_of words.now ≡ 16 },
+    ghost own: { seat_table seat ≡ table_id_of words.now },
+    ghost enough: { word_count_of words.now ≡ 16 },
     ghost named: { IsTxn id },
     ghost reads_told: { (i : ℕ) → i < 16 → slice_get reads i ≡ Some (reads_at i (view_of seat)) },
     ghost writes_told: { (i : ℕ) → i < 16 → slice_get writes i ≡ Some (writes_at i (view_of seat)) },
@@ -27,8 +27,8 @@ pub struct Worker<'a> {
 
 /// A worker that holds nothing yet.
 pub fn start<'a>(words: &'a LiveWords, seat: Seat, id: TxnId) -> Worker<'a>
-    requires own { seat_table seat ≡ table_of words.now }
-    requires words { words_of words.now ≡ 16 }
+    requires own { seat_table seat ≡ table_id_of words.now }
+    requires words { word_count_of words.now ≡ 16 }
     requires new { view_of seat ≡ newcomer }
     requires id { IsTxn id }
 {

@@ -1,5 +1,5 @@
 //! One event at a time, and transcripts that were changed.
-use crate::scene::{Open, id, is, scene};
+use crate::scene::{Open, holds, id, is, scene};
 use hek_rules::{Event, Reply};
 use hek_threads::{Book, Part, Report, Shared, ThreadFault, compare, run_workers};
 use std::alloc::Global;
@@ -66,13 +66,13 @@ fn changed(rt: &impl Abort, alloc: Global, part: &Part, change: Change) -> Part 
             (Change::Reply, Reply::Found(value)) => Reply::Found(value.wrapping_add(1)),
             (_, reply) => reply.copy().expect(rt, "memory"),
         };
-        assert!(rt; turns.push((*event, reply)).is_ok());
+        holds(rt, turns.push((*event, reply)).is_ok());
     }
     match change {
         Change::Less => {
             let _last = turns.pop();
         }
-        Change::More => assert!(rt; turns.push((Event::Detect, Reply::NoCycle)).is_ok()),
+        Change::More => holds(rt, turns.push((Event::Detect, Reply::NoCycle)).is_ok()),
         Change::Nothing | Change::Reply => {}
     }
     Part::of(turns)
@@ -81,7 +81,7 @@ fn changed(rt: &impl Abort, alloc: Global, part: &Part, change: Change) -> Part 
 fn assert_compares(rt: &impl Abort, alloc: Global, report: &Report, change: Change, least: u64) {
     let mut parts = Vec::new(alloc);
     for part in &report.transcripts {
-        assert!(rt; parts.push(changed(rt, alloc, part, change)).is_ok());
+        holds(rt, parts.push(changed(rt, alloc, part, change)).is_ok());
     }
     let found = compare(report.history.as_slice(), parts.as_slice());
     is(rt, found.map_or(0, |worker| worker.number()), least);

@@ -2,11 +2,7 @@
 #![tactic(auto)]
 
 #[cfg(test)]
-mod benchmarks;
-#[cfg(test)]
 mod books;
-#[cfg(test)]
-mod commands;
 #[cfg(test)]
 mod crowds;
 #[cfg(test)]

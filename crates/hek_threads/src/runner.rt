@@ -1,22 +1,22 @@
+//! A thread for each transaction, all joined, and the report of the run.
 ghost use Rattle.std.specs.Prelude.{◌≡◌, ◌≢◌, ◌⊎◌, ◌<◌, ◌≤◌, ◌+◌, ℕ, Err, Ok, IsTrue, IfOk, IfSome, IfNone, vec_len, vec_capacity, slice_get, slice_index_or, Some, length};
 ghost use Rattle.hek_machine.specs.Steps.{IsRun, RowsAreSerial};
-ghost use Rattle.hek_threads.specs.History.{IsHistory, IsSerial, events_of, part_of, replies_in};
-ghost use Rattle.hek_threads.specs.Grammar.{AreTranscripts, IsTranscript, work_of, id_at};
+ghost use Rattle.hek_worker.specs.History.{IsHistory, IsSerialHistory, history_events, part_of, replies_in};
+ghost use Rattle.hek_worker.specs.Grammar.{AreTranscripts, IsTranscript, work_of, worker_at};
 
-use crate::book::Book;
-use crate::entry::{Entry, Part, ThreadFault};
 use crate::parts::compare;
 use crate::shared::{Shared, Steps};
 use crate::worker::{Gate, work};
 use hek_machine::Machine;
 use hek_rules::{Event, Schedule, TxnId};
+use hek_worker::{Book, Entry, Part, ThreadFault};
 use std::alloc::Global;
 use std::sync::Wait;
 use std::thread;
 use std::thread::{Promise, PromisedHandle, Scope, Threads};
 
-/// What a run gives: the machine after it, all entries in the order in which they were made, and one transcript for each
-/// declared transaction, in order of their IDs.
+/// What a run gives: the machine after it, all entries in the order in which they were made, and one transcript for
+/// each declared transaction, in order of their IDs.
 #[derive(Drop)]
 pub struct Report {
     pub machine: Machine,
@@ -38,7 +38,7 @@ impl<'a> Promise<Result<Part, ThreadFault>> for Transcribes<'a> {
 
 type Handle<'s> = PromisedHandle<Result<Part, ThreadFault>, Transcribes<'s>>;
 
-// Starts a thread for each transaction. `Err` hands back those that were started where one could not be.
+// Starts a thread for each transaction. If one cannot be started, `Err` hands back those that were.
 fn start_all<'s, E, S: Steps + Sync, G: Gate + Sync, R: Threads + Wait + Sync>(
     scope: &Scope<'s, E>,
     rt: &'s R,
@@ -74,7 +74,7 @@ fn start_all<'s, E, S: Steps + Sync, G: Gate + Sync, R: Threads + Wait + Sync>(
     Ok(handles)
 }
 
-// The fault that is answered of two: want of memory first, and else the earlier one.
+// The fault of two that counts: NoMemory first, otherwise the earlier one.
 fn first_of(fault: Option<ThreadFault>, next: ThreadFault) -> ThreadFault
     ensures memory { (fault ≡ Some ThreadFault.NoMemory) ⊎ (next ≡ ThreadFault.NoMemory) → result ≡ ThreadFault.NoMemory }
     ensures earlier { IfSome fault (λ f. next ≢ ThreadFault.NoMemory → result ≡ f) }
@@ -142,7 +142,7 @@ fn run_all<'s, E, S: Steps + Sync, G: Gate + Sync, R: Threads + Wait + Sync>(
     }
 }
 
-// Runs all workers in a scope of their own.
+// Runs all workers in one scope.
 fn gather<S: Steps + Sync, G: Gate + Sync, R: Threads + Wait + Sync>(
     rt: &R,
     alloc: Global,
@@ -164,7 +164,8 @@ fn gather<S: Steps + Sync, G: Gate + Sync, R: Threads + Wait + Sync>(
     )
 }
 
-// The transcripts, where the book is of the run's own schedule. What no worker is at fault for is told first.
+// The transcripts, if the book is of the run's own schedule; otherwise Mismatch(0), but NoWorker and NoMemory come
+// first.
 fn of_own_book(joined: Result<Vec<Part>, ThreadFault>, own: bool) -> Result<Vec<Part>, ThreadFault>
     ensures own { IfOk result (λ v. IsTrue own × (joined ≡ Ok v)) }
     ensures kept { IsTrue own → result ≡ joined }
@@ -184,14 +185,16 @@ fn of_own_book(joined: Result<Vec<Part>, ThreadFault>, own: bool) -> Result<Vec<
     }
 }
 
-/// Runs each declared transaction in a thread of its own, and joins all that were started. A worker makes `begin`, its
-/// transaction's reads and writes in the order of the schedule's steps, `finish`, `precommit`, `release` and `commit`, and
-/// `stamp`s and `end`s what it did; where it has to wait it uses one of `turns`, looks for a deadlock and tries again, and
-/// without a turn it makes `fail`. All other steps of the schedule are passed over. `gate` is called before each event.
+/// Runs each declared transaction in its own thread, and joins all threads that were started. A worker makes `begin`,
+/// its transaction's reads and writes in the order of the schedule's steps, `finish`, `precommit`, `release` and
+/// `commit`, and `stamp`s and `end`s what it did. When it has to wait it uses one of `turns`, looks for a deadlock and
+/// tries again; without a turn left it makes `fail`. All other steps of the schedule are skipped. `gate` is called
+/// before each event.
 ///
-/// NoWorker: a thread can't be started. NoMemory: a worker met it, and made no more events; the others went on to their
-/// ends. Mismatch: a worker's replies, or its part of the history, aren't what they should be. Of several faults they are
-/// told in this order, and of mismatches that of the least worker, where 0 stands for the book.
+/// NoWorker: a thread cannot be started. NoMemory: a worker ran out of memory and made no more events; the others ran
+/// to their ends. Mismatch: a worker's replies, or its part of the history, are not what they should be. Of several
+/// faults the first in this order counts, and of mismatches that of the worker with the least ID, where 0 means the
+/// book.
 pub fn run_workers<G: Gate + Sync, R: Threads + Wait + Sync>(
     rt: &R,
     alloc: Global,
@@ -200,9 +203,9 @@ pub fn run_workers<G: Gate + Sync, R: Threads + Wait + Sync>(
     gate: &G,
 ) -> Result<Report, ThreadFault>
     ensures formed { IfOk result (λ r. IsHistory (length schedule.now.txns) r.history.items) }
-    ensures run { IfOk result (λ r. IsRun schedule.now 1 (events_of r.history.items) (replies_in r.history.items) r.machine) }
-    ensures serial { IfOk result (λ r. IsSerial schedule.now r.history.items) }
-    ensures rows { IfOk result (λ r. RowsAreSerial schedule.now (events_of r.history.items) (replies_in r.history.items) r.machine) }
+    ensures run { IfOk result (λ r. IsRun schedule.now 1 (history_events r.history.items) (replies_in r.history.items) r.machine) }
+    ensures serial { IfOk result (λ r. IsSerialHistory schedule.now r.history.items) }
+    ensures rows { IfOk result (λ r. RowsAreSerial schedule.now (history_events r.history.items) (replies_in r.history.items) r.machine) }
     ensures count { IfOk result (λ r. vec_len r.transcripts ≡ length schedule.now.txns) }
     ensures grammar { IfOk result (λ r. AreTranscripts schedule.now.steps turns r.transcripts.items) }
     ensures parts { IfOk result (λ r. (i : ℕ) (p : _) → slice_get r.transcripts.items i ≡ Some p → p ≡ part_of (i + 1) r.history.items) }

@@ -1,8 +1,8 @@
+//! The lock around the book: one event is one hold of it.
 ghost use Rattle.std.specs.Prelude.{◌≡◌, ◌<◌, IfOk};
 
-use crate::book::Book;
-use crate::entry::ThreadFault;
 use hek_rules::{Event, Reply, TxnId};
+use hek_worker::{Book, ThreadFault};
 use std::sync::{Mutex, Wait};
 
 /// A book that threads share.
@@ -19,8 +19,8 @@ impl<'a> Shared<'a> {
         }
     }
 
-    /// One event in one hold of the lock, and the number of its entry, from 1. Mismatch where the worker may not make it, as
-    /// `Book::may_step` tells.
+    /// Does one event in one hold of the lock, and gives the number of its entry, from 1, and the reply. Mismatch if
+    /// the worker may not make it (`Book::may_step`).
     pub fn step<R: Wait>(
         &self,
         rt: &R,
@@ -32,15 +32,15 @@ impl<'a> Shared<'a> {
         self.book.lock(rt).attempt(worker, event)
     }
 
-    /// The book, once no thread has it.
+    /// Takes the book out of the lock, once no thread shares it.
     pub fn into_book(self) -> Book<'a> {
         let Shared { book } = self;
         book.into_inner()
     }
 }
 
-/// What takes one event at a time, in one hold of a lock. A worker is generic over it: a scope's
-/// closure has no proof where it captures a type that names a lifetime.
+/// Does one event at a time, in one hold of a lock. A worker is generic over this trait: a scope's closure has no proof
+/// where it captures a type that names a lifetime.
 pub trait Steps {
     fn step_once<R: Wait>(
         &self,

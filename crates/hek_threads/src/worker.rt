@@ -1,16 +1,17 @@
+//! One transaction from `begin` to `end`, with its transcript.
 ghost use Rattle.std.specs.Prelude.{◌≡◌, IfOk};
-ghost use Rattle.hek_threads.specs.Grammar.{IsTranscript, work_of};
+ghost use Rattle.hek_worker.specs.Grammar.{IsTranscript, work_of};
 
-use crate::entry::{Part, ThreadFault};
 use crate::shared::Steps;
-use crate::stage::{Position, Stage, is_work};
 use hek_rules::{Event, TxnId};
+use hek_worker::{Part, Position, Stage, ThreadFault, is_work};
 use std::alloc::Global;
 use std::sync::Wait;
 
-/// What holds workers back.
+/// Holds workers back, for tests. No contract says when a gate is called, nor with what: tests alone show it.
 pub trait Gate {
-    /// Is called before each event of a worker, outside the lock. `nth` counts that worker's events from 1, `detect` too.
+    /// A worker calls this before each of its events, outside the lock. `nth` counts that worker's events from 1,
+    /// `detect` too.
     fn before(&self, worker: TxnId, nth: u64);
 }
 

@@ -1,4 +1,4 @@
--- What a run in threads comes to.
+-- The outcome of a run in threads.
 use Rattle.std.specs.Prelude.{ℕ, List, [], ◌∷◌, ◌++◌, codes}
 use Rattle.std.specs.Fmt.{decimal}
 use Rattle.hek_rules.specs.declared.event.Cause.TheVariants as cause
@@ -8,19 +8,19 @@ use Rattle.hek_rules.specs.declared.serial.Verdict.{Verdict}
 use Rattle.hek_rules.specs.declared.serial.Verdict.TheVariants.{Serial, NotSerial}
 use Rattle.hek_rules.specs.declared.reply.Reply.TheVariants.{Nothing, Committed, Failed, Aborted}
 
--- how a transaction ends with a reply, or else later on
-abbrev pub ends_with : Reply → Reply → Reply
-ends_with Committed later = Committed
-ends_with (Aborted why) later = Aborted why
-ends_with Failed later = Aborted cause.Asked
-ends_with r later = later
+-- how a transaction ends with a reply, or by a later one
+abbrev pub ending_reply_or : Reply → Reply → Reply
+ending_reply_or Committed later = Committed
+ending_reply_or (Aborted why) later = Aborted why
+ending_reply_or Failed later = Aborted cause.Asked
+ending_reply_or r later = later
 
--- how it ends by these events and replies
-abbrev pub end_of : List (Event × Reply) → Reply
-end_of [] = Nothing
-end_of (x ∷ xs) = ends_with x.1 (end_of xs)
+-- how a transaction ends by these events and replies
+abbrev pub ending_reply : List (Event × Reply) → Reply
+ending_reply [] = Nothing
+ending_reply (x ∷ xs) = ending_reply_or x.1 (ending_reply xs)
 
 -- the verdict at the end of an outcome's line
-abbrev pub verdict_text : Verdict → List ℕ
-verdict_text Serial = codes "; serial"
-verdict_text (NotSerial number) = codes "; not serial " ++ decimal number
+abbrev pub verdict_ending : Verdict → List ℕ
+verdict_ending Serial = codes "; serial"
+verdict_ending (NotSerial number) = codes "; not serial " ++ decimal number

@@ -1,4 +1,4 @@
--- What the command `threads` makes of a file.
+-- What the command `threads` does with a file.
 use Rattle.std.specs.Prelude.{◌≡◌, ℕ, List, length, Option, map}
 use Rattle.std.specs.Io.KnownBytes.{Appends}
 use Rattle.hek_rules.specs.declared.event.Event.{Event}
@@ -11,29 +11,29 @@ use Rattle.hek_commands.specs.declared.fault.HekFault.{HekFault}
 use Rattle.hek_commands.specs.declared.fault.HekFault.TheVariants as hek
 use Rattle.hek_commands.specs.declared.schedule_file.ScheduleFile.{ScheduleFile}
 use Rattle.hek_commands.specs.Commands.{FileGives, PrintFails}
-use Rattle.hek_threads.specs.declared.entry.Entry.{Entry}
-use Rattle.hek_threads.specs.declared.entry.ThreadFault.{ThreadFault}
-use Rattle.hek_threads.specs.declared.entry.ThreadFault.TheVariants as threads
-use Rattle.hek_threads.specs.History.{IsHistory, IsSerial, events_of, replies_in}
+use Rattle.hek_worker.specs.declared.entry.Entry.{Entry}
+use Rattle.hek_worker.specs.declared.entry.ThreadFault.{ThreadFault}
+use Rattle.hek_worker.specs.declared.entry.ThreadFault.TheVariants as threads
+use Rattle.hek_worker.specs.History.{IsHistory, IsSerialHistory, history_events, replies_in}
 
 -- the replies of a history are those of the rule table
-abbrev pub AreRight : Plan → List Entry → Type 0
-AreRight plan history = replies_in history ≡ map (λ (x : Event × Reply). x.1) (transcript (opening_of plan 1) (events_of history))
+abbrev pub AreTableReplies : Plan → List Entry → Type 0
+AreTableReplies plan history = replies_in history ≡ map (λ (x : Event × Reply). x.1) (transcript (opening_of plan 1) (history_events history))
 
--- a history of a schedule's workers: its events are those of declared transactions or detect, its replies are the table's, and no
--- event is at fault
+-- a history of a schedule's workers: its events are detect or those of declared transactions, its replies are the
+-- table's, and no event is at fault
 pub record HasRun (plan : Plan) (history : List Entry) : Type 0 where
   pub formed : IsHistory (length plan.txns) history
-  pub replies : AreRight plan history
-  pub serial : IsSerial plan history
+  pub replies : AreTableReplies plan history
+  pub serial : IsSerialHistory plan history
 
--- the trace of one was written behind what a writer held, where it is known
+-- the trace of a history of the schedule's workers was written after the bytes that a writer held, if these are known
 pub record ShowsHistory (plan : Plan) (before after : Option (List ℕ)) : Type 0 where
   pub history : List Entry
   pub run : HasRun plan history
-  pub written : Appends before after (trace plan (events_of history) (replies_in history))
+  pub written : Appends before after (trace plan (history_events history) (replies_in history))
 
--- so it was for the schedule that a file says
+-- the trace of a history was written for the schedule in a file
 pub record RunsInThreads {R : Type 0} (left : R → Option (List ℕ)) (said : ScheduleFile R) (before after : Option (List ℕ)) : Type 0 where
   pub plan : Plan
   pub is : FileGives left said plan
@@ -58,7 +58,7 @@ IsRunFault (hek.Mismatch worker) = Unit {0}
 IsRunFault hek.NoMemory = Unit {0}
 IsRunFault other = ⊥
 
--- why nothing of it is written, or not to its end
-abbrev pub IsStop : HekFault → Type 0
-IsStop hek.CannotWrite = Unit {0}
-IsStop fault = IsRunFault fault
+-- why the outcomes aren't written, or not to their end
+abbrev pub IsThreadsStop : HekFault → Type 0
+IsThreadsStop hek.CannotWrite = Unit {0}
+IsThreadsStop fault = IsRunFault fault

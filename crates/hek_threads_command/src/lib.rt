@@ -1,4 +1,4 @@
-//! The command `threads`: a schedule's transactions, each run by a thread of its own.
+//! The command `threads`: each transaction of a schedule runs in its own thread.
 #![tactic(auto)]
 
 mod outcome;

@@ -1,9 +1,9 @@
-//! What a run came to: who committed, who aborted and why, the rows at the end, and the checker's verdict.
+//! The outcome of a run: which transactions committed, which aborted and why, the rows, and the checker's verdict.
 ghost use Rattle.std.specs.Prelude.{◌≡◌, ◌++◌, ℕ, List, IfOk};
 ghost use Rattle.hek_rules.specs.declared.serial.Verdict.TheVariants as verdict;
-ghost use Rattle.hek_threads.specs.History.{IsSerial};
+ghost use Rattle.hek_worker.specs.History.{IsSerialHistory};
 ghost use Rattle.hek_threads_command.specs.Threaded.{HasRun};
-ghost use Rattle.hek_threads_command.specs.Outcomes.{end_of, verdict_text};
+ghost use Rattle.hek_threads_command.specs.Outcomes.{ending_reply, verdict_ending};
 
 use hek_commands::put_reply;
 use hek_rules::{Cause, NoMemory, Reply, Schedule, TxnId, Verdict};
@@ -12,15 +12,15 @@ use hek_threads::{Entry, Part, Report, transcript_of};
 use std::alloc::Global;
 use std::io::Write;
 
-/// A run's outcome as text: each transaction by name, and how it ended; the committed rows; the checker's verdict on the
-/// history, which is `serial` since every history is.
+/// A run's outcome as text: each transaction by name, with how it ended; the committed rows; the checker's verdict on
+/// the history, which is always `serial`.
 pub(crate) fn outcome_text(
     alloc: Global,
     schedule: &Schedule,
     report: Report,
 ) -> Result<Vec<u8>, NoMemory>
     requires { HasRun schedule.now report.history.items }
-    ensures { IfOk result (λ text. (before : List ℕ) × (text.items ≡ before ++ verdict_text verdict.Serial)) }
+    ensures { IfOk result (λ text. (before : List ℕ) × (text.items ≡ before ++ verdict_ending verdict.Serial)) }
 {
     let Report {
         machine,
@@ -55,7 +55,7 @@ fn put_ends(
 
 /// How a worker's transaction ended: Committed, or Aborted with the cause.
 fn end_of(part: &Part) -> Reply
-    ensures { result ≡ end_of part.now }
+    ensures { result ≡ ending_reply part.now }
 {
     let mut rest = part.as_slice();
     while let Some(((_, reply), later)) = rest.split_first() {
@@ -71,16 +71,16 @@ fn end_of(part: &Part) -> Reply
 
 /// The checker's verdict on a history that is serial.
 fn judge(alloc: Global, schedule: &Schedule, history: Vec<Entry>) -> Result<Verdict, NoMemory>
-    requires { IsSerial schedule.now history.items }
+    requires { IsSerialHistory schedule.now history.items }
     ensures { IfOk result (λ v. v ≡ verdict.Serial) }
 {
     let told = transcript_of(alloc, schedule, history)?;
     check(alloc, &told)
 }
 
-/// The verdict comes behind the text.
+/// Appends the verdict to the text.
 fn put_verdict(verdict: Verdict, text: &mut Vec<u8>) -> Result<(), NoMemory>
-    ensures { IfOk result (λ _. text.new.items ≡ text.old.items ++ verdict_text verdict) }
+    ensures { IfOk result (λ _. text.new.items ≡ text.old.items ++ verdict_ending verdict) }
 {
     let written = match verdict {
         Verdict::Serial => write!(text, "; serial"),

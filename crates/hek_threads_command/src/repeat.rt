@@ -1,7 +1,7 @@
 //! Many runs in threads, and how many different outcomes they have.
 ghost use Rattle.std.specs.Prelude.{◌≡◌, MatchResult, IfErr};
 ghost use Rattle.hek_commands.specs.Commands.{FileGives};
-ghost use Rattle.hek_threads_command.specs.Threaded.{IsRunFault, IsStop, ThreadsFail};
+ghost use Rattle.hek_threads_command.specs.Threaded.{IsRunFault, IsThreadsStop, ThreadsFail};
 
 use crate::outcome::outcome_text;
 use crate::threads::report_of;
@@ -14,11 +14,11 @@ use std::io::{Read, Write};
 use std::sync::Wait;
 use std::thread::Threads;
 
-/// How often each outcome was seen.
+/// How often each outcome occurred.
 type Outcomes = BTreeMap<Vec<u8>, u64>;
 
-/// Runs each transaction of the schedule that a file says, so many times, and writes how many different outcomes there
-/// were, and each with how often it was seen. The answer is the exit status. Nothing is written before the last run is over.
+/// Runs the transactions of the schedule in a file `times` times. Writes how many different outcomes there were, and
+/// each outcome with how often it occurred. Answers the exit status. Nothing is written before the last run is over.
 #[tactic(auto, using(crate::proofs::Histories::stop_fails))]
 pub fn repeat_command<'a, T: Threads + Wait + Sync, R: Read + Drop, W: Write>(
     rt: &T,
@@ -35,7 +35,7 @@ pub fn repeat_command<'a, T: Threads + Wait + Sync, R: Read + Drop, W: Write>(
     Ok(0)
 }
 
-/// Runs a schedule's transactions so many times, and writes what each run came to.
+/// Runs a schedule's transactions `times` times, and writes the outcomes.
 fn write_outcomes<'a, T: Threads + Wait + Sync, W: Write>(
     rt: &T,
     alloc: Global,
@@ -44,14 +44,14 @@ fn write_outcomes<'a, T: Threads + Wait + Sync, W: Write>(
     times: u64,
     out: &mut W,
 ) -> Result<(), HekFault<'a>>
-    ensures { IfErr result IsStop }
+    ensures { IfErr result IsThreadsStop }
 {
     let outcomes = outcomes_of(rt, alloc, schedule, turns, times)?;
     let mut text = outcome_lines(alloc, &outcomes, times)?;
     send(&mut text, out)
 }
 
-/// The outcomes of so many runs.
+/// The outcomes of `times` runs.
 fn outcomes_of<'a, T: Threads + Wait + Sync>(
     rt: &T,
     alloc: Global,
@@ -70,7 +70,7 @@ fn outcomes_of<'a, T: Threads + Wait + Sync>(
     Ok(outcomes)
 }
 
-/// The outcome was seen once more.
+/// Counts one more run with this outcome.
 fn count_one(outcomes: &mut Outcomes, outcome: Vec<u8>) -> Result<(), NoMemory> {
     match outcomes.entry(outcome) {
         Ok(entry) => {

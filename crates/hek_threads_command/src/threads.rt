@@ -2,8 +2,8 @@
 ghost use Rattle.std.specs.Prelude.{◌≡◌, MatchResult, OnOk, IfOk, IfErr, length};
 ghost use Rattle.std.specs.List.{AllByRecursion};
 ghost use Rattle.hek_asm.specs.Trace.{NamesDeclared, trace};
-ghost use Rattle.hek_threads.specs.History.{IsHistory, events_of, replies_in};
-ghost use Rattle.hek_threads_command.specs.Threaded.{HasRun, IsRunFault, IsStop, RunsInThreads, ShowsHistory, ThreadsFail, thread_fault};
+ghost use Rattle.hek_worker.specs.History.{IsHistory, history_events, replies_in};
+ghost use Rattle.hek_threads_command.specs.Threaded.{HasRun, IsRunFault, IsThreadsStop, RunsInThreads, ShowsHistory, ThreadsFail, thread_fault};
 
 use hek_asm::write_trace;
 use hek_commands::{HekFault, ScheduleFile, schedule_in, send};
@@ -14,9 +14,8 @@ use std::io::{Read, Write};
 use std::sync::Wait;
 use std::thread::Threads;
 
-/// Runs each transaction of the schedule that a file says in a thread of its own, and writes the history as a trace. A
-/// worker that waits goes on waiting for so many turns. The answer is the exit status. Nothing is written before the run
-/// is over.
+/// Runs each transaction of the schedule in a file in its own thread, and writes the history as a trace. A worker may
+/// wait as often as it has turns, `turns` times. Answers the exit status. Nothing is written before the run is over.
 #[tactic(auto, using(crate::proofs::Histories::stop_fails))]
 pub fn threads_command<'a, T: Threads + Wait + Sync, R: Read + Drop, W: Write>(
     rt: &T,
@@ -41,7 +40,7 @@ fn write_history<'a, T: Threads + Wait + Sync, W: Write>(
     out: &mut W,
 ) -> Result<(), HekFault<'a>>
     ensures written { OnOk result (ShowsHistory schedule.now (W.contents out.old) (W.contents out.new)) }
-    ensures stops { IfErr result IsStop }
+    ensures stops { IfErr result IsThreadsStop }
 {
     let history = history_of(rt, alloc, schedule, turns)?;
     let mut text = trace_text(alloc, schedule, history)?;
@@ -55,7 +54,7 @@ impl Gate for Open {
     fn before(&self, _worker: TxnId, _nth: u64) {}
 }
 
-/// What a run in threads gives.
+/// The report of a run in threads.
 pub(crate) fn report_of<'a, T: Threads + Wait + Sync>(
     rt: &T,
     alloc: Global,
@@ -104,7 +103,7 @@ fn fault_of<'a>(fault: ThreadFault) -> HekFault<'a>
 #[tactic(auto, using(crate::proofs::Histories::paired))]
 fn trace_text(alloc: Global, schedule: &Schedule, history: Vec<Entry>) -> Result<Vec<u8>, NoMemory>
     requires { IsHistory (length schedule.now.txns) history.items }
-    ensures { IfOk result (λ text. text.items ≡ trace schedule.now (events_of history.items) (replies_in history.items)) }
+    ensures { IfOk result (λ text. text.items ≡ trace schedule.now (history_events history.items) (replies_in history.items)) }
 {
     let events = events_in(alloc, history.as_slice())?;
     let replies = replies_of(alloc, history)?;
@@ -113,7 +112,7 @@ fn trace_text(alloc: Global, schedule: &Schedule, history: Vec<Entry>) -> Result
 
 /// The events of a history.
 fn events_in(alloc: Global, history: &[Entry]) -> Result<Vec<Event>, NoMemory>
-    ensures { IfOk result (λ events. events.items ≡ events_of history.now) }
+    ensures { IfOk result (λ events. events.items ≡ history_events history.now) }
 {
     Ok(history.iter().map(|entry| entry.event).collect(alloc)?)
 }

@@ -1,4 +1,4 @@
-//! Sets in order of entry, whose first members are taken out in constant time.
+//! Sets in order of entry, whose first member is taken out in constant time on average.
 ghost use Rattle.std.specs.Prelude.{◌≡◌, ◌+◌, ◌<◌, ◌≤◌, [], drop, length, not, slice_get, IfOk, OnOk};
 ghost use Rattle.indexmap.specs.IndexSet.{spare};
 ghost use Rattle.std.specs.List.{list_any};
@@ -11,10 +11,10 @@ use std::alloc::Global;
 use std::hash::Hash;
 use std::marker::Model;
 
-/// Members in order of entry, each once. Looking a member up takes constant time, and so does taking the
-/// first one out, on average. Taking another one out takes time linear in those behind it.
+/// Members in order of entry, each once. Looking a member up takes constant time, and taking the first one out takes
+/// constant time on average. Taking another one out takes time linear in the members after it.
 ///
-/// Members that are taken out at the front stay in the set until it is empty, or has no room left for others.
+/// Members that are taken out at the front stay in the set until it is empty, or has no room for others.
 #[derive(Drop)]
 pub(crate) struct EntrySet<T: Copy + Eq + Hash> {
     items: IndexSet<T>,
@@ -33,13 +33,13 @@ impl<T: Copy + Eq + Hash> Model for EntrySet<T> {
     ghost invariant = { λ l. l.gone ≤ length l.items.keys };
 }
 
-/// Whether so many members that are gone, of so many in a set, are taken off rather than room made for others beside them: once they
-/// are more than half, so that each of them pays for a move of at most one other.
+/// Whether `gone` members at the front of a set of `count` are removed to make room, in place of a growth: if they are
+/// more than half, so that each of them pays for at most one other that moves.
 fn is_due(gone: usize, count: usize) -> bool {
     gone > count / 2
 }
 
-/// The front of the set, so many members, is taken off.
+/// Removes `count` members at the front of the set.
 fn take_front<T: Copy + Eq + Hash>(items: &mut IndexSet<T>, count: usize)
     requires { count ≤ length items.old.keys }
     ensures items { items.new.keys ≡ drop count items.old.keys }
@@ -51,7 +51,7 @@ fn take_front<T: Copy + Eq + Hash>(items: &mut IndexSet<T>, count: usize)
     items.reverse();
 }
 
-/// An equal set, with room of its own.
+/// An equal set, with separate room.
 fn copied_set<T: Copy + Eq + Hash>(set: &IndexSet<T>) -> Result<IndexSet<T>, NoMemory>
     ensures { IfOk result (λ copy. copy.keys ≡ set.now.keys) }
 {
@@ -63,7 +63,7 @@ fn copied_set<T: Copy + Eq + Hash>(set: &IndexSet<T>) -> Result<IndexSet<T>, NoM
 }
 
 impl<T: Copy + Eq + Hash> EntrySet<T> {
-    /// A set of no members.
+    /// A set without members.
     pub(crate) fn new(alloc: Global) -> EntrySet<T>
         ensures { result.items ≡ [] }
     {
@@ -73,8 +73,8 @@ impl<T: Copy + Eq + Hash> EntrySet<T> {
         }
     }
 
-    /// Makes room for so many more members. Where it is lacking, the set grows to some four times its size: each growth looks all
-    /// members up anew.
+    /// Makes room for `count` more members. If there is too little, the set drops its gone members or grows to about
+    /// four times its size; each growth indexes all members again.
     fn reserve(&mut self, count: usize) -> Result<(), NoMemory>
         ensures items { self.new.items ≡ self.old.items }
         ensures room { OnOk result (count ≤ self.new.room) }
@@ -98,7 +98,7 @@ impl<T: Copy + Eq + Hash> EntrySet<T> {
         Ok(())
     }
 
-    /// Makes room for so many more members, and tells for how many there is room then.
+    /// Makes room for `count` more members, and returns for how many there is room.
     pub(crate) fn make_room(&mut self, count: usize) -> Result<usize, NoMemory>
         ensures items { self.new.items ≡ self.old.items }
         ensures room { IfOk result (λ room. room ≡ self.new.room) }
@@ -109,7 +109,7 @@ impl<T: Copy + Eq + Hash> EntrySet<T> {
         Ok(self.items.capacity() - self.items.len())
     }
 
-    /// Appends a member, if it isn't there yet, and tells whether it was new.
+    /// Appends a member, unless it is in the set, and returns whether it was new.
     pub(crate) fn enter(&mut self, item: T) -> bool
         requires { 0 < self.old.room }
         ensures told { result ≡ not (list_any (T.eq item) self.old.items) }
@@ -119,7 +119,7 @@ impl<T: Copy + Eq + Hash> EntrySet<T> {
         if self.gone == 0 {
             return matches!(self.items.insert(item), Ok(true));
         }
-        // The set tells that each member is there once.
+        // The contract of `len` gives the proof that the members are distinct.
         let _ = self.items.len();
         match self.items.get_index_of(&item) {
             None => {
@@ -150,14 +150,14 @@ impl<T: Copy + Eq + Hash> EntrySet<T> {
         }
     }
 
-    /// The member that was entered first.
+    /// The member that entered first.
     pub(crate) fn first(&self) -> Option<T>
         ensures { result ≡ slice_get self.now.items 0 }
     {
         self.items.get_index(self.gone).copied()
     }
 
-    /// The first member is taken out.
+    /// Takes the first member out.
     fn remove_first(&mut self)
         requires { 0 < length self.old.items }
         ensures items { self.new.items ≡ drop 1 self.old.items }
@@ -172,7 +172,7 @@ impl<T: Copy + Eq + Hash> EntrySet<T> {
         }
     }
 
-    /// Takes a member out that isn't the first one, if it is there, and tells whether it was.
+    /// Takes a member out that is not the first one, if it is in the set, and returns whether it was.
     fn take_later(&mut self, item: T) -> bool
         ensures told { result ≡ list_any (T.eq item) self.old.items }
         ensures items { self.new.items ≡ remove_key (T.eq item) self.old.items }
@@ -192,7 +192,7 @@ impl<T: Copy + Eq + Hash> EntrySet<T> {
         }
     }
 
-    /// Takes a member out, if it is there, and tells whether it was.
+    /// Takes a member out, if it is in the set, and returns whether it was.
     pub(crate) fn take(&mut self, item: T) -> bool
         ensures told { result ≡ list_any (T.eq item) self.old.items }
         ensures items { self.new.items ≡ remove_key (T.eq item) self.old.items }
@@ -211,7 +211,7 @@ impl<T: Copy + Eq + Hash> EntrySet<T> {
         }
     }
 
-    /// Takes out all members; the room stays.
+    /// Takes out all members, and keeps the room.
     pub(crate) fn clear(&mut self)
         ensures items { self.new.items ≡ [] }
         ensures room { self.old.room ≤ self.new.room }
@@ -228,7 +228,7 @@ impl<T: Copy + Eq + Hash> EntrySet<T> {
         left
     }
 
-    /// An equal set, with room of its own.
+    /// An equal set, with separate room.
     pub(crate) fn copy(&self) -> Result<EntrySet<T>, NoMemory>
         ensures { IfOk result (λ list. list.items ≡ self.now.items) }
     {

@@ -12,7 +12,7 @@ use Rattle.hek_rules.specs.Visibility.{sight_by}
 use Rattle.hek_store.specs.Stored.{Stored, version_at}
 use Rattle.hek_txn.specs.TxnTable.{TxnTable, Declared}
 
--- by the two words: the rule of visibility, over what they say
+-- what the reader sees of a version at a read time, by the two words of the version
 abbrev pub version_seen : Stored → TxnTable → ℕ → ℕ → ℕ → Sight
 version_seen s ts reader rt v = sight_by ts.cores reader rt (version_at s v).begin (ender_of (version_at s v).end)
 
@@ -21,11 +21,12 @@ pub record IsNameable (ts : TxnTable) (u : ℕ) : Type 0 where
   pub declared : Declared ts u
   pub present : is_present (txn_in ts.cores u).state ≡ true
 
--- the transaction that a word names, if it names one, may be named
+-- a Begin word names no transaction, or one that may be named
 abbrev pub NamesCreator : TxnTable → BeginRecord → Type 0
 NamesCreator ts (At time) = Unit {0}
 NamesCreator ts (By u) = IsNameable ts u
 
+-- an End word names no writer, or one that may be named
 abbrev pub NamesWriter : TxnTable → EndRecord → Type 0
 NamesWriter ts (Until time) = Unit {0}
 NamesWriter ts (Lock readers None no_more) = Unit {0}

@@ -1,4 +1,4 @@
-//! Visibility: both tables, over the words of a version (section 2 of the paper: version visibility).
+//! Visibility over the two words of a version (section 2 of the paper: version visibility).
 ghost use Rattle.std.specs.Prelude.{◌≡◌, ◌<◌, length};
 ghost use Rattle.hek_rules.specs.Words.{infinity};
 ghost use Rattle.hek_rules.specs.World.{txn_in};
@@ -14,30 +14,36 @@ use hek_store::Store;
 use hek_txn::Txns;
 use hek_word::EndWord;
 
-/// What a reader sees at its read time of a version that another transaction writes, by the writer's end time and state
-/// (section 2 of the paper: version visibility). A writer that hasn't begun or is terminated is never met.
-pub fn under_writer(read_time: Time, u: TxnId, end: Time, state: State) -> Sight
-    ensures { result ≡ under_writer read_time u end state }
+/// What a reader sees at its read time of a version that another transaction writes over, by the writer's end time and
+/// state (section 2 of the paper: version visibility). No word names a writer that has not begun or is Terminated.
+pub fn under_writer(read_time: Time, writer: TxnId, end: Time, state: State) -> Sight
+    ensures { result ≡ under_writer read_time writer end state }
 {
     match state {
         State::Active | State::Aborted(_) => Sight::Seen,
         State::Preparing if read_time < end => Sight::Seen,
-        State::Preparing => Sight::HiddenIf(u),
+        State::Preparing => Sight::HiddenIf(writer),
         State::Committed if read_time < end => Sight::Seen,
         State::Committed | State::NotBegun | State::Terminated => Sight::Hidden,
     }
 }
 
-/// What a reader sees at its read time of a version that another transaction made, by the creator's end time and state, and
-/// by what the End word says (section 2 of the paper: version visibility). A creator that hasn't begun or is terminated is
-/// never met.
-pub fn from_creator(read_time: Time, u: TxnId, end: Time, state: State, by_end: Sight) -> Sight
-    ensures { result ≡ from_creator read_time u end state by_end }
+/// What a reader sees at its read time of a version that another transaction made, by the creator's end time and state,
+/// and by the sight that the End word gives (section 2 of the paper: version visibility). No word names a creator that
+/// has not begun or is Terminated.
+pub fn from_creator(
+    read_time: Time,
+    creator: TxnId,
+    end: Time,
+    state: State,
+    by_end: Sight,
+) -> Sight
+    ensures { result ≡ from_creator read_time creator end state by_end }
 {
     match state {
-        State::Active => Sight::HiddenActive(u),
+        State::Active => Sight::HiddenActive(creator),
         State::Preparing if read_time < end => Sight::Hidden,
-        State::Preparing if by_end == Sight::Seen => Sight::SeenIf(u),
+        State::Preparing if by_end == Sight::Seen => Sight::SeenIf(creator),
         State::Preparing => by_end,
         State::Committed if read_time < end => Sight::Hidden,
         State::Committed => by_end,
@@ -81,8 +87,8 @@ fn of_own(word: EndWord) -> Sight
     }
 }
 
-/// What an active reader sees of a version at a read time below infinity. That no word names a transaction that hasn't
-/// begun or is terminated is a condition.
+/// What an Active reader sees of a version at a read time below infinity. The words of the version must not name a
+/// transaction that has not begun or is Terminated.
 pub fn see(store: &Store, txns: &Txns, reader: TxnId, read_time: Time, v: VersionId) -> Sight
     requires version { v < length store.now.versions }
     requires reader { Declared txns.now reader }

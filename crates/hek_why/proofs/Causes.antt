@@ -1,4 +1,4 @@
--- Where the rule table answers that a transaction is aborted by a cause, the reasons tell that cause.
+-- Where the rule table answers that a transaction is aborted by a cause, the reasons give that cause.
 use Rattle.std.proofs.Common.{◌≡◌, ℕ, ◌+◌, ◌<◌, Bool, true, false, List, [], ◌∷◌, refl, ◌∙◌, ap, sym, subst, arith, Option, Some, None, length, map}
 use Rattle.std.proofs.lemmas.Bool.{lt-ltb, eqb-true}
 use Rattle.std.specs.Prelude.{if◌then◌else◌, ◌&&◌, ◌||◌, ◌==◌, find, IfSome, IfOk, Result, Ok, Err, ◌⊎◌}
@@ -33,7 +33,7 @@ use Rattle.hek_why.specs.declared.reason.Met.{Met}
 use Rattle.hek_why.specs.declared.reason.Reason.{Reason}
 use Rattle.hek_why.specs.declared.reason.Reason.TheVariants.{Stopped, DoomedBy, AbortedBefore}
 use Rattle.hek_why.specs.declared.stops.Stop.{Stop}
-use Rattle.hek_why.specs.Passed.{passes}
+use Rattle.hek_why.specs.Passed.{version_passes}
 use Rattle.hek_why.specs.Stops.{refused_by, stop_by, first_some, first_stop, first_claim, met_by, met_seen, met_begin}
 use Rattle.hek_why.specs.Explained.{walked, stopped_by, claimed_in, stop_in, stops_in, abort_in, reasons_in, AreReasons}
 use Rattle.hek_why.specs.Causes.{Tells, TellCause}
@@ -74,7 +74,7 @@ no_targets w t target (v ∷ vs) =
     ap (λ j. and_then j (versions_judged w t ToRead target vs)) (no_target w t target v (sight w t (read_time w t) v))
     ∙ ap (and_then (version_judged w t ToRead None v (sight w t (read_time w t) v))) (no_targets w t target vs)
 
--- ---- where it stops there is a version
+-- ---- where a walk is refused a version exists
 
 abbrev pub Below : ℕ → List ℕ → Type 0
 Below n [] = Unit {0}
@@ -103,7 +103,7 @@ stop_below w t p target (v ∷ vs) n below =
     let found : Sight = sight w t (read_time w t) v in
     below_first v found (refused_by (version_judged w t p target v found)) (first_stop w t p target vs) n below.0 (stop_below w t p target vs n below.1)
 
--- ---- what is told there
+-- ---- the reason given there
 
 tells_one : (cause : Cause) (v : ℕ) (met : Met) → Tells cause (Stopped v cause met ∷ [])
 tells_one Cascade v met = (refl, tt)
@@ -149,10 +149,10 @@ found_first true c v n later here either rest = here
 found_first false c v n later here either rest = rest either
 
 claim_found : (w : World) (f : ℕ → Version → Bool) (vs : List ℕ) → Below (length w.versions) vs → list_any (λ v. f v (version_in w.versions v)) vs ≡ true →
-    IsFound (length w.versions) (find (λ v. passes f v w) vs)
+    IsFound (length w.versions) (find (λ v. version_passes f v w) vs)
 claim_found w f [] below any = cc
 claim_found w f (v ∷ vs) below any =
-    let g : ℕ → Bool = λ (x : ℕ). passes f x w in
+    let g : ℕ → Bool = λ (x : ℕ). version_passes f x w in
     let later : Option ℕ = find g vs in
     subst (λ (b : Bool). IsFound (length w.versions) (if b && f v (version_in w.versions v) then Some v else later)) (sym (lt-ltb v (length w.versions) below.0))
     (found_first (f v (version_in w.versions v)) (list_any (λ x. f x (version_in w.versions x)) vs) v (length w.versions) later below.0 any (claim_found w f vs below.1))
@@ -227,7 +227,7 @@ insert_refused w t key value target (Refuse c) cause is = inl (cc)
 insert_refused w t key value None (Allow effects) cause is = inr (insert_claimed w t key effects cause (is_claimed w t (of_key w key)) _ refl refl is)
 insert_refused w t key value (Some v) (Allow effects) cause is = cc
 
--- ---- by where the transaction stands
+-- ---- by the state of the transaction
 
 tells_again : (w : World) (dooms : List (ℕ × ℕ)) (t : ℕ) (e : Event) (cause c : Cause) (s : State) → s ≡ state.Aborted c → c ≡ cause → Tells cause (abort_in w dooms t e cause s)
 tells_again w dooms t e cause c s is same =
@@ -251,7 +251,7 @@ tells_active w dooms t e NoMoreWaits told = told
 tells_active w dooms t e Deadlock told = told
 tells_active w dooms t e Asked told = told
 
--- what is told where the outcome of an event is that t is aborted
+-- the reasons where the outcome of an event is that t is aborted
 abbrev pub IsTold : World → List (ℕ × ℕ) → Event → Outcome → Type 0
 IsTold w dooms e o = (t : ℕ) (cause : Cause) → is_of t e ≡ true → o.reply ≡ replies.Aborted cause → Tells cause (abort_in w dooms t e cause (txn_in w.txns t).state)
 
@@ -355,13 +355,13 @@ told_by m dooms t e r list own are cause w is stands known answered =
     subst (λ (x : Answer). IfSome (reasons_in w dooms t e x) (λ said. said ≡ list)) is (are w stands known) in
     subst (Tells cause) said (each_event (rows_told w dooms) e t cause (of_its_own e t own) (answered ∙ is))
 
--- the reasons of an event's reply
+-- the reasons of an event's reply give its cause
 causes_told : (m : Engine) (dooms : List (ℕ × ℕ)) (e : Event) (r : Answer) (list : List Reason) (o : Option ℕ) → txn_of e ≡ o →
     IfSome o (λ t. AreReasons m dooms t e r list) → IfSome o (λ t. TellCause m t e r list)
 causes_told m dooms e r list None own are = tt
 causes_told m dooms e r list (Some t) own are = told_by m dooms t e r list own are
 
--- and those of one that is known to be of t
+-- the reasons of an event of t give its cause
 pub causes_ok : {V E : Type 0} (items : V → List Reason) (m : Engine) (dooms : List (ℕ × ℕ)) (t : ℕ) (e : Event) (r : Answer) (result : Result V E) → txn_of e ≡ Some t →
     IfOk result (λ v. AreReasons m dooms t e r (items v)) → IfOk result (λ v. IfSome (txn_of e) (λ u. TellCause m u e r (items v)))
 causes_ok items m dooms t e r (Err fault) own are = tt

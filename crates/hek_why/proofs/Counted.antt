@@ -1,4 +1,4 @@
--- The transactions that stand in pairs with one are as many as the pairs.
+-- As many transactions are in pairs with one transaction as there are such pairs.
 use Rattle.std.proofs.Common.{◌≡◌, ℕ, zero, suc, ◌+◌, ◌<◌, ◌≤◌, Bool, true, false, List, [], ◌∷◌, ◌++◌, refl, ◌∙◌, ap, sym, subst, arith, length, length-append, ⊎_elim}
 use Rattle.std.proofs.lemmas.Bool.{cases_Bool, cases_eq}
 use Rattle.std.proofs.lemmas.Bool.Decides.{nat_tests}
@@ -8,7 +8,7 @@ use Rattle.hek_laws.specs.Lists.{Once}
 use Rattle.hek_refinement.proofs.Pairs.{head-once, bit}
 use Rattle.hek_why.specs.Waited.{ids_where}
 
--- how many IDs pass
+-- how many of the IDs from 1 to n pass
 abbrev pub count_to : (ℕ → Bool) → ℕ → ℕ
 count_to f zero = 0
 count_to f (suc n) = count_to f n + bit (f (suc n))
@@ -28,7 +28,7 @@ count-other f g a (suc n) above same =
     let e : g (suc n) ≡ f (suc n) = same (suc n) (λ h. omega (arith, above, h)) in
     ap (λ k. k + bit (g (suc n))) rest ∙ ap (λ b. count_to f n + bit b) e
 
--- the last ID is the one more
+-- a test that also passes the last ID counts one more
 count-last : (f g : ℕ → Bool) (a n : ℕ) → a ≡ suc n → f a ≡ false → g a ≡ true → ((t : ℕ) → (t ≡ a → ⊥) → g t ≡ f t) → count_to g (suc n) ≡ count_to f (suc n) + 1
 count-last f g a n e out here same =
     let rest = count-other f g a n (omega (arith, e)) same in
@@ -38,7 +38,7 @@ count-last f g a n e out here same =
     let fb : bit (f (suc n)) ≡ 0 = ap bit fs in
     omega (arith, rest, gb, fb)
 
--- an earlier one is
+-- a test that also passes an earlier ID counts one more
 count-earlier : (f g : ℕ → Bool) (a n : ℕ) → (suc n ≡ a → ⊥) → ((t : ℕ) → (t ≡ a → ⊥) → g t ≡ f t) → count_to g n ≡ count_to f n + 1 → count_to g (suc n) ≡ count_to f (suc n) + 1
 count-earlier f g a n ne same rest =
     let e : bit (g (suc n)) ≡ bit (f (suc n)) = ap bit (same (suc n) ne) in
@@ -60,7 +60,7 @@ count-none : (n : ℕ) → count_to (λ t. false) n ≡ 0
 count-none zero = refl
 count-none (suc n) = let rest = count-none n in omega (arith, rest)
 
--- a pair comes in front: of u, or of another
+-- a pair at the front: of u, or of another transaction
 front-one : (p : ℕ × ℕ) (ps : List (ℕ × ℕ)) (u n : ℕ) → (p.1 == u) ≡ true → Once (p ∷ ps) → ((t : ℕ) → has (p ∷ ps) t u ≡ true → (0 < t) × (t ≤ n)) →
     count_to (λ t. has ps t u) n ≡ length (firsts_of ps u) → count_to (λ t. has (p ∷ ps) t u) n ≡ length (firsts_of (p ∷ ps) u)
 front-one p ps u n h once among rest =

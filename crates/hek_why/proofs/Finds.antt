@@ -1,4 +1,4 @@
--- Lists that are gathered over the versions and the transactions that a machine shows, one more at a time.
+-- Lists that a loop gathers over the versions and the transactions that a machine shows, one at a time.
 use Rattle.std.proofs.Common.{◌≡◌, ℕ, ◌+◌, ◌<◌, Bool, true, false, List, [], ◌∷◌, ◌++◌, append_assoc, refl, ◌∙◌, ap, sym, subst, arith, length, drop, add-one}
 use Rattle.std.proofs.lemmas.Bool.{lt-ltb}
 use Rattle.std.proofs.lemmas.Option.{unwrap_or-slice_get}
@@ -8,7 +8,7 @@ use Rattle.hek_rules.specs.World.{World, Version, no_version, version_in, places
 use Rattle.hek_machine.specs.declared.engine.Engine.{Engine}
 use Rattle.hek_machine.specs.Stands.{StandsFor}
 use Rattle.hek_machine.specs.Judgements.{IsShown}
-use Rattle.hek_why.specs.Passed.{passes}
+use Rattle.hek_why.specs.Passed.{version_passes}
 use Rattle.hek_why.specs.Waited.{ids_where}
 
 places-more : (test : ℕ → Version → Bool) (xs : List Version) (i : ℕ) → i < length xs →
@@ -21,11 +21,11 @@ places-more test xs i below =
 abbrev pub Finds : Engine → (World → ℕ → Version → Bool) → List ℕ → ℕ → Type 0
 Finds m test found i = (w : World) → StandsFor m w → found ++ places (test w) i (drop i w.versions) ≡ places (test w) 0 w.versions
 
-passed : (w : World) (test : ℕ → Version → Bool) (i : ℕ) (b : Bool) → i < length w.versions → passes test i w ≡ b → test i (version_in w.versions i) ≡ b
+passed : (w : World) (test : ℕ → Version → Bool) (i : ℕ) (b : Bool) → i < length w.versions → version_passes test i w ≡ b → test i (version_in w.versions i) ≡ b
 passed w test i b below shown = ap (λ t. t && test i (version_in w.versions i)) (sym (lt-ltb i (length w.versions) below)) ∙ shown
 
 pub finds_more : (m : Engine) (test : World → ℕ → Version → Bool) (i n : ℕ) (b : Bool) (before after : List ℕ) → i < n → IsShown m (λ w. length w.versions) n →
-    IsShown m (λ w. passes (test w) i w) b → after ≡ (if b then before ++ i ∷ [] else before) → Finds m test before i → Finds m test after (i + 1)
+    IsShown m (λ w. version_passes (test w) i w) b → after ≡ (if b then before ++ i ∷ [] else before) → Finds m test before i → Finds m test after (i + 1)
 finds_more m test i n b before after below count shown grown left w s =
     ap (λ xs. xs ++ rest) grown ∙ by b ∙ sym (ap (λ xs. before ++ xs) (places-more (test w) w.versions i here
     ∙ ap (λ t. if t then i ∷ rest else rest) (passed w (test w) i b here (shown w s)))) ∙ left w s
@@ -61,11 +61,11 @@ pub ids_all : (m : Engine) (test : World → ℕ → Bool) (n : ℕ) (found : Li
     IsShown m (λ w. ids_where (test w) (length w.txns)) found
 ids_all m test n found count so_far w s = ap (ids_where (test w)) (count w s) ∙ sym (so_far w s)
 
--- the same at the loop's own variable
+-- the places found after the next version, for a loop's variable
 pub finds_next : (m : Engine) (test : World → ℕ → Version → Bool) (i v n : ℕ) (b : Bool) (before after : List ℕ) → v ≡ i → i < n → IsShown m (λ w. length w.versions) n →
-    IsShown m (λ w. passes (test w) v w) b → after ≡ (if b then before ++ v ∷ [] else before) → Finds m test before i → Finds m test after (i + 1)
+    IsShown m (λ w. version_passes (test w) v w) b → after ≡ (if b then before ++ v ∷ [] else before) → Finds m test before i → Finds m test after (i + 1)
 finds_next m test i v n b before after same below count shown grown left =
-    finds_more m test i n b before after below count (subst (λ (k : ℕ). IsShown m (λ w. passes (test w) k w) b) same shown)
+    finds_more m test i n b before after below count (subst (λ (k : ℕ). IsShown m (λ w. version_passes (test w) k w) b) same shown)
     (subst (λ (k : ℕ). after ≡ (if b then before ++ k ∷ [] else before)) same grown) left
 
 pub ids_next : (m : Engine) (test : World → ℕ → Bool) (i t : ℕ) (b : Bool) (before after : List ℕ) → t ≡ i + 1 → IsShown m (λ w. test w t) b →
@@ -74,7 +74,7 @@ ids_next m test i t b before after same shown grown so_far =
     ids_more m test i b before after (subst (λ (k : ℕ). IsShown m (λ w. test w k) b) same shown)
     (subst (λ (k : ℕ). after ≡ (if b then before ++ k ∷ [] else before)) same grown) so_far
 
--- at the end of a loop
+-- at the end of the loop the places found are all
 pub finds_end : (m : Engine) (test : World → ℕ → Version → Bool) (i n : ℕ) (found : List ℕ) → i ≡ n → IsShown m (λ w. length w.versions) n → Finds m test found i →
     IsShown m (λ w. places (test w) 0 w.versions) found
 finds_end m test i n found same count left = finds_all m test n found count (subst (Finds m test found) same left)

@@ -1,4 +1,4 @@
--- An item comes to a list all of whose items hold a fact.
+-- An item appended to a list all of whose items have a property.
 use Rattle.std.proofs.Common.{◌≡◌, ℕ, Bool, true, false, List, [], ◌∷◌, ◌++◌, subst, sym}
 use Rattle.std.specs.Prelude.{if◌then◌else◌}
 use Rattle.std.specs.List.{All}

@@ -1,4 +1,4 @@
--- The last of some, over one that was seen before them.
+-- The last version seen in a list, or the one seen before it.
 use Rattle.std.proofs.Common.{◌≡◌, ℕ, ◌+◌, ◌<◌, ◌≤◌, Bool, true, false, List, [], ◌∷◌, refl, ◌∙◌, ap, sym, Option, Some, None, length, drop, get_or}
 use Rattle.std.proofs.lemmas.List.{drop_more, drop_all}
 use Rattle.std.specs.Prelude.{if◌then◌else◌}
@@ -19,7 +19,7 @@ pub last_or-none : (xs : List ℕ) → last_or None xs ≡ last xs
 last_or-none [] = refl
 last_or-none (x ∷ xs) = last-some x xs
 
--- one more is looked at
+-- one more version is looked at
 pub last_more : (w : World) (t : ℕ) (vs : List ℕ) (i v : ℕ) (s : Sight) (b : Bool) (before after : Option ℕ) → i < length vs → v ≡ get_or vs i v → sight w t (read_time w t) v ≡ s → b ≡ is_seen s →
     after ≡ (if b then Some v else before) → last_or before (seen_of w t (drop i vs)) ≡ last_or after (seen_of w t (drop (i + 1) vs))
 last_more w t vs i v s b before after below here seen is grown =

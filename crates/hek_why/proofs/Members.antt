@@ -1,4 +1,4 @@
--- The members of a transaction's list are the pairs of the world.
+-- The members of a transaction's list are those of the world's pairs.
 use Rattle.std.proofs.Common.{◌≡◌, ℕ, List}
 use Rattle.hek_rules.specs.Listing.{has, seconds_of, is_among}
 use Rattle.hek_refinement.proofs.Pairs.{among-seconds}

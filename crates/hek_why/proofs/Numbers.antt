@@ -1,4 +1,4 @@
--- Reasons to wait are as many as the counters say.
+-- There are as many reasons to wait as the counters say.
 use Rattle.std.proofs.Common.{◌≡◌, ℕ, ◌+◌, ◌<◌, ◌≤◌, true, List, [], ◌++◌, ◌∙◌, ap, sym, arith, length, length-append, map}
 use Rattle.std.proofs.lemmas.List.{length-map}
 use Rattle.hek_rules.specs.World.{World, txn_in, is_present, is_preparing}
@@ -8,7 +8,7 @@ use Rattle.hek_machine.specs.declared.engine.Engine.{Engine}
 use Rattle.hek_machine.specs.Stands.{StandsFor}
 use Rattle.hek_why.specs.declared.reason.Reason.{Reason}
 use Rattle.hek_why.specs.declared.reason.Reason.TheVariants.{ReadLocked, Listed, Depends}
-use Rattle.hek_why.specs.Waited.{readers_in, held_over, holders_of, depended_on, shared_bucket, waits_in, commits_in}
+use Rattle.hek_why.specs.Waited.{readers_in, held_over, waiting_list_holders, depended_on, shared_bucket, waits_in, commits_in}
 use Rattle.hek_why.proofs.Sounds.{sound_of}
 use Rattle.hek_why.proofs.Counted.{members-count}
 
@@ -22,9 +22,9 @@ preparing-present w t h = grind (arith, h)
 
 pub waits_number : (m : Engine) (w : World) (u : ℕ) → StandsFor m w → length (waits_in w u) ≡ waits w u
 waits_number m w u s =
-    length-append (map (λ v. ReadLocked v (readers_in w v)) (held_over w u)) (map (λ h. Listed h (shared_bucket w h u)) (holders_of w u))
-    ∙ ap (λ n. n + length (map (λ h. Listed h (shared_bucket w h u)) (holders_of w u))) (length-map (held_over w u) (λ v. ReadLocked v (readers_in w v)))
-    ∙ ap (λ n. length (held_over w u) + n) (length-map (holders_of w u) (λ h. Listed h (shared_bucket w h u))
+    length-append (map (λ v. ReadLocked v (readers_in w v)) (held_over w u)) (map (λ h. Listed h (shared_bucket w h u)) (waiting_list_holders w u))
+    ∙ ap (λ n. n + length (map (λ h. Listed h (shared_bucket w h u)) (waiting_list_holders w u))) (length-map (held_over w u) (λ v. ReadLocked v (readers_in w v)))
+    ∙ ap (λ n. length (held_over w u) + n) (length-map (waiting_list_holders w u) (λ h. Listed h (shared_bucket w h u))
     ∙ members-count w.waiters u (length w.txns) (sound_of m w s).waiters_once (λ t h. present-named m w t s ((sound_of m w s).holder_present t u h)))
 
 pub commits_number : (m : Engine) (w : World) (t : ℕ) → StandsFor m w → length (commits_in w t) ≡ commit_deps w t
@@ -33,12 +33,12 @@ commits_number m w t s =
     ∙ members-count w.dependents t (length w.txns) (sound_of m w s).dependents_once
     (λ u h. present-named m w u s (preparing-present w u ((sound_of m w s).depended_preparing u t h)))
 
--- the reasons that were gathered are as many
+-- there are as many gathered reasons as the WaitForCounter says
 pub gathered_number : (m : Engine) (w : World) (u : ℕ) (versions holders : List ℕ) (l0 l1 l2 : List Reason) → StandsFor m w → l0 ≡ [] →
     l0 ++ map (λ v. ReadLocked v (readers_in w v)) versions ≡ l1 → l1 ++ map (λ h. Listed h (shared_bucket w h u)) holders ≡ l2 →
-    held_over w u ≡ versions → holders_of w u ≡ holders → waits w u ≡ length l2
+    held_over w u ≡ versions → waiting_list_holders w u ≡ holders → waits w u ≡ length l2
 gathered_number m w u versions holders l0 l1 l2 s none h1 h2 e1 e2 =
     sym (waits_number m w u s)
-    ∙ ap length (ap (λ vs. map (λ v. ReadLocked v (readers_in w v)) vs ++ map (λ h. Listed h (shared_bucket w h u)) (holders_of w u)) e1
+    ∙ ap length (ap (λ vs. map (λ v. ReadLocked v (readers_in w v)) vs ++ map (λ h. Listed h (shared_bucket w h u)) (waiting_list_holders w u)) e1
     ∙ ap (λ hs. map (λ v. ReadLocked v (readers_in w v)) versions ++ map (λ h. Listed h (shared_bucket w h u)) hs) e2
     ∙ ap (λ xs. xs ++ map (λ h. Listed h (shared_bucket w h u)) holders) (ap (λ xs. xs ++ map (λ v. ReadLocked v (readers_in w v)) versions) (sym none) ∙ h1) ∙ h2)

@@ -1,4 +1,4 @@
--- The words of a version that there is, and what they say: sights and refusals by words are those of the world.
+-- The words of a version that exists, and what they say: sights and refusals by words are those of the world.
 use Rattle.std.proofs.Common.{◌≡◌, ℕ, Bool, true, false, ◌∙◌, ap, sym, arith, Option, Some, None, length}
 use Rattle.std.specs.Prelude.{if◌then◌else◌, nat_lt}
 use Rattle.hek_rules.specs.declared.event.Cause.{Cause}
@@ -20,7 +20,7 @@ use Rattle.hek_machine.specs.Stands.{StandsFor}
 use Rattle.hek_machine.specs.Observed.{of_version}
 use Rattle.hek_why.proofs.Sounds.{sound_of}
 
--- what is shown of a version that there is
+-- what a machine shows of a version that exists
 pub at_version : {X : Type 0} (f : World → ℕ → X) (w : World) (v : ℕ) (x : X) → of_version f v w ≡ Some x → f w v ≡ x
 at_version f w v x h = by (nat_lt v (length w.versions)) h
   where
@@ -28,7 +28,7 @@ at_version f w v x h = by (nat_lt v (length w.versions)) h
     by true e = cc
     by false e = cc
 
--- what is seen by the words is what is seen
+-- the sight by the words of a version is the sight in the world
 pub sees : (m : Engine) (w : World) (t v rt : ℕ) (b : BeginRecord) (e : EndRecord) (r : Sight) → StandsFor m w →
     of_version begin_word v w ≡ Some b → of_version end_word v w ≡ Some e → read_time w t ≡ rt → sight_by w.txns t rt b (ender_of e) ≡ r → sight w t (read_time w t) v ≡ r
 sees m w t v rt b e r s begins ends at seen =
@@ -38,7 +38,7 @@ sees m w t v rt b e r s begins ends at seen =
     ∙ ap (λ x. sight_by w.txns t (read_time w t) b (ender_of x)) (word-shown m.store w.buckets w.versions w.read_locks v s.shows.store ∙ at_version end_word w v e ends)
     ∙ ap (λ x. sight_by w.txns t x b (ender_of e)) at ∙ seen
 
--- a lock is refused by the word
+-- a read lock refused by the End word is refused in the world
 pub read_refused_by : (m : Engine) (w : World) (t v : ℕ) (e f : EndRecord) (r : Option Cause) → StandsFor m w → reads_freely w t v ≡ false →
     of_version end_word v w ≡ Some e → cleared_word w.txns e ≡ f → word_refusal w.txns f ≡ r → no_read_lock w t v ≡ r
 read_refused_by m w t v e f r s locks ends clears refuses =

@@ -1,4 +1,4 @@
--- What is sound in each world that a machine stands for.
+-- What holds in each world that a machine represents.
 use Rattle.std.proofs.Common.{◌≡◌, ℕ, zero, suc, ◌<◌, Bool, false, refl, arith, Option, Some, None}
 use Rattle.std.specs.Prelude.{◌&&◌, ◌==◌, nat_lt}
 use Rattle.hek_rules.specs.Words.{writer_of, readers_of}
@@ -19,7 +19,7 @@ some_buckets m w s = (sound_of m w s).buckets
 pub buckets_above : (m : Engine) (n : ℕ) → StandsForSome m → IsShown m (λ w. w.buckets) n → 0 < n
 buckets_above m n o shown = let e = shown o.world o.stands in let b = some_buckets m o.world o.stands in omega (arith, e, b)
 
--- the word names u as its writer, under a reader
+-- an End word that has a reader names u as its writer
 abbrev pub is_held_over : ℕ → Option ℕ → ℕ → Bool
 is_held_over u None n = false
 is_held_over u (Some x) n = (x == u) && nat_lt 0 n

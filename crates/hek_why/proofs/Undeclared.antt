@@ -1,4 +1,4 @@
--- An ID that isn't declared leads to a transaction that hasn't begun.
+-- An ID that is not declared leads to a transaction that has not begun.
 use Rattle.std.proofs.Common.{◌≡◌, ℕ, zero, suc, false, List, refl, ap}
 use Rattle.hek_rules.specs.declared.event.State.TheVariants.{NotBegun}
 use Rattle.hek_rules.specs.World.{Txn, txn_in, declared, no_txn}

@@ -1,4 +1,4 @@
--- Which cause the reasons of an abort tell.
+-- Which cause the reasons of an abort give.
 use Rattle.std.specs.Prelude.{ℕ, ◌≡◌, true, List, [], ◌∷◌, Option, Some, None, map}
 use Rattle.std.specs.List.{AllByRecursion}
 use Rattle.hek_rules.specs.declared.event.Cause.{Cause}
@@ -19,12 +19,13 @@ cause_told (DoomedBy u) = Some Cascade
 cause_told (AbortedBefore cause) = Some cause
 cause_told reason = None
 
--- one reason tells the cause; of a cascade all of them do, as many as there are notes of
+-- exactly one reason gives the cause; for a cascade each reason gives it, one for each abort noted
 abbrev pub Tells : Cause → List Reason → Type 0
 Tells Cascade list = AllByRecursion (λ r. cause_told r ≡ Some Cascade) list
 Tells cause list = map cause_told list ≡ Some cause ∷ []
 
--- where the rule table answers in each world that the machine stands for that t is aborted by a cause, that is what they tell
+-- where the rule table answers that t is aborted by a cause, in any world that the machine represents, the reasons give
+-- that cause
 abbrev pub TellCause : Engine → ℕ → Event → Answer → List Reason → Type 0
 TellCause m t e r list =
     (cause : Cause) (w : World) → r ≡ Aborted cause → StandsFor m w → declared w.txns t ≡ true → reply w e ≡ r → Tells cause list

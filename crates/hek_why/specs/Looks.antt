@@ -6,5 +6,5 @@ use Rattle.hek_rules.specs.Walk.{read_time}
 use Rattle.hek_why.specs.declared.reason.Reason.{Reason}
 use Rattle.hek_why.specs.declared.reason.Reason.TheVariants.{Looked}
 
-abbrev pub looks : World → ℕ → List ℕ → List Reason
-looks w t vs = map (λ v. Looked v (sight w t (read_time w t) v)) vs
+abbrev pub looked_reasons : World → ℕ → List ℕ → List Reason
+looked_reasons w t vs = map (λ v. Looked v (sight w t (read_time w t) v)) vs

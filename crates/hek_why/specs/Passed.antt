@@ -1,6 +1,6 @@
--- Whether there is a version at a place, and it passes a test.
+-- Whether a version exists and passes a test.
 use Rattle.std.specs.Prelude.{ℕ, Bool, ◌&&◌, nat_lt, length}
 use Rattle.hek_rules.specs.World.{World, Version, version_in}
 
-abbrev pub passes : (ℕ → Version → Bool) → ℕ → World → Bool
-passes test v w = nat_lt v (length w.versions) && test v (version_in w.versions v)
+abbrev pub version_passes : (ℕ → Version → Bool) → ℕ → World → Bool
+version_passes test v w = nat_lt v (length w.versions) && test v (version_in w.versions v)

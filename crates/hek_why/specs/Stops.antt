@@ -1,4 +1,4 @@
--- The version at which a walk is refused, or which claims the key of an insert, and who is met there.
+-- The version at which a walk is refused, or which claims the key of an insert, and what is met there.
 -- (Section 4 of the paper: record locks; reads and updates.)
 use Rattle.std.specs.Prelude.{ℕ, List, [], ◌∷◌, Option, Some, None, find}
 use Rattle.hek_rules.specs.declared.event.Cause.{Cause}
@@ -13,24 +13,12 @@ use Rattle.hek_rules.specs.World.{World, txn_in}
 use Rattle.hek_rules.specs.Shown.{begin_word, end_word}
 use Rattle.hek_rules.specs.Visibility.{sight}
 use Rattle.hek_rules.specs.Walk.{Judgement, Refuse, Allow, Purpose, read_time, version_judged}
-use Rattle.hek_rules.specs.Walk as walk
 use Rattle.hek_rules.specs.Table.{is_claim}
 use Rattle.hek_machine.specs.Observed.{of_version}
-use Rattle.hek_why.specs.Passed.{passes}
+use Rattle.hek_why.specs.Passed.{version_passes}
 use Rattle.hek_why.specs.declared.reason.Met.{Met}
 use Rattle.hek_why.specs.declared.reason.Met.TheVariants.{Writer, Creator, EndedAt, MadeAt, Readers}
-use Rattle.hek_why.specs.declared.stops.Aim.{Aim}
-use Rattle.hek_why.specs.declared.stops.Aim.TheVariants.{ToRead, ToWrite}
 use Rattle.hek_why.specs.declared.stops.Stop.{Stop}
-
-abbrev pub purpose_of : Aim → Purpose
-purpose_of ToRead = walk.ToRead
-purpose_of (ToWrite target) = walk.ToWrite
-
--- the last version seen, which a write locks
-abbrev pub target_of : Aim → Option ℕ
-target_of ToRead = None
-target_of (ToWrite target) = target
 
 abbrev pub refused_by : Judgement → Option Cause
 refused_by (Refuse cause) = Some cause
@@ -40,7 +28,7 @@ abbrev pub stop_by : ℕ → Sight → Option Cause → Option Stop
 stop_by v found None = None
 stop_by v found (Some cause) = Some (record { version = v; sight = found; cause = cause })
 
--- where the rule of walks refuses version v
+-- the stop at version v, if the rule of walks refuses the walk there
 abbrev pub stop_at : World → ℕ → Purpose → Option ℕ → ℕ → Option Stop
 stop_at w t purpose target v =
     let found = sight w t (read_time w t) v in stop_by v found (refused_by (version_judged w t purpose target v found))
@@ -49,16 +37,16 @@ abbrev pub first_some : Option Stop → Option Stop → Option Stop
 first_some None later = later
 first_some (Some stop) later = Some stop
 
--- the first version that it refuses
+-- the stop at the first version where a walk is refused
 abbrev pub first_stop : World → ℕ → Purpose → Option ℕ → List ℕ → Option Stop
 first_stop w t purpose target [] = None
 first_stop w t purpose target (v ∷ vs) = first_some (stop_at w t purpose target v) (first_stop w t purpose target vs)
 
--- the first version that claims the key
+-- the first version that claims the key of an insert
 abbrev pub first_claim : World → ℕ → List ℕ → Option ℕ
-first_claim w t vs = find (λ v. passes (λ v x. is_claim w t (txn_in w.txns t).level x.creator) v w) vs
+first_claim w t vs = find (λ v. version_passes (λ v x. is_claim w t (txn_in w.txns t).level x.creator) v w) vs
 
--- who or what refuses a lock, by the End word
+-- which transaction, time or readers refuse a lock, by the End word
 abbrev pub met_by : Cause → EndRecord → Met
 met_by ReadersFull e = Readers
 met_by cause (Until time) = EndedAt time

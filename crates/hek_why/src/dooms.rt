@@ -1,4 +1,4 @@
-//! Whose abort doomed whom: told as it happens, since a machine shows only that a transaction is doomed.
+//! Which abort doomed which transaction, noted during a run: a machine shows only that a transaction is doomed.
 ghost use Rattle.std.specs.Prelude.{◌≡◌, [], ◌∷◌, ◌++◌, IfOk, OnOk, OnErr};
 ghost use Rattle.hek_rules.specs.Listing.{firsts_of};
 
@@ -8,10 +8,10 @@ use hek_rules::{Event, NoMemory, Reply, State, TxnId};
 use std::alloc::Global;
 use std::marker::Model;
 
-/// Whose abort set whose AbortNow, in the order of the run so far.
+/// Which transaction's abort set which one's AbortNow, in the order of the run so far.
 #[derive(Debug, Drop)]
 pub struct Dooms {
-    /// Who aborted, and whom that doomed.
+    /// A transaction that aborted, and one that its abort doomed.
     dooms: Vec<(TxnId, TxnId)>,
 }
 
@@ -24,7 +24,7 @@ impl Model for Dooms {
 }
 
 impl Dooms {
-    /// Before the first event.
+    /// The notes before the first event: none.
     pub fn new(alloc: Global) -> Dooms
         ensures { result ≡ [] }
     {
@@ -33,7 +33,7 @@ impl Dooms {
         }
     }
 
-    /// Takes note of an event and its reply, at the machine before it.
+    /// Takes note of an event and its reply. `before` is the machine before the event.
     pub fn note(&mut self, before: &Machine, event: Event, reply: &Reply) -> Result<(), NoMemory> {
         match aborted_by(before, event, reply) {
             None => Ok(()),
@@ -41,7 +41,7 @@ impl Dooms {
         }
     }
 
-    /// The abort of a transaction dooms those whose commit depends on it.
+    /// Takes note that the abort of a transaction dooms those whose commit depends on it.
     fn add_all(&mut self, before: &Machine, aborted: TxnId) -> Result<(), NoMemory> {
         if !before.is_declared(aborted) {
             return Ok(());
@@ -52,7 +52,7 @@ impl Dooms {
         Ok(())
     }
 
-    /// Takes note of one who aborted, and of one whom that doomed.
+    /// Takes note of one transaction that aborted, and of one that its abort doomed.
     pub fn add(&mut self, aborted: TxnId, doomed: TxnId) -> Result<(), NoMemory>
         ensures ok { OnOk result (self.new ≡ self.old ++ (aborted, doomed) ∷ []) }
         ensures err { OnErr result (self.new ≡ self.old) }
@@ -61,7 +61,7 @@ impl Dooms {
         Ok(())
     }
 
-    /// Whose aborts doomed this transaction, in the order in which they came.
+    /// The transactions whose aborts doomed this one, in the order in which they aborted.
     pub fn of(&self, alloc: Global, t: TxnId) -> Result<Vec<TxnId>, NoMemory>
         ensures { IfOk result (λ txns. txns.items ≡ firsts_of self.now t) }
     {
@@ -73,7 +73,7 @@ impl Dooms {
     }
 }
 
-/// The transaction that an event aborted, if it did.
+/// The transaction that an event aborted, if it aborted one.
 fn aborted_by(before: &Machine, event: Event, reply: &Reply) -> Option<TxnId> {
     match reply {
         Reply::Victim(t, _) => Some(*t),

@@ -5,7 +5,8 @@ ghost use Rattle.hek_rules.specs.Listing.{firsts_of};
 ghost use Rattle.hek_rules.specs.World.{txn_in};
 ghost use Rattle.hek_txn.specs.TxnTable.{Declared};
 ghost use Rattle.hek_machine.specs.Judgements.{IsShown};
-ghost use Rattle.hek_why.specs.Stops.{purpose_of, target_of, first_claim};
+ghost use Rattle.hek_why.specs.Stops.{first_claim};
+ghost use Rattle.hek_rules.specs.Aims.{purpose_of, target_of};
 ghost use Rattle.hek_why.specs.Causes.{TellCause};
 ghost use Rattle.hek_why.specs.Explained.{walked, purpose_in, target_in, stopped_by, claimed_in, stops_in, abort_in, AreReasons};
 
@@ -14,11 +15,11 @@ use crate::facts::state_of;
 use crate::met::{made_by, met_at};
 use crate::reason::{Met, Reason};
 use crate::refused::refusal_reason;
-use crate::stops::{Aim, first_claim, first_stop};
+use crate::stops::{first_claim, first_stop};
 use crate::waits::{commit_reasons, wait_reasons};
 use crate::walked::{last_seen, looks, versions_in, versions_of};
 use hek_machine::Machine;
-use hek_rules::{Cause, Event, NoMemory, Reply, State, TxnId, VersionId};
+use hek_rules::{Aim, Cause, Event, NoMemory, Reply, State, TxnId, VersionId};
 use std::alloc::Global;
 
 /// An event with its reply, between two machines.
@@ -30,8 +31,9 @@ pub struct Step<'a> {
     pub after: &'a Machine,
 }
 
-/// Why a step's event is answered as it is. `dooms` has whose aborts have doomed whom before it. There are no reasons where
-/// nothing had to be looked for, as of `began`, `ready` or `committed`. Of an abort they tell the very cause of the reply.
+/// Why a step's event has its reply. `dooms` holds the aborts before the step. Replies that depend on no other
+/// transaction or version, such as `began`, `ready` or `committed`, have no reasons. The reasons of an abort give the
+/// cause that the reply names.
 pub fn reasons(alloc: Global, step: &Step<'_>, dooms: &Dooms) -> Result<Vec<Reason>, NoMemory>
     ensures reasons { IfOk result (λ list. IfSome (txn_of step.now.event) (λ t. AreReasons step.now.before.now dooms.now t step.now.event step.now.reply.now list.items)) }
     ensures cause { IfOk result (λ list. IfSome (txn_of step.now.event) (λ t. TellCause step.now.before.now t step.now.event step.now.reply.now list.items)) }
@@ -105,7 +107,7 @@ fn aim_of(machine: &Machine, t: TxnId, event: &Event, vs: &[VersionId]) -> Aim
     }
 }
 
-/// Why a transaction aborts, or did.
+/// Why a transaction aborts, or aborted before.
 fn abort_reasons(
     alloc: Global,
     machine: &Machine,
@@ -145,7 +147,7 @@ fn doomed_by(alloc: Global, txns: &[TxnId]) -> Result<Vec<Reason>, NoMemory>
     Ok(list)
 }
 
-/// At which of these versions the walk of an event is refused, or the key of an insert is claimed.
+/// The version at which the walk of an event is refused, or which claims the key of its insert.
 fn stop_reasons(
     alloc: Global,
     machine: &Machine,
@@ -166,7 +168,7 @@ fn stop_reasons(
     }
 }
 
-/// Which of these versions claims the key of an insert.
+/// The version that claims the key of an insert.
 fn claim_reasons(
     alloc: Global,
     machine: &Machine,
@@ -203,7 +205,7 @@ fn stopped(
     }
 }
 
-/// Why each member of a cycle waits for the next.
+/// Why each member of a cycle waits for the next. A reply without a cycle has no such reasons.
 fn cycle_reasons(alloc: Global, machine: &Machine, reply: &Reply) -> Result<Vec<Reason>, NoMemory> {
     let mut list = Vec::new(alloc);
     let Reply::Victim(first, members) = reply else {
@@ -222,7 +224,7 @@ fn cycle_reasons(alloc: Global, machine: &Machine, reply: &Reply) -> Result<Vec<
     Ok(list)
 }
 
-/// The first version that a transaction writes and another read-locks.
+/// The first version that a transaction writes, in the order of another's read set.
 fn read_under(
     machine: &Machine,
     writer: TxnId,
@@ -241,7 +243,7 @@ fn read_under(
     Ok(None)
 }
 
-/// The word that an event changed, or left.
+/// The word that an event changed, or left as it was.
 fn word_reasons(alloc: Global, step: &Step<'_>) -> Result<Vec<Reason>, NoMemory> {
     match step.reply {
         Reply::ReleasedRead(v, _) | Reply::StampedEnd(v) | Reply::Left(v) => {

@@ -21,7 +21,7 @@ pub(crate) fn state_of(machine: &Machine, u: TxnId) -> State
     }
 }
 
-/// Its end time, 0 until it is drawn.
+/// A transaction's end time, 0 until it is drawn.
 #[tactic(auto, using(crate::proofs::Undeclared::undeclared_end))]
 pub(crate) fn end_of(machine: &Machine, u: TxnId) -> Time
     ensures { IsShown machine.now (λ w. (txn_in w.txns u).end) result }
@@ -33,7 +33,7 @@ pub(crate) fn end_of(machine: &Machine, u: TxnId) -> Time
     }
 }
 
-/// Whether it has finished: NoMoreWaitFors.
+/// Whether a transaction has finished: its NoMoreWaitFors flag.
 #[tactic(auto, using(crate::proofs::Undeclared::undeclared_finished))]
 pub(crate) fn has_finished(machine: &Machine, u: TxnId) -> bool
     ensures { IsShown machine.now (λ w. (txn_in w.txns u).no_more_waits) result }
@@ -41,7 +41,7 @@ pub(crate) fn has_finished(machine: &Machine, u: TxnId) -> bool
     machine.is_declared(u) && machine.no_more_waits(u)
 }
 
-/// The time at which a transaction looks: a snapshot one as of its begin, the others now.
+/// The time at which a transaction reads: its begin time at the snapshot level, otherwise the clock.
 pub(crate) fn read_time(machine: &Machine, t: TxnId) -> Time
     requires { Declared machine.now.txns t }
     ensures { IsShown machine.now (λ w. read_time_in w t) result }
@@ -62,7 +62,7 @@ pub(crate) fn reads(machine: &Machine, t: TxnId, v: VersionId) -> Result<bool, N
     Ok(versions.as_slice().contains(&v))
 }
 
-/// Whether u stands in the WaitingTxnList of t.
+/// Whether u is in the WaitingTxnList of t.
 #[tactic(auto, using(crate::proofs::Members::among_pairs))]
 pub(crate) fn is_listed(machine: &Machine, t: TxnId, u: TxnId) -> Result<bool, NoMemory>
     requires { Declared machine.now.txns t }
@@ -72,7 +72,7 @@ pub(crate) fn is_listed(machine: &Machine, t: TxnId, u: TxnId) -> Result<bool, N
     Ok(txns.as_slice().contains(&u))
 }
 
-/// Whether t stands in the CommitDepSet of u.
+/// Whether t is in the CommitDepSet of u.
 #[tactic(auto, using(crate::proofs::Members::among_pairs))]
 pub(crate) fn is_dependent(machine: &Machine, u: TxnId, t: TxnId) -> Result<bool, NoMemory>
     requires { Declared machine.now.txns u }

@@ -1,4 +1,4 @@
-//! Why an event is answered as it is: the reasons of a reply, read off the machine at which the event came.
+//! Why an event has its reply: the reasons, read off the machine before the event.
 #![tactic(auto)]
 
 mod dooms;

@@ -1,4 +1,4 @@
-//! What refuses a lock, and whom a transaction meets where it is stopped.
+//! What refuses a lock, and which transaction or time is met where a walk is refused.
 ghost use Rattle.std.specs.Prelude.{◌≡◌, IfOk};
 ghost use Rattle.hek_rules.specs.World.{is_made_by, version_in};
 ghost use Rattle.hek_rules.specs.Shown.{ender_of};
@@ -58,7 +58,7 @@ fn read_refusal(machine: &Machine, word: EndWord) -> Option<Cause>
     }
 }
 
-/// What keeps a writer out of it.
+/// What keeps a writer out of a version with this End word.
 fn write_refusal(word: EndWord) -> Option<Cause>
     ensures { result ≡ write_refusal (ender_of word) }
 {
@@ -120,7 +120,7 @@ pub(crate) fn no_write_lock(machine: &Machine, v: VersionId) -> Option<Cause>
     }
 }
 
-/// Whom or what a lock is refused for: by the End word.
+/// Which transaction, time or readers a lock is refused for, by the End word.
 fn met_by(cause: Cause, word: EndWord) -> Met
     ensures { result ≡ met_by cause word }
 {
@@ -136,8 +136,8 @@ fn met_by(cause: Cause, word: EndWord) -> Met
     }
 }
 
-/// Whom or what a transaction meets at a version of which it sees this, and where this stops it. None past the last
-/// version.
+/// Which transaction, time or readers a walk meets at the version where it is refused, by what it sees of the version
+/// and by the cause. None past the last version.
 pub(crate) fn met_at(machine: &Machine, v: VersionId, sight: Sight, cause: Cause) -> Option<Met>
     ensures { IsShown machine.now (met_at v sight cause) result }
 {
@@ -148,7 +148,7 @@ pub(crate) fn met_at(machine: &Machine, v: VersionId, sight: Sight, cause: Cause
     Some(met_by(cause, word))
 }
 
-/// What the Begin word of a version says: its creator, or a time. None past the last version.
+/// The creator that the Begin word of a version names: a transaction or a time. None past the last version.
 pub(crate) fn made_by(machine: &Machine, v: VersionId) -> Option<Met>
     ensures { IsShown machine.now (made_at v) result }
 {

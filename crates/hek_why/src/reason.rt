@@ -1,11 +1,11 @@
-//! Reasons.
+//! The reasons of a reply, as values.
 ghost use Rattle.std.specs.Prelude.{◌≡◌};
 
 use hek_rules::{Cause, Refusal, Sight, State, Time, TxnId, VersionId};
 use hek_word::{BeginWord, EndWord};
 use std::marker::Model;
 
-/// Transactions, by ID.
+/// A list of transactions. Contracts see it as the list of their IDs.
 #[derive(Debug, Drop)]
 pub struct TxnList {
     txns: Vec<TxnId>,
@@ -20,7 +20,7 @@ impl Model for TxnList {
 }
 
 impl TxnList {
-    /// These transactions, in this order.
+    /// The list of these transactions, in this order.
     pub fn new(txns: Vec<TxnId>) -> TxnList
         ensures { result ≡ txns.items }
     {
@@ -35,7 +35,7 @@ impl TxnList {
     }
 }
 
-/// Whom or what a transaction met at the version at which it was stopped.
+/// What a transaction met at the version where it was stopped.
 #[derive(Clone, Copy, Debug, PartialEq, Eq)]
 pub enum Met {
     /// The writer of the version.
@@ -50,7 +50,7 @@ pub enum Met {
     Readers,
 }
 
-/// What an event asks of its transaction.
+/// The phase that an event wants its transaction to be in.
 #[derive(Clone, Copy, Debug, PartialEq, Eq)]
 pub enum Phase {
     NotBegun,
@@ -70,14 +70,15 @@ pub enum Phase {
 /// One reason of a reply.
 #[derive(Debug, Drop)]
 pub enum Reason {
-    /// The transaction waits: it writes this version, which these read-lock (section 4 of the paper: record locks).
+    /// The transaction waits: it writes this version, and these transactions read-lock it (section 4 of the paper:
+    /// record locks).
     ReadLocked {
         version: VersionId,
         readers: TxnList,
     },
-    /// The transaction waits: it stands in the WaitingTxnList of the holder (section 4 of the paper: wait-for
-    /// dependencies). The bucket is the first that the holder locks and in which the transaction made a version; none is
-    /// left once the holder has given it back.
+    /// The transaction waits: it is in the WaitingTxnList of the holder (section 4 of the paper: wait-for
+    /// dependencies). The bucket is the first that the holder locks and in which the transaction made a version; None
+    /// once the holder has given that bucket back.
     Listed {
         holder: TxnId,
         bucket: Option<u64>,
@@ -85,7 +86,7 @@ pub enum Reason {
     /// The transaction's commit depends on this one's (section 2 of the paper: commit dependencies).
     Depends(TxnId),
     /// The walk came to this version, and the transaction saw this of it (section 2 of the paper: version visibility).
-    /// The answer is of the last one that it saw.
+    /// A reply about a key goes by the last version of it that was seen.
     Looked {
         version: VersionId,
         sight: Sight,
@@ -98,23 +99,23 @@ pub enum Reason {
     },
     /// The transaction depended on this one, which has aborted.
     DoomedBy(TxnId),
-    /// The transaction has aborted before, by this cause.
+    /// The transaction had aborted before this event, by this cause.
     AbortedBefore(Cause),
-    /// A member of the cycle waits for the next: by this version, which it writes and the next read-locks, or else in the
-    /// next one's WaitingTxnList.
+    /// The waiter, a member of the cycle, waits for the next member: because of this version, which the waiter writes
+    /// and the next member read-locks, or, if there is none, because it is in the next member's WaitingTxnList.
     WaitsFor {
         waiter: TxnId,
         next: TxnId,
         version: Option<VersionId>,
     },
-    /// The event is for a transaction in this phase, and it stands elsewhere.
+    /// The event is for a transaction in this phase, and its transaction is in another state.
     Refused {
         refusal: Refusal,
         phase: Phase,
         state: State,
         finished: bool,
     },
-    /// So much is left to give back and to stamp.
+    /// How many read locks, buckets, waiters and written words the transaction has left to give back or to stamp.
     Holds {
         reads: usize,
         buckets: usize,

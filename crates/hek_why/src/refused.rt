@@ -6,7 +6,7 @@ use crate::reason::{Phase, Reason};
 use hek_machine::Machine;
 use hek_rules::{EventKind, NoMemory, Refusal, State, TxnId};
 
-/// The phase that each kind of event is for.
+/// The phase that each kind of event wants its transaction to be in.
 fn phase_of(kind: EventKind) -> Phase {
     match kind {
         EventKind::Begin => Phase::NotBegun,
@@ -24,8 +24,8 @@ fn phase_of(kind: EventKind) -> Phase {
     }
 }
 
-/// The check that refused an event, by its kind and where its transaction stands; and what is left to give back, where
-/// that alone keeps it from its end.
+/// Why an event was refused: the phase that it wants and the state of its transaction; for an `end` of a committed or
+/// aborted transaction, what is left to give back and to stamp.
 pub(crate) fn refusal_reason(
     machine: &Machine,
     t: TxnId,

@@ -12,16 +12,13 @@ use hek_rules::{BeginRecord, EndRecord, Sight, Time, TxnId, VersionId};
 use hek_visible::{from_creator, under_writer};
 use hek_word::{BeginWord, EndWord};
 
-/// The number of the time that never comes.
-const INFINITY: u64 = 0x7FFF_FFFF_FFFF_FFFF;
-
-/// By the End word.
+/// What a reader sees of a version by its End word alone.
 fn by_end(machine: &Machine, reader: TxnId, read_time: Time, word: EndWord) -> Sight
     ensures { IsShown machine.now (λ w. end_sight w.txns reader read_time (ender_of word)) result }
 {
     match word.content() {
         EndRecord::Until(time) => {
-            if time.number() == INFINITY || read_time.number() < time.number() {
+            if time.number() == Time::INFINITY || read_time.number() < time.number() {
                 Sight::Seen
             } else {
                 Sight::Hidden
@@ -40,7 +37,7 @@ fn by_end(machine: &Machine, reader: TxnId, read_time: Time, word: EndWord) -> S
     }
 }
 
-/// Its own version.
+/// What a reader sees of a version that it made, by the End word.
 fn of_own(word: EndWord) -> Sight
     ensures { result ≡ own_sight (ender_of word) }
 {
@@ -51,7 +48,7 @@ fn of_own(word: EndWord) -> Sight
     }
 }
 
-/// By the Begin word first.
+/// What a reader sees of a version by its Begin word, and then by its End word.
 fn by_words(
     machine: &Machine,
     reader: TxnId,
@@ -80,7 +77,7 @@ fn by_words(
     }
 }
 
-/// What a transaction sees of a version at the time at which it looks; past the last version, nothing.
+/// What a transaction sees of a version at its read time; nothing past the last version.
 pub(crate) fn see(machine: &Machine, t: TxnId, v: VersionId) -> Sight
     requires { Declared machine.now.txns t }
     ensures { IsShown machine.now (λ w. sight w t (read_time_in w t) v) result }

@@ -1,28 +1,22 @@
-//! Where a walk stops, or an insert.
+//! Where a walk is refused, or an insert meets a claim.
 ghost use Rattle.std.specs.Prelude.{◌≡◌, IfOk};
 ghost use Rattle.hek_rules.specs.Walk.{version_judged, lock_judged, wait_judged};
 ghost use Rattle.hek_rules.specs.World.{txn_in};
 ghost use Rattle.hek_rules.specs.Table.{is_claim};
 ghost use Rattle.hek_txn.specs.TxnTable.{Declared};
 ghost use Rattle.hek_machine.specs.Judgements.{IsShown};
-ghost use Rattle.hek_why.specs.Passed.{passes};
-ghost use Rattle.hek_why.specs.Stops.{purpose_of, target_of, refused_by, stop_by, stop_at, first_stop, first_claim};
+ghost use Rattle.hek_why.specs.Passed.{version_passes};
+ghost use Rattle.hek_why.specs.Stops.{refused_by, stop_by, stop_at, first_stop, first_claim};
+ghost use Rattle.hek_rules.specs.Aims.{purpose_of, target_of};
 
 use crate::facts::{end_of, has_finished, is_listed, read_time, state_of};
 use crate::met::{no_read_lock, no_write_lock};
 use crate::see::see;
 use hek_machine::Machine;
-use hek_rules::{BeginRecord, Cause, Level, NoMemory, Sight, State, TxnId, VersionId};
+use hek_rules::{Aim, BeginRecord, Cause, Level, NoMemory, Sight, State, TxnId, VersionId};
 use hek_word::{BeginWord, EndWord};
 
-/// What a walk is for: to read what it sees, or to write over the last version that it sees.
-#[derive(Clone, Copy, Debug, PartialEq, Eq)]
-pub(crate) enum Aim {
-    ToRead,
-    ToWrite(Option<VersionId>),
-}
-
-/// The version at which a transaction is stopped, what it sees of it, and the cause.
+/// The version at which a walk is refused, what the transaction sees of it, and the cause.
 #[derive(Clone, Copy, Debug, PartialEq, Eq)]
 pub(crate) struct Stop {
     pub(crate) version: VersionId,
@@ -30,7 +24,7 @@ pub(crate) struct Stop {
     pub(crate) cause: Cause,
 }
 
-/// What refuses the lock that a seen version gets.
+/// What refuses the lock that a walk takes of a version that it sees.
 fn lock_refused(
     machine: &Machine,
     t: TxnId,
@@ -50,7 +44,7 @@ fn lock_refused(
     }
 }
 
-/// What refuses to make an active u wait, which made a version that t doesn't see.
+/// The cause that refuses to make u wait. The Active u made a version that t meets and does not see.
 fn wait_refused(machine: &Machine, t: TxnId, u: TxnId) -> Result<Option<Cause>, NoMemory>
     requires { Declared machine.now.txns t }
     ensures { IfOk result (IsShown machine.now (λ w. refused_by (wait_judged w t u (txn_in w.txns t).level))) }
@@ -67,7 +61,7 @@ fn wait_refused(machine: &Machine, t: TxnId, u: TxnId) -> Result<Option<Cause>, 
     }
 }
 
-/// What refuses a walk at a version of which this is seen, if something does.
+/// What refuses a walk at a version of which the transaction sees this, if something does.
 fn refused_at(
     machine: &Machine,
     t: TxnId,
@@ -127,8 +121,8 @@ pub(crate) fn first_stop(
     Ok(None)
 }
 
-/// Whether another that is active made the version of a Begin word, or for a snapshot transaction it was made later than
-/// it looks.
+/// Whether a version with this Begin word claims its key: another Active transaction made it, or t is at the snapshot
+/// level and it was made after t's read time.
 fn is_claim(machine: &Machine, t: TxnId, begin: BeginWord) -> bool
     requires { Declared machine.now.txns t }
     ensures { IsShown machine.now (λ w. is_claim w t (txn_in w.txns t).level begin) result }
@@ -151,10 +145,10 @@ fn is_claim(machine: &Machine, t: TxnId, begin: BeginWord) -> bool
     }
 }
 
-/// Whether there is such a version.
+/// Whether a version exists and claims its key against an insert of t.
 fn claims(machine: &Machine, t: TxnId, v: VersionId) -> bool
     requires { Declared machine.now.txns t }
-    ensures { IsShown machine.now (λ w. passes (λ v x. is_claim w t (txn_in w.txns t).level x.creator) v w) result }
+    ensures { IsShown machine.now (λ w. version_passes (λ v x. is_claim w t (txn_in w.txns t).level x.creator) v w) result }
 {
     match machine.begin_word(v) {
         None => false,

@@ -1,11 +1,11 @@
-//! For whom a transaction waits, and on whom its commit depends.
+//! What a transaction waits for, and on which transactions its commit depends.
 ghost use Rattle.std.specs.Prelude.{◌≡◌, ◌++◌, IfOk, OnOk, find, length, map};
 ghost use Rattle.std.specs.List.{All, list_any};
 ghost use Rattle.hek_rules.specs.Waits.{is_waited_for, waits, commit_deps};
 ghost use Rattle.hek_txn.specs.TxnTable.{Declared};
 ghost use Rattle.hek_machine.specs.Judgements.{IsShown};
-ghost use Rattle.hek_why.specs.Passed.{passes};
-ghost use Rattle.hek_why.specs.Waited.{is_made_in, readers_in, held_over, holders_of, depended_on, shared_bucket, waits_in, commits_in};
+ghost use Rattle.hek_why.specs.Passed.{version_passes};
+ghost use Rattle.hek_why.specs.Waited.{is_made_in, readers_in, held_over, waiting_list_holders, depended_on, shared_bucket, waits_in, commits_in};
 
 use crate::facts::{is_dependent, is_listed, reads};
 use crate::kept::keep_if;
@@ -15,7 +15,7 @@ use hek_machine::Machine;
 use hek_rules::{NoMemory, TxnId, VersionId, WriteEntry};
 use std::alloc::Global;
 
-/// Who read-locks a version, by ID.
+/// The transactions that read-lock a version, by ID.
 pub(crate) fn readers_of(
     alloc: Global,
     machine: &Machine,
@@ -31,9 +31,9 @@ pub(crate) fn readers_of(
     Ok(txns)
 }
 
-/// The holders in whose lists a transaction stands, by ID.
+/// The transactions in whose WaitingTxnList u is, by ID.
 fn holders_of(alloc: Global, machine: &Machine, u: TxnId) -> Result<Vec<TxnId>, NoMemory>
-    ensures members { IfOk result (λ list. IsShown machine.now (λ w. holders_of w u) list.items) }
+    ensures members { IfOk result (λ list. IsShown machine.now (λ w. waiting_list_holders w u) list.items) }
     ensures declared { IfOk result (λ list. All (Declared machine.now.txns) list.items) }
 {
     let mut txns = Vec::new(alloc);
@@ -56,7 +56,7 @@ fn depended_on(alloc: Global, machine: &Machine, t: TxnId) -> Result<Vec<TxnId>,
     Ok(txns)
 }
 
-/// The versions that a transaction writes and somebody read-locks, by index.
+/// The versions that a transaction writes and another read-locks, by index.
 fn held_over(alloc: Global, machine: &Machine, u: TxnId) -> Result<Vec<VersionId>, NoMemory>
     ensures { IfOk result (λ vs. IsShown machine.now (λ w. held_over w u) vs.items) }
 {
@@ -70,7 +70,7 @@ fn held_over(alloc: Global, machine: &Machine, u: TxnId) -> Result<Vec<VersionId
 
 #[tactic(auto, using(crate::proofs::Sounds::waited_word))]
 fn is_waited_for(machine: &Machine, u: TxnId, v: VersionId) -> bool
-    ensures { IsShown machine.now (λ w. passes (is_waited_for w.read_locks u) v w) result }
+    ensures { IsShown machine.now (λ w. version_passes (is_waited_for w.read_locks u) v w) result }
 {
     match machine.end_word(v) {
         None => false,
@@ -78,7 +78,7 @@ fn is_waited_for(machine: &Machine, u: TxnId, v: VersionId) -> bool
     }
 }
 
-/// Whether the entry is of a version that was made, of a key of the bucket.
+/// Whether a write-set entry is a version made in a bucket.
 fn is_made_in(machine: &Machine, bucket: u64, entry: WriteEntry) -> bool
     ensures { IsShown machine.now (λ w. is_made_in w bucket entry) result }
 {
@@ -88,7 +88,7 @@ fn is_made_in(machine: &Machine, bucket: u64, entry: WriteEntry) -> bool
     }
 }
 
-/// Whether one of the entries is.
+/// Whether one of the write-set entries is a version made in a bucket.
 fn makes_in(machine: &Machine, bucket: u64, entries: &[WriteEntry]) -> bool
     ensures { IsShown machine.now (λ w. list_any (is_made_in w bucket) entries.now) result }
 {
@@ -100,7 +100,7 @@ fn makes_in(machine: &Machine, bucket: u64, entries: &[WriteEntry]) -> bool
     false
 }
 
-/// The first of these buckets in which one of the entries made a version.
+/// The first of these buckets in which one of the write-set entries made a version.
 fn first_made_in(machine: &Machine, buckets: &[u64], entries: &[WriteEntry]) -> Option<u64>
     ensures { IsShown machine.now (λ w. find (λ b. list_any (is_made_in w b) entries.now) buckets.now) result }
 {
@@ -112,7 +112,7 @@ fn first_made_in(machine: &Machine, buckets: &[u64], entries: &[WriteEntry]) -> 
     None
 }
 
-/// The first bucket that the holder locks and in which the other one made a version.
+/// The first bucket that a holder locks and in which u made a version.
 fn shared_bucket(machine: &Machine, holder: TxnId, u: TxnId) -> Result<Option<u64>, NoMemory>
     requires holder { Declared machine.now.txns holder }
     requires waiter { Declared machine.now.txns u }
@@ -123,7 +123,7 @@ fn shared_bucket(machine: &Machine, holder: TxnId, u: TxnId) -> Result<Option<u6
     Ok(first_made_in(machine, buckets.as_slice(), entries.as_slice()))
 }
 
-/// The reasons of these versions come to the list.
+/// Appends the reasons that these versions give.
 fn add_versions(
     alloc: Global,
     machine: &Machine,
@@ -142,7 +142,7 @@ fn add_versions(
     Ok(())
 }
 
-/// The reasons of these holders come to the list.
+/// Appends the reasons that these holders give.
 fn add_holders(
     machine: &Machine,
     u: TxnId,
@@ -160,9 +160,9 @@ fn add_holders(
     Ok(())
 }
 
-/// What a transaction waits for: the versions that it writes and others read-lock, by index, and then the holders in whose
-/// WaitingTxnList it stands, by ID (section 4 of the paper: wait-for dependencies). They are as many as its WaitForCounter
-/// says.
+/// What a transaction waits for: the versions that it writes and others read-lock, by index, and then the transactions
+/// in whose WaitingTxnList it is, by ID (section 4 of the paper: wait-for dependencies). There are as many reasons as
+/// its WaitForCounter says.
 pub fn wait_reasons(alloc: Global, machine: &Machine, u: TxnId) -> Result<Vec<Reason>, NoMemory>
     requires { Declared machine.now.txns u }
     ensures members { IfOk result (λ list. IsShown machine.now (λ w. waits_in w u) list.items) }
@@ -176,7 +176,7 @@ pub fn wait_reasons(alloc: Global, machine: &Machine, u: TxnId) -> Result<Vec<Re
     Ok(list)
 }
 
-/// That a commit depends on each of these.
+/// The reason that a commit depends on a transaction, for each of these.
 fn depends(alloc: Global, txns: &[TxnId]) -> Result<Vec<Reason>, NoMemory>
     ensures { IfOk result (λ list. list.items ≡ map (λ u. Reason.Depends u) txns.now) }
 {
@@ -187,8 +187,8 @@ fn depends(alloc: Global, txns: &[TxnId]) -> Result<Vec<Reason>, NoMemory>
     Ok(list)
 }
 
-/// The transactions on which the commit of t depends, by ID (section 2 of the paper: commit dependencies). They are as many
-/// as its CommitDepCounter says.
+/// The transactions on which the commit of t depends, by ID (section 2 of the paper: commit dependencies). There are as
+/// many reasons as its CommitDepCounter says.
 pub fn commit_reasons(alloc: Global, machine: &Machine, t: TxnId) -> Result<Vec<Reason>, NoMemory>
     requires { Declared machine.now.txns t }
     ensures members { IfOk result (λ list. IsShown machine.now (λ w. commits_in w t) list.items) }

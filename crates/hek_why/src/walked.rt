@@ -1,12 +1,12 @@
-//! The versions that an event's walk goes over, and what is seen of them.
+//! The versions that an event's walk goes over, and what its transaction sees of them.
 ghost use Rattle.std.specs.Prelude.{◌≡◌, ◌==◌, IfOk};
 ghost use Rattle.hek_rules.specs.World.{bucket_of};
 ghost use Rattle.hek_rules.specs.Visibility.{is_seen};
 ghost use Rattle.hek_rules.specs.Walk.{of_key, of_bucket, seen_of, last};
 ghost use Rattle.hek_txn.specs.TxnTable.{Declared};
 ghost use Rattle.hek_machine.specs.Judgements.{IsShown};
-ghost use Rattle.hek_why.specs.Passed.{passes};
-ghost use Rattle.hek_why.specs.Looks.{looks};
+ghost use Rattle.hek_why.specs.Passed.{version_passes};
+ghost use Rattle.hek_why.specs.Looks.{looked_reasons};
 
 use crate::kept::keep_if;
 use crate::reason::Reason;
@@ -16,16 +16,16 @@ use hek_rules::{NoMemory, Sight, TxnId, VersionId};
 use std::alloc::Global;
 
 fn is_of_key(machine: &Machine, key: u64, v: VersionId) -> bool
-    ensures { IsShown machine.now (λ w. passes (λ v x. x.key == key) v w) result }
+    ensures { IsShown machine.now (λ w. version_passes (λ v x. x.key == key) v w) result }
 {
     machine.key_of(v) == Some(key)
 }
 
-/// Whether a version is of a key of a bucket.
+/// Whether a version's key is in a bucket.
 pub(crate) fn is_of_bucket(machine: &Machine, bucket: u64, v: VersionId) -> bool
-    ensures { IsShown machine.now (λ w. passes (λ v x. bucket_of w x.key == bucket) v w) result }
+    ensures { IsShown machine.now (λ w. version_passes (λ v x. bucket_of w x.key == bucket) v w) result }
 {
-    // There is a bucket.
+    // The contract of `clock` gives that the machine has at least one bucket.
     let _ = machine.clock();
     match machine.key_of(v) {
         None => false,
@@ -71,7 +71,7 @@ fn is_seen(sight: Sight) -> bool
     matches!(sight, Sight::Seen | Sight::SeenIf(_))
 }
 
-/// The last of these that a transaction sees.
+/// The last of these versions that a transaction sees.
 pub(crate) fn last_seen(machine: &Machine, t: TxnId, vs: &[VersionId]) -> Option<VersionId>
     requires { Declared machine.now.txns t }
     ensures { IsShown machine.now (λ w. last (seen_of w t vs.now)) result }
@@ -85,7 +85,7 @@ pub(crate) fn last_seen(machine: &Machine, t: TxnId, vs: &[VersionId]) -> Option
     seen
 }
 
-/// What a transaction sees of each of these.
+/// What a transaction sees of each of these versions.
 pub(crate) fn looks(
     alloc: Global,
     machine: &Machine,
@@ -93,7 +93,7 @@ pub(crate) fn looks(
     vs: &[VersionId],
 ) -> Result<Vec<Reason>, NoMemory>
     requires { Declared machine.now.txns t }
-    ensures { IfOk result (λ list. IsShown machine.now (λ w. looks w t vs.now) list.items) }
+    ensures { IfOk result (λ list. IsShown machine.now (λ w. looked_reasons w t vs.now) list.items) }
 {
     let mut list = Vec::new(alloc);
     for v in vs {

@@ -11,8 +11,8 @@ use hek_rules::{NoMemory, Schedule, TxnId, VersionId};
 use hek_word::{BeginWord, EndWord};
 use std::io::Write;
 
-/// A line for each change from one machine to another comes behind the lines, each behind two spaces: the clock, the
-/// versions, the transactions and the buckets, in the order of the state.
+/// Appends a line, after two spaces, for each change from one machine to another: the clock, the versions, the
+/// transactions and the buckets, in the order of the state.
 pub fn put_changes(
     schedule: &Schedule,
     before: &Machine,
@@ -35,7 +35,7 @@ pub fn put_changes(
     Ok(())
 }
 
-/// The words of a version that differ; or all of it, where it is new.
+/// The words of a version that differ; the whole version if it is new.
 fn put_version_changes(
     before: &Machine,
     after: &Machine,
@@ -84,7 +84,7 @@ fn put_end_change(
     put(writeln!(lines))
 }
 
-/// A version that wasn't there: as its line of the state.
+/// A version that did not exist before, as its line of the state.
 fn put_new_version(
     after: &Machine,
     v: VersionId,
@@ -130,7 +130,7 @@ fn put_txn_changes(
     put_list_changes(schedule, before, after, t, lines)
 }
 
-/// The times that it drew, its counters and its flags.
+/// The times that a transaction drew, its counters and its flags, where they differ.
 fn put_number_changes(
     schedule: &Schedule,
     before: &Machine,
@@ -178,7 +178,7 @@ fn put_number_changes(
     )
 }
 
-/// What the transaction holds, who waits for it, and who depends on it.
+/// What a transaction holds, which ones wait for it, and which depend on it, where these differ.
 fn put_list_changes(
     schedule: &Schedule,
     before: &Machine,
@@ -222,7 +222,7 @@ fn put_list_changes(
     )
 }
 
-/// A field of a transaction, where it differs.
+/// A field of a transaction, if it differs.
 fn put_field<F: Field + PartialEq + Drop>(
     schedule: &Schedule,
     t: TxnId,

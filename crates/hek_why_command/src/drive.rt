@@ -1,4 +1,4 @@
-//! The command `drive`: a machine whose events come one a line, each answered before the next is read.
+//! The command `drive`: a machine that reads its events one on each line, and answers each before it reads the next.
 ghost use Rattle.std.specs.Prelude.{length};
 ghost use Rattle.hek_rules.specs.Plan.{IsStep};
 
@@ -13,9 +13,9 @@ use hek_why::Dooms;
 use std::alloc::Global;
 use std::io::{BufRead, Read, Write};
 
-/// Reads events, one a line, does each on the machine of the rows and transactions that a file says, and answers it at once:
-/// by its line of the trace, with what is asked for under it. A line at fault is answered by its number and its fault, and
-/// changes nothing. The answer is the exit status: 1 if there was such a line.
+/// Reads events, one on each line, does each on the machine of the rows and transactions in a file, and answers it at
+/// once: with its line of the trace, and what is asked for under it. The answer to a line at fault is its number and
+/// its fault; such a line changes nothing. Answers the exit status: 1 if a line was at fault.
 pub fn drive_command<'a, R: Read + Drop, I: Read + Drop, W: Write>(
     alloc: Global,
     file: ScheduleFile<R>,
@@ -58,7 +58,7 @@ fn drive<'a, B: BufRead, W: Write>(
     Ok(status)
 }
 
-/// Answers one line, and lets the answer be seen. The fault of the line is the answer, if it has one.
+/// Answers one line, and flushes the answer. If the line has a fault, the fault is the answer.
 fn answer_line<'a, W: Write>(
     alloc: Global,
     telling: &mut Telling<'_>,
@@ -84,7 +84,7 @@ fn answer_line<'a, W: Write>(
     }
 }
 
-/// Does an event that the schedule could have for a step.
+/// Does an event that could be a step of the schedule.
 fn tell_placed(
     alloc: Global,
     telling: &mut Telling<'_>,

@@ -1,11 +1,11 @@
-//! A line that drives a machine: an event, as a step's line of a schedule text says it.
+//! A line that drives a machine: an event, written as a step of a schedule text.
 ghost use Rattle.std.specs.Prelude.{◌≡◌, length, map, IfOk, IfSome};
 ghost use Rattle.hek_rules.specs.Plan.{IsStep};
 
 use hek_asm::AsmKind;
 use hek_rules::{Event, EventKind, Schedule, next_word, number};
 
-/// Whether a character past ASCII stands outside the comment.
+/// Whether a character that is not ASCII occurs outside the comment.
 fn has_foreign(line: &[u8]) -> bool {
     for byte in line {
         if *byte == b'#' {
@@ -22,7 +22,7 @@ fn number_of(word: &[u8]) -> Result<u64, AsmKind> {
     number(word).ok_or(AsmKind::BadNumber)
 }
 
-/// The event that a line says, none where it has no words, or its fault.
+/// The event on a line, None if the line has no words, or the line's fault.
 pub(crate) fn read_event(schedule: &Schedule, line: &[u8]) -> Result<Option<Event>, AsmKind>
     ensures { IfOk result (λ event. IfSome event (IsStep schedule.now.buckets (length schedule.now.txns))) }
 {
@@ -50,7 +50,7 @@ fn is_other(word: &[u8]) -> bool {
     word == b"buckets".as_slice() || word == b"row".as_slice() || word == b"txn".as_slice()
 }
 
-/// The event of the transaction of this name, by the words behind it.
+/// The event of the transaction with this name, by the words after the name.
 fn event_of(schedule: &Schedule, name: &[u8], rest: &[u8]) -> Result<Event, AsmKind>
     ensures { IfOk result (IsStep schedule.now.buckets (length schedule.now.txns)) }
 {
@@ -79,7 +79,7 @@ fn count_words(line: &[u8]) -> usize {
     count
 }
 
-/// The numbers of two operands at most, and 0 where there is none.
+/// The numbers of at most two operands, 0 for each that is missing.
 fn operands(line: &[u8]) -> Result<(u64, u64), AsmKind> {
     let Some((first, rest)) = next_word(line) else {
         return Ok((0, 0));

@@ -1,4 +1,4 @@
-//! Fields as a line of the state has them: a number, a flag, or the members of a list, each behind a space, or ` none`.
+//! Fields as a line of the state has them: a number, a flag, or the members of a list, each after a space, or ` none`.
 use crate::word_text::put;
 use hek_rules::{NoMemory, Time, TxnId, VersionId, WriteEntry};
 use std::io::Write;
@@ -15,7 +15,7 @@ impl Field for u64 {
     }
 }
 
-/// Drawn times begin at 1.
+/// A time, or `none` for 0: drawn times begin at 1.
 impl Field for Time {
     fn put_value(&self, lines: &mut Vec<u8>) -> Result<(), NoMemory> {
         match self.number() {

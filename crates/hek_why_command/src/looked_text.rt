@@ -1,4 +1,4 @@
-//! What a transaction saw of a version, and by what: both words, and where those stand whom they name.
+//! What a transaction saw of a version, and why: both words, and the states of the transactions that they name.
 use crate::word_text::{put, put_name};
 use hek_machine::Machine;
 use hek_rules::{
@@ -6,9 +6,6 @@ use hek_rules::{
 };
 use hek_word::EndWord;
 use std::io::Write;
-
-/// The time that never comes.
-const INFINITY: u64 = (1 << 63) - 1;
 
 /// `version 0 is seen: made at time 0, held by nobody (0000000000000000, 807FFFFFFFFFFFFF)`.
 pub(crate) fn put_looked(
@@ -51,7 +48,7 @@ fn put_sight(schedule: &Schedule, sight: Sight, lines: &mut Vec<u8>) -> Result<(
     }
 }
 
-/// The time at which it looks.
+/// The time at which the transaction looks.
 fn put_time(machine: &Machine, t: TxnId, lines: &mut Vec<u8>) -> Result<(), NoMemory> {
     let ticks = looks_at(machine, t).number();
     put(write!(lines, " at {ticks}: "))
@@ -74,7 +71,7 @@ fn put_made(
 ) -> Result<(), NoMemory> {
     match begin {
         BeginRecord::At(time) => match time.number() {
-            INFINITY => put(write!(lines, "never made")),
+            Time::INFINITY => put(write!(lines, "never made")),
             ticks => put(write!(lines, "made at {ticks}")),
         },
         BeginRecord::By(u) => {
@@ -103,12 +100,12 @@ fn put_ended(
 
 fn put_end_time(time: Time, lines: &mut Vec<u8>) -> Result<(), NoMemory> {
     match time.number() {
-        INFINITY => put(write!(lines, "not written over")),
+        Time::INFINITY => put(write!(lines, "not written over")),
         ticks => put(write!(lines, "ended at {ticks}")),
     }
 }
 
-/// A transaction that a word names, and where it stands; or that it is the one that looks.
+/// The transaction that a word names, with its state, or `itself` if it is the one that looks.
 fn put_party(
     schedule: &Schedule,
     machine: &Machine,

@@ -1,11 +1,11 @@
-//! Where a transaction was stopped, and by whom.
+//! Where a transaction was stopped, and by what.
 use crate::word_text::{put, put_name};
 use hek_machine::Machine;
 use hek_rules::{Cause, NoMemory, Schedule, State, TxnId, VersionId};
 use hek_why::Met;
 use std::io::Write;
 
-/// A stop at a version: whom or what the transaction met there, and the word that says so.
+/// A stop at a version: what the transaction met there, and the word that says so.
 pub(crate) fn put_stopped(
     schedule: &Schedule,
     machine: &Machine,
@@ -17,7 +17,7 @@ pub(crate) fn put_stopped(
 ) -> Result<(), NoMemory> {
     match met {
         Met::Writer(u) => put_writer(schedule, machine, v, cause, u, lines),
-        Met::Creator(u) => put_creator(schedule, machine, v, u, lines),
+        Met::Creator(u) => put_creator(schedule, machine, v, cause, u, lines),
         Met::Readers => put_full(machine, v, lines),
         Met::EndedAt(time) => {
             let (index, ticks) = (v.index(), time.number());
@@ -57,11 +57,13 @@ fn put_writer(
     put_end_word(machine, v, lines)
 }
 
-/// The transaction that made the version.
+/// The transaction that made the version. For an active one the line says what the cause rests on: that it has
+/// finished, or that it is active.
 fn put_creator(
     schedule: &Schedule,
     machine: &Machine,
     v: VersionId,
+    cause: Cause,
     u: TxnId,
     lines: &mut Vec<u8>,
 ) -> Result<(), NoMemory> {
@@ -70,9 +72,9 @@ fn put_creator(
     put(write!(lines, " made version {index}"))?;
     if machine.is_declared(u) {
         let end = machine.end_time(u).number();
-        match (machine.state(u), machine.no_more_waits(u)) {
-            (State::Active, false) => put(write!(lines, ", and is active"))?,
-            (State::Active, true) => put(write!(lines, ", and has finished"))?,
+        match (machine.state(u), cause) {
+            (State::Active, Cause::NoMoreWaits) => put(write!(lines, ", and has finished"))?,
+            (State::Active, _) => put(write!(lines, ", and is active"))?,
             _ => put(write!(lines, ", and has end time {end}"))?,
         }
     }

@@ -1,4 +1,4 @@
-//! One step of a schedule, told in full without the lines of those before it.
+//! One step of a schedule with its reasons and changes, without the lines of the steps before it.
 ghost use Rattle.std.specs.Prelude.{◌≡◌, ◌<◌, length};
 ghost use Rattle.std.specs.List.{All};
 ghost use Rattle.hek_laws.specs.Runs.{IsPlaced};
@@ -9,9 +9,9 @@ use hek_rules::{Event, NoMemory, Reply, Schedule, TxnId};
 use hek_why::Dooms;
 use std::alloc::Global;
 
-/// Does the step behind the first `place` ones of a schedule on the machine after those. Its line of the trace, with what
-/// is asked for under it, comes behind the lines. Of a step that aborts a transaction which another's abort doomed, the
-/// steps before it are run anew, to see whose abort that was.
+/// Does the step after the first `place` ones of a schedule, on the machine after those. Appends its line of the trace,
+/// and what is asked for under it. If the transaction is doomed, runs the earlier steps again to find whose abort
+/// doomed it.
 #[tactic(auto, using(hek_asm::proofs::RowLemmas::steps_declared, hek_machine::proofs::PlacedSteps::steps_placed))]
 pub fn explain_step(
     alloc: Global,
@@ -24,8 +24,8 @@ pub fn explain_step(
     requires buckets { length machine.old.buckets ≡ schedule.now.buckets }
     requires place { place < length schedule.now.steps }
 {
-    // Each step is one of this schedule.
-    let _ = schedule.buckets();
+    // `known` gives that each step of the schedule is well formed.
+    schedule.known();
     let event = schedule.steps()[place as usize];
     let mut telling = Telling {
         schedule,
@@ -36,7 +36,7 @@ pub fn explain_step(
     tell_step(alloc, &mut telling, machine, &event, lines)
 }
 
-/// Whose aborts, in the first steps of a schedule, doomed the transaction of an event, if it is doomed.
+/// The transactions whose aborts, in the first steps of a schedule, doomed an event's transaction, if it is doomed.
 fn dooms_before(
     alloc: Global,
     schedule: &Schedule,
@@ -53,7 +53,7 @@ fn dooms_before(
     Ok(dooms)
 }
 
-/// Notes whose aborts doom a transaction in the first steps of a schedule.
+/// Notes the transactions whose aborts doom a transaction in the first steps of a schedule.
 #[tactic(auto, using(hek_machine::proofs::PlacedSteps::steps_placed))]
 fn note_all(
     alloc: Global,
@@ -62,8 +62,8 @@ fn note_all(
     t: TxnId,
     dooms: &mut Dooms,
 ) -> Result<(), NoMemory> {
-    // There is a bucket, and each step is one of this schedule.
-    let _ = schedule.buckets();
+    // `known` gives that the schedule has a bucket, and that each of its steps is well formed.
+    schedule.known();
     let mut machine = Machine::load(alloc, schedule)?;
     note_steps(&mut machine, schedule.steps(), count, t, dooms)
 }
@@ -104,7 +104,7 @@ fn note_step(
     }
 }
 
-/// The transaction of an event, if the commit of t depends on it. It is preparing then.
+/// The transaction of an event, if the commit of t depends on it; that transaction is Preparing.
 fn trusted_by(machine: &Machine, event: &Event, t: TxnId) -> Result<Option<TxnId>, NoMemory> {
     let Some(u) = event.txn() else {
         return Ok(None);

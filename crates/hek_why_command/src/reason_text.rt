@@ -10,8 +10,7 @@ use hek_why::Reason;
 use hek_word::{BeginWord, EndWord};
 use std::io::Write;
 
-/// A line for each reason of an event of t comes behind the lines, each behind two spaces; the machine is that before the
-/// event.
+/// Appends a line, after two spaces, for each reason of an event of t. The machine is the one before the event.
 pub fn put_reasons(
     schedule: &Schedule,
     machine: &Machine,
@@ -97,7 +96,7 @@ fn put_read_locked(
     put_end_word(machine, v, lines)
 }
 
-/// `b waits for a, which locks bucket 0`, or, where a has given the bucket back, `b waits for a, which lists it`.
+/// `b waits for a, which locks bucket 0`, or, if a has given the bucket back, `b waits for a, which lists it`.
 fn put_listed(
     schedule: &Schedule,
     t: TxnId,
@@ -164,7 +163,7 @@ fn put_edge(
     }
 }
 
-/// What is left to give back and to stamp.
+/// What a transaction has left to give back and to stamp.
 fn put_holds(
     schedule: &Schedule,
     t: TxnId,

@@ -17,7 +17,7 @@ fn phase_word(phase: Phase) -> &'static str {
     }
 }
 
-/// Where the transaction stands, and where the event wants it to stand.
+/// The state of the transaction, and the phase that the event wants.
 pub(crate) fn put_refused(
     schedule: &Schedule,
     t: TxnId,

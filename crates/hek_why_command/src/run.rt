@@ -12,9 +12,9 @@ use hek_why::Dooms;
 use std::alloc::Global;
 use std::io::{Read, Write};
 
-/// Runs the first steps of the schedule that a file says, as many as `limit` says or all of them, and writes their trace
-/// with what is asked for under each line; then, where `state` says so, the state of the machine. The answer is the exit
-/// status. Each step takes time linear in the state.
+/// Runs the first steps of the schedule in a file, as many as `limit` or all of them. Writes their trace, with what is
+/// asked for under each line, and then, if `state` is set, the state of the machine. Answers the exit status. Each step
+/// takes time linear in the state.
 pub fn explain_command<'a, R: Read + Drop, W: Write>(
     alloc: Global,
     file: ScheduleFile<R>,
@@ -30,7 +30,7 @@ pub fn explain_command<'a, R: Read + Drop, W: Write>(
     Ok(0)
 }
 
-/// The same for a schedule.
+/// Runs the first steps of a schedule, and writes their trace with what is asked for under each line.
 #[tactic(auto, using(hek_asm::proofs::RowLemmas::steps_declared, hek_machine::proofs::PlacedSteps::steps_placed))]
 fn explain<'a, W: Write>(
     alloc: Global,
@@ -40,8 +40,8 @@ fn explain<'a, W: Write>(
     state: bool,
     out: &mut W,
 ) -> Result<(), HekFault<'a>> {
-    // There is a bucket, and each step is one of this schedule.
-    let _ = schedule.buckets();
+    // `known` gives that the schedule has a bucket, and that each of its steps is well formed.
+    schedule.known();
     let mut machine = Machine::load(alloc, schedule)?;
     let mut telling = Telling {
         schedule,
@@ -57,7 +57,7 @@ fn explain<'a, W: Write>(
     Ok(())
 }
 
-/// Does steps on a machine, as many as `limit` says or all of them, and writes each.
+/// Does steps on a machine, as many as `limit` or all of them, and writes each.
 fn tell_steps<'a, W: Write>(
     alloc: Global,
     telling: &mut Telling<'_>,

@@ -1,4 +1,4 @@
-//! One event of a machine, told in full: its line of the trace, its reasons and its changes.
+//! One event of a machine in full: its line of the trace, its reasons and its changes.
 ghost use Rattle.std.specs.Prelude.{◌≡◌, length, IfErr};
 ghost use Rattle.hek_laws.specs.Runs.{IsPlaced};
 ghost use Rattle.hek_asm.specs.Trace.{NamesDeclared};
@@ -11,7 +11,7 @@ use hek_rules::{Event, NoMemory, Reply, Schedule, TxnId};
 use hek_why::{Dooms, Step, reasons};
 use std::alloc::Global;
 
-/// What stands under each line of a trace.
+/// What is written under each line of a trace.
 #[derive(Clone, Copy, Debug, PartialEq, Eq)]
 pub struct Extras {
     /// The reasons of the reply.
@@ -20,7 +20,8 @@ pub struct Extras {
     pub changes: bool,
 }
 
-/// A run so far: the schedule, how many events were done, whose aborts doomed whom, and what is asked for under each line.
+/// A run so far: the schedule, the number of events done, which abort doomed which transaction, and what is asked for
+/// under each line.
 #[derive(Drop)]
 pub(crate) struct Telling<'a> {
     pub(crate) schedule: &'a Schedule,
@@ -29,7 +30,7 @@ pub(crate) struct Telling<'a> {
     pub(crate) extras: Extras,
 }
 
-/// Does an event on the machine. Its line, and what stands under it, comes behind the lines.
+/// Does an event on the machine. Appends its line, and what is asked for under it.
 pub(crate) fn tell_step(
     alloc: Global,
     telling: &mut Telling<'_>,
@@ -46,7 +47,7 @@ pub(crate) fn tell_step(
     tell_from(alloc, telling, &before, machine, event, lines)
 }
 
-/// The same, from the machine before it.
+/// Does an event on the machine, given a copy of it from before. Appends its line, and what is asked for under it.
 fn tell_from(
     alloc: Global,
     telling: &mut Telling<'_>,
@@ -73,7 +74,7 @@ fn tell_from(
     telling.dooms.note(before, *event, &reply)
 }
 
-/// What stands under it: reasons first, then changes.
+/// What is asked for under the line of an event: reasons first, then changes.
 fn put_extras(
     alloc: Global,
     telling: &Telling<'_>,

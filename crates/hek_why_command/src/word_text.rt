@@ -7,10 +7,7 @@ use hek_word::{BeginWord, EndWord};
 use std::io;
 use std::io::Write;
 
-/// The time that never comes, as a word holds it.
-const INFINITY: u64 = (1 << 63) - 1;
-
-/// Writing to a list of bytes fails only where there is no memory.
+/// Writing to a list of bytes fails only if there is no memory.
 pub(crate) fn put(written: io::Result<()>) -> Result<(), NoMemory> {
     match written {
         Ok(()) => Ok(()),
@@ -18,7 +15,7 @@ pub(crate) fn put(written: io::Result<()>) -> Result<(), NoMemory> {
     }
 }
 
-/// The name of a transaction, or its ID where the schedule doesn't declare it.
+/// The name of a transaction, or its ID if the schedule doesn't declare it.
 pub(crate) fn put_name(schedule: &Schedule, t: TxnId, lines: &mut Vec<u8>) -> Result<(), NoMemory> {
     let number = t.number();
     if number == 0 || number > schedule.txn_count() as u64 {
@@ -28,7 +25,7 @@ pub(crate) fn put_name(schedule: &Schedule, t: TxnId, lines: &mut Vec<u8>) -> Re
     put(write!(lines, "{name}"))
 }
 
-/// Names, parted by commas, and `and` before the last.
+/// Names, separated by commas, with `and` before the last.
 pub(crate) fn put_names(
     schedule: &Schedule,
     txns: &[TxnId],
@@ -48,7 +45,7 @@ pub(crate) fn put_names(
 
 pub(crate) fn put_time(time: Time, lines: &mut Vec<u8>) -> Result<(), NoMemory> {
     match time.number() {
-        INFINITY => put(write!(lines, "infinity")),
+        Time::INFINITY => put(write!(lines, "infinity")),
         ticks => put(write!(lines, "time {ticks}")),
     }
 }
@@ -64,7 +61,7 @@ pub(crate) fn put_begin(word: BeginWord, lines: &mut Vec<u8>) -> Result<(), NoMe
     }
 }
 
-/// What an End word says; NoMoreReadLocks is named where it is set.
+/// What an End word says. NoMoreReadLocks is named if it is set.
 pub(crate) fn put_end(word: EndWord, lines: &mut Vec<u8>) -> Result<(), NoMemory> {
     match word.content() {
         EndRecord::Until(time) => put_time(time, lines),

@@ -1,4 +1,4 @@
--- A canonical number has one record, and each row leads from a canonical record to a canonical record.
+-- A canonical number has one record, and each change of a lock leads from a canonical record to a canonical record.
 use Rattle.std.proofs.Common.{◌≡◌, ℕ, ◌<◌, arith, rules, true, false, Some, None, IsSome, sym, ◌∙◌, ap}
 use Rattle.std.proofs.lemmas.Bool.Decides.{nat_tests}
 use Rattle.hek_rules.specs.declared.word.BeginRecord.{BeginRecord}

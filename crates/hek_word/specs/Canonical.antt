@@ -1,5 +1,5 @@
--- That words and their rows fit together: a canonical number has one record, and each row leads from a canonical record to
--- a canonical record.
+-- The records and the numbers of words agree: a canonical number has one record, and each change of a lock leads from a
+-- canonical record to a canonical one.
 use Rattle.std.specs.Prelude.{◌≡◌, ℕ, ◌<◌, IsSome}
 use Rattle.hek_rules.specs.declared.word.BeginRecord.{BeginRecord}
 use Rattle.hek_rules.specs.declared.word.EndRecord.{EndRecord}

@@ -4,7 +4,7 @@ ghost use Rattle.hek_rules.specs.Words.{IsBegin, IsTime, IsTxn, infinity, begin_
 ghost use Rattle.hek_rules.specs.declared.word.BeginRecord.{BeginRecord};
 ghost use Rattle.hek_rules.specs.declared.word.BeginRecord.TheVariants.{At, By};
 
-use crate::{INFINITY, NAMED, NO_WRITER, TIMES};
+use crate::{NAMED, NO_WRITER, TIMES};
 use hek_rules::{BeginRecord, Time, TxnId};
 use std::marker::Model;
 
@@ -36,7 +36,7 @@ impl Model for BeginWord {
 }
 
 impl BeginWord {
-    /// The word of a number, if it is one.
+    /// The word with this number, or None if the number is not canonical.
     #[tactic(auto, using(crate::specs::WordLemmas::begin_number_record, crate::specs::WordLemmas::begin_record_number), unfolding(crate::specs::Decoded::begin_record))]
     pub fn read(number: u64) -> Option<BeginWord>
         ensures { (w : BeginRecord) → (result ≡ Some w) ↔ (IsBegin w × (begin_number w ≡ number)) }
@@ -67,15 +67,17 @@ impl BeginWord {
         }
     }
 
-    /// The word of a version that never begins: its creator was aborted.
+    /// The Begin word of a version that never begins, since its creator aborted.
     #[tactic(auto, unfolding(crate::specs::Decoded::begin_record))]
     pub fn infinity() -> BeginWord
         ensures { result ≡ At infinity }
     {
-        BeginWord { number: INFINITY }
+        BeginWord {
+            number: Time::INFINITY,
+        }
     }
 
-    /// The word of a version that this transaction, 1 to 2^54 - 2, has made and not yet stamped.
+    /// The Begin word of a version that this transaction, 1 to 2^54 - 2, has made and not stamped.
     #[tactic(auto, unfolding(crate::specs::Decoded::begin_record))]
     pub fn by(txn: TxnId) -> BeginWord
         requires { IsTxn txn }
@@ -86,7 +88,7 @@ impl BeginWord {
         }
     }
 
-    /// What the word says.
+    /// The record of the word: a time or a transaction.
     #[tactic(auto, unfolding(crate::specs::Decoded::begin_record))]
     pub fn content(self) -> BeginRecord
         ensures value { result ≡ self }

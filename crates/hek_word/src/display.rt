@@ -1,5 +1,5 @@
-//! Words as people read them.
-use crate::{BeginWord, EndWord, INFINITY};
+//! Words as text for people.
+use crate::{BeginWord, EndWord};
 use hek_rules::{BeginRecord, EndRecord, Time};
 use std::fmt;
 
@@ -40,7 +40,7 @@ impl fmt::Display for EndWord {
 
 fn write_time<W: fmt::Write>(f: &mut fmt::Formatter<W>, word: &str, time: Time) -> fmt::Result {
     let ticks = time.number();
-    if ticks == INFINITY {
+    if ticks == Time::INFINITY {
         write!(f, "{word} infinity")
     } else {
         write!(f, "{word} time {ticks}")

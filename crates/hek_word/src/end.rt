@@ -5,7 +5,7 @@ ghost use Rattle.hek_rules.specs.declared.word.EndRecord.{EndRecord};
 ghost use Rattle.hek_rules.specs.declared.word.EndRecord.TheVariants.{Until};
 ghost use Rattle.hek_word.specs.Decoded.{end_record};
 
-use crate::{INFINITY, NAMED, NO_MORE, NO_WRITER, READER, TIMES};
+use crate::{NAMED, NO_MORE, NO_WRITER, READER, TIMES};
 use hek_rules::{Dropped, EndRecord, Time, TxnId};
 use std::marker::Model;
 
@@ -36,7 +36,7 @@ impl Model for EndWord {
     ghost inverse_ok = { λ a h. ap (λ n. record { number = n }) (end_number_record a.number) };
 }
 
-/// The record that a number stands for, whether or not it is a word's.
+/// The record that a number encodes, canonical or not.
 #[tactic(auto, unfolding(crate::specs::Decoded::end_record))]
 fn decode(number: u64) -> EndRecord
     ensures { result ≡ end_record number }
@@ -100,7 +100,7 @@ fn is_canonical(content: EndRecord) -> bool
 }
 
 impl EndWord {
-    /// The word of a number, if it is one.
+    /// The word with this number, or None if the number is not canonical.
     #[tactic(auto, using(crate::specs::WordLemmas::end_number_record, crate::specs::WordLemmas::end_record_number))]
     pub fn read(number: u64) -> Option<EndWord>
         ensures { (w : EndRecord) → (result ≡ Some w) ↔ (IsEnd w × (end_number w ≡ number)) }
@@ -112,7 +112,8 @@ impl EndWord {
         }
     }
 
-    /// The word of a number that is known to be one. It costs nothing, where [`EndWord::read`] looks at each field.
+    /// The word with this number, which must be canonical. This costs nothing, while [`EndWord::read`] checks each
+    /// field.
     #[tactic(auto, using(crate::specs::WordLemmas::end_number_record, crate::specs::WordLemmas::end_record_number))]
     pub fn from_bits(number: u64) -> EndWord
         requires { (w : EndRecord) × IsEnd w × (end_number w ≡ number) }
@@ -129,7 +130,7 @@ impl EndWord {
         self.number
     }
 
-    /// What the word says.
+    /// The record of the word: a time or a lock.
     pub fn content(self) -> EndRecord
         ensures value { result ≡ self }
         ensures canonical { IsEnd result }
@@ -138,7 +139,7 @@ impl EndWord {
         decode(number)
     }
 
-    /// The word that says this.
+    /// The word with this record.
     #[tactic(auto, using(crate::specs::WordLemmas::end_record_number))]
     pub(crate) fn from_content(content: EndRecord) -> EndWord
         requires { IsEnd content }
@@ -149,15 +150,17 @@ impl EndWord {
         }
     }
 
-    /// The word of the latest version while nobody holds it.
+    /// The End word of the latest version while nobody holds it.
     #[tactic(auto, unfolding(crate::specs::Decoded::end_record))]
     pub fn infinity() -> EndWord
         ensures { result ≡ Until infinity }
     {
-        EndWord { number: INFINITY }
+        EndWord {
+            number: Time::INFINITY,
+        }
     }
 
-    /// The word of a version that is valid until this time, 0 to 2^63 - 1.
+    /// The End word of a version that is valid until this time, 0 to 2^63 - 1.
     pub fn stamped(time: Time) -> EndWord
         requires { IsTime time }
         ensures { result ≡ Until time }
@@ -165,7 +168,7 @@ impl EndWord {
         EndWord::from_content(EndRecord::Until(time))
     }
 
-    /// The time that the word holds, if it is no lock.
+    /// The time that the word holds, if it is not a lock.
     pub fn time(self) -> Option<Time>
         ensures { result ≡ end_time self }
     {
@@ -175,7 +178,7 @@ impl EndWord {
         }
     }
 
-    /// ReadLockCount, 0 to 255, which is 0 where the word is a time.
+    /// ReadLockCount, 0 to 255; 0 if the word is a time.
     pub fn readers(self) -> u8
         ensures { result ≡ readers_of self }
     {
@@ -195,7 +198,7 @@ impl EndWord {
         }
     }
 
-    /// NoMoreReadLocks, which is clear where the word is a time.
+    /// NoMoreReadLocks; clear if the word is a time.
     pub fn no_more(self) -> bool
         ensures { result ≡ no_more_of self }
     {
@@ -211,7 +214,7 @@ impl EndWord {
         ensures { IsTrue result ↔ CanAdd self }
     {
         match self.content() {
-            EndRecord::Until(time) => time.number() == INFINITY,
+            EndRecord::Until(time) => time.number() == Time::INFINITY,
             EndRecord::Lock {
                 readers,
                 no_more,
@@ -220,7 +223,7 @@ impl EndWord {
         }
     }
 
-    /// The word with one reader more.
+    /// The word with another reader.
     pub fn add_reader(self) -> EndWord
         requires { CanAdd self }
         ensures { result ≡ with_reader self }
@@ -243,7 +246,7 @@ impl EndWord {
         })
     }
 
-    /// The word with one reader less, and what the reader left behind.
+    /// The word with one reader less, and what that reader leaves.
     pub fn drop_reader(self) -> (EndWord, Dropped)
         requires { 0 < readers_of self }
         ensures word { result.0 ≡ without_reader self }
@@ -288,7 +291,7 @@ impl EndWord {
         ensures { IsTrue result ↔ CanTakeWriter self }
     {
         match self.content() {
-            EndRecord::Until(time) => time.number() == INFINITY,
+            EndRecord::Until(time) => time.number() == Time::INFINITY,
             EndRecord::Lock { writer, .. } => writer.is_none(),
         }
     }
@@ -314,7 +317,7 @@ impl EndWord {
         })
     }
 
-    /// The word without its writer and NoMoreReadLocks: infinity, where it has no reader either.
+    /// The word without its writer and NoMoreReadLocks; infinity if it has no reader.
     pub fn clear_writer(self) -> EndWord
         requires { IsSome (writer_of self) }
         ensures { result ≡ without_writer self }

@@ -1,4 +1,4 @@
-//! The words of a version as numbers of 64 bits. Contracts see a word as its record, and no crate above names a bit.
+//! The words of a version as 64-bit numbers. Contracts see a word as its record, and no other crate names a bit.
 #![tactic(auto)]
 
 mod begin;
@@ -13,20 +13,17 @@ pub use hek_rules::{BeginRecord, Dropped, EndRecord};
 pub use laws::{canonical_numbers_have_one_record, rows_keep_canonical};
 pub use release::{ReleaseFault, release_word};
 
-/// The first time that a word can't hold: times are below it.
+/// The first number that is not a time: 2^63.
 const TIMES: u64 = 1 << 63;
 
-/// The time that never comes.
-const INFINITY: u64 = TIMES - 1;
-
-/// The bit of a word that names transactions.
+/// Bit 63: set in a Begin word that names a transaction, and in an End word that is a lock.
 const NAMED: u64 = 1 << 63;
 
-/// The bit of a lock that takes no more readers.
+/// Bit 62: NoMoreReadLocks of a lock.
 const NO_MORE: u64 = 1 << 62;
 
-/// One reader of a lock.
+/// The unit of ReadLockCount, which is in bits 54 to 61 of a lock.
 const READER: u64 = 1 << 54;
 
-/// The number that stands for no writer, one above the last ID.
+/// WriteLock without a writer: all ones, one above the last ID.
 const NO_WRITER: u64 = (1 << 54) - 1;

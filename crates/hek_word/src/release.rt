@@ -6,20 +6,20 @@ use crate::EndWord;
 use hek_rules::Dropped;
 use thiserror::Error;
 
-/// Why a read lock can't be released.
+/// Why a read lock cannot be released.
 #[derive(Clone, Copy, Debug, PartialEq, Eq, Error)]
 pub enum ReleaseFault {
     /// The word has no reader.
     #[error("no reader")]
     NoReader,
-    /// The last reader goes under a writer that is said to wait for nobody.
+    /// The last reader would go under a writer whose number of waits is 0.
     #[error("bad waits")]
     BadWaits,
 }
 
-/// Gives up one read lock of a word whose writer waits for `waits` others, and answers the new word and the writer's
-/// new number of waits: one less where the last reader goes under a writer, which then takes no more readers. (Section
-/// 4 of the paper: releasing read locks.)
+/// Gives up one read lock of a word whose writer waits for `waits` things. The answer is the new word and the writer's
+/// new number of waits: one less if the last reader goes under a writer, which then takes no more readers. (Section 4
+/// of the paper: releasing read locks.)
 pub fn release_word(word: EndWord, waits: u64) -> Result<(EndWord, u64), ReleaseFault>
     ensures word { IfOk result (λ r. r.0 ≡ without_reader word) }
     ensures waits { IfOk result (λ r. r.1 ≡ waits_left word waits) }

@@ -1,4 +1,4 @@
--- What a bystander's view of a future may rest on: an event that keeps it, keeps what holds of the bystander.
+-- What a bystander sees of a future: an event that keeps this keeps the invariant of the bystander.
 use Rattle.std.proofs.Common.{◌≡◌, ℕ, ◌<◌, Bool, true, false, List, refl, ◌∙◌, ap, sym, arith, Some, None, ⊎_elim, subst}
 use Rattle.std.proofs.lemmas.Bool.{cases_Bool, cond-true, cond-false, lt-ltb, le-ltb, eqb-true}
 use Rattle.std.specs.Prelude.{not, ◌==◌, ◌&&◌, is_some, slice_get, slice_set}
@@ -45,14 +45,14 @@ module _ (A : ℕ → Bool) (x : ℕ) where
   with-in : (u : ℕ) → Inside A x u → with_one A x u ≡ true
   with-in u o = cond-false (u == x) true (A u) o.other ∙ o.in'
 
-  -- a writer that is outside is as none
+  -- a writer outside the future leaves a version as one without a writer
   pub ender-freed : (u : ℕ) (b c : Bool) → Outside A x u → EnderAlike A x (Held (Some u) b) (Held None c)
   ender-freed u b c o = record { kept = sym (ap not o.out); own = sym (ap not (with-out u o)); held = sym o.other }
 
   pub ender-taken : (u : ℕ) (b c : Bool) → Outside A x u → EnderAlike A x (Held None c) (Held (Some u) b)
   ender-taken u b c o = record { kept = ap not o.out; own = ap not (with-out u o); held = o.other }
 
-  -- a writer that is inside is as its time
+  -- a writer in the future leaves a version as one that ended at a time
   pub ender-stamped : (u time : ℕ) (b : Bool) → Inside A x u → EnderAlike A x (Held (Some u) b) (EndedAt time)
   ender-stamped u time b o = record { kept = sym (ap not o.in'); own = sym (ap not (with-in u o)); held = sym o.other }
 
@@ -84,7 +84,7 @@ module _ (A : ℕ → Bool) (x : ℕ) where
       ⊎_elim (λ y. subst (EnderAlike A x (Held (Some u) b)) (sym (cond-true (u == t) (Held None false) (Held (Some u) b) y)) (ender-freed u b false (subst (Outside A x) (sym (eqb-true _ _ y)) o)))
       (λ n. ender-same _ _ (cond-false (u == t) (Held None false) (Held (Some u) b) n)) (cases_Bool (u == t))
 
--- what x sees of a future is the same as before
+-- x sees the same of a future as before
 pub record Frame (w new : World) (A : ℕ → Bool) (x : ℕ) : Type 0 where
   pub buckets : new.buckets ≡ w.buckets
   pub level : (txn_in new.txns x).level ≡ (txn_in w.txns x).level
@@ -98,7 +98,7 @@ pub record Frame (w new : World) (A : ℕ → Bool) (x : ℕ) : Type 0 where
   pub locks : (b : ℕ) → has w.bucket_locks x b ≡ true → has new.bucket_locks x b ≡ true
   pub waits : (u : ℕ) → has w.waiters x u ≡ true → has new.waiters x u ≡ true
 
--- two versions that x sees alike
+-- the versions look the same to x in a future
 pub record Alike (A : ℕ → Bool) (x : ℕ) (old now : Version) : Type 0 where
   pub key : now.key ≡ old.key
   pub value : now.value ≡ old.value

@@ -1,4 +1,4 @@
--- The invariant when a transaction draws its end time, in the futures that it is in.
+-- The invariant after a transaction draws its end time, in the futures that contain it.
 use Rattle.std.proofs.Common.{◌≡◌, ℕ, Bool, true, false, cond, List, [], ◌∷◌, ◌++◌, refl, ◌∙◌, ap, sym, Some, None, ⊎_elim, subst, append_assoc}
 use Rattle.std.proofs.lemmas.Bool.{cases_Bool, false≢true, and_parts, and_from, cond-true, cond-false, eqb-true, eq-eqb, ne_eqb}
 use Rattle.std.proofs.lemmas.List.Elements.{filter-append}
@@ -37,7 +37,7 @@ pub order_in-append : (g h : History) → order_in (g ++ h) ≡ order_in g ++ or
 order_in-append [] h = refl
 order_in-append (p ∷ ps) h = ap (λ xs. drawn_by p.0 p.1 ++ xs) (order_in-append ps h) ∙ sym (append_assoc (drawn_by p.0 p.1) (order_in ps) (order_in h))
 
--- x isn't in the order yet
+-- x is not in the order
 abbrev pub NotListed : ℕ → List (ℕ × ℕ) → Type 0
 NotListed x [] = Unit {0}
 NotListed x (y ∷ ys) = ((y.1 == x) ≡ false) × NotListed x ys
@@ -60,7 +60,7 @@ future_rows-joined x time h A rows n =
     ∙ laid_over-append h (filter B (order_in h)) ((time, x) ∷ []) rows
     ∙ ap (λ xs. lay_all (writes_of x h) (laid_over h xs rows)) (filter-joined x A (order_in h) n)
 
--- what lives with x and wasn't made by x lived without
+-- a version that lives with x and that x did not make lived without x
 pub lives-less : (x : ℕ) (A : ℕ → Bool) (c : BeginRecord) (e : Ender) → is_made_by x c ≡ false → lives (with_one A x) c e ≡ true → lives A c e ≡ true
 lives-less x A c e out l =
     let p = and_parts (made_in (with_one A x) c) (kept_in (with_one A x) e) l in and_from _ _ (made c out p.0) (kept e p.1)
@@ -76,7 +76,7 @@ lives-less x A c e out l =
         ⊎_elim (λ same. absurd (false≢true (sym (ap not (cond-true (u == x) true (A u) same)) ∙ k)))
         (λ other. sym (ap not (cond-false (u == x) true (A u) other)) ∙ k) (cases_Bool (u == x))
 
--- what lived and is held by another lives on
+-- a version that lives and that another transaction holds lives with x
 pub lives-more : (x t : ℕ) (A : ℕ → Bool) (c : BeginRecord) (e : Ender) → (t ≡ x → ⊥) → is_held_by t e ≡ true → lives A c e ≡ true → lives (with_one A x) c e ≡ true
 lives-more x t A c e apart held l =
     let p = and_parts (made_in A c) (kept_in A e) l in and_from _ _ (made c p.0) (kept e held p.1)
@@ -98,7 +98,7 @@ module _ (rows : List (ℕ × ℕ)) (w : World) (h : History) (k : Kept rows w h
   abbrev later : History
   later = prepared x w.clock h
 
-  -- another that may commit after x may commit before
+  -- another transaction that may commit after x draws its end time might before
   pub other : (t : ℕ) → Viable (prepare w x) (with_one A x) t → (t ≡ x → ⊥)
   other t v e =
       let is : (txn_in (prepare w x).txns x).state ≡ Preparing = ap (λ (y : Txn). y.state) (txn_in-set_same w.txns x _ a.known) in
@@ -148,7 +148,7 @@ module _ (rows : List (ℕ × ℕ)) (w : World) (h : History) (k : Kept rows w h
       ⊎_elim (λ mine. absurd (waits-none w x t z (i.waits t x key (viable t u) vx (other t u) p (made_wrote key v e mine))))
       (λ out. i.locked t key v (viable t u) p e (lives-less x A _ _ out l)) (cases_Bool (is_made_by x (version_in w.versions v).creator))
 
-  -- x wrote no key that another relies on
+  -- x wrote no key that another transaction relies on
   pub joined-untouched : (t key : ℕ) → Viable (prepare w x) (with_one A x) t → relies (txn_in w.txns t).level w.buckets t key h ≡ true → wrote (writes_of x h) key ≡ false
   joined-untouched t key u p =
       ⊎_elim (λ yes. absurd (waits-none w x t z (i.waits t x key (viable t u) vx (other t u) p yes))) (λ no. no) (cases_Bool (wrote (writes_of x h) key))

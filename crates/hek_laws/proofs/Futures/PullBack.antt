@@ -42,7 +42,7 @@ preparing-unsettled w h u s p = live-uncommitted w h u s (unsettled _ p)
     unsettled state.Committed p = cc
     unsettled state.Terminated p = cc
 
--- what an event that commits nobody has to keep
+-- what an event keeps that commits no transaction
 record Quiet (w new : World) : Type 0 where
   abort_now : (u : ℕ) → (txn_in w.txns u).abort_now ≡ true → (txn_in new.txns u).abort_now ≡ true
   dependence : (u t : ℕ) → has w.dependents u t ≡ true → (has new.dependents u t ≡ true) ⊎ ((txn_in new.txns t).abort_now ≡ true)
@@ -55,7 +55,7 @@ quiet w new h e r d s i q = record {
   dependence = λ u t k. ⊎_elim (λ x. inl x) (λ x. inr (inr (x, ap (λ xs. is_among xs t) i ∙ d.second u t k))) (q.dependence u t k);
 }
 
--- the one that is doomed, and what a list of the dooms has
+-- a doomed transaction has AbortNow, and a list of dooms dooms each of its members
 doomed-set : (ts : List Txn) (x : ℕ) → declared ts x ≡ true → (txn_in (set_txn ts x (record (txn_in ts x) { abort_now = true })) x).abort_now ≡ true
 doomed-set ts x k = ap (λ (y : Txn). y.abort_now) (txn_in-set_same ts x _ k)
 
@@ -92,7 +92,7 @@ In-seconds (p ∷ ps) a b h =
     (λ n. subst (In b) (sym (cond-false (p.0 == a) (p.1 ∷ seconds_of ps a) (seconds_of ps a) n)) r) (cases_Bool (p.0 == a)))
     (or_cases _ _ h)
 
--- the pairs of another stay
+-- the pairs that begin with another number stay
 has-without_first : (ps : List (ℕ × ℕ)) (t a b : ℕ) → (a == t) ≡ false → has ps a b ≡ true → has (without_first t ps) a b ≡ true
 has-without_first [] t a b n h = h
 has-without_first (p ∷ ps) t a b n h =

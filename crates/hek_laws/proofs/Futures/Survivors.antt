@@ -1,4 +1,4 @@
--- The futures that a world still has, and that each future of the next world is one of this world.
+-- The futures of a world; each future of the next world is one of this world.
 use Rattle.std.proofs.Common.{◌≡◌, ℕ, Bool, true, false, List, ◌∙◌, sym, ⊎_elim}
 use Rattle.std.proofs.lemmas.Bool.{cases_Bool, false≢true, and_parts, and_from, or_cases, or_left, or_right}
 use Rattle.std.specs.Prelude.{◌&&◌, ◌||◌, ◌⊎◌}
@@ -13,7 +13,7 @@ use Rattle.hek_rules.specs.Serial.{committed_in}
 abbrev pub History : Type 0
 History = List (Event × Reply)
 
--- t has committed by then
+-- t has committed in the history
 abbrev pub has_committed : History → ℕ → Bool
 has_committed h t = is_among (committed_in h) t
 
@@ -21,7 +21,7 @@ has_committed h t = is_among (committed_in h) t
 abbrev pub is_drawn : World → History → ℕ → Bool
 is_drawn w h t = is_preparing (txn_in w.txns t).state || has_committed h t
 
--- a set of transactions that may be just those, of all that have drawn an end time, which are committed in the end
+-- a set of transactions, of those that have drawn an end time, that may be exactly the committed ones in the end
 pub record Future (w : World) (h : History) (A : ℕ → Bool) : Type 0 where
   pub drawn : (u : ℕ) → A u ≡ true → is_drawn w h u ≡ true
   pub committed : (u : ℕ) → has_committed h u ≡ true → A u ≡ true
@@ -34,21 +34,21 @@ pub record Viable (w : World) (A : ℕ → Bool) (t : ℕ) : Type 0 where
   pub hopeful : (txn_in w.txns t).abort_now ≡ false
   pub depends : (u : ℕ) → has w.dependents u t ≡ true → A u ≡ true
 
--- who is depended on is preparing, and who has committed depends on nobody
+-- a transaction that others depend on is Preparing, and a committed one depends on nobody
 pub record Dependences (w : World) (h : History) : Type 0 where
   pub first : (u t : ℕ) → has w.dependents u t ≡ true → is_preparing (txn_in w.txns u).state ≡ true
   pub second : (u t : ℕ) → has w.dependents u t ≡ true → has_committed h t ≡ false
   pub known : (u t : ℕ) → has w.dependents u t ≡ true → declared w.txns t ≡ true
 
--- what one event may change of all that
+-- what one event may change of commits, dooms and dependencies
 pub record Goes (w : World) (h : History) (new : World) (later : History) : Type 0 where
   pub committed : (u : ℕ) → has_committed h u ≡ true → has_committed later u ≡ true
   pub abort_now : (u : ℕ) → is_preparing (txn_in w.txns u).state ≡ true → (txn_in w.txns u).abort_now ≡ true → is_drawn new later u ≡ true → is_preparing (txn_in new.txns u).state ≡ true
   pub stays : (u : ℕ) → (txn_in w.txns u).abort_now ≡ true → (txn_in new.txns u).abort_now ≡ true
-  -- a dependence ends as the one that is depended on commits, or as it aborts and takes the other along
+  -- a dependency ends when the transaction depended on commits, or aborts and dooms the other
   pub dependence : (u t : ℕ) → has w.dependents u t ≡ true → (has new.dependents u t ≡ true) ⊎ ((has_committed later u ≡ true) ⊎ ((txn_in new.txns t).abort_now ≡ true) × (has_committed later t ≡ false))
 
--- a future as it was before the event
+-- the future as it was before the event
 abbrev pub before : World → History → (ℕ → Bool) → ℕ → Bool
 before w h A u = A u && is_drawn w h u
 
@@ -75,7 +75,7 @@ Future-before w h new later A g d f = record {
       (or_left _ _ (d.first u t c));
 }
 
--- who has committed stays so, or has ended
+-- a state after the commit: Committed, or Terminated
 abbrev pub is_settled : State → Bool
 is_settled Committed = true
 is_settled Terminated = true

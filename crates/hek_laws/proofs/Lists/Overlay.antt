@@ -9,7 +9,7 @@ use Rattle.hek_rules.specs.declared.serial.Write.TheVariants.{Put, Remove}
 use Rattle.hek_rules.specs.Serial.{lay, lay_all}
 use Rattle.hek_laws.specs.Rows.{key_of}
 
--- what a key has under a write of it, and under a write of another
+-- the value of a key after a write of it, and after a write of another key
 pub value_of-put : (rows : List (ℕ × ℕ)) (k x q : ℕ) → value_of (put k x rows) q ≡ (if k == q then Some x else value_of rows q)
 value_of-put [] k x q = refl
 value_of-put (p ∷ ps) k x q = let rest = value_of-put ps k x q in grind (arith, nat_tests, rest)
@@ -31,20 +31,20 @@ pub value_of-lay : (x : Write) (rows : List (ℕ × ℕ)) (k : ℕ) → value_of
 value_of-lay (Put key value) rows k = value_of-put rows key value k
 value_of-lay (Remove key) rows k = value_of-take_out rows key k
 
--- writes of other keys leave a key as it was
+-- writes of other keys do not change the value of a key
 pub lay_all-other : (xs : List Write) (rows : List (ℕ × ℕ)) (k : ℕ) → wrote xs k ≡ false → value_of (lay_all xs rows) k ≡ value_of rows k
 lay_all-other [] rows k h = refl
 lay_all-other (x ∷ xs) rows k h =
     let parts = or_parts _ _ h in
     lay_all-other xs (lay x rows) k parts.1 ∙ value_of-lay x rows k ∙ cond-false (key_of x == k) (left_by x) (value_of rows k) parts.0
 
--- where two bases agree, they agree under the same writes
+-- rows that agree on a key agree on it under equal writes
 pub lay_all-same : (xs : List Write) (rows others : List (ℕ × ℕ)) (k : ℕ) → value_of rows k ≡ value_of others k → value_of (lay_all xs rows) k ≡ value_of (lay_all xs others) k
 lay_all-same [] rows others k h = h
 lay_all-same (x ∷ xs) rows others k h =
     lay_all-same xs (lay x rows) (lay x others) k (value_of-lay x rows k ∙ ap (λ o. if key_of x == k then left_by x else o) h ∙ sym (value_of-lay x others k))
 
--- what a key has that was written doesn't depend on what it had
+-- the value of a key that was written does not depend on the rows below
 pub lay_all-written : (xs : List Write) (rows others : List (ℕ × ℕ)) (k : ℕ) → wrote xs k ≡ true → value_of (lay_all xs rows) k ≡ value_of (lay_all xs others) k
 lay_all-written [] rows others k h = cc
 lay_all-written (x ∷ xs) rows others k h =

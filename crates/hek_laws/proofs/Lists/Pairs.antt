@@ -1,4 +1,4 @@
--- Lists in which nothing stands twice, and how pairs join and leave them.
+-- Lists of distinct members, and pairs that join and leave them.
 use Rattle.std.proofs.Common.{◌≡◌, ℕ, zero, suc, ◌+◌, ◌<◌, ◌≤◌, Bool, true, false, List, [], ◌∷◌, ◌++◌, refl, ◌∙◌, ap, sym, arith, inl, inr, ⊎_elim, subst, length}
 use Rattle.std.proofs.lemmas.Bool.{cases_Bool, cond-true, cond-false, cond_both, and_parts, and_from, or_cases, or_left, or_right, eqb-true, eq-eqb, ne_eqb, false≢true}
 use Rattle.std.specs.Prelude.{◌==◌, ◌⊎◌, not, filter}
@@ -22,7 +22,7 @@ In-has (p ∷ ps) a b i =
     ⊎_elim (λ here. or_left (is_pair a b p) _ (and_from _ _ (eq-eqb _ _ (ap (λ (q : ℕ × ℕ). q.0) (sym here))) (eq-eqb _ _ (ap (λ (q : ℕ × ℕ). q.1) (sym here)))))
     (λ later. or_right (is_pair a b p) _ (In-has ps a b later)) i
 
--- a pair that stands in a list with one more joined stood there, or is that one
+-- a pair in a list that another pair joined was in the list, or is that other one
 pub has-join_from : (ps : List (ℕ × ℕ)) (a b c d : ℕ) → has (join ps a b) c d ≡ true → (has ps c d ≡ true) ⊎ ((c ≡ a) × (d ≡ b))
 has-join_from ps a b c d h =
     ⊎_elim (λ y. inl (ap (λ qs. has qs c d) (sym (cond-true (has ps a b) ps (ps ++ (a, b) ∷ []) y)) ∙ h))
@@ -37,7 +37,7 @@ has-filter test (p ∷ ps) a b h =
     (λ n. or_right (is_pair a b p) _ (has-filter test ps a b (ap (λ qs. has qs a b) (sym (cond-false (test p) (p ∷ filter test ps) (filter test ps) n)) ∙ h)))
     (cases_Bool (test p))
 
--- ---- nothing stands twice
+-- ---- lists of distinct members
 pub once-append : {X : Type 0} (xs : List X) (x : X) → Once xs → (In x xs → ⊥) → Once (xs ++ x ∷ [])
 once-append [] x o n = ((λ i. i), tt)
 once-append (y ∷ ys) x o n =
@@ -75,7 +75,7 @@ once-without_entry (p ∷ ps) t o =
         ⊎_elim (λ y. inr (subst (In x) (cond-true (q.0 == t) qs (q ∷ without_entry qs t) y) i))
         (λ n. ⊎_elim (λ e. inl e) (λ r. inr (kept qs x r)) (subst (In x) (cond-false (q.0 == t) qs (q ∷ without_entry qs t) n) i)) (cases_Bool (q.0 == t))
 
--- who waits for holders of a bucket waits for others
+-- a wait in the list after t waits for the holders was there before, or is one of t for another holder
 pub wait-from : (hs : List ℕ) (t : ℕ) (ps : List (ℕ × ℕ)) (a b : ℕ) → has (wait_for_holders hs t ps) a b ≡ true → (has ps a b ≡ true) ⊎ (In a hs × (b ≡ t) × ((a == t) ≡ false))
 wait-from [] t ps a b h = inl h
 wait-from (x ∷ hs) t ps a b h =
@@ -102,7 +102,7 @@ once-firsts (p ∷ ps) b o =
     pair : (p.1 == b) ≡ true → (p.0, b) ≡ p
     pair y = λ i. (p.0, sym (eqb-true p.1 b y) i)
 
--- who stands first in no pair has no seconds
+-- a number that begins no pair has no second parts
 pub seconds-none : (ps : List (ℕ × ℕ)) (a : ℕ) → ((b : ℕ) → has ps a b ≡ true → ⊥) → seconds_of ps a ≡ []
 seconds-none [] a n = refl
 seconds-none (p ∷ ps) a n =

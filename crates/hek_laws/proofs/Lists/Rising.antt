@@ -1,4 +1,5 @@
--- Rows in rising order of keys: equal where they answer alike; and replies are right over rows that agree on what they count on.
+-- Rows with rising keys: equal if they agree on each key; and a reply is right over all rows that agree on the keys
+-- that it needs.
 use Rattle.std.proofs.Common.{◌≡◌, ℕ, ◌<◌, ◌≤◌, ◌%◌, Bool, true, List, [], ◌∷◌, refl, ◌∙◌, ap, sym, arith, Some, None, ⊎_elim, subst}
 use Rattle.std.proofs.lemmas.Bool.{cases_Bool, cases_eq, cases_order, cond-true, cond-false, cond_both, eqb-true, eqb-false, eq-eqb, ne_eqb, ltb-true, ltb-false}
 use Rattle.std.specs.Prelude.{filter, nat_lt, ◌==◌, if◌then◌else◌}
@@ -23,7 +24,7 @@ here p ps q e = cond-true (p.0 == q) (Some p.1) (value_of ps q) (eq-eqb p.0 q e)
 pub there : (p : ℕ × ℕ) (ps : List (ℕ × ℕ)) (q : ℕ) → (p.0 ≡ q → ⊥) → value_of (p ∷ ps) q ≡ value_of ps q
 there p ps q e = cond-false (p.0 == q) (Some p.1) (value_of ps q) (ne_eqb p.0 q e)
 
--- rising rows that answer alike are equal
+-- rows with rising keys are equal if they agree on each key
 pub same_rows : (xs ys : List (ℕ × ℕ)) → AreRising xs → AreRising ys → ((q : ℕ) → value_of xs q ≡ value_of ys q) → xs ≡ ys
 same_rows [] [] rx ry h = refl
 same_rows [] (y ∷ ys) rx ry h = let s : None ≡ Some y.1 = h y.0 ∙ here y ys y.0 refl in cc
@@ -71,7 +72,7 @@ rising-lay_all [] ps r = r
 rising-lay_all (Put key value ∷ ws) ps r = rising-lay_all ws (put key value ps) (rising-put ps key value r)
 rising-lay_all (Remove key ∷ ws) ps r = rising-lay_all ws (take_out key ps) (rising-filter _ ps r)
 
--- what a filter by keys leaves of a key
+-- the value of a key in rows that a test of keys filters
 pub value_of-filter : (test : ℕ → Bool) (ps : List (ℕ × ℕ)) (q : ℕ) → value_of (filter (λ (p : ℕ × ℕ). test p.0) ps) q ≡ (if test q then value_of ps q else None)
 value_of-filter test [] q = cond_both (test q) None None (λ o. None ≡ o) (λ _. refl) (λ _. refl)
 value_of-filter test (p ∷ ps) q =
@@ -91,7 +92,7 @@ value_of-filter test (p ∷ ps) q =
     ∙ ap (λ o. if test q then o else None) (sym (there p ps q ne)))
     (cases_eq p.0 q)
 
--- the rows of a bucket are equal where each of its keys has the same
+-- the rows of a bucket are equal if they agree on each of its keys
 pub rows_of-same : (buckets bucket : ℕ) (xs ys : List (ℕ × ℕ)) → AreRising xs → AreRising ys → ((q : ℕ) → (q % buckets == bucket) ≡ true → value_of xs q ≡ value_of ys q) → rows_of buckets bucket xs ≡ rows_of buckets bucket ys
 rows_of-same buckets bucket xs ys rx ry h =
     let test : ℕ → Bool = λ q. q % buckets == bucket in

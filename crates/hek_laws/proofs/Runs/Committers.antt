@@ -19,7 +19,7 @@ use Rattle.hek_laws.proofs.Runs.Opening.{base-rising}
 use Rattle.hek_laws.proofs.Runs.Whole.{Whole, whole-next}
 use Rattle.hek_laws.proofs.Runs.Reachable.{reachable-firm}
 
--- who is doomed doesn't commit
+-- a doomed transaction does not commit at its next event
 doomed-uncommitted : (w : World) (t : ℕ) → (txn_in w.txns t).abort_now ≡ true → (e : Event) → is_among (committed_by e (reply_to w e)) t ≡ false
 doomed-uncommitted w t bad e = each_outcome w (λ e o. is_among (committed_by e o.reply) t ≡ false) (record {
   same = λ e r i _. ap (λ xs. is_among xs t) i.commits;
@@ -53,7 +53,7 @@ module _ (rows : List (ℕ × ℕ)) (up : AreRising rows) where
   among-first : (w : World) (e : Event) (es : List Event) (n : ℕ) → has_committed (transcript w (e ∷ es)) n ≡ (is_among (committed_by e (reply_to w e)) n || has_committed (transcript (next w e) es) n)
   among-first w e es n = is_among-append (committed_by e (reply_to w e)) (committed_in (transcript (next w e) es)) n
 
-  -- who is doomed never commits
+  -- a doomed transaction never commits
   doomed-never : (w : World) (h : History) → Whole rows w h → (t : ℕ) → (txn_in w.txns t).abort_now ≡ true → (es : List Event) → has_committed (transcript w es) t ≡ true → ⊥
   doomed-never w h k t bad [] y = false≢true y
   doomed-never w h k t bad (e ∷ es) y =
@@ -61,7 +61,7 @@ module _ (rows : List (ℕ × ℕ)) (up : AreRising rows) where
       (λ later. doomed-never (next w e) (h ++ (e, reply_to w e) ∷ []) (whole-next rows up w h e k) t ((goes w h k e).stays t bad) es later)
       (or_cases _ _ (sym (among-first w e es t) ∙ y))
 
-  -- the committed among some events and one more
+  -- the transactions that commit in some events and one more
   among-last : (h : History) (e : Event) (r : Reply) (n : ℕ) → has_committed (h ++ (e, r) ∷ []) n ≡ (has_committed h n || is_among (committed_by e r) n)
   among-last h e r n =
       ap (λ xs. is_among xs n) (committed_in-append h ((e, r) ∷ []) ∙ ap (λ xs. committed_in h ++ xs) (append-nil (committed_by e r)))

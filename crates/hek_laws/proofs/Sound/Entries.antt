@@ -1,4 +1,4 @@
--- Each entry of a write list still names its transaction in the word, or the transaction is aborted and the word has passed on.
+-- Each entry of a write set names its transaction in the word; an End word may have lost an aborted one.
 use Rattle.std.proofs.Common.{◌≡◌, ℕ, Bool, true, false, List, [], ◌∷◌, ◌++◌, Some, None, refl, ◌∙◌, ap, sym, arith, inl, inr, ⊎_elim, subst, length}
 use Rattle.std.proofs.lemmas.Bool.{cases_Bool, cases_eq, cond-true, cond-false, cond_both, false≢true, eqb-true, eq-eqb}
 use Rattle.std.specs.Prelude.{◌==◌, ◌⊎◌, slice_set}
@@ -48,7 +48,7 @@ held-given u t (Held (Some x) b) h =
     ⊎_elim (λ y. inr (sym (eqb-true x u h) ∙ eqb-true x t y))
     (λ n. inl (ap (is_held_by u) (cond-false (x == t) (Held None false) (Held (Some x) b) n) ∙ h)) (cases_Bool (x == t))
 
--- the first entry of t is gone
+-- the first entry of t is not in the list without it
 entry-gone : (ps : List (ℕ × WriteEntry)) (t : ℕ) (e : WriteEntry) (es : List WriteEntry) → Once ps → entries_of ps t ≡ e ∷ es → In (t, e) (without_entry ps t) → ⊥
 entry-gone [] t e es o is i = i
 entry-gone (p ∷ ps) t e es o is i =
@@ -65,7 +65,7 @@ entry-gone (p ∷ ps) t e es o is i =
     (cases_Bool (p.0 == t))
 
 module _ (w : World) (k : Entries w) (s : Single w) where
-  -- a transaction that isn't aborted changes
+  -- the entries after a transaction that has not aborted changes
   sets : (new : World) (t : ℕ) (x : Txn) → new.txns ≡ set_txn w.txns t x → new.versions ≡ w.versions → new.writes ≡ w.writes → is_aborted (txn_in w.txns t).state ≡ false → Entries new
   sets new t x e v l n = record {
     made = λ u j i. ap (λ vs. is_made_by u (version_in vs j).creator) v ∙ k.made u j (subst (In (u, BeginOf j)) l i);
@@ -118,7 +118,7 @@ module _ (w : World) (k : Entries w) (s : Single w) where
           (test : Version → Bool) → test no_version ≡ false → test (version_in l.versions v) ≡ true → test (version_in (l.versions ++ y ∷ []) v) ≡ true
       old {y} u v c test n h = ⊎_elim (λ e. ap test e ∙ h) (λ q. absurd (false≢true (sym n ∙ ap test (sym q.2) ∙ h))) c
 
-  -- a version is set that has the same creator
+  -- the entries after a version gets another ender
   with-ender : (new : World) (v : ℕ) (f : Ender) → new.txns ≡ w.txns → new.versions ≡ slice_set w.versions v (with_ender (version_in w.versions v) f) → ((x : ℕ × WriteEntry) → In x new.writes → In x w.writes) →
       ((u : ℕ) → In (u, EndOf v) new.writes → (is_held_by u (version_in w.versions v).ender ≡ true) → (is_held_by u f ≡ true) ⊎ (is_aborted (txn_in w.txns u).state ≡ true)) → Entries new
   with-ender new v f e s l keeps = record {

@@ -1,4 +1,4 @@
--- NoMoreReadLocks is set only beside a writer and where no reader is, and no version has more than 255 readers.
+-- NoMoreReadLocks is set only under a writer, of a version without readers, and no version has more than 255 readers.
 use Rattle.std.proofs.Common.{◌≡◌, ℕ, ◌<◌, ◌≤◌, Bool, true, false, List, Some, None, refl, ◌∙◌, ap, sym, arith, ⊎_elim, subst}
 use Rattle.std.proofs.lemmas.Bool.{cases_Bool, cond-true, cond-false, cond_both, false≢true, eqb-true, eq-eqb, ltb-true, and_cases}
 use Rattle.std.specs.Prelude.{not, nat_lt, ◌==◌, ◌&&◌, slice_set}
@@ -51,11 +51,11 @@ given-fits n t (EndedAt time) f = tt
 given-fits n t (Held None b) f = f
 given-fits n t (Held (Some u) b) f = cond_both (u == t) (Held None false) (Held (Some u) b) (IsSoundFlag n) (λ _. refl) (λ _. f)
 
--- a held version that a reader may come to has no flag, and room for the reader
+-- a held version that a reader may lock has no flag, and room for the reader
 pub record Open (ts : List Txn) (count : ℕ) (e : Ender) : Type 0 where
   pub fits : (n : ℕ) → IsSoundFlag n e
   pub room : count < 255
-  -- the first reader makes no writer wait that has finished
+  -- a first reader makes no finished writer wait
   pub first : (u : ℕ) (b : Bool) → e ≡ Held (Some u) b → count ≡ 0 → (txn_in ts u).no_more_waits ≡ false
 
 pub allowed-open : (ts : List Txn) (count : ℕ) (e : Ender) → is_held e ≡ true → read_refusal ts count e ≡ None → Open ts count e
@@ -88,7 +88,7 @@ set-fits ps vs v x new old j =
     (λ e. subst (λ y. IsSoundFlag (readers ps j) y.ender) (sym e) (old j)) (version_in-set vs v j x)
 
 module _ (w : World) (f : Flags w.read_locks w.versions) (enders : (v : ℕ) → IsSoundEnder w (version_in w.versions v).ender) where
-  -- a version that the walk comes to as a reader may be read
+  -- a version that gets a reader by the walk may be read-locked
   pub fresh-open : (t : ℕ) (p : Purpose) (bucket : ℕ) (vs : List ℕ) (L : World) (v : ℕ) → Fresh w t (λ n. Warrant w t p bucket vs (ReadLock n)) L v → Open w.txns (readers w.read_locks v) (cleared w.txns (version_in w.versions v).ender)
   fresh-open t p bucket vs L v k =
       let r = k.warrant in

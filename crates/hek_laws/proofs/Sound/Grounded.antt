@@ -1,4 +1,4 @@
--- What a sound world is made of: words, lists, flags and transactions in order; each of them is shown by itself.
+-- The parts of a sound world: words, lists, flags and transactions, each proved separately.
 use Rattle.std.proofs.Common.{◌≡◌, ℕ, zero, suc, ◌+◌, ◌<◌, ◌≤◌, Bool, true, false, List, [], ◌∷◌, Option, Some, None, refl, ◌∙◌, ap, sym, arith, ⊎_elim, subst, length}
 use Rattle.std.proofs.lemmas.Bool.{cases_Bool, false≢true, and_left, eqb-true, false_from_ne_true}
 use Rattle.std.proofs.lemmas.Option.{slice_get_within}
@@ -37,8 +37,8 @@ pub record Grounded (w : World) : Type 0 where
   pub listed : Listed w
   pub standing : Standing w
 
--- ---- what a state says
--- who has begun is declared
+-- ---- facts of a state
+-- a transaction that has begun is declared
 pub begun-declared : (ts : List Txn) (t : ℕ) → is_not_begun (txn_in ts t).state ≡ false → declared ts t ≡ true
 begun-declared ts zero h = cc
 begun-declared ts (suc i) h = read (slice_get ts i) h
@@ -59,7 +59,7 @@ aborted-present : (s : State) → is_aborted s ≡ true → is_present s ≡ tru
 aborted-present (state.Aborted cause) h = refl
 aborted-present s h = cc
 
--- an ID whose transaction has begun is above 0 and at most their number
+-- the ID of a transaction that has begun is above 0 and at most the number of transactions
 pub begun-range : (ts : List Txn) (t : ℕ) → is_not_begun (txn_in ts t).state ≡ false → (0 < t) × (t ≤ length ts)
 begun-range ts zero h = cc
 begun-range ts (suc i) h = let l = declared-below ts (suc i) (begun-declared ts (suc i) h) in (omega arith, omega (arith, l))
@@ -87,7 +87,7 @@ there (x ∷ xs) zero l = refl
 there (x ∷ xs) (suc i) l = there xs i (omega (arith, l))
 
 module _ (w : World) (k : Grounded w) where
-  -- who has something in its write list is present
+  -- a transaction with an entry in its write set has begun and not ended
   writer : (t : ℕ) (e : WriteEntry) → In (t, e) w.writes → is_present (txn_in w.txns t).state ≡ true
   writer t (BeginOf v) i = made (version_in w.versions v).creator (k.words.creators v) (k.entries.made t v i)
     where
@@ -101,7 +101,7 @@ module _ (w : World) (k : Grounded w) where
       ended (Held None b) p m = absurd (false≢true m)
       ended (Held (Some u) b) p m = subst (λ n. is_present (txn_in w.txns n).state ≡ true) (eqb-true u t m) p
 
-  -- who is not present stands first in no pair
+  -- a transaction that has not begun, or has ended, begins no pair
   owns-nothing : (t : ℕ) → is_present (txn_in w.txns t).state ≡ false → OwnsNothing w t
   owns-nothing t n = record {
     reads = seconds-none w.read_locks t (λ v r. false≢true (sym n ∙ k.listed.reader t v r));
@@ -182,7 +182,7 @@ module _ (w : World) (k : Grounded w) where
     ended_owns = λ t n. owns-nothing t (ap is_present n);
   }
 
--- and back
+-- a sound world has these parts
 pub sound-grounded : (w : World) → Sound w → Grounded w
 sound-grounded w s = record {
   buckets = s.buckets;

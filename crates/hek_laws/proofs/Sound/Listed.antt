@@ -1,5 +1,5 @@
--- Who and what stands in the lists of a world: transactions that are present or have begun, versions and buckets that are
--- there, and read locks of held versions alone.
+-- Members of the lists of a world: transactions that have begun or are present, existing versions and buckets, and read
+-- locks of held versions alone.
 use Rattle.std.proofs.Common.{◌≡◌, ℕ, ◌+◌, ◌<◌, Bool, true, false, List, ◌∷◌, Some, None, refl, ◌∙◌, ap, sym, arith, ⊎_elim, subst, length}
 use Rattle.std.proofs.lemmas.Bool.{cond_both, false≢true, eqb-true, eq-eqb}
 use Rattle.std.specs.Prelude.{not, ◌==◌, is_some, slice_get, slice_set}
@@ -58,7 +58,7 @@ record Lasting (w new : World) : Type 0 where
   there : (v : ℕ) → is_some (slice_get w.versions v) ≡ true → is_some (slice_get new.versions v) ≡ true
   held : (t v : ℕ) → has new.read_locks t v ≡ true → is_held (version_in w.versions v).ender ≡ true → is_held (version_in new.versions v).ender ≡ true
 
--- who has begun goes on so, and who is present and holds something
+-- a transaction that has begun stays so, and a present one that holds something stays present
 record Going (w new : World) : Type 0 where
   begun : (u : ℕ) → is_not_begun (txn_in w.txns u).state ≡ false → is_not_begun (txn_in new.txns u).state ≡ false
   reader : (u v : ℕ) → has w.read_locks u v ≡ true → is_present (txn_in w.txns u).state ≡ true → is_present (txn_in new.txns u).state ≡ true
@@ -98,7 +98,7 @@ going-abort w t cause =
     going-from w (abort w t cause) (each_txn-doom (λ n y. Grown (txn_in w.txns n) y) _ (seconds_of w.dependents t) (λ n y g. record { begun = g.begun; present = g.present })
     (each_txn-set (λ n y. Grown (txn_in w.txns n) y) w.txns t (record (txn_in w.txns t) { state = state.Aborted cause }) (λ n. grown-same (txn_in w.txns n)) (record { begun = λ _. refl; present = λ _. refl })))
 
--- who ends holds nothing
+-- a transaction that ends holds nothing
 going-end : (w : World) (t : ℕ) → holds_nothing w t ≡ true → Going w (end w t)
 going-end w t z =
     let none : length (seconds_of w.read_locks t) + length (seconds_of w.bucket_locks t) + length (seconds_of w.waiters t) + length (entries_of w.writes t) ≡ 0 = eqb-true _ 0 z in
@@ -133,7 +133,7 @@ held-given t (EndedAt time) h = h
 held-given t (Held None b) h = refl
 held-given t (Held (Some u) b) h = cond_both (u == t) (Held None false) (Held (Some u) b) (λ e. is_held e ≡ true) (λ _. refl) (λ _. refl)
 
--- a version is set whose ender is still held
+-- held versions after one is set whose ender is still held
 held-set : (vs : List Version) (v : ℕ) (x : Version) (j : ℕ) → (j ≡ v → is_held (version_in vs v).ender ≡ true → is_held x.ender ≡ true) → is_held (version_in vs j).ender ≡ true → is_held (version_in (slice_set vs v x) j).ender ≡ true
 held-set vs v x j keeps h =
     ⊎_elim (λ p. ap (λ (y : Version). is_held y.ender) p.1 ∙ keeps p.0 (ap (λ n. is_held (version_in vs n).ender) (sym p.0) ∙ h))
@@ -198,11 +198,11 @@ module _ (w : World) (k : Listed w) (enders : (v : ℕ) → IsSoundEnder w (vers
         depends_on_other = o.depends_on_other;
       }
 
-  -- an event that sets one transaction, and may let its dependents go
+  -- the lists after an event sets one transaction, and may remove its dependents
   sets : (new : World) (t : ℕ) (x : Txn) → new.txns ≡ set_txn w.txns t x → Fewer w new → new.versions ≡ w.versions → new.buckets ≡ w.buckets → (is_not_begun x.state ≡ false) → (is_present x.state ≡ true) → Listed new
   sets new t x e f v b begun present = listed-from w new f (lasting-same w new v b) (going-set w new t x e (record { begun = λ _. begun; present = λ _. present })) k
 
-  -- an event that sets one version
+  -- the lists after an event sets one version
   stamped : (new : World) (v : ℕ) (x : Version) → new.txns ≡ w.txns → Fewer w new → new.versions ≡ slice_set w.versions v x → new.buckets ≡ w.buckets → ((t : ℕ) → has new.read_locks t v ≡ true → is_held (version_in w.versions v).ender ≡ true → is_held x.ender ≡ true) → Listed new
   stamped new v x e f s b keeps =
       listed-from w new f
@@ -213,7 +213,7 @@ module _ (w : World) (k : Listed w) (enders : (v : ℕ) → IsSoundEnder w (vers
       })
       (going-from w new (λ u. subst (λ ts. Grown (txn_in w.txns u) (txn_in ts u)) (sym e) (grown-same (txn_in w.txns u)))) k
 
-  -- who has committed ends only versions that nobody read-locks
+  -- the lists after every event, if nobody read-locks a version that a committed transaction ended
   pub listed-step : ((t v : ℕ) (es : List WriteEntry) → IsIn w t state.Committed → entries_of w.writes t ≡ EndOf v ∷ es → (x : ℕ) → has w.read_locks x v ≡ true → ⊥) → EachStep w Listed
   listed-step unread = record {
     same = k;

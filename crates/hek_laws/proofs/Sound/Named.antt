@@ -1,4 +1,4 @@
--- Parts of what a sound world says, each by itself.
+-- Parts of a sound world, each as a lemma.
 use Rattle.std.proofs.Common.{refl, sym, ap, ◌∙◌, subst}
 use Rattle.std.proofs.lemmas.Bool.{false≢true, eq-eqb}
 use Rattle.hek_rules.specs.World.{is_made_by, is_held_by}

@@ -64,7 +64,7 @@ single-all t cur (e ∷ es) o n s =
     (single-apply t cur e (λ v q i. n.none v (inl q) i) s)
 
 module _ (w : World) (k : WordsRight w) (n : Entries w) (s : Single w) where
-  -- what t may write-lock it has not write-locked
+  -- t has not write-locked a version that it may write-lock
   unwritten : (t v : ℕ) → (txn_in w.txns t).state ≡ state.Active → write_refusal (cleared w.txns (version_in w.versions v).ender) ≡ None → In (t, EndOf v) w.writes → ⊥
   unwritten t v a free i =
       let gone : is_aborted (txn_in w.txns t).state ≡ true → ⊥ = λ y. false≢true (sym (ap is_aborted a) ∙ y) in

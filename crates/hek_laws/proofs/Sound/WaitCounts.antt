@@ -1,4 +1,4 @@
--- Once a transaction has finished, it waits for no more than before.
+-- Counts of waits that do not grow.
 use Rattle.std.proofs.Common.{◌≡◌, ℕ, zero, suc, ◌+◌, ◌≤◌, Bool, true, false, List, [], ◌∷◌, refl, ◌∙◌, ap, sym, arith, Some, None, inl, inr, ⊎_elim, length}
 use Rattle.std.proofs.lemmas.Bool.{cases_Bool, cond-true, cond-false, cond_both, ltb-true, lt-ltb, and_parts, and_from}
 use Rattle.std.proofs.lemmas.Bool.Decides.{nat_tests}
@@ -16,7 +16,7 @@ passed test i x xs h = ap length (cond-true (test i x) (i ∷ places test (i + 1
 pub failed : (test : ℕ → Version → Bool) (i : ℕ) (x : Version) (xs : List Version) → test i x ≡ false → length (places test i (x ∷ xs)) ≡ length (places test (i + 1) xs)
 failed test i x xs h = ap length (cond-false (test i x) (i ∷ places test (i + 1) xs) (places test (i + 1) xs) h)
 
--- fewer pass where each that passes passed before
+-- a count does not grow if each version that passes passed before
 pub places-le : (old new : ℕ → Version → Bool) (i : ℕ) (xs ys : List Version) → length ys ≡ length xs →
     ((j k : ℕ) → k ≡ i + j → new k (version_in ys j) ≡ true → old k (version_in xs j) ≡ true) → length (places new i ys) ≤ length (places old i xs)
 places-le old new i [] [] e h = omega arith
@@ -30,7 +30,7 @@ places-le old new i (x ∷ xs) (y ∷ ys) e h =
     ⊎_elim (λ p. let n = passed old i x xs p in omega (arith, rest, m, n)) (λ f. let n = failed old i x xs f in omega (arith, rest, m, n)) (cases_Bool (old i x)))
     (cases_Bool (new i y))
 
--- the version at a place after a new ender: changed or as before
+-- the version at a place after another ender is set: changed or as before
 pub version_in-set : (vs : List Version) (v j : ℕ) (x : Version) → (j ≡ v) × (version_in (slice_set vs v x) j ≡ x) ⊎ (version_in (slice_set vs v x) j ≡ version_in vs j)
 version_in-set vs v j x = ⊎_elim (λ p. inl (p.0, ap (λ o. unwrap_or o no_version) p.1)) (λ e. inr (ap (λ o. unwrap_or o no_version) e)) (slice_get-set vs v j x)
 
@@ -51,7 +51,7 @@ held-sealed u (Held (Some x) no_more) = refl
 pub more_readers : (n m : ℕ) → n ≤ m → nat_lt 0 n ≡ true → nat_lt 0 m ≡ true
 more_readers n m le h = lt-ltb 0 m (let l = ltb-true 0 n h in omega (arith, l))
 
--- who releases a read lock makes nobody wait
+-- a transaction that releases a read lock makes nobody wait
 pub waits-drop_read : (w : World) (t v u : ℕ) → waits (drop_read w t v) u ≤ waits w u
 waits-drop_read w t v u =
     let fewer : (vs : List Version) → length vs ≡ length w.versions → ((j : ℕ) → is_held_by u (version_in vs j).ender ≡ is_held_by u (version_in w.versions j).ender) →

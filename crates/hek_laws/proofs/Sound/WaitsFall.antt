@@ -1,4 +1,4 @@
--- Who has finished waits for no more, after any event, than before.
+-- A finished transaction waits for no more after any event than before.
 use Rattle.std.proofs.Common.{◌≡◌, ℕ, ◌+◌, ◌<◌, ◌≤◌, Bool, true, false, List, [], ◌∷◌, ◌++◌, Some, None, refl, ◌∙◌, ap, sym, arith, inl, inr, ⊎_elim, subst, length}
 use Rattle.std.proofs.lemmas.Bool.{cases_Bool, cond-true, cond-false, cond_both, false≢true, and_parts, and_from, eqb-true, ne_eqb, lt-ltb}
 use Rattle.std.specs.Prelude.{not, nat_lt, ◌==◌, if◌then◌else◌, slice_set}
@@ -57,7 +57,7 @@ firsts-wait (h ∷ hs) t u ps n =
     cond_both (h == t) (wait_for_holders hs t ps) (wait_for_holders hs t (join ps h t)) (λ qs. firsts_of qs u ≡ firsts_of ps u) (λ _. firsts-wait hs t u ps n)
     (λ _. firsts-wait hs t u (join ps h t) n ∙ firsts-join_other ps h t u n)
 
--- a version that nobody waits for adds nothing
+-- a new version that nobody writes adds no wait
 places-more : (test : ℕ → Version → Bool) (i : ℕ) (vs : List Version) (y : Version) → ((n : ℕ) → test n y ≡ false) → length (places test i (vs ++ y ∷ [])) ≡ length (places test i vs)
 places-more test i [] y n = failed test i y [] (n i)
 places-more test i (x ∷ xs) y n =
@@ -84,7 +84,7 @@ abbrev Falls : World → World → Type 0
 Falls w new = (u : ℕ) → (txn_in w.txns u).no_more_waits ≡ true → waits new u ≤ waits w u
 
 module _ (w : World) (f : Flags w.read_locks w.versions) (enders : (v : ℕ) → IsSoundEnder w (version_in w.versions v).ender) where
-  -- a version whose ender is held by no more than before
+  -- a version whose new ender has no new writer adds no wait
   set-falls : (v : ℕ) (x : Version) (u : ℕ) → (is_held_by u x.ender ≡ true → is_held_by u (version_in w.versions v).ender ≡ true) →
       length (places (is_waited_for w.read_locks u) 0 (slice_set w.versions v x)) ≤ length (places (is_waited_for w.read_locks u) 0 w.versions)
   set-falls v x u h =
@@ -93,7 +93,7 @@ module _ (w : World) (f : Flags w.read_locks w.versions) (enders : (v : ℕ) →
       and_from _ _ (⊎_elim (λ p. subst (λ n. is_held_by u (version_in w.versions n).ender ≡ true) (sym p.0) (h (ap (λ (z : Version). is_held_by u z.ender) (sym p.1) ∙ parts.0)))
       (λ e. ap (λ (z : Version). is_held_by u z.ender) (sym e) ∙ parts.0) (version_in-set w.versions v j x)) parts.1)
 
-  -- the walker has not finished
+  -- a walker has not finished, so a finished transaction is another one
   other : (t u : ℕ) → (txn_in w.txns t).no_more_waits ≡ false → (txn_in w.txns u).no_more_waits ≡ true → (t == u) ≡ false
   other t u a b = ne_eqb t u (λ e. false≢true (sym a ∙ ap (λ n. (txn_in w.txns n).no_more_waits) e ∙ b))
 

@@ -1,5 +1,5 @@
--- Every event is refused, repeats a cause, cascades, or has passed the checks and is one of the rows: what holds of each of
--- these outcomes holds of every event's.
+-- Every event is refused, repeats a cause, cascades, or passes the checks and follows one of the rules: a property of
+-- each of these outcomes holds of every event's outcome.
 use Rattle.std.proofs.Common.{◌≡◌, ℕ, Bool, true, false, refl, ap, sym}
 use Rattle.std.specs.Prelude.{not, ◌&&◌, ◌||◌, ◌==◌}
 use Rattle.std.proofs.lemmas.Bool.{cond_both, eqb-true, eqb-false, and_parts, not-false, not-true}
@@ -25,7 +25,7 @@ pub record IsIn (w : World) (t : ℕ) (s : State) : Type 0 where
   pub known : declared w.txns t ≡ true
   pub state : (txn_in w.txns t).state ≡ s
 
--- t is active, can still commit, and has finished or not
+-- t is Active and not doomed, and has finished or not
 pub record IsActive (w : World) (t : ℕ) (done : Bool) : Type 0 where
   pub known : declared w.txns t ≡ true
   pub state : (txn_in w.txns t).state ≡ state.Active
@@ -37,7 +37,7 @@ pub record IsPreparing (w : World) (t : ℕ) : Type 0 where
   pub state : (txn_in w.txns t).state ≡ state.Preparing
   pub hopeful : (txn_in w.txns t).abort_now ≡ false
 
--- t is active or preparing
+-- t is Active or Preparing
 pub record IsLive (w : World) (t : ℕ) : Type 0 where
   pub known : declared w.txns t ≡ true
   pub live : is_live (txn_in w.txns t).state ≡ true
@@ -45,17 +45,17 @@ pub record IsLive (w : World) (t : ℕ) : Type 0 where
 abbrev pub is_past : State → Bool
 is_past s = is_preparing s || is_decided s
 
--- t is no longer active, and has not ended
+-- t is Preparing, Committed or Aborted
 pub record IsPast (w : World) (t : ℕ) : Type 0 where
   pub known : declared w.txns t ≡ true
   pub past : is_past (txn_in w.txns t).state ≡ true
 
--- t has committed or is aborted, and has not ended
+-- t is Committed or Aborted
 pub record IsDecided (w : World) (t : ℕ) : Type 0 where
   pub known : declared w.txns t ≡ true
   pub over : is_decided (txn_in w.txns t).state ≡ true
 
--- the event is of no other than t
+-- the event is of no transaction but t
 pub record IsBy (t : ℕ) (e : Event) : Type 0 where
   pub only : (x : ℕ) → is_of x e ≡ true → x ≡ t
 
@@ -87,7 +87,7 @@ record HasPassed (w : World) (t : ℕ) (e : Event) : Type 0 where
   phase : in_phase (txn_in w.txns t) (holds_nothing w t) e ≡ true
   clock : (draws e && w.clock == clock_end) ≡ false
 
--- a state that passes a test is the one that the test is for
+-- a state that passes a test is the state that the test is for
 pub active-is : (s : State) → is_active s ≡ true → s ≡ state.Active
 active-is state.Active h = refl
 active-is s h = cc
@@ -104,13 +104,13 @@ committed-is : (s : State) → is_committed s ≡ true → s ≡ state.Committed
 committed-is state.Committed h = refl
 committed-is s h = cc
 
--- the test fails where its first part holds
+-- a conjunction that fails has a second part that fails, if the first holds
 second_false : (a b : Bool) → (a && b) ≡ false → a ≡ true → b ≡ false
 second_false true b h e = h
 second_false false b h e = cc
 
 module _ {w : World} {P : Event → Outcome → Type 0} (rows : EachRule w P) where
-  -- what an event of t is answered with, by what its checks come to
+  -- the property of the answer to an event of t, by what its checks come to
   abbrev Answers : ℕ → Event → Check → Type 0
   Answers t e c = P e (answered w t e c)
 

@@ -32,7 +32,7 @@ use Rattle.hek_rules.specs.declared.reply.Reply.TheVariants as reply
 use Rattle.hek_laws.proofs.Table.Cases.{EachRule, IsBy, IsIn, IsActive, IsPreparing, IsLive, IsPast, IsDecided, is_past, each_event}
 use Rattle.std.specs.Prelude.{zero, suc, length, slice_get, unwrap_or, is_some}
 
--- a reply that was given by a walk
+-- whether a walk gave this reply
 abbrev pub is_answer : Reply → Bool
 is_answer (reply.Found value) = true
 is_answer reply.Absent = true
@@ -59,13 +59,13 @@ aborted-state w t cause k =
     (λ n e. subst (λ m. is_aborted (txn_in (set_txn w.txns t (record (txn_in w.txns t) { state = state.Aborted cause })) m).state ≡ true) (sym e)
     (ap (λ (y : Txn). is_aborted y.state) (txn_in-set_same w.txns t _ k))) t refl
 
--- an event and its reply that commit nothing, draw no end time and write nothing
+-- an event and its reply commit nothing, draw no end time and write nothing
 pub record IsIdle (e : Event) (r : Reply) : Type 0 where
   pub commits : committed_by e r ≡ []
   pub draws : (t : ℕ) → end_drawn t e r ≡ None
   pub writes : (t : ℕ) → write_of t e r ≡ []
 
--- the reply is no answer of a walk, and no transaction that can still commit is owed one
+-- the reply is not that of a walk, and no transaction that can still commit gets an answer by it
 pub record IsMute (new : World) (e : Event) (r : Reply) : Type 0 where
   pub unanswered : is_answer r ≡ false
   pub nothing_owed : (x : ℕ) → is_of x e ≡ true → ((is_walk e ≡ false) ⊎ (is_refusal r ≡ true)) ⊎ (is_aborted (txn_in new.txns x).state ≡ true)
@@ -182,7 +182,7 @@ victim-live w found h =
     let is : IsVictim (is_edge w) found.0 found.1 = victim_found (is_edge w) (length w.txns + 1) (edge-joins w) found.0 found.1 h in
     node-live w found.0 (on-walk w found.0 found.1 is.closed)
 
--- P of an outcome, as a record that antt finds its arguments by
+-- the property P of an outcome, as a record from which its arguments are found
 record Leaves (P : Event → Outcome → Type 0) (e : Event) (o : Outcome) : Type 0 where
   now : P e o
 

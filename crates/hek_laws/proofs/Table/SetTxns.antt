@@ -1,4 +1,4 @@
--- Reading what was set: transactions and versions by their places.
+-- Lists of transactions and versions after one element is set.
 use Rattle.std.proofs.Common.{◌≡◌, ℕ, zero, suc, true, List, [], ◌∷◌, Some, refl, ◌∙◌, ap, sym, length, length-set, inl, inr, subst, ⊎_elim}
 use Rattle.std.specs.Prelude.{slice_get, slice_set, is_some, unwrap_or, ◌⊎◌}
 use Rattle.hek_rules.specs.World.{Txn, txn_in, set_txn, declared, no_txn}
@@ -9,7 +9,7 @@ slice_get-set_same [] i x h = cc
 slice_get-set_same (y ∷ ys) zero x h = refl
 slice_get-set_same (y ∷ ys) (suc i) x h = slice_get-set_same ys i x h
 
--- a place that is read is the one that was set, or has what it had
+-- an element is the one that was set, or what it was
 pub slice_get-set : {X : Type 0} (xs : List X) (i j : ℕ) (x : X) → (j ≡ i) × (slice_get (slice_set xs i x) j ≡ Some x) ⊎ (slice_get (slice_set xs i x) j ≡ slice_get xs j)
 slice_get-set [] i j x = inr refl
 slice_get-set (y ∷ ys) zero zero x = inl (refl, refl)
@@ -30,7 +30,7 @@ txn_in-set ts (suc i) (suc j) x =
 pub txn_in-set_other : (ts : List Txn) (t u : ℕ) (x : Txn) → (u ≡ t → ⊥) → txn_in (set_txn ts t x) u ≡ txn_in ts u
 txn_in-set_other ts t u x h = ⊎_elim (λ p. absurd (h p.0)) (λ e. e) (txn_in-set ts t u x)
 
--- what holds of each transaction still does, where it holds of the new one
+-- a property of each transaction holds after one is set, if it holds of the new one
 pub each_txn-set : (P : ℕ → Txn → Type 0) (ts : List Txn) (t : ℕ) (x : Txn) → ((u : ℕ) → P u (txn_in ts u)) → P t x → (u : ℕ) → P u (txn_in (set_txn ts t x) u)
 each_txn-set P ts t x all new u =
     ⊎_elim (λ p. subst (P u) (sym p.1) (subst (λ n. P n x) (sym p.0) new)) (λ e. subst (P u) (sym e) (all u)) (txn_in-set ts t u x)
@@ -41,7 +41,7 @@ each_txn-doom P ts (x ∷ xs) keeps all u =
     each_txn-doom P (set_txn ts x (record (txn_in ts x) { abort_now = true })) xs keeps
     (each_txn-set P ts x (record (txn_in ts x) { abort_now = true }) all (keeps x (txn_in ts x) (all x))) u
 
--- as many as before
+-- the number of transactions stays
 pub length-set_txn : (ts : List Txn) (t : ℕ) (x : Txn) → length (set_txn ts t x) ≡ length ts
 length-set_txn ts zero x = refl
 length-set_txn ts (suc i) x = length-set ts i x

@@ -1,4 +1,4 @@
--- What the effects of a walk, and the other changes, leave alone.
+-- The parts of a world that the effects of a walk, and the other changes, leave alone.
 use Rattle.std.proofs.Common.{◌≡◌, ℕ, List, [], ◌∷◌, refl, ◌∙◌}
 use Rattle.std.proofs.lemmas.Bool.{cond_both}
 use Rattle.hek_rules.specs.declared.event.Cause.{Cause}

@@ -1,4 +1,4 @@
--- What an event does to the world, with the walks of all kinds taken together: for what speaks of the world alone.
+-- The changes of a world by an event, with all kinds of walks as one: for properties of the world alone.
 use Rattle.std.proofs.Common.{◌≡◌, ℕ, ◌<◌, Bool, true, false, List, ◌∷◌, arith}
 use Rattle.std.specs.Prelude.{◌==◌}
 use Rattle.hek_rules.specs.declared.event.Cause.{Cause}
@@ -21,7 +21,7 @@ use Rattle.hek_laws.proofs.Table.Cases.{IsActive, IsIn, IsLive, IsPast, IsDecide
 use Rattle.hek_laws.proofs.Walks.Walking.{Walking, walking}
 use Rattle.hek_laws.proofs.Table.Changes.{EachChange, each_outcome}
 
--- P holds of each world that an event can leave
+-- the property P holds of each world that an event can leave
 pub record EachStep (w : World) (P : World → Type 0) : Type 0 where
   pub same : P w
   pub aborts : (t : ℕ) (cause : Cause) → IsLive w t → P (abort w t cause)

@@ -1,4 +1,4 @@
--- What a walk does to the read locks of a version: t comes to it as one more reader, or it has no more readers than before.
+-- The read locks of a version in a walk of t: t becomes one more reader, or there are no more readers than before.
 use Rattle.std.proofs.Common.{◌≡◌, ℕ, ◌+◌, ◌≤◌, Bool, true, false, List, [], ◌∷◌, ◌++◌, refl, ◌∙◌, ap, sym, arith, inl, inr, ⊎_elim, subst}
 use Rattle.std.proofs.lemmas.Bool.{cases_Bool, cases_eq, cond-true, cond-false, cond_both, false≢true, or_parts, or_from, ne_eqb}
 use Rattle.std.proofs.lemmas.Bool.Decides.{nat_tests}
@@ -20,7 +20,7 @@ use Rattle.hek_laws.proofs.Words.Versions.{places-range}
 use Rattle.hek_laws.proofs.Lists.Pairs.{has-join_from, has-filter}
 use Rattle.hek_laws.proofs.Walks.Warrants.{Warrant}
 
--- ---- readers where a pair joins
+-- ---- readers after a pair joins
 readers-append : (ps : List (ℕ × ℕ)) (t x v : ℕ) → readers (ps ++ (t, x) ∷ []) v ≤ readers ps v + 1
 readers-append [] t x v = grind (arith, nat_tests)
 readers-append (p ∷ ps) t x v = let rest = readers-append ps t x v in grind (arith, nat_tests, rest)
@@ -55,7 +55,7 @@ pub record Plain (w : World) (t : ℕ) (cur : World) (v : ℕ) : Type 0 where
   pub same : has cur.read_locks t v ≡ has w.read_locks t v
   pub readers : readers cur.read_locks v ≡ readers w.read_locks v
 
--- read locks have their warrants
+-- the read locks among the effects have their conditions
 abbrev CanRead : (ℕ → Type 0) → Effect → Type 0
 CanRead R (LockBucket b) = Unit {0}
 CanRead R (DependOn u) = Unit {0}
@@ -132,7 +132,7 @@ fewer t cur (e ∷ es) n v =
     one (ReadLock x) m = absurd (m x refl)
     one (WriteLock x) m = readers-filter (λ (q : ℕ × ℕ). not (is_pair t x q)) cur.read_locks v
 
--- a pair of the read locks after a walk stood there before, or the walk took it
+-- a read lock after a walk was there before, or the walk took it
 pub reads-from : (t : ℕ) (w : World) (es : List Effect) (u v : ℕ) → has (apply_all t w es).read_locks u v ≡ true → (has w.read_locks u v ≡ true) ⊎ ((u ≡ t) × In (ReadLock v) es)
 reads-from t w [] u v h = inl h
 reads-from t w (e ∷ es) u v h = ⊎_elim (λ q. one e q) (λ q. inr (q.0, inr q.1)) (reads-from t (apply t w e) es u v h)
@@ -146,14 +146,14 @@ reads-from t w (e ∷ es) u v h = ⊎_elim (λ q. one e q) (λ q. inr (q.0, inr 
         (λ n. ⊎_elim (λ z. inl z) (λ z. inr (z.0, inl (ap ReadLock z.1))) (has-join_from w.read_locks t x u v (ap (λ (z : World). has z.read_locks u v) (sym (cond-false (reads_freely w t x) w _ n)) ∙ q))) (cases_Bool (reads_freely w t x))
     one (WriteLock x) q = inl (has-filter (λ (p : ℕ × ℕ). not (is_pair t x p)) w.read_locks u v q)
 
--- the versions of a walk are there
+-- the versions of a walk exist
 pub tested-there : (test : ℕ → Version → Bool) (vs : List Version) (v : ℕ) → In v (places test 0 vs) → is_some (slice_get vs v) ≡ true
 tested-there test vs v i =
     let q = places-range test 0 vs v i in
     let same : q.0 ≡ v = (let e = q.1 in omega (arith, e)) in
     subst (λ n. is_some (slice_get vs n) ≡ true) same q.2
 
--- a walk that reads
+-- the read locks of a version after a walk to read
 pub read-locks : (w : World) (t : ℕ) (bucket : ℕ) (test : ℕ → Version → Bool) (es : List Effect) → Walking w t ToRead bucket test es → (v : ℕ) →
     Plain w t (apply_all t w es) v ⊎ Fresh w t (λ n. Warrant w t ToRead bucket (places test 0 w.versions) (ReadLock n)) (apply_all t w es) v
 read-locks w t bucket test es k v =
@@ -174,7 +174,7 @@ walk-locks w t ToRead bucket test es k v = ⊎_elim (λ p. inl (let same = p.rea
 walk-locks w t ToWrite bucket test es k v =
     inl (fewer t w es (λ n i. let q : ToWrite ≡ ToRead = (k.warrant (ReadLock n) i).0 in cc) v)
 
--- likewise a pair of the bucket locks, and of the waiting lists
+-- a bucket lock after a walk was there before, or the walk took it
 pub locks-from : (t : ℕ) (w : World) (es : List Effect) (u b : ℕ) → has (apply_all t w es).bucket_locks u b ≡ true → (has w.bucket_locks u b ≡ true) ⊎ ((u ≡ t) × In (LockBucket b) es)
 locks-from t w [] u b h = inl h
 locks-from t w (e ∷ es) u b h = ⊎_elim (λ q. one e q) (λ q. inr (q.0, inr q.1)) (locks-from t (apply t w e) es u b h)

@@ -1,4 +1,4 @@
--- Whom a sight names, and that a version that is seen is held.
+-- The transaction that a sight names, and a version that is seen is held.
 use Rattle.std.proofs.Common.{◌≡◌, ℕ, ◌<◌, true, false, List, Some, None, refl, ◌∙◌, ap, sym, arith}
 use Rattle.std.proofs.lemmas.Bool.{cond_both, cond-false, false≢true, le-ltb}
 use Rattle.std.specs.Prelude.{◌==◌, nat_lt}
@@ -12,7 +12,7 @@ use Rattle.hek_rules.specs.World.{World, Txn, Ender, EndedAt, Held, txn_in, is_a
 use Rattle.hek_rules.specs.Visibility.{sight_by, end_sight, own_sight, under_writer, from_creator, promised, is_seen}
 use Rattle.hek_laws.specs.Sound.{IsSoundEnder, is_held}
 
--- who a sight names is preparing, or active and another than the reader t
+-- the transaction that a sight names is Preparing, or is Active and not the reader t
 abbrev pub Counts : List Txn → ℕ → Sight → Type 0
 Counts ts t Seen = Unit {0}
 Counts ts t (SeenIf u) = is_preparing (txn_in ts u).state ≡ true

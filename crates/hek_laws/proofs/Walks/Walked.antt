@@ -1,4 +1,4 @@
--- What the effects of a walk leave, done one after another.
+-- The world after the effects of a walk, done one after another.
 use Rattle.std.proofs.Common.{◌≡◌, ℕ, zero, suc, true, false, List, [], ◌∷◌, Some, None, refl, ◌∙◌, ap, sym, inl, inr, ⊎_elim, subst}
 use Rattle.std.proofs.lemmas.Bool.{cases_Bool, cond-true, cond-false, cond_both, false≢true, or_cases, or_left, or_right, and_parts, eqb-true, eq-eqb}
 use Rattle.std.specs.Prelude.{not, ◌==◌, ◌⊎◌, is_some, slice_get, slice_set, unwrap_or}
@@ -15,7 +15,7 @@ use Rattle.hek_laws.proofs.Sound.WaitCounts.{version_in-set}
 use Rattle.hek_laws.proofs.Walks.Judged.{has-join, has-join_kept}
 use Rattle.hek_laws.proofs.Futures.Quiet.{has-leave}
 
--- the pair of t with another version stays
+-- the pair of t with another version stays after one leaves
 has-leave_other : (ps : List (ℕ × ℕ)) (t a v : ℕ) → (v == a) ≡ false → has ps t v ≡ true → has (leave ps t a) t v ≡ true
 has-leave_other [] t a v n h = h
 has-leave_other (p ∷ ps) t a v n h =
@@ -48,7 +48,7 @@ there-set (y ∷ ys) (suc i) (suc j) x h = there-set ys i j x h
 pub version_in-set_same : (vs : List Version) (i : ℕ) (x : Version) → is_some (slice_get vs i) ≡ true → version_in (slice_set vs i x) i ≡ x
 version_in-set_same vs i x h = ap (λ o. unwrap_or o no_version) (slice_get-set_same vs i x h)
 
--- how a version stands while t walks
+-- what may have changed of a version while t walks
 pub record Moved (w : World) (t : ℕ) (W : ℕ → Type 0) (cur : World) (v : ℕ) : Type 0 where
   pub there : is_some (slice_get w.versions v) ≡ true → is_some (slice_get cur.versions v) ≡ true
   pub key : (version_in cur.versions v).key ≡ (version_in w.versions v).key
@@ -62,7 +62,7 @@ pub record Good (w : World) (t : ℕ) (W : ℕ → Type 0) (cur : World) : Type 
   pub txns : cur.txns ≡ w.txns
   pub moved : (v : ℕ) → Moved w t W cur v
 
--- a write lock may be taken
+-- an effect is no write lock, or one that may be taken
 abbrev pub CanDo : (ℕ → Type 0) → Effect → Type 0
 CanDo W (LockBucket b) = Unit {0}
 CanDo W (DependOn u) = Unit {0}
@@ -95,7 +95,7 @@ module _ (w : World) (t : ℕ) (W : ℕ → Type 0) (active : (txn_in w.txns t).
         ender = ⊎_elim (λ a. inl (ap (λ (x : Version). x.ender) e ∙ a)) (λ b. inr (⊎_elim (λ a. inl (ap (λ (x : Version). x.ender) e ∙ a)) (λ c. inr (ap (λ (x : Version). x.ender) e ∙ c.0, c.1)) b)) o.ender;
       }) (version_in-set cur.versions v j (with_ender (version_in cur.versions v) f))
 
-  -- the version that was set
+  -- the version v after its ender is set
   at-set : (cur : World) (v : ℕ) (f : Ender) → Good w t W cur → ((f ≡ cleared w.txns (version_in w.versions v).ender) ⊎ ((f ≡ Held (Some t) false) × W v)) → Moved w t W (record cur { versions = set_ender cur.versions v f }) v
   at-set cur v f g c =
       let o = g.moved v in
@@ -149,7 +149,7 @@ module _ (w : World) (t : ℕ) (W : ℕ → Type 0) (active : (txn_in w.txns t).
   good-all cur [] c g = g
   good-all cur (e ∷ es) c g = good-all (apply t cur e) es (record { each = λ f i. c.each f (inr i) }) (good-apply cur e (c.each e (inl refl)) g)
 
-  -- what an effect leaves, stays
+  -- a property that each effect keeps
   pub record Stays (D : World → Type 0) : Type 0 where
     pub stays : (cur : World) (e : Effect) → Good w t W cur → CanDo W e → D cur → D (apply t cur e)
 
@@ -166,7 +166,7 @@ module _ (w : World) (t : ℕ) (W : ℕ → Type 0) (active : (txn_in w.txns t).
       ⊎_elim (λ here. stays-all D s (apply t cur f) fs rest g2 (subst (λ x. D (apply t cur x)) here (now cur g)))
       (λ later. done-all D s e now (apply t cur f) fs later rest g2) i
 
-  -- the pairs of another, and its waits
+  -- the pairs of another transaction, and its waits, stay
   pub reads-stay : (x v : ℕ) → (x == t) ≡ false → Stays (λ cur. has cur.read_locks x v ≡ true)
   reads-stay x v n = record { stays = stay }
     where
@@ -239,7 +239,7 @@ module _ (w : World) (t : ℕ) (W : ℕ → Type 0) (active : (txn_in w.txns t).
           ⊎_elim (λ same. inr (subst (λ n. is_held_by t (version_in (apply t cur (WriteLock u)).versions n).ender ≡ true) (sym (eqb-true v u same)) (held-now cur u g (subst (λ n. is_some (slice_get w.versions n) ≡ true) (eqb-true v u same) r))))
           (λ other. inl (has-leave_other cur.read_locks t u v other h)) (cases_Bool (v == u))
 
-  -- what was read-locked is guarded after the walk
+  -- a version that the walk read-locked is guarded after the walk
   pub read-done : (v : ℕ) (es : List Effect) → is_some (slice_get w.versions v) ≡ true → is_made_by t (version_in w.versions v).creator ≡ false → In (ReadLock v) es → CanAll W es → Guards v (apply_all t w es)
   read-done v es r n i c = done-all (Guards v) (guards-stay v r) (ReadLock v) now w es i c (good-start w t W)
     where

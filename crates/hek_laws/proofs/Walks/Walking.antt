@@ -1,4 +1,4 @@
--- The effects of an allowed walk, or the first of them: what they rest on, and how they leave a version.
+-- The effects of an allowed walk, or the first of them: their conditions, and how they leave a version.
 use Rattle.std.proofs.Common.{◌≡◌, ℕ, ◌<◌, Bool, false, List, [], ◌∷◌, ◌++◌, None}
 use Rattle.hek_rules.specs.declared.event.State.TheVariants.{Active}
 use Rattle.hek_rules.specs.declared.event.Effect.{Effect}
@@ -12,7 +12,7 @@ use Rattle.hek_laws.proofs.Walks.Walked.{Moved, CanDo, CanAll, good-all, good-st
 use Rattle.hek_laws.proofs.Walks.Warrants.{Warrant, walk-warrant}
 use Rattle.hek_laws.proofs.Walks.WriteOnce.{LocksOnce, walk-once}
 
--- effects of a walk of t, over the versions of a bucket that pass a test of their keys
+-- effects of a walk of t over the versions of a bucket that pass a test
 pub record Walking (w : World) (t : ℕ) (p : Purpose) (bucket : ℕ) (test : ℕ → Version → Bool) (es : List Effect) : Type 0 where
   pub state : (txn_in w.txns t).state ≡ Active
   pub no_more_waits : (txn_in w.txns t).no_more_waits ≡ false
@@ -28,12 +28,12 @@ locks-first : (xs ys : List Effect) → LocksOnce (xs ++ ys) → LocksOnce xs
 locks-first [] ys o = tt
 locks-first (x ∷ xs) ys o = ((λ v e i. o.0 v e (In-left (WriteLock v) xs ys i)), locks-first xs ys o.1)
 
--- the first effects alone
+-- the first effects of a walk are effects of a walk
 pub walking-first : (w : World) (t : ℕ) (p : Purpose) (bucket : ℕ) (test : ℕ → Version → Bool) (xs ys : List Effect) → Walking w t p bucket test (xs ++ ys) → Walking w t p bucket test xs
 walking-first w t p bucket test xs ys k =
     record { state = k.state; no_more_waits = k.no_more_waits; warrant = λ e i. k.warrant e (In-left e xs ys i); once = locks-first xs ys k.once; there = k.there }
 
--- the version is write-locked by one of the effects, and may be
+-- one of the effects write-locks the version, which may be write-locked
 abbrev pub Locks : World → List Effect → ℕ → Type 0
 Locks w es v = (no_write_lock w v ≡ None) × In (WriteLock v) es
 

@@ -1,4 +1,4 @@
--- What the words of the versions name, apart from what was told: also in the midst of a walk.
+-- The transactions that the words of versions name, apart from the history: also during a walk.
 use Rattle.std.proofs.Common.{◌≡◌, ℕ, Bool, true, false, List, Some, None, ◌∙◌, ap, sym, arith, inl, inr, ⊎_elim, subst}
 use Rattle.std.proofs.lemmas.Bool.{eqb-true, cases_Bool, cond-false, false≢true}
 use Rattle.std.specs.Prelude.{is_some, slice_get, ◌⊎◌}
@@ -28,7 +28,7 @@ pub record WordsRight (w : World) : Type 0 where
   pub begin_range : (v t : ℕ) → In (t, BeginOf v) w.writes → is_some (slice_get w.versions v) ≡ true
   pub end_range : (v t : ℕ) → In (t, EndOf v) w.writes → is_some (slice_get w.versions v) ≡ true
 
--- each entry of a write list still names its transaction in the word, or the transaction is aborted and the word has passed on
+-- each entry of a write set names its transaction in the word; an End word may have lost an aborted one
 pub record Entries (w : World) : Type 0 where
   pub made : (t v : ℕ) → In (t, BeginOf v) w.writes → is_made_by t (version_in w.versions v).creator ≡ true
   pub ended : (t v : ℕ) → In (t, EndOf v) w.writes → (is_held_by t (version_in w.versions v).ender ≡ true) ⊎ (is_aborted (txn_in w.txns t).state ≡ true)
@@ -41,7 +41,7 @@ held-cleared ts u (Held (Some x) b) h =
     ⊎_elim (λ y. inr (subst (λ n. is_aborted (txn_in ts n).state ≡ true) (eqb-true x u h) y))
     (λ n. inl (ap (is_held_by u) (cond-false (is_aborted (txn_in ts x).state) (Held None false) (Held (Some x) b) n) ∙ h)) (cases_Bool (is_aborted (txn_in ts x).state))
 
--- and a word that may be write-locked has no other
+-- a word that may be write-locked has no writer
 pub held-free : (u : ℕ) (e : Ender) → is_held_by u e ≡ true → write_refusal e ≡ None → ⊥
 held-free u (EndedAt time) h n = false≢true h
 held-free u (Held None b) h n = false≢true h

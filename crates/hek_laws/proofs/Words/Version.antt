@@ -1,4 +1,4 @@
--- What each version's words name, and the lists of what each transaction made and ended.
+-- The words of each version, and the write sets of the transactions that they name.
 use Rattle.std.proofs.Common.{◌≡◌, ℕ, ◌≤◌, true, List, [], ◌∷◌, ◌++◌, Some, None, refl, ◌∙◌, ap, sym, arith, inl, inr, ⊎_elim, subst}
 use Rattle.std.proofs.lemmas.Bool.{cases_Bool, cond-true, cond-false, eqb-true, eq-eqb, or_left}
 use Rattle.std.specs.Prelude.{◌==◌}
@@ -36,7 +36,7 @@ pub record Words (w : World) (h : History) (v : ℕ) (x : Version) : Type 0 wher
 pub wrote-later : (t : ℕ) (h : History) (e : Event) (r : Reply) (k : ℕ) → wrote (writes_of t h) k ≡ true → wrote (writes_of t (h ++ (e, r) ∷ [])) k ≡ true
 wrote-later t h e r k y = ap (λ ws. wrote ws k) (writes_of-append t h ((e, r) ∷ [])) ∙ wrote-append (writes_of t h) (writes_of t ((e, r) ∷ [])) k ∙ or_left _ _ y
 
--- ---- a change of transactions: those with something in their list go on as the words have it
+-- ---- a change of transactions: those with an entry in their write set keep to the words
 abbrev pub Holds : World → ℕ → Type 0
 Holds w u = (e : WriteEntry) × In (u, e) w.writes
 
@@ -122,7 +122,7 @@ words-other w new h e r t v f es x st sc sw is nb ne k = record {
     holder (Held None b) p = tt
     holder (Held (Some u) b) p = ap (λ ts. is_present (txn_in ts u).state) st ∙ p
 
--- the sealed ender names the same writer
+-- the words of versions after one is sealed name the same writers
 pub words-sealed : (w new : World) (h : History) (e : Event) (r : Reply) (v : ℕ) (x : Version) → new.txns ≡ w.txns → new.clock ≡ w.clock → new.writes ≡ w.writes → Words w h v x → Words new (h ++ (e, r) ∷ []) v (with_ender x (sealed x.ender))
 words-sealed w new h e r v x st sc sw k = record {
   creator = maker x.creator k.creator;

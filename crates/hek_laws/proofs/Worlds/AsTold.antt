@@ -1,4 +1,4 @@
--- What was told of each transaction fits how it stands, after every event.
+-- The replies that each transaction got fit its state, after every event.
 use Rattle.std.proofs.Common.{◌≡◌, ℕ, Bool, true, false, List, [], ◌∷◌, ◌++◌, Some, None, refl, ◌∙◌, ap, sym, ⊎_elim, subst}
 use Rattle.std.proofs.lemmas.Bool.{cases_Bool, cond-true, cond-false, false≢true, eqb-true, eq-eqb, ne_eqb, or_cases, or_left, or_right, false_from_ne_true}
 use Rattle.std.specs.Prelude.{◌==◌, ◌||◌}
@@ -51,7 +51,7 @@ end_of-more u h e r d = end_of-append u h ((e, r) ∷ []) ∙ ap (λ o. option_o
 pub committed-more : (h : History) (e : Event) (r : Reply) (u : ℕ) → committed_by e r ≡ [] → has_committed (h ++ (e, r) ∷ []) u ≡ has_committed h u
 committed-more h e r u c = ap (λ xs. is_among xs u) (committed_in-append h ((e, r) ∷ []) ∙ ap (λ xs. committed_in h ++ (xs ++ [])) c ∙ append-nil (committed_in h))
 
--- nothing of u is told, and it stands as before
+-- the transaction u draws and commits nothing by the event, and keeps its state
 keeps : (h : History) (e : Event) (r : Reply) (u : ℕ) (x y : Txn) → committed_by e r ≡ [] → end_drawn u e r ≡ None → (y.state ≡ state.NotBegun → is_of u e ≡ true → is_refusal r ≡ true) → y.state ≡ x.state → y.end ≡ x.end → AsTold h u x → AsTold (h ++ (e, r) ∷ []) u y
 keeps h e r u x y c d n s m k = record {
   settled = λ q. ap is_settled s ∙ k.settled (sym (committed-more h e r u c) ∙ q);
@@ -61,7 +61,7 @@ keeps h e r u x y c d n s m k = record {
   unbegun = λ q. silent-append u h e r (k.unbegun (sym s ∙ q)) (n q);
 }
 
--- u leaves a state in which it had not committed, for one in which it won't
+-- the transaction u leaves a state in which it had not committed for one in which it never will
 lost : (h : History) (e : Event) (r : Reply) (u : ℕ) (x y : Txn) → committed_by e r ≡ [] → end_drawn u e r ≡ None → is_settled x.state ≡ false → is_preparing y.state ≡ false → (y.state ≡ state.Committed → ⊥) → (y.state ≡ state.NotBegun → ⊥) →
     (y.state ≡ state.Active → end_of u h ≡ None) → AsTold h u x → AsTold (h ++ (e, r) ∷ []) u y
 lost h e r u x y c d s p n b a k =
@@ -86,7 +86,7 @@ module _ (w : World) (h : History) (k : (u : ℕ) → AsTold h u (txn_in w.txns 
   abbrev After : Event → Outcome → Type 0
   After e o = (u : ℕ) → AsTold (h ++ (e, o.reply) ∷ []) u (txn_in o.world.txns u)
 
-  -- an event of one that has begun tells nothing
+  -- an event of a transaction that has begun, which draws and commits nothing
   plain : (new : World) (e : Event) (r : Reply) (t : ℕ) → new.txns ≡ w.txns → committed_by e r ≡ [] → ((u : ℕ) → end_drawn u e r ≡ None) → ((u : ℕ) → is_of u e ≡ true → u ≡ t) → ((txn_in w.txns t).state ≡ state.NotBegun → ⊥) → (u : ℕ) → AsTold (h ++ (e, r) ∷ []) u (txn_in new.txns u)
   plain new e r t s c d by n u =
       keeps h e r u (txn_in w.txns u) (txn_in new.txns u) c (d u) (λ q i. absurd (n (ap (λ m. (txn_in w.txns m).state) (sym (by u i)) ∙ ap (λ ts. (txn_in ts u).state) (sym s) ∙ q))) (ap (λ ts. (txn_in ts u).state) s) (ap (λ ts. (txn_in ts u).end) s) (k u)
@@ -100,7 +100,7 @@ module _ (w : World) (h : History) (k : (u : ℕ) → AsTold h u (txn_in w.txns 
   past-begun : (t : ℕ) (f : State → Bool) → f (txn_in w.txns t).state ≡ true → f state.NotBegun ≡ false → (txn_in w.txns t).state ≡ state.NotBegun → ⊥
   past-begun t f y n q = false≢true (sym n ∙ ap f (sym q) ∙ y)
 
-  -- another than the one that is set
+  -- the transactions other than the one that is set
   apart : (t : ℕ) (y : Txn) (P : ℕ → Txn → Type 0) → ((u : ℕ) → (u ≡ t → ⊥) → P u (txn_in w.txns u)) → P t y → declared w.txns t ≡ true → (u : ℕ) → P u (txn_in (set_txn w.txns t y) u)
   apart t y P others own known u =
       ⊎_elim (λ e. subst (λ n. P n (txn_in (set_txn w.txns t y) n)) (sym (eqb-true u t e)) (subst (P t) (sym (txn_in-set_same w.txns t y known)) own))

@@ -1,4 +1,4 @@
--- Who is depended on is preparing, and who has committed depends on nobody, after every event.
+-- A transaction that others depend on is Preparing, and a committed one depends on nobody, after every event.
 use Rattle.std.proofs.Common.{◌≡◌, ℕ, true, false, List, [], ◌∷◌, ◌++◌, refl, ◌∙◌, ap, sym, arith, inl, inr, ⊎_elim, subst, length}
 use Rattle.std.proofs.lemmas.Bool.{cases_Bool, cond-true, cond-false, cond_both, false≢true, eqb-true, eq-eqb, ne_eqb, and_parts, or_cases, or_left, or_right}
 use Rattle.std.specs.Prelude.{not, ◌==◌, ◌||◌, ◌⊎◌}

@@ -1,4 +1,4 @@
--- The order of drawn end times, and that of the committed ones, after every event.
+-- The order of drawn end times, and that of the committed transactions, after every event.
 use Rattle.std.proofs.Common.{◌≡◌, ℕ, ◌<◌, ◌+◌, ◌≤◌, Bool, true, false, cond, List, [], ◌∷◌, ◌++◌, Some, None, Option, refl, ◌∙◌, ap, sym, arith, inl, inr, ⊎_elim, subst}
 use Rattle.std.proofs.lemmas.Bool.{cases_Bool, cond-true, cond-false, false≢true, eqb-true, eq-eqb, ne_eqb, or_left, or_right, lt-ltb, le-ltb, false_from_ne_true}
 use Rattle.std.specs.Prelude.{◌==◌, ◌||◌, filter, nat_lt}
@@ -27,7 +27,7 @@ use Rattle.hek_laws.proofs.Futures.Acted.{unlisted}
 use Rattle.hek_laws.proofs.Futures.Precommits.{filter-out}
 use Rattle.hek_laws.proofs.Worlds.AsTold.{AsTold, committed-more}
 
--- who has an end time stands in the order with it
+-- a transaction that draws an end time is in the order with it
 drawn-listed : (t time : ℕ) (e : Event) (r : Reply) (ys : List (ℕ × ℕ)) → end_drawn t e r ≡ Some time → In (time, t) (drawn_by e r ++ ys)
 drawn-listed t time (event.Precommit x) (reply.Precommitted n) ys h =
     ⊎_elim (λ y. let s : Some n ≡ Some time = sym (cond-true (x == t) (Some n) None y) ∙ h in let m : n ≡ time = cc in inl (λ i. (sym m i, sym (eqb-true x t y) i)))
@@ -78,7 +78,7 @@ pub among-In : (xs : List ℕ) (x : ℕ) → In x xs → is_among xs x ≡ true
 among-In [] x i = absurd i
 among-In (y ∷ ys) x i = ⊎_elim (λ e. or_left _ _ (eq-eqb y x (sym e))) (λ r. or_right (y == x) _ (among-In ys x r)) i
 
--- ---- one more commits
+-- ---- one more transaction commits
 ends-filter : (x : ℕ × ℕ) (C : ℕ → Bool) (ys : List (ℕ × ℕ)) → EndsBefore x ys → EndsBefore x (filter (λ (y : ℕ × ℕ). C y.1) ys)
 ends-filter x C [] e = tt
 ends-filter x C (y ∷ ys) e =
@@ -152,7 +152,7 @@ pub record InOrder (clock : ℕ) (h : History) : Type 0 where
   pub committed_order : serial_order h ≡ filter (λ (x : ℕ × ℕ). has_committed h x.1) (order_in h)
 
 module _ (w : World) (h : History) (k : (u : ℕ) → AsTold h u (txn_in w.txns u)) (o : InOrder w.clock h) where
-  -- who has committed keeps its end time
+  -- a committed transaction keeps its end time
   kept-end : (e : Event) (r : Reply) (t : ℕ) → In t (committed_in h) → end_of t (h ++ (e, r) ∷ []) ≡ end_of t h
   kept-end e r t i =
       let d = (k t).drawn (or_right _ _ (among-In (committed_in h) t i)) in

@@ -36,7 +36,7 @@ pub option_or-none : (a : Option ℕ) → option_or a None ≡ a
 option_or-none None = refl
 option_or-none (Some n) = refl
 
--- a commit draws no end time and writes nothing
+-- a commit of t, which draws no end time and writes nothing
 abbrev pub commits : ℕ → List (Event × Reply)
 commits t = (event.Commit t, reply.Committed) ∷ []
 

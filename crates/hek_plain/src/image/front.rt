@@ -3,7 +3,7 @@ ghost use Rattle.std.specs.Prelude.{◌≡◌, ◌≤◌, length, IfOk};
 
 use hek_image::LoadFault;
 
-/// What is left of some bytes, and how many there were.
+/// The bytes that are left, and how many there were at first.
 #[derive(Drop)]
 pub(crate) struct Front<'a> {
     rest: &'a [u8],
@@ -18,7 +18,7 @@ impl<'a> Front<'a> {
         }
     }
 
-    /// Where what is left begins.
+    /// The offset at which the bytes that are left begin.
     pub(crate) fn at(&self) -> u64 {
         self.all.saturating_sub(self.rest.len()) as u64
     }

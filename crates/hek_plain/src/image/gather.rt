@@ -11,7 +11,7 @@ pub(crate) struct Gathered {
     pub(crate) failed: bool,
 }
 
-// The bytes to the end, but at most `limit`.
+// The bytes of a source to its end, but at most `limit`.
 pub(crate) fn gather<S: Source>(
     alloc: Global,
     source: &mut S,

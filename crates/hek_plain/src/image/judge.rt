@@ -11,8 +11,8 @@ use std::str;
 /// One byte more than the longest image has.
 const LIMIT: usize = 22_083_415;
 
-/// The schedule whose image the bytes of a source are, else the first fault. Where the source fails, a fault of the bytes before is
-/// told, and Read only where they have none but their end.
+/// The schedule whose image the bytes of a source are; otherwise the first fault. If the source fails, a fault of the
+/// bytes before comes first, and Read is the fault only if they have none, except that they may end too early.
 pub fn gathered_image<S: Source>(alloc: Global, source: &mut S) -> Result<Schedule, LoadFault>
     requires { S.failed source.old ≡ false }
 {
@@ -50,7 +50,7 @@ struct Counts {
     steps: u64,
 }
 
-// All that is counted, and nothing behind it.
+// Reads all items that the header counts, and checks that nothing follows them.
 fn items(
     front: &mut Front<'_>,
     version: u64,

@@ -31,7 +31,7 @@ impl<R: Read + Drop> FromRead<R> {
         }
     }
 
-    /// The reader, with what it has left.
+    /// The reader, with the bytes that it has left.
     pub fn into_inner(self) -> R
         ensures { result ≡ self.inner }
     {
@@ -83,7 +83,7 @@ impl<W: Write + Drop> FromWrite<W> {
         }
     }
 
-    /// The writer, with what it holds.
+    /// The writer, with the bytes that it holds.
     pub fn into_inner(self) -> W
         ensures { result ≡ self.inner }
     {

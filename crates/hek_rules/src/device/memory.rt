@@ -1,5 +1,4 @@
-//! Devices over memory, which can be made to give or take little at a time, to fail, or never to end: tests read and
-//! write by them.
+//! Devices over memory for tests: they can give or take a few bytes at a time, fail, or never end.
 ghost use Rattle.std.specs.Prelude.{◌≡◌, ◌<◌, ◌≤◌, [], ◌++◌, take, drop, length, true, false, IsTrue, Some, IfSome, is_none};
 ghost use Rattle.hek_rules.specs.Devices.{bytes_given};
 ghost use Rattle.hek_rules.specs.MemoryDevices.{is_finite, take_answer, after_take, put_count, after_put};
@@ -13,11 +12,11 @@ use std::marker::Model;
 pub enum Ending {
     Ends,
     Fails,
-    /// It gives zeros for ever.
+    /// The source gives zeros forever.
     Endless,
 }
 
-/// A source over bytes.
+/// A source of bytes in memory.
 #[derive(Drop)]
 pub struct MemorySource<'a> {
     rest: &'a [u8],
@@ -39,7 +38,7 @@ impl<'a> Model for MemorySource<'a> {
 }
 
 impl<'a> MemorySource<'a> {
-    /// A source that gives at most `piece` bytes a take.
+    /// A source that gives at most `piece` bytes per take.
     pub fn new(bytes: &'a [u8], piece: usize, ending: Ending) -> MemorySource<'a>
         requires { 0 < piece }
         ensures { result ≡ record { rest = bytes.now; piece = piece; ending = ending; given = 0; failed = false } }
@@ -53,14 +52,14 @@ impl<'a> MemorySource<'a> {
         }
     }
 
-    /// How many bytes it has given, at most `u64::MAX`.
+    /// How many bytes the source has given, at most `u64::MAX`.
     pub fn given(&self) -> u64
         ensures { result ≡ self.now.given }
     {
         self.given
     }
 
-    // What a take into a buffer of this length answers.
+    // The answer of a take into a buffer of this length.
     fn answer(&self, len: usize) -> Option<usize>
         ensures { result ≡ take_answer self.now len }
     {
@@ -78,7 +77,7 @@ impl<'a> MemorySource<'a> {
     }
 }
 
-// Fills the buffer with the bytes at the front, or with zeros where there are none, and answers the bytes behind.
+// Fills the buffer with the bytes at the front, or with zeros if there are none, and answers the bytes that are left.
 fn give<'a>(bytes: &'a [u8], buffer: &mut [u8]) -> &'a [u8]
     requires { 0 < length bytes.now → length buffer.old ≤ length bytes.now }
     ensures rest { result.now ≡ drop (length buffer.old) bytes.now }
@@ -124,7 +123,7 @@ impl<'a> Source for MemorySource<'a> {
     }
 }
 
-/// A sink of bytes, which fails where it has no room left.
+/// A sink for bytes in memory, which fails when it has no room left.
 #[derive(Drop)]
 pub struct MemorySink {
     bytes: Vec<u8>,
@@ -145,7 +144,7 @@ impl Model for MemorySink {
 }
 
 impl MemorySink {
-    /// A sink with room for `room` bytes, which takes at most `piece` bytes a put.
+    /// A sink with room for `room` bytes, which takes at most `piece` bytes per put.
     pub fn new(alloc: Global, room: usize, piece: usize) -> MemorySink
         requires { 0 < piece }
         ensures { result ≡ record { bytes = []; room = room; piece = piece; failed = false } }
@@ -173,7 +172,7 @@ impl Sink for MemorySink {
 
     ghost failed = { λ s. s.failed };
 
-    /// None where no byte of some has room, or memory was refused.
+    /// None if no byte of some has room, or if memory is refused.
     fn put(&mut self, bytes: &[u8]) -> Option<usize>
         requires { self.old.failed ≡ false }
         ensures within { IfSome result (λ n. n ≤ length bytes.now) }

@@ -2,14 +2,16 @@
 ghost use Rattle.std.specs.Prelude.{◌≡◌, ◌++◌, false, IsTrue, OnOk, is_err};
 
 use super::Sink;
+use thiserror::Error;
 
-/// Why not all bytes went to a sink: it has failed.
-#[derive(Clone, Copy, Debug, PartialEq, Eq)]
+/// The fault of a write: the sink has failed.
+#[derive(Clone, Copy, Debug, PartialEq, Eq, Error)]
 pub enum WriteFault {
+    #[error("cannot write")]
     Write,
 }
 
-/// Writes all the bytes. After a fault nothing is known of how many went out.
+/// Writes all the bytes. After a fault, any number of them may have been written.
 pub fn put_all<S: Sink>(sink: &mut S, bytes: &[u8]) -> Result<(), WriteFault>
     requires { S.failed sink.old ≡ false }
     ensures ok { OnOk result (IsTrue (S.tells sink.old) → S.holds sink.new ≡ S.holds sink.old ++ bytes.now) }

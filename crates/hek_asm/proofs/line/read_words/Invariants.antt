@@ -5,7 +5,8 @@ use Rattle.hek_rules.specs.Text.{words_of, ends_word}
 use Rattle.hek_asm.specs.Text.{has_foreign}
 use Rattle.hek_asm.proofs.line.read_words.Given as goal
 
--- the words before `start` are read, from it on none ends before `i`, and the bits tell of the bytes before `i`
+-- the words before `start` are read, no word that begins at `start` ends before `i`, and the bits are those of the
+-- bytes before `i`
 abbrev pub invariant-loop-i : goal.invariant-loop-i
 invariant-loop-i l =
     (l.start ≤ l.i)

@@ -3,7 +3,7 @@ use Rattle.std.specs.Fmt.{decimal}
 use Rattle.hek_asm.specs.Lines.{spaced}
 use Rattle.hek_asm.proofs.reply.put_members.Given as goal
 
--- with the members that are left it would hold what is asked
+-- with the members left, the sink would hold what the contract asks
 abbrev pub invariant-loop-member : goal.invariant-loop-member
 invariant-loop-member g l = record {
   works : g.S.Sink.failed l.sink ≡ false;

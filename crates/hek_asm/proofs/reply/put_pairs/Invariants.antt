@@ -3,7 +3,7 @@ use Rattle.hek_asm.specs.Lines.{spaced}
 use Rattle.hek_asm.specs.Trace.{pair_word}
 use Rattle.hek_asm.proofs.reply.put_pairs.Given as goal
 
--- with the pairs that are left it would hold what is asked
+-- with the pairs left, the sink would hold what the contract asks
 abbrev pub invariant-loop-pair : goal.invariant-loop-pair
 invariant-loop-pair g l = record {
   works : g.S.Sink.failed l.sink ≡ false;

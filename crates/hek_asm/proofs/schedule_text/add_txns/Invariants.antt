@@ -5,6 +5,6 @@ use Rattle.hek_asm.specs.Lines.{line_text}
 use Rattle.hek_asm.specs.Canonical.{txn_words}
 use Rattle.hek_asm.proofs.schedule_text.add_txns.Given as goal
 
--- with the lines that are left it would be what is asked
+-- with the lines left, the text would be what the contract asks
 abbrev pub invariant-loop-place : goal.invariant-loop-place
 invariant-loop-place l = string_bytes l.out ++ flat_map line_text (map txn_words (drop l.place l.schedule.txns)) ≡ string_bytes l.fn.out ++ flat_map line_text (map txn_words l.schedule.txns)

@@ -2,7 +2,7 @@ use Rattle.std.proofs.Common.{◌≡◌, ◌+◌, ◌++◌, false, drop, IsTrue}
 use Rattle.hek_asm.specs.Trace.{trace_from, trace}
 use Rattle.hek_asm.proofs.trace.write_trace.Given as goal
 
--- with the lines that are left it would hold what is asked
+-- with the lines left, the sink would hold what the contract asks
 abbrev pub invariant-loop-place : goal.invariant-loop-place
 invariant-loop-place g l = record {
   works : g.S.Sink.failed l.sink ≡ false;

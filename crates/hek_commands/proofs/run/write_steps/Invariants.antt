@@ -7,7 +7,8 @@ use Rattle.hek_commands.specs.Sent.{Passes}
 use Rattle.hek_commands.proofs.Stepping.{to_come}
 use Rattle.hek_commands.proofs.run.write_steps.Given as goal
 
--- the machine stands for the world after the steps so far; what is written, the lines gathered and those to come are the trace
+-- the machine represents the world after the steps so far; the bytes written, the lines gathered and those to come are
+-- the trace
 abbrev pub invariant-loop-place : goal.invariant-loop-place
 invariant-loop-place g l = record {
   stands : StandsFor l.machine (run (opening_of l.schedule 1) (take l.place l.steps));

@@ -3,7 +3,7 @@ use Rattle.hek_rules.specs.Table.{doom}
 use Rattle.hek_txn.specs.TxnTable.{dependents_of}
 use Rattle.hek_commit.proofs.dependents.doom_dependents.Given as goal
 
--- those before the index are to abort
+-- the dependents before the index have AbortNow
 abbrev pub invariant-loop-i : goal.invariant-loop-i
 invariant-loop-i l = record {
   frame : l.txns ≡ record l.fn.txns { cores = l.txns.cores };

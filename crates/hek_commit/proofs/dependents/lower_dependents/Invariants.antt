@@ -3,7 +3,7 @@ use Rattle.hek_txn.specs.TxnTable.{dependents_of}
 use Rattle.hek_commit.specs.Committed.{AreCounted, lowered}
 use Rattle.hek_commit.proofs.dependents.lower_dependents.Given as goal
 
--- those before the index are lowered
+-- the counters of the dependents before the index are lowered
 abbrev pub invariant-loop-i : goal.invariant-loop-i
 invariant-loop-i l = record {
   counted : AreCounted l.txns.commit_deps (drop l.i (dependents_of l.fn.txns l.t).items);

@@ -3,14 +3,14 @@ use Rattle.std.proofs.lemmas.List.{with_items_is}
 use Rattle.std.proofs.lemmas.List.Elements.{All-nil, All-cons}
 use Rattle.hek_rules.specs.Victim.{fewest}
 use Rattle.hek_rules.specs.Listing.{is_among}
-use Rattle.hek_deadlock.specs.Rows.{waits, level_at, marked, is_unmarked, reaches}
+use Rattle.hek_deadlock.specs.Rows.{waits_by_rows, level_at, marked, is_unmarked, reaches}
 use Rattle.hek_deadlock.proofs.Ready.{IsReady, IsNext, fewest-zero, ready_first, ready_next, levels_next, levels_stay}
 use Rattle.hek_deadlock.proofs.levels.levels_to.Goals as goal
 
 pub loop-level-init : goal.loop-level-init
 loop-level-init c = record {
   long = c.in_ok-levels.ensures.length;
-  levels = (λ x lt. c.in_ok-levels.ensures.none x ∙ sym (fewest-zero (waits c.args.waiters.now) (length c.args.waiters.now) c.args.target x));
+  levels = (λ x lt. c.in_ok-levels.ensures.none x ∙ sym (fewest-zero (waits_by_rows c.args.waiters.now) (length c.args.waiters.now) c.args.target x));
   ready = subst (λ (xs : List ℕ). IsReady c.args.waiters.now c.args.target 0 xs) (sym c.in_ok-frontier.ensures.items) (ready_first c.args.waiters.now c.args.target);
   range = rw c.in_ok-frontier.ensures.items (All-cons (λ y. y < length c.args.waiters.now) c.args.target [] c.requires.target (All-nil (λ y. y < length c.args.waiters.now)));
 }
@@ -43,7 +43,7 @@ returns c =
     let end : c.loop-level.level ≡ length c.args.waiters.now = omega arith in
     record {
       long = (let long : vec_len c.loop-level.levels ≡ length c.args.waiters.now = c.loop-level.invariant.long in omega arith);
-      least = subst (λ (k : ℕ). (x : ℕ) → x < length c.args.waiters.now → level_at c.loop-level.levels.items x ≡ fewest (waits c.args.waiters.now) (length c.args.waiters.now) c.args.target k x) end c.loop-level.invariant.levels;
+      least = subst (λ (k : ℕ). (x : ℕ) → x < length c.args.waiters.now → level_at c.loop-level.levels.items x ≡ fewest (waits_by_rows c.args.waiters.now) (length c.args.waiters.now) c.args.target k x) end c.loop-level.invariant.levels;
     }
 
 nil_of : (xs : List ℕ) → length xs ≡ 0 → xs ≡ []

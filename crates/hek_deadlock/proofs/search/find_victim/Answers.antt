@@ -1,6 +1,6 @@
 use Rattle.std.proofs.Common.{ℕ, suc, ◌≡◌, ◌<◌, ◌-◌, List, Option, Some, None, length, refl, ap, sym, ◌∙◌, arith, vec_len, eqb-true}
 use Rattle.hek_rules.specs.Victim.{victim_of}
-use Rattle.hek_deadlock.specs.Rows.{waits, level_at}
+use Rattle.hek_deadlock.specs.Rows.{waits_by_rows, level_at}
 use Rattle.hek_deadlock.proofs.Cycle.{level_read, same_answer, answer_with, no_answer, victim_below-zero, fewest-unwaited, unwaited}
 use Rattle.hek_deadlock.proofs.search.find_victim.Goals as goal
 
@@ -21,8 +21,8 @@ returns-in-Some c =
     let lt : k < length c.args.waiters.now = omega arith in
     let long : length c.in_ok-levels.levels.items ≡ length c.args.waiters.now = c.in_ok-levels.ensures.long in
     let level : level_at c.in_ok-levels.levels.items k ≡ Some c.in-Some.count = level_read c.in_ok-levels.levels.items k c.index.result.now (omega arith) c.index.ensures ∙ c.in-Some.is in
-    answer_with k (length c.args.waiters.now) c.in-Some.count (waits c.args.waiters.now) c.in_ok-members.members.items c.in_ok-members.ensures
-    (same_answer c.loop-candidate.candidate k (length c.args.waiters.now) (waits c.args.waiters.now) (Some c.in-Some.count) suc_is c.loop-candidate.invariant.same (sym (c.in_ok-levels.ensures.least k lt) ∙ level))
+    answer_with k (length c.args.waiters.now) c.in-Some.count (waits_by_rows c.args.waiters.now) c.in_ok-members.members.items c.in_ok-members.ensures
+    (same_answer c.loop-candidate.candidate k (length c.args.waiters.now) (waits_by_rows c.args.waiters.now) (Some c.in-Some.count) suc_is c.loop-candidate.invariant.same (sym (c.in_ok-levels.ensures.least k lt) ∙ level))
 
 pub loop-candidate-preserved : goal.loop-candidate-preserved
 loop-candidate-preserved c =
@@ -33,13 +33,13 @@ loop-candidate-preserved c =
     let level : level_at c.in_ok-levels.levels.items k ≡ None = level_read c.in_ok-levels.levels.items k c.index.result.now (omega arith) c.index.ensures ∙ c.in_default.is in
     record {
       below = omega arith;
-      same = same_answer c.loop-candidate.candidate k (length c.args.waiters.now) (waits c.args.waiters.now) None suc_is c.loop-candidate.invariant.same (sym (c.in_ok-levels.ensures.least k lt) ∙ level);
+      same = same_answer c.loop-candidate.candidate k (length c.args.waiters.now) (waits_by_rows c.args.waiters.now) None suc_is c.loop-candidate.invariant.same (sym (c.in_ok-levels.ensures.least k lt) ∙ level);
     }
 
 pub returns : goal.returns
 returns c =
     let zero_is : c.loop-candidate.candidate ≡ 0 = omega arith in
-    sym (victim_below-zero (waits c.args.waiters.now) (length c.args.waiters.now)) ∙ no_answer (waits c.args.waiters.now) (length c.args.waiters.now) c.loop-candidate.candidate zero_is c.loop-candidate.invariant.same
+    sym (victim_below-zero (waits_by_rows c.args.waiters.now) (length c.args.waiters.now)) ∙ no_answer (waits_by_rows c.args.waiters.now) (length c.args.waiters.now) c.loop-candidate.candidate zero_is c.loop-candidate.invariant.same
 
 pub loop-candidate-preserved-then-is_empty : goal.loop-candidate-preserved-then-is_empty
 loop-candidate-preserved-then-is_empty c =
@@ -51,6 +51,6 @@ loop-candidate-preserved-then-is_empty c =
     record {
       below = omega arith;
       same =
-          same_answer c.loop-candidate.candidate k (length c.args.waiters.now) (waits c.args.waiters.now) None suc_is c.loop-candidate.invariant.same
+          same_answer c.loop-candidate.candidate k (length c.args.waiters.now) (waits_by_rows c.args.waiters.now) None suc_is c.loop-candidate.invariant.same
           (fewest-unwaited c.args.waiters.now (length c.args.waiters.now) k (length c.args.waiters.now) k (unwaited c.args.waiters.now k c.index-waiters-candidate.result lt c.index-waiters-candidate.is short));
     }

@@ -1,7 +1,7 @@
 use Rattle.std.proofs.Common.{◌≡◌, ℕ, ◌+◌, List, ◌∷◌, ◌++◌, rules, ap, sym, subst, ◌∙◌, drop}
 use Rattle.std.proofs.lemmas.List.{at_drop_more}
 use Rattle.hek_debug.specs.declared.command.Command.{Command}
-use Rattle.hek_debug.specs.Sessions.{Session, after, stop_of}
+use Rattle.hek_debug.specs.Sessions.{Session, session_after, stop_of}
 use Rattle.hek_debug_command.specs.Debugged.{told_text, session_text}
 use Rattle.hek_commands.specs.Sent.{Passes}
 use Rattle.hek_debug_command.proofs.Sending.{passes-next}
@@ -16,7 +16,7 @@ loop-command-preserved g c =
     let s = c.loop-command.debugger in
     let command = c.command-item.result in
     let whole : List ℕ = session_text c.args.debugger.now commands in
-    let line : List ℕ = told_text (after s command) (stop_of s command) in
+    let line : List ℕ = told_text (session_after s command) (stop_of s command) in
     let rest : List ℕ = session_text c.do_one.new.debugger (drop (i + 1) commands) in
     let next : session_text s (drop i commands) ≡ line ++ rest =
     at_drop_more (session_text s) commands i command (search rules)

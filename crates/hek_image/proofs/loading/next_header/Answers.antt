@@ -2,7 +2,7 @@ use Rattle.std.proofs.Common.{◌≡◌, ◌<◌, ◌≤◌, ◌∙◌, ◌++◌
 use Rattle.hek_image.specs.declared.fault.LoadFault.{LoadFault}
 use Rattle.hek_image.specs.declared.fault.LoadFault.TheVariants as load
 use Rattle.hek_image.specs.Loading.{header_at}
-use Rattle.hek_image.specs.Places.{place_of}
+use Rattle.hek_image.specs.Places.{place_seen}
 use Rattle.hek_image.specs.Gives.{FieldFails}
 use Rattle.hek_image.proofs.Whole.{AreFew, header_steady}
 use Rattle.hek_image.proofs.Readers.{here}
@@ -16,8 +16,8 @@ returns-in-Ok-clause-takes g c told =
     let text = c.split_at.result.0.now in
     let few : length text ≤ 22 = omega (arith, c.split_at.ensures.front_len, so_far.few) in
     let parts = so_far.bytes told ∙ ap (λ (bs : List ℕ). bs ++ g.S.Source.left c.loop-schedule.source) (sym c.split_at.ensures.front) in
-    let exact = header_exact.exact (here 0 text) _ (place_of c.in-Ok.field-0-2) c.in-Ok.ensures.gives in
-    took_value AreFew 22 header_at header_steady 0 text _ (c.in-Ok.schedule, c.in-Ok.header) (place_of c.in-Ok.field-0-2) _ _ header_exact c.in-Ok.ensures.gives exact.1 parts few
+    let exact = header_exact.exact (here 0 text) _ (place_seen c.in-Ok.field-0-2) c.in-Ok.ensures.gives in
+    took_value AreFew 22 header_at header_steady 0 text _ (c.in-Ok.schedule, c.in-Ok.header) (place_seen c.in-Ok.field-0-2) _ _ header_exact c.in-Ok.ensures.gives exact.1 parts few
 
 pub returns-then-not-is_short-clause-takes : goal.returns-then-not-is_short-clause-takes
 returns-then-not-is_short-clause-takes g c told =

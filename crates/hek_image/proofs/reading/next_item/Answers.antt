@@ -2,7 +2,7 @@ use Rattle.std.proofs.Common.{◌≡◌, ◌<◌, ◌≤◌, ◌∙◌, ◌++◌
 use Rattle.hek_rules.specs.Plan.{Plan}
 use Rattle.hek_image.specs.declared.fault.LoadFault.{LoadFault}
 use Rattle.hek_image.specs.declared.fault.LoadFault.TheVariants as load
-use Rattle.hek_image.specs.Places.{place_of}
+use Rattle.hek_image.specs.Places.{place_seen}
 use Rattle.hek_image.specs.Gives.{FieldFails}
 use Rattle.hek_image.specs.Taking.{item_at, item_size}
 use Rattle.hek_image.proofs.Steady.{Any}
@@ -19,13 +19,13 @@ returns-in-Ok-clause-takes g c told =
     let text = c.split_at.result.0.now in
     let few : length text ≤ item_size i = omega (arith, c.split_at.ensures.front_len, so_far.few) in
     let parts = so_far.bytes told ∙ ap (λ (bs : List ℕ). bs ++ g.S.Source.left c.loop-after.source) (sym c.split_at.ensures.front) in
-    let gave = subst (λ (p : Plan). item_at i p (here c.args.at text) ≡ gave c.item_at.new.schedule (place_of c.in-Ok.after)) so_far.same c.in-Ok.ensures.gives in
-    took_value Any (item_size i) (item_at i c.args.schedule.now) (item_steady i c.args.schedule.now) c.args.at text _ c.in-Ok.after.at (place_of c.in-Ok.after) _ _ (item_exact i c.args.schedule.now) gave refl parts few
+    let gave = subst (λ (p : Plan). item_at i p (here c.args.at text) ≡ gave c.item_at.new.schedule (place_seen c.in-Ok.after)) so_far.same c.in-Ok.ensures.gives in
+    took_value Any (item_size i) (item_at i c.args.schedule.now) (item_steady i c.args.schedule.now) c.args.at text _ c.in-Ok.after.at (place_seen c.in-Ok.after) _ _ (item_exact i c.args.schedule.now) gave refl parts few
 
 pub returns-in-Ok-clause-at : goal.returns-in-Ok-clause-at
 returns-in-Ok-clause-at g c =
     let i = c.args.item in
-    let exact = (item_exact i c.loop-after.schedule).exact (here c.args.at c.split_at.result.0.now) c.item_at.new.schedule (place_of c.in-Ok.after) c.in-Ok.ensures.gives in
+    let exact = (item_exact i c.loop-after.schedule).exact (here c.args.at c.split_at.result.0.now) c.item_at.new.schedule (place_seen c.in-Ok.after) c.in-Ok.ensures.gives in
     omega (arith, exact.1, c.requires.size.1)
 
 pub returns-then-not-is_short-clause-takes : goal.returns-then-not-is_short-clause-takes

@@ -3,7 +3,7 @@ use Rattle.std.specs.Int.{w8}
 use Rattle.hek_image.specs.declared.fault.LoadFault.{LoadFault}
 use Rattle.hek_image.specs.declared.fault.LoadFault.TheVariants as load
 use Rattle.hek_image.specs.Loading.{number_within}
-use Rattle.hek_image.specs.Places.{place_of}
+use Rattle.hek_image.specs.Places.{place_seen}
 use Rattle.hek_image.specs.Gives.{FieldFails}
 use Rattle.hek_image.specs.Taking.{Takes}
 use Rattle.hek_image.proofs.Steady.{within_steady}
@@ -46,7 +46,7 @@ returns-clause-takes g c told =
     let low = c.args.low in
     let high = c.args.high in
     let parts = all_held c.in_ok-take_more.field-0 buffer _ _ (omega (arith, one, c.in_ok-take_more.ensures.moves)) (c.in_ok-take_more.ensures.gives told) in
-    took_value (λ (n : ℕ). n ≤ high) 1 (number_within low high w8) (within_steady low high w8) c.args.at buffer (λ (n : ℕ). (n, c.args.at + 1)) c.in_ok-number.number (place_of c.in_ok-number.field-0-1) _ _ (within_exact low high w8)
+    took_value (λ (n : ℕ). n ≤ high) 1 (number_within low high w8) (within_steady low high w8) c.args.at buffer (λ (n : ℕ). (n, c.args.at + 1)) c.in_ok-number.number (place_seen c.in_ok-number.field-0-1) _ _ (within_exact low high w8)
     c.in_ok-number.ensures.gives
-    ((within_exact low high w8).exact (here c.args.at buffer) c.in_ok-number.number (place_of c.in_ok-number.field-0-1) c.in_ok-number.ensures.gives).1
+    ((within_exact low high w8).exact (here c.args.at buffer) c.in_ok-number.number (place_seen c.in_ok-number.field-0-1) c.in_ok-number.ensures.gives).1
     parts (omega (arith, one))

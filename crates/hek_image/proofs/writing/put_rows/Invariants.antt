@@ -3,7 +3,7 @@ use Rattle.std.specs.List.{flat_map}
 use Rattle.hek_image.specs.Schedules.{row_bytes}
 use Rattle.hek_image.proofs.writing.put_rows.Given as goal
 
--- with the rows that are left it would hold what is asked
+-- with the rows left, the sink would hold what the contract asks
 abbrev pub invariant-loop-place : goal.invariant-loop-place
 invariant-loop-place g l = record {
   works : g.S.Sink.failed l.sink ≡ false;

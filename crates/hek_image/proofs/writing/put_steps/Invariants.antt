@@ -3,7 +3,7 @@ use Rattle.std.specs.List.{flat_map}
 use Rattle.hek_image.specs.Schedules.{step_bytes}
 use Rattle.hek_image.proofs.writing.put_steps.Given as goal
 
--- with the steps that are left it would hold what is asked
+-- with the steps left, the sink would hold what the contract asks
 abbrev pub invariant-loop-event : goal.invariant-loop-event
 invariant-loop-event g l = record {
   works : g.S.Sink.failed l.sink ≡ false;

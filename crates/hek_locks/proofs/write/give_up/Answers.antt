@@ -6,7 +6,7 @@ use Rattle.hek_txn.specs.TxnLemmas.{among_flipped}
 use Rattle.hek_txn.proofs.Queued.{none_out}
 use Rattle.hek_locks.proofs.write.give_up.Goals as goal
 
--- no readers, so t isn't one
+-- a version without readers is not read-locked by t
 pub returns-else-readers-gt0-clause-reads : goal.returns-else-readers-gt0-clause-reads
 returns-else-readers-gt0-clause-reads c =
     let none : is_among (read_set_of c.args.txns.now c.args.t).items c.args.v ≡ false = search rules in

@@ -1,6 +1,7 @@
 use Rattle.std.proofs.Common.{List, ℕ}
 use Rattle.hek_rules.specs.World.{World}
-use Rattle.hek_why.specs.Stops.{purpose_of, target_of, first_stop}
+use Rattle.hek_why.specs.Stops.{first_stop}
+use Rattle.hek_rules.specs.Aims.{purpose_of, target_of}
 use Rattle.hek_why.proofs.Lists.{Left}
 use Rattle.hek_why.proofs.stops.first_stop.Given as goal
 

@@ -5,7 +5,7 @@ use Rattle.hek_rules.specs.Visibility.{is_seen}
 use Rattle.hek_rules.specs.Walk.{behind, last}
 use Rattle.hek_store.specs.Places.{key_versions_left}
 use Rattle.hek_visible.specs.Seen.{version_seen}
-use Rattle.hek_machine.specs.declared.walks.Aim.TheVariants.{ToRead}
+use Rattle.hek_rules.specs.declared.event.Aim.TheVariants.{ToRead}
 use Rattle.hek_machine.specs.Judgements.{looks, seen_among}
 use Rattle.hek_machine.proofs.Along.{last_of, last_of_all, last_more, below_more}
 use Rattle.hek_machine.proofs.WalkRules.{each_judged, first_more, first_refused, by_hidden}

@@ -4,14 +4,14 @@ use Rattle.std.specs.List.{All}
 use Rattle.hek_rules.specs.World.{World}
 use Rattle.hek_rules.specs.Walk.{behind, last}
 use Rattle.hek_store.specs.Places.{key_versions_left}
-use Rattle.hek_machine.specs.declared.walks.Aim.TheVariants.{ToRead}
+use Rattle.hek_rules.specs.declared.event.Aim.TheVariants.{ToRead}
 use Rattle.hek_machine.specs.Judgements.{seen_among}
 use Rattle.hek_machine.specs.Stands.{StandsFor}
 use Rattle.hek_machine.proofs.Along.{last_of}
 use Rattle.hek_machine.proofs.WalkRules.{each_judged}
 use Rattle.hek_machine.proofs.engine.Engine.judge_along.Given as goal
 
--- what is left is judged behind the effects so far, and the last one seen so far is kept
+-- the versions left, judged after the effects so far, give the walk; the last version seen so far is kept
 abbrev pub invariant-loop-v : goal.invariant-loop-v
 invariant-loop-v l = record {
   left : (w : World) → StandsFor l.self w → behind l.effects.items (each_judged w l.t ToRead (key_versions_left l.v-iterator)) ≡ behind l.fn.effects.items (each_judged w l.t ToRead (key_versions_left l.versions));

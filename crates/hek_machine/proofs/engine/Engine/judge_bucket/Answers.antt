@@ -4,7 +4,7 @@ use Rattle.std.specs.List.{All}
 use Rattle.hek_rules.specs.Visibility.{is_seen}
 use Rattle.hek_store.specs.Places.{versions_left}
 use Rattle.hek_visible.specs.Seen.{version_seen}
-use Rattle.hek_machine.specs.declared.walks.Aim.TheVariants.{ToRead}
+use Rattle.hek_rules.specs.declared.event.Aim.TheVariants.{ToRead}
 use Rattle.hek_machine.specs.Judgements.{looks, seen_among}
 use Rattle.hek_machine.proofs.Along.{listed_more, all_below_more}
 use Rattle.hek_machine.proofs.WalkRules.{first_more, first_refused, by_hidden}

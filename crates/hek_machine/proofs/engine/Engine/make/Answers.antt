@@ -2,7 +2,7 @@ use Rattle.std.proofs.lemmas.Result.{IfOk-weaker}
 use Rattle.hek_rules.specs.World.{World}
 use Rattle.hek_rules.specs.Table.{Outcome}
 use Rattle.hek_machine.specs.Stands.{IsRule, StillShows}
-use Rattle.hek_machine.specs.Judgements.{purpose_of}
+use Rattle.hek_rules.specs.Aims.{purpose_of}
 use Rattle.hek_rules.specs.declared.reply.Reply.TheVariants.{Done}
 use Rattle.hek_machine.specs.Walked.{told}
 use Rattle.hek_machine.specs.Written.{key_walk, after_making}

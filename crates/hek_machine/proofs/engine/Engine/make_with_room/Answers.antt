@@ -1,5 +1,5 @@
 use Rattle.std.proofs.Common.{◌∙◌, refl, ap, sym, subst, ◌<◌, ◌^◌, ◌%◌}
-use Rattle.hek_machine.specs.Judgements.{purpose_of}
+use Rattle.hek_rules.specs.Aims.{purpose_of}
 use Rattle.hek_machine.specs.Written.{after_making}
 use Rattle.hek_machine.proofs.KeyRules.{bucket_places, key_refused, key_made, walk_makes, room_left}
 use Rattle.hek_machine.proofs.engine.Engine.make_with_room.Goals as goal

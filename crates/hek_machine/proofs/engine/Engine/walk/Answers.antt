@@ -1,6 +1,7 @@
 use Rattle.std.proofs.lemmas.Result.{IfOk-weaker}
 use Rattle.hek_rules.specs.Walk.{walk, behind}
-use Rattle.hek_machine.specs.Judgements.{IsShown, purpose_of, verdict}
+use Rattle.hek_machine.specs.Judgements.{IsShown, verdict}
+use Rattle.hek_rules.specs.Aims.{purpose_of}
 use Rattle.hek_machine.proofs.WalkRules.{walked, each_judged}
 use Rattle.hek_machine.proofs.engine.Engine.walk.Goals as goal
 

@@ -2,7 +2,7 @@ use Rattle.std.proofs.Common.{sym, ◌∙◌, ◌%◌, refl}
 use Rattle.std.proofs.lemmas.Result.{IfOk-weaker}
 use Rattle.hek_rules.specs.Walk.{ToRead}
 use Rattle.hek_store.specs.Places.{key_versions_left}
-use Rattle.hek_machine.specs.declared.walks.Aim.TheVariants as aims
+use Rattle.hek_rules.specs.declared.event.Aim.TheVariants as aims
 use Rattle.hek_machine.specs.Judgements.{IsShown, verdict}
 use Rattle.hek_machine.specs.Written.{key_walk}
 use Rattle.hek_machine.proofs.KeyRules.{bucket_places, walk-enough, seen-target}

@@ -3,7 +3,7 @@ use Rattle.std.proofs.lemmas.Result.{IfOk-weaker}
 use Rattle.std.specs.List.{All}
 use Rattle.hek_rules.specs.Walk.{ToRead, walk, of_bucket}
 use Rattle.hek_store.specs.Places.{versions_left}
-use Rattle.hek_machine.specs.declared.walks.Aim.TheVariants as aims
+use Rattle.hek_rules.specs.declared.event.Aim.TheVariants as aims
 use Rattle.hek_machine.specs.Judgements.{IsShown, verdict}
 use Rattle.hek_machine.proofs.KeyPlaces.{of_bucket-below}
 use Rattle.hek_machine.proofs.RuleWalks.{allowed_by}

@@ -1,6 +1,6 @@
 use Rattle.std.proofs.lemmas.Result.{IfOk-weaker}
 use Rattle.hek_rules.specs.declared.reply.Reply.{Reply}
-use Rattle.hek_machine.specs.Judgements.{purpose_of}
+use Rattle.hek_rules.specs.Aims.{purpose_of}
 use Rattle.hek_machine.specs.Stands.{IsRule}
 use Rattle.hek_machine.specs.Walked.{told}
 use Rattle.hek_machine.specs.Written.{key_walk, after_walk}

@@ -1,5 +1,5 @@
 use Rattle.hek_rules.specs.Walk.{walk}
-use Rattle.hek_machine.specs.Judgements.{purpose_of}
+use Rattle.hek_rules.specs.Aims.{purpose_of}
 use Rattle.hek_machine.proofs.RuleWalks.{allowed_by}
 use Rattle.hek_machine.proofs.engine.Engine.walk_over.Goals as goal
 

@@ -4,7 +4,7 @@ use Rattle.hek_rules.specs.World.{World}
 use Rattle.hek_laws.specs.Runs.{IsPlaced}
 use Rattle.hek_machine.specs.declared.engine.Engine.{Engine}
 use Rattle.hek_machine.specs.Stands.{StandsFor}
-use Rattle.hek_machine.specs.Steps.{IsSmall, IsStep}
+use Rattle.hek_machine.specs.Steps.{IsSmall, IsMachineStep}
 use Rattle.hek_machine.proofs.SmallReplies.{small_replies}
 use Rattle.hek_machine.specs.Observed.{StandsAs}
 use Rattle.hek_machine.proofs.RunRules.{ordered_after, buckets_after, steps_of_rows, stands_on_err}
@@ -25,7 +25,7 @@ returns-clause-small c =
 
 pub returns-clause-step : goal.returns-clause-step
 returns-clause-step c =
-    subst (λ (m : Engine). IfOk c.step.result (IsStep c.args.event m c.step.new.self)) c.self.view_is
+    subst (λ (m : Engine). IfOk c.step.result (IsMachineStep c.args.event m c.step.new.self)) c.self.view_is
     (steps_of_rows _ c.self.inside.engine c.step.new.self c.step.result
     (subst (λ (m : Engine). IsPlaced (length m.buckets) c.args.event) (sym c.self.view_is) c.requires) c.step.ensures.rule)
 

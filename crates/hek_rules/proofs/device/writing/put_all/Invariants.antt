@@ -1,7 +1,7 @@
 use Rattle.std.proofs.Common.{◌≡◌, ◌++◌, false, length, IsTrue}
 use Rattle.hek_rules.proofs.device.writing.put_all.Given as goal
 
--- with the rest it would hold what is asked
+-- the sink with the rest of the bytes would hold all of them
 abbrev pub invariant-loop-rest : goal.invariant-loop-rest
 invariant-loop-rest g l = record {
   works : g.S.Sink.failed l.sink ≡ false;

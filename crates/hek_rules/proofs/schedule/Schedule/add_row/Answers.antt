@@ -10,7 +10,7 @@ use Rattle.hek_rules.proofs.schedule.Schedule.add_row.Goals as goal
 fits : (c : goal.In_ok-insert) → IsTrue (row_fits (plan_of c.self.inside) c.args.key)
 fits c = subst (λ (p : Plan). IsTrue (row_fits p c.args.key)) (sym c.self.view_is) c.requires
 
--- the new row is the last
+-- the new row is the last in the list
 rows : (c : goal.In_ok-insert) → c.insert.new.self.entries ≡ c.self.inside.rows.entries ++ (c.args.key, c.args.value) ∷ []
 rows c = c.in_ok-insert.ensures.entries ∙ insert_entry-new nat_eq c.self.inside.rows c.args.key c.args.value (absent (nat_eq c.args.key) c.self.inside.rows.entries (row_fits_parts (plan_of c.self.inside) c.args.key (fits c)).1)
 

@@ -13,7 +13,7 @@ use Rattle.hek_rules.proofs.schedule.Schedule.add_txn.Goals as goal
 fits : (c : goal.In_ok-insert) → IsTrue (txn_fits (plan_of c.self.inside) c.args.name.now)
 fits c = subst (λ (p : Plan). IsTrue (txn_fits p c.args.name.now)) (sym c.self.view_is) c.requires
 
--- the new name is the last
+-- the new name is the last in the list
 names : (c : goal.In_ok-insert) → texts string_bytes c.insert.new.self.entries ≡ texts string_bytes c.self.inside.names.entries ++ (c.args.name.now, c.args.level) ∷ []
 names c =
     let es = c.self.inside.names.entries in

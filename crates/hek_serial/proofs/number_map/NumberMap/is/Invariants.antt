@@ -1,7 +1,7 @@
 use Rattle.std.proofs.Common.{◌≡◌, ◌≤◌, ◌++◌, take, length}
 use Rattle.hek_serial.proofs.number_map.NumberMap.is.Given as goal
 
--- the entries are the pairs so far and the rest
+-- the entries are the pairs compared so far and those left
 abbrev pub invariant-loop-key : goal.invariant-loop-key
 invariant-loop-key l =
     record {

@@ -1,9 +1,0 @@
-use Rattle.std.proofs.Common.{◌≡◌, ◌++◌}
-use Rattle.hek_store.specs.Places.{key_versions_left}
-use Rattle.hek_machine.proofs.key_walks.list.Given as goal
-
--- what is listed, and what is left
-abbrev pub invariant-loop-v : goal.invariant-loop-v
-invariant-loop-v l = record {
-  listed : l.versions.items ++ key_versions_left l.v-iterator ≡ key_versions_left l.found;
-}

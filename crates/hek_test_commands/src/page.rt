@@ -1,3 +1,0 @@
-//! The data of pages against the trace and the states that `hek run` prints.
-mod pages;
-mod shown;

@@ -1,7 +1,0 @@
-use Rattle.std.specs.List.{AllWithin}
-use Rattle.hek_laws.specs.Runs.{IsPlaced}
-use Rattle.hek_test_machine.proofs.machine.runs.assert_all_placed.Given as goal
-
--- those before the index are placed
-abbrev pub invariant-loop-event : goal.invariant-loop-event
-invariant-loop-event g l = AllWithin (IsPlaced l.schedule.buckets) l.events 0 l.event-index

@@ -1,5 +1,0 @@
-use Rattle.hek_threads.proofs.Lawful.{ends_of}
-use Rattle.hek_threads.proofs.laws.begin_first_end_last.Goals as goal
-
-pub returns : goal.returns
-returns c = ends_of

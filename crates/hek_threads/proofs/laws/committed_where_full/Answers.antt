@@ -1,5 +1,0 @@
-use Rattle.hek_threads.proofs.Lawful.{full_where_committed}
-use Rattle.hek_threads.proofs.laws.committed_where_full.Goals as goal
-
-pub returns : goal.returns
-returns c = full_where_committed

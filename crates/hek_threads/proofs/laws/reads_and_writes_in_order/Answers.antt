@@ -1,5 +1,0 @@
-use Rattle.hek_threads.proofs.Lawful.{order_of}
-use Rattle.hek_threads.proofs.laws.reads_and_writes_in_order.Goals as goal
-
-pub returns : goal.returns
-returns c = order_of

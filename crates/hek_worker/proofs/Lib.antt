@@ -1,0 +1,11 @@
+pub mod Runs
+pub mod Replies
+pub mod Transcripts
+pub mod Wholes
+pub mod Pieces
+pub mod Works
+pub mod Fulls
+pub mod Counts
+pub mod Ends
+pub mod Lawful
+pub mod AsTranscripts
