@@ -10,10 +10,10 @@ use Rattle.hek_commands.proofs.Stepping.{first_placed, first_declared, first_ste
 use Rattle.hek_commands.proofs.run.write_state.Goals as goal
 
 pub write_steps-requires-clause-placed : goal.write_steps-requires-clause-placed
-write_steps-requires-clause-placed g c = first_placed c.args.schedule.now c.steps.result.now c.first_steps-steps.result.now c.args.limit c.buckets.ensures.plan c.steps.ensures c.first_steps-steps.ensures
+write_steps-requires-clause-placed g c = first_placed c.args.schedule.now c.steps.result.now c.first_steps-steps.result.now c.args.limit c.known.ensures c.steps.ensures c.first_steps-steps.ensures
 
 pub write_steps-requires-clause-declared : goal.write_steps-requires-clause-declared
-write_steps-requires-clause-declared g c = first_declared c.args.schedule.now c.steps.result.now c.first_steps-steps.result.now c.args.limit c.buckets.ensures.plan c.steps.ensures c.first_steps-steps.ensures
+write_steps-requires-clause-declared g c = first_declared c.args.schedule.now c.steps.result.now c.first_steps-steps.result.now c.args.limit c.known.ensures c.steps.ensures c.first_steps-steps.ensures
 
 pub returns-clause-written : goal.returns-clause-written
 returns-clause-written g c =
