@@ -150,6 +150,7 @@ fn waits(
     reserve_waiter(txns, h)?;
     let t = declared(txns, waiter)?;
     only_if(txns.count() < 1_000 && txns.waits(t) < 1_000)?;
+    only_if(buckets.holders(b) == [h].as_slice())?;
     wait_for_holders(buckets, txns, b, t);
     Ok(Answer::Done)
 }
