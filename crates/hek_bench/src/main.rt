@@ -1,14 +1,16 @@
 //! Times each phase of a schedule's way: from its text to an image and back, to a trace, and from the trace to a
-//! verdict. The schedule is a small one of the program, or the text on standard input if the argument is `-`. A second
-//! argument says how often each phase is done in a row, so that it finds its memory warm; the best time counts. Times
+//! verdict. The schedule is a small one of the program, the text on standard input if the argument is `-`, or the largest one
+//! if it is `largest`. A second argument says how often each phase is done in a row, so that it finds its memory warm; the best time counts. Times
 //! go to standard error, so that standard output is the same at any speed.
 #![tactic(auto)]
 
 mod laps;
+mod largest;
 mod phases;
 
 use hek_compare::Fault;
 use laps::Laps;
+use largest::largest_text;
 use phases::{Passed, pass};
 use std::alloc::Global;
 use std::env::Env;
@@ -23,23 +25,46 @@ const SMALL: &str =
 /// The most turns of a phase.
 const MOST: u64 = 1_000;
 
-/// How often each phase is done, and whether the text comes from standard input.
-fn asked<R: Env + Alloc<A = Global>>(rt: &R) -> Result<(bool, u64), Fault> {
+/// Where the text comes from.
+#[derive(Clone, Copy)]
+enum Origin {
+    Small,
+    Largest,
+    Input,
+}
+
+impl Origin {
+    fn named(word: &str) -> Origin {
+        match word {
+            "-" => Origin::Input,
+            "largest" => Origin::Largest,
+            _ => Origin::Small,
+        }
+    }
+}
+
+/// Where the text comes from, and how often each phase is done.
+fn asked<R: Env + Alloc<A = Global>>(rt: &R) -> Result<(Origin, u64), Fault> {
     let mut words = env::args(rt)?.skip(1);
-    let is_given = words.next().is_some_and(|word| word.as_str() == "-");
+    let origin = match words.next() {
+        None => Origin::Small,
+        Some(word) => Origin::named(word.as_str()),
+    };
     let times = match words.next() {
         None => 1,
         Some(word) => word.parse().unwrap_or(1),
     };
-    Ok((is_given, times.clamp(1, MOST)))
+    Ok((origin, times.clamp(1, MOST)))
 }
 
-fn text_of<R: Read + Drop>(alloc: Global, is_given: bool, mut input: R) -> Result<Vec<u8>, Fault> {
+fn text_of<R: Read + Drop>(alloc: Global, origin: Origin, mut input: R) -> Result<Vec<u8>, Fault> {
     let mut text = Vec::new(alloc);
-    if is_given {
-        input.read_to_end(&mut text)?;
-    } else {
-        text.extend_from_slice(SMALL.as_bytes())?;
+    match origin {
+        Origin::Small => text.extend_from_slice(SMALL.as_bytes())?,
+        Origin::Input => {
+            input.read_to_end(&mut text)?;
+        }
+        Origin::Largest => return largest_text(alloc),
     }
     Ok(text)
 }
@@ -53,8 +78,8 @@ fn best_of(rt: &HostRuntime, text: &str, times: u64) -> Result<Passed, Fault> {
 }
 
 fn bench(rt: &HostRuntime) -> Result<Passed, Fault> {
-    let (is_given, times) = asked(rt)?;
-    let bytes = text_of(rt.alloc(), is_given, rt.stdin())?;
+    let (origin, times) = asked(rt)?;
+    let bytes = text_of(rt.alloc(), origin, rt.stdin())?;
     let Ok(text) = str::from_utf8(bytes.as_slice()) else {
         return Err(Fault::NotText);
     };
@@ -63,8 +88,16 @@ fn bench(rt: &HostRuntime) -> Result<Passed, Fault> {
 
 fn main(rt: HostRuntime) -> ExitCode {
     match bench(&rt) {
-        Ok(Passed { steps, rows }) => {
-            let _ = println!(rt; "{steps} steps, {rows} rows at the end");
+        Ok(passed) => {
+            let (steps, loaded, rows) = (passed.steps, passed.loaded, passed.rows);
+            let verdict = if passed.is_serial {
+                "serial"
+            } else {
+                "not serial"
+            };
+            let _ = println!(rt;
+                "{steps} steps, {loaded} of its image, {rows} rows at the end, {verdict}"
+            );
             ExitCode::SUCCESS
         }
         Err(fault) => {

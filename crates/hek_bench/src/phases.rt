@@ -10,17 +10,20 @@ use hek_asm::{assemble_text, canonical, read_trace, write_trace};
 use hek_compare::Fault;
 use hek_image::{load_image, write_image};
 use hek_machine::Machine;
-use hek_rules::{Ending, FromWrite, MemorySource, NoMemory, Reply, Schedule, Transcript};
+use hek_rules::{Ending, FromWrite, MemorySource, NoMemory, Reply, Schedule, Transcript, Verdict};
 use hek_serial::check;
 use std::alloc::Global;
 use std::str;
 use std::time::Instant;
 
-/// What a pass went through: the steps of the schedule, and the committed rows after them.
+/// What a pass went through: the steps of the schedule, those of the schedule that its image gave back, the committed rows at the end,
+/// and whether the trace is serial.
 #[derive(Clone, Copy, Debug)]
 pub struct Passed {
     pub steps: usize,
+    pub loaded: usize,
     pub rows: usize,
+    pub is_serial: bool,
 }
 
 /// Does all phases, over a text.
@@ -63,16 +66,18 @@ fn pass_schedule(
 ) -> Result<Passed, Fault> {
     write_text(rt, alloc, schedule, laps)?;
     let image = image_of(rt, alloc, schedule, laps)?;
-    load(rt, alloc, image.as_slice(), laps)?;
+    let loaded = load(rt, alloc, image.as_slice(), laps)?;
     let (replies, rows) = replies_of(rt, alloc, schedule, laps)?;
     let trace = trace_of(rt, alloc, schedule, replies.as_slice(), laps)?;
     let Ok(trace) = str::from_utf8(trace.as_slice()) else {
         return Err(Fault::NotText);
     };
-    judge(rt, alloc, schedule, trace, laps)?;
+    let verdict = judge(rt, alloc, schedule, trace, laps)?;
     Ok(Passed {
         steps: schedule.steps().len(),
+        loaded,
         rows,
+        is_serial: verdict == Verdict::Serial,
     })
 }
 
@@ -137,12 +142,13 @@ fn image_once(
     Ok(sink.into_inner())
 }
 
-fn load(rt: &HostRuntime, alloc: Global, image: &[u8], laps: &mut Laps) -> Result<(), Fault> {
-    let mut _schedule = load_once(rt, alloc, image, laps)?;
+/// How many steps the schedule of an image has.
+fn load(rt: &HostRuntime, alloc: Global, image: &[u8], laps: &mut Laps) -> Result<usize, Fault> {
+    let mut schedule = load_once(rt, alloc, image, laps)?;
     for _ in 1..laps.times() {
-        _schedule = load_once(rt, alloc, image, laps)?;
+        schedule = load_once(rt, alloc, image, laps)?;
     }
-    Ok(())
+    Ok(schedule.steps().len())
 }
 
 fn load_once(
@@ -300,12 +306,12 @@ fn judge(
     schedule: &Schedule,
     trace: &str,
     laps: &mut Laps,
-) -> Result<(), Fault> {
-    let mut told = transcript_of(rt, alloc, schedule, trace, laps)?;
+) -> Result<Verdict, Fault> {
+    let mut history = transcript_of(rt, alloc, schedule, trace, laps)?;
     for _ in 1..laps.times() {
-        told = transcript_of(rt, alloc, schedule, trace, laps)?;
+        history = transcript_of(rt, alloc, schedule, trace, laps)?;
     }
-    check_told(rt, alloc, &told, laps)
+    verdict_of(rt, alloc, &history, laps)
 }
 
 fn transcript_of(
@@ -321,16 +327,27 @@ fn transcript_of(
     Ok(told)
 }
 
-fn check_told(
+fn verdict_of(
     rt: &HostRuntime,
     alloc: Global,
-    told: &Transcript,
+    history: &Transcript,
     laps: &mut Laps,
-) -> Result<(), Fault> {
-    for _ in 0..laps.times() {
-        let start = Instant::now(rt)?;
-        let _verdict = check(alloc, told)?;
-        laps.done(rt, "check", &start)?;
+) -> Result<Verdict, Fault> {
+    let mut verdict = verdict_once(rt, alloc, history, laps)?;
+    for _ in 1..laps.times() {
+        verdict = verdict_once(rt, alloc, history, laps)?;
     }
-    Ok(())
+    Ok(verdict)
+}
+
+fn verdict_once(
+    rt: &HostRuntime,
+    alloc: Global,
+    history: &Transcript,
+    laps: &mut Laps,
+) -> Result<Verdict, Fault> {
+    let start = Instant::now(rt)?;
+    let verdict = check(alloc, history)?;
+    laps.done(rt, "check", &start)?;
+    Ok(verdict)
 }

@@ -1,6 +1,7 @@
 //! Hostile inputs, each tried against the answer that a rule gives.
 #![tactic(auto)]
 
+mod crowd;
 mod histories;
 mod images;
 mod readers;
@@ -32,6 +33,7 @@ fn all(rt: &HostRuntime, alloc: Global) -> io::Result<u64> {
         ("changed trace lines", traces::changed_lines(alloc)),
         ("raised replies", histories::raised_replies(alloc)),
         ("limits of readers", readers::limits(alloc)),
+        ("1,000,000 events", crowd::million_events(alloc)),
     ] {
         println!(rt; "{name}: {tally}")?;
         wrong = wrong.saturating_add(tally.wrong);

@@ -7,6 +7,7 @@ use crate::calls::rules::{PlanCalls, TextCalls};
 use crate::calls::session::Session;
 use crate::calls::word::WordCalls;
 use crate::fault::LineFault;
+use crate::repeat::{line_at, repeated};
 use crate::stage::{Stage, is_blank, play};
 use crate::tally::{Place, Tally};
 use hek_asm::{AsmFault, assemble_text};
@@ -52,10 +53,27 @@ fn play_block(
             };
             return scene.play(rt, tally);
         }
-        opening.push_str(line)?;
-        opening.push('\n')?;
+        push_opening(rt.alloc(), &mut opening, line)?;
     }
     tell_all(rt, first, lines, tally)
+}
+
+/// A line of a schedule, or the lines that it is.
+fn push_opening(alloc: Global, opening: &mut String, line: &str) -> io::Result<()> {
+    let Some(repeated) = repeated(line) else {
+        return push_line(opening, line);
+    };
+    for number in repeated.from..=repeated.to {
+        let line = line_at(alloc, repeated.line, number)?;
+        push_line(opening, line.as_str())?;
+    }
+    Ok(())
+}
+
+fn push_line(text: &mut String, line: &str) -> io::Result<()> {
+    text.push_str(line)?;
+    text.push('\n')?;
+    Ok(())
 }
 
 /// Each line that says something is wrong: no line `scene` follows.

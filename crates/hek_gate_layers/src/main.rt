@@ -7,6 +7,7 @@ mod block;
 mod calls;
 mod fault;
 mod quoted;
+mod repeat;
 mod stage;
 mod tally;
 mod words;

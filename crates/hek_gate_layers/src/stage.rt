@@ -1,6 +1,7 @@
 //! Scenes: what the calls of a block are made on.
 use crate::answer::Answer;
 use crate::fault::LineFault;
+use crate::repeat::{Repeated, line_at, repeated};
 use crate::tally::{Place, Tally};
 use std::alloc::Global;
 use std::io;
@@ -56,6 +57,21 @@ fn play_line<S: Stage>(
     }
 }
 
+/// Makes the call of a line with each of its numbers.
+fn play_each<S: Stage>(
+    rt: &HostRuntime,
+    stage: &mut S,
+    place: Place<'_>,
+    repeated: Repeated<'_>,
+    tally: &mut Tally,
+) -> io::Result<()> {
+    for number in repeated.from..=repeated.to {
+        let line = line_at(rt.alloc(), repeated.line, number)?;
+        play_line(rt, stage, place, line.as_str(), tally)?;
+    }
+    Ok(())
+}
+
 /// Makes the calls of the lines, one after another.
 pub(crate) fn play<S: Stage>(
     rt: &HostRuntime,
@@ -65,8 +81,11 @@ pub(crate) fn play<S: Stage>(
     tally: &mut Tally,
 ) -> io::Result<()> {
     for (at, line) in lines.iter().enumerate() {
-        if !is_blank(line) {
-            play_line(rt, stage, first.down(at), line, tally)?;
+        let place = first.down(at);
+        match repeated(line) {
+            Some(repeated) => play_each(rt, stage, place, repeated, tally)?,
+            None if is_blank(line) => {}
+            None => play_line(rt, stage, place, line, tally)?,
         }
     }
     Ok(())

@@ -78,9 +78,11 @@ fn loads_the_longest_image(rt: HostRuntime) {
     let mut sink = MemorySink::new(rt.alloc(), 22_083_414, 100_000);
     is(&rt, write_image(&schedule, &mut sink), Ok(()));
     is(&rt, sink.bytes().len(), 22_083_414);
-    let mut source = MemorySource::new(sink.bytes(), 100_000, Ending::Ends);
-    let loaded = load_image(rt.alloc(), &mut source).expect(&rt, "a schedule");
-    holds(&rt, loaded.same(&schedule));
+    for piece in [100usize, 100_000] {
+        let mut source = MemorySource::new(sink.bytes(), piece, Ending::Ends);
+        let loaded = load_image(rt.alloc(), &mut source).expect(&rt, "a schedule");
+        holds(&rt, loaded.same(&schedule));
+    }
     let mut source = MemorySource::new(sink.bytes(), 100_000, Ending::Ends);
     let gathered = gathered_image(rt.alloc(), &mut source).expect(&rt, "a schedule");
     holds(&rt, gathered.same(&schedule));

@@ -15,12 +15,14 @@ pub(crate) enum DeadlockCall {
     MarkRead,
     MarkWrite,
     Detect,
+    Members,
 }
 
 pub(crate) const DEADLOCK_CALLS: Calls<DeadlockCall> = &[
     ("mark_read", 2, DeadlockCall::MarkRead),
     ("mark_write", 2, DeadlockCall::MarkWrite),
     ("detect", 0, DeadlockCall::Detect),
+    ("members", 0, DeadlockCall::Members),
 ];
 
 pub(crate) fn call_deadlock(
@@ -33,6 +35,7 @@ pub(crate) fn call_deadlock(
     let [first, second, ..] = operands;
     match call {
         DeadlockCall::Detect => Ok(Answer::Text(detected(alloc, store, txns)?)),
+        DeadlockCall::Members => members(alloc, store, txns),
         DeadlockCall::MarkRead => mark_read(store, txns, first, second),
         DeadlockCall::MarkWrite => mark_write(store, first, second),
     }
@@ -50,6 +53,15 @@ fn detected(alloc: Global, store: &Store, txns: &Txns) -> Result<String, LineFau
         push_number(&mut text, member.number())?;
     }
     Ok(text)
+}
+
+/// How many members the cycle has, or 0 where there is none.
+fn members(alloc: Global, store: &Store, txns: &Txns) -> Result<Answer, LineFault> {
+    let count = match detect(alloc, store, txns)? {
+        Some((_, members)) => members.items().len(),
+        None => 0,
+    };
+    Ok(Answer::Number(count as u64))
 }
 
 /// The End word of a version counts one more reader, and the transaction's read set has the version.

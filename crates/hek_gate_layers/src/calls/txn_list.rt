@@ -16,6 +16,7 @@ pub(crate) enum ListCall {
     PushEnd,
     PushBucket,
     PushWaiter,
+    PushWaiters,
     PushDependent,
     TakeRead,
     RemoveRead,
@@ -39,6 +40,7 @@ pub(crate) const LIST_CALLS: Calls<ListCall> = &[
     ("push_end_of", 2, ListCall::PushEnd),
     ("push_bucket", 2, ListCall::PushBucket),
     ("push_waiter", 2, ListCall::PushWaiter),
+    ("push_waiters", 3, ListCall::PushWaiters),
     ("push_dependent", 2, ListCall::PushDependent),
     ("take_read", 2, ListCall::TakeRead),
     ("remove_read", 2, ListCall::RemoveRead),
@@ -60,7 +62,10 @@ pub(crate) fn call_list(
     txns: &mut Txns,
     operands: Operands,
 ) -> Result<Answer, LineFault> {
-    let [first, second, ..] = operands;
+    let [first, second, third, _] = operands;
+    if let ListCall::PushWaiters = call {
+        return push_waiters(txns, first, second, third);
+    }
     let t = declared(txns, first)?;
     let v = VersionId::new(second);
     match call {
@@ -116,6 +121,17 @@ fn push_waiter(txns: &mut Txns, t: TxnId, u: TxnId) -> Result<Answer, LineFault>
     txns.reserve_waiters(t, 1)?;
     only_if(txns.is_declared(t))?;
     txns.push_waiter(t, u);
+    Ok(Answer::Done)
+}
+
+/// Each transaction from one number to another, but for t itself, waits for t.
+fn push_waiters(txns: &mut Txns, t: u64, from: u64, to: u64) -> Result<Answer, LineFault> {
+    for u in from..=to {
+        if u != t {
+            let t = declared(txns, t)?;
+            push_waiter(txns, t, TxnId::new(u))?;
+        }
+    }
     Ok(Answer::Done)
 }
 
