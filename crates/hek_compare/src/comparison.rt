@@ -44,19 +44,30 @@ pub fn compare(
     summary: &Summary,
     stored: &Stored,
 ) -> Result<Option<Difference>, Fault> {
-    let schedule = assemble_text(alloc, stored.text.as_str())?;
+    match assemble_text(alloc, stored.text.as_str()) {
+        Ok(schedule) => compare_schedule(alloc, &schedule, summary, stored),
+        Err(fault) => Err(Fault::Text(fault)),
+    }
+}
+
+fn compare_schedule(
+    alloc: Global,
+    schedule: &Schedule,
+    summary: &Summary,
+    stored: &Stored,
+) -> Result<Option<Difference>, Fault> {
     if schedule.steps().len() != summary.steps {
         return Ok(Some(Difference::Steps));
     }
     if let Some(bytes) = &stored.image {
-        if !is_image_of(alloc, bytes.as_slice(), &schedule)? {
+        if !is_image_of(alloc, bytes.as_slice(), schedule)? {
             return Ok(Some(Difference::Image));
         }
-        if !loads_as(alloc, bytes.as_slice(), &schedule)? {
+        if !loads_as(alloc, bytes.as_slice(), schedule)? {
             return Ok(Some(Difference::Schedule));
         }
     }
-    compare_run(alloc, &schedule, stored.trace.as_slice(), summary)
+    compare_run(alloc, schedule, stored.trace.as_slice(), summary)
 }
 
 /// The offset of an image's version: its low byte.
@@ -80,9 +91,17 @@ fn is_older(bytes: &[u8], newer: &[u8]) -> bool {
 /// Whether these bytes load, a few at a time, as a schedule with the same canonical text as this one.
 fn loads_as(alloc: Global, bytes: &[u8], schedule: &Schedule) -> Result<bool, Fault> {
     let mut source = MemorySource::new(bytes, 61, Ending::Ends);
-    let loaded = load_image(alloc, &mut source)?;
-    let text = canonical(alloc, &loaded)?;
-    Ok(text == canonical(alloc, schedule)?)
+    match load_image(alloc, &mut source) {
+        Ok(loaded) => Ok(has_text_of(alloc, &loaded, schedule)?),
+        Err(fault) => Err(Fault::Image(fault)),
+    }
+}
+
+/// Whether two schedules have the same canonical text.
+fn has_text_of(alloc: Global, one: &Schedule, other: &Schedule) -> Result<bool, NoMemory> {
+    let text = canonical(alloc, one)?;
+    let wanted = canonical(alloc, other)?;
+    Ok(text == wanted)
 }
 
 /// Runs the steps of a schedule.
@@ -93,21 +112,44 @@ fn compare_run(
     trace: &[u8],
     summary: &Summary,
 ) -> Result<Option<Difference>, Fault> {
-    let _buckets = schedule.buckets();
-    let ran = run(alloc, schedule, schedule.steps())?;
-    if !is_trace_of(alloc, trace, schedule, ran.replies.as_slice())? {
+    schedule.known();
+    match run(alloc, schedule, schedule.steps()) {
+        Ok(ran) => compare_replies(alloc, schedule, ran.replies.as_slice(), trace, summary),
+        Err(_) => Err(Fault::NoMemory),
+    }
+}
+
+/// What the replies to all steps give, beside what is stored.
+fn compare_replies(
+    alloc: Global,
+    schedule: &Schedule,
+    replies: &[Reply],
+    trace: &[u8],
+    summary: &Summary,
+) -> Result<Option<Difference>, Fault>
+    requires { length replies.now ≡ length schedule.now.steps }
+{
+    if !is_trace_of(alloc, trace, schedule, replies)? {
         return Ok(Some(Difference::Trace));
     }
-    if check(alloc, &transcript(alloc, schedule, &ran.replies)?)? != summary.verdict {
+    if verdict_on(alloc, schedule, replies)? != summary.verdict {
         return Ok(Some(Difference::Verdict));
     }
-    if !is_judged_raised(alloc, schedule, ran.replies.as_slice(), summary.raised)? {
+    if !is_judged_raised(alloc, schedule, replies, summary.raised)? {
         return Ok(Some(Difference::Raised));
     }
-    if !checkers_agree(alloc, schedule, &ran.replies)? {
+    if !checkers_agree(alloc, schedule, replies)? {
         return Ok(Some(Difference::Checkers));
     }
     Ok(None)
+}
+
+/// The checker's verdict on the steps of a schedule with these replies.
+fn verdict_on(alloc: Global, schedule: &Schedule, replies: &[Reply]) -> Result<Verdict, NoMemory>
+    requires { length replies.now ≡ length schedule.now.steps }
+{
+    let history = transcript(alloc, schedule, replies)?;
+    check(alloc, &history)
 }
 
 /// Whether the checker gives the stored verdict on the steps with one reply raised, if that verdict is stored.

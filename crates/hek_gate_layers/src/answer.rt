@@ -29,6 +29,14 @@ impl Answer {
     }
 }
 
+/// The answer that is this text, or the fault.
+pub(crate) fn text_answer(text: Result<String, LineFault>) -> Result<Answer, LineFault> {
+    match text {
+        Ok(text) => Ok(Answer::Text(text)),
+        Err(fault) => Err(fault),
+    }
+}
+
 /// `true` or `false`.
 pub(crate) fn truth(fact: bool) -> Answer {
     Answer::Word(if fact { "true" } else { "false" })

@@ -7,3 +7,4 @@ pub mod Plays
 pub mod Tallies
 pub mod Places
 pub mod Wholes
+pub mod Leveled

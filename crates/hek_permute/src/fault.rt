@@ -16,6 +16,9 @@ pub enum OrderFault {
     /// There are more orders than the limit, or too many to be counted.
     #[error("too many orders")]
     TooMany,
+    /// The steps are more than a schedule has, or one is no step of it.
+    #[error("too many steps")]
+    TooLong,
     /// The watcher asks for no more orders.
     #[error("stopped")]
     Stopped,

@@ -2,6 +2,7 @@
 #![tactic(auto)]
 
 mod fault;
+mod leveled;
 mod moves;
 mod order;
 mod outcome;
@@ -10,6 +11,7 @@ mod tally;
 mod whole;
 
 pub use fault::OrderFault;
+pub use leveled::schedule_with;
 pub use moves::{Form, Moves, first_order, moves_of, order_count};
 pub use order::next_order;
 pub use outcome::{Ending, Outcome, outcome_of};

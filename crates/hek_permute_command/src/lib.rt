@@ -2,7 +2,6 @@
 #![tactic(auto)]
 
 mod choice;
-mod leveled;
 mod lines;
 mod one;
 mod permute;

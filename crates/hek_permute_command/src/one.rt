@@ -1,9 +1,8 @@
 //! One order, as the schedule of its events.
-use crate::leveled::schedule_with;
 use hek_asm::canonical;
 use hek_commands::HekFault;
-use hek_permute::{Form, Moves, OrderFault, first_order, moves_of, play_order};
-use hek_rules::{Event, NoMemory, Schedule, TxnId};
+use hek_permute::{Form, Moves, OrderFault, first_order, moves_of, play_order, schedule_with};
+use hek_rules::{Event, Level, NoMemory, Schedule, TxnId};
 use std::alloc::Global;
 use std::io::Write;
 
@@ -18,7 +17,7 @@ pub(crate) fn write_one<'a, W: Write>(
     let moves = moves_of(alloc, schedule)?;
     let order = order_named(alloc, schedule, moves.as_slice(), form, names)?;
     let events = events_of(alloc, schedule, moves.as_slice(), form, order.as_slice())?;
-    let played = schedule_with(alloc, schedule, None, events.as_slice())?;
+    let played = leveled(alloc, schedule, None, events.as_slice())?;
     let text = canonical(alloc, &played)?;
     match out.write_all(text.as_bytes()) {
         Ok(()) => Ok(0),
@@ -48,11 +47,24 @@ fn events_of<'a>(
     }
 }
 
+/// The schedule at this level, or at its own levels, with these steps.
+pub(crate) fn leveled<'a>(
+    alloc: Global,
+    schedule: &Schedule,
+    level: Option<Level>,
+    steps: &[Event],
+) -> Result<Schedule, HekFault<'a>> {
+    match schedule_with(alloc, schedule, level, steps) {
+        Ok(made) => Ok(made),
+        Err(fault) => Err(fault_of(fault)),
+    }
+}
+
 /// The fault of an order as that of a command.
 pub(crate) fn fault_of<'a>(fault: OrderFault) -> HekFault<'a> {
     match fault {
         OrderFault::NoMemory => HekFault::NoMemory,
-        OrderFault::Mismatch | OrderFault::TooMany => HekFault::Mismatch(0),
+        OrderFault::Mismatch | OrderFault::TooMany | OrderFault::TooLong => HekFault::Mismatch(0),
         OrderFault::Stopped => HekFault::NoMemory,
     }
 }

@@ -1,8 +1,7 @@
 //! The command `permute`: plays the orders that are asked for, and writes their outcomes.
 use crate::choice::{Choice, range_of};
-use crate::leveled::schedule_with;
 use crate::lines::{put_order, put_outcome, put_row, put_written};
-use crate::one::{fault_of, write_one};
+use crate::one::{fault_of, leveled, write_one};
 use crate::table::put_table;
 use hek_commands::{HekFault, ScheduleFile, schedule_in, send};
 use hek_permute::{Form, Outcome, Tally, Watch, moves_of, order_count, play_all};
@@ -55,7 +54,7 @@ fn at_order<'a, W: Write>(
     names: &str,
     out: &mut W,
 ) -> Result<u8, HekFault<'a>> {
-    let leveled = schedule_with(alloc, schedule, choice.level, schedule.steps())?;
+    let leveled = leveled(alloc, schedule, choice.level, schedule.steps())?;
     write_one(alloc, &leveled, choice.form, names, out)
 }
 
@@ -93,7 +92,7 @@ fn put_orders<'a>(
     to: u64,
     text: &mut Vec<u8>,
 ) -> Result<(), HekFault<'a>> {
-    let leveled = schedule_with(alloc, schedule, choice.level, schedule.steps())?;
+    let leveled = leveled(alloc, schedule, choice.level, schedule.steps())?;
     if choice.each {
         put_each(alloc, &leveled, choice.form, from, to, text)
     } else {
@@ -232,6 +231,6 @@ fn tally_at<'a>(
     from: u64,
     to: u64,
 ) -> Result<Tally, HekFault<'a>> {
-    let leveled = schedule_with(alloc, schedule, Some(level), schedule.steps())?;
+    let leveled = leveled(alloc, schedule, Some(level), schedule.steps())?;
     tally_of(alloc, &leveled, form, from, to)
 }

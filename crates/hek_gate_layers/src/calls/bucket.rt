@@ -3,7 +3,7 @@ ghost use Rattle.std.specs.Prelude.{◌<◌, length, IfOk, OnOk};
 ghost use Rattle.std.specs.List.{All};
 ghost use Rattle.hek_txn.specs.TxnTable.{Declared, waits_of, waiting_list_of};
 
-use crate::answer::{Answer, list, truth, txn_or_none};
+use crate::answer::{Answer, list, text_answer, truth, txn_or_none};
 use crate::calls::txn_list::reserved;
 use crate::calls::txn_show::declared;
 use crate::fault::{LineFault, only_if};
@@ -76,7 +76,7 @@ fn call_one(
     let b = bucket(buckets, number)?;
     let t = TxnId::new(t);
     match call {
-        BucketCall::Holders => return Ok(Answer::Text(list(alloc, buckets.holders(b))?)),
+        BucketCall::Holders => return text_answer(list(alloc, buckets.holders(b))),
         BucketCall::LockCount => return Ok(Answer::Number(buckets.count(b))),
         BucketCall::Reserve => return Ok(reserved(buckets.reserve(b))),
         BucketCall::Lock => locks(buckets, b, t)?,

@@ -7,7 +7,7 @@ ghost use Rattle.hek_txn.specs.TxnTable.{Declared, dependents_of, write_set_of};
 ghost use Rattle.hek_commit.specs.Committed.{AreCounted};
 ghost use Rattle.hek_commit.specs.Stamped.{CanStamp};
 
-use crate::answer::{Answer, push_number, reply_text};
+use crate::answer::{Answer, push_number, reply_text, text_answer};
 use crate::calls::lock::can_free;
 use crate::calls::store::version;
 use crate::calls::txn_show::declared;
@@ -151,5 +151,5 @@ fn stamps(alloc: Global, store: &mut Store, txns: &mut Txns, t: TxnId) -> Result
 {
     can_stamp(store, txns, t)?;
     let reply = stamp_next(store, txns, t);
-    Ok(Answer::Text(reply_text(alloc, &reply)?))
+    text_answer(reply_text(alloc, &reply))
 }

@@ -1,5 +1,5 @@
 //! The call of the deadlock detector, and calls that lock a version for it without asking.
-use crate::answer::{Answer, push_number};
+use crate::answer::{Answer, push_number, text_answer};
 use crate::calls::store::version;
 use crate::calls::txn_show::declared;
 use crate::calls::word::nameable;
@@ -34,7 +34,7 @@ pub(crate) fn call_deadlock(
 ) -> Result<Answer, LineFault> {
     let [first, second, ..] = operands;
     match call {
-        DeadlockCall::Detect => Ok(Answer::Text(detected(alloc, store, txns)?)),
+        DeadlockCall::Detect => text_answer(detected(alloc, store, txns)),
         DeadlockCall::Members => members(alloc, store, txns),
         DeadlockCall::MarkRead => mark_read(store, txns, first, second),
         DeadlockCall::MarkWrite => mark_write(store, first, second),

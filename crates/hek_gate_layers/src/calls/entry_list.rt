@@ -1,6 +1,6 @@
 //! Calls of a list that keeps each entry once, in order of entry.
 
-use crate::answer::{Answer, list, number_or_none, truth};
+use crate::answer::{Answer, list, number_or_none, text_answer, truth};
 use crate::calls::txn_list::reserved;
 use crate::fault::LineFault;
 use crate::stage::Stage;
@@ -85,7 +85,7 @@ impl Stage for Entries {
             EntryCall::Take => Ok(truth(self.now.take(item))),
             EntryCall::Contains => Ok(truth(self.now.contains(item))),
             EntryCall::First => Ok(number_or_none(self.now.first())),
-            EntryCall::All => Ok(Answer::Text(list(alloc, self.now.as_slice())?)),
+            EntryCall::All => text_answer(list(alloc, self.now.as_slice())),
             EntryCall::Reserve => Ok(reserved(self.now.reserve(item as usize))),
             change => Ok(self.change(change, item)?),
         }

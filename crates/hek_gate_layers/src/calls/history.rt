@@ -1,5 +1,5 @@
 //! A history that is given line by line, judged by the checker of serial order.
-use crate::answer::{Answer, pairs, reply_text, truth};
+use crate::answer::{Answer, pairs, reply_text, text_answer, truth};
 use crate::block::schedule;
 use crate::fault::{LineFault, only_if};
 use crate::stage::Stage;
@@ -100,7 +100,7 @@ impl History {
     fn serial_reply(&self, alloc: Global, place: u64) -> Result<Answer, LineFault> {
         only_if(place < 1_000)?;
         match serial_reply(alloc, &self.transcript, place as usize)? {
-            Some(reply) => Ok(Answer::Text(reply_text(alloc, &reply)?)),
+            Some(reply) => text_answer(reply_text(alloc, &reply)),
             None => Ok(Answer::Word("none")),
         }
     }
@@ -138,7 +138,7 @@ fn show_at(
     match call {
         HistoryCall::RowAt => {
             only_if(place < history.row_count())?;
-            Ok(Answer::Text(pairs(alloc, &[history.row(place)])?))
+            text_answer(pairs(alloc, &[history.row(place)]))
         }
         HistoryCall::LevelOf => {
             only_if(place > 0 && place <= history.txn_count())?;
@@ -149,7 +149,7 @@ fn show_at(
             None => Ok(Answer::Word("none")),
         },
         HistoryCall::ReplyAt => match history.replies().get(place) {
-            Some(reply) => Ok(Answer::Text(reply_text(alloc, reply)?)),
+            Some(reply) => text_answer(reply_text(alloc, reply)),
             None => Ok(Answer::Word("none")),
         },
         _ => Err(LineFault::Unread),

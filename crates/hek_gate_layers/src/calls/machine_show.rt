@@ -3,7 +3,7 @@ ghost use Rattle.std.specs.Prelude.{◌<◌, length, IfOk};
 ghost use Rattle.hek_txn.specs.TxnTable.{Declared};
 
 use crate::answer::{
-    Answer, bits_or_none, entries, list, number_or_none, pairs, state_text, truth,
+    Answer, bits_or_none, entries, list, number_or_none, pairs, state_text, text_answer, truth,
 };
 use crate::fault::{LineFault, only_if};
 use crate::words::{Calls, Operands};
@@ -139,7 +139,7 @@ fn show_txn(
         MachineCall::CommitDeps => Answer::Number(machine.commit_deps(t)),
         MachineCall::NoMoreWaits => truth(machine.no_more_waits(t)),
         MachineCall::AbortNow => truth(machine.abort_now(t)),
-        listed => return Ok(Answer::Text(show_list(alloc, listed, machine, t)?)),
+        listed => return text_answer(show_list(alloc, listed, machine, t)),
     })
 }
 

@@ -4,7 +4,7 @@ ghost use Rattle.hek_rules.specs.World.{is_present as present};
 ghost use Rattle.hek_txn.specs.TxnTable.{Declared};
 ghost use Rattle.hek_visible.specs.Seen.{NamesCreator, NamesWriter};
 
-use crate::answer::{Answer, push_number};
+use crate::answer::{Answer, push_number, text_answer};
 use crate::calls::store::version;
 use crate::calls::txn_show::declared;
 use crate::calls::word::{begin_word, end_word};
@@ -38,7 +38,7 @@ pub(crate) fn call_see(
     let v = version(store, 0)?;
     store.set_end(v, end_word(end)?);
     let sight = sight(store, txns, reader, time)?;
-    Ok(Answer::Text(text(alloc, sight)?))
+    text_answer(text(alloc, sight))
 }
 
 fn sight(store: &Store, txns: &Txns, reader: u64, time: u64) -> Result<Sight, LineFault> {

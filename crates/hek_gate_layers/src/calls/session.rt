@@ -1,5 +1,5 @@
 //! A session of the debugger.
-use crate::answer::{Answer, bits_or_none, number_or_none, reply_text};
+use crate::answer::{Answer, bits_or_none, number_or_none, reply_text, text_answer};
 use crate::block::schedule;
 use crate::fault::LineFault;
 use crate::quoted::quoted;
@@ -102,7 +102,7 @@ impl Session {
     /// The reply to the last step, or `none` before the first.
     fn last(&mut self, alloc: Global) -> Result<Answer, LineFault> {
         match self.command(Command::Step(0))?.last {
-            Some(reply) => Ok(Answer::Text(reply_text(alloc, &reply)?)),
+            Some(reply) => text_answer(reply_text(alloc, &reply)),
             None => Ok(Answer::Word("none")),
         }
     }
@@ -154,7 +154,7 @@ impl Stage for Session {
         let words = words(alloc, line)?;
         let [index, ..] = operands(words.as_slice())?;
         match named(SESSION_CALLS, words.as_slice()) {
-            Some(SessionCall::Next) => Ok(Answer::Text(stop_text(alloc, &self.next()?)?)),
+            Some(SessionCall::Next) => text_answer(stop_text(alloc, &self.next()?)),
             Some(SessionCall::Rest) => self.rest(),
             Some(SessionCall::Last) => self.last(alloc),
             Some(SessionCall::Mark) => self.mark(index),

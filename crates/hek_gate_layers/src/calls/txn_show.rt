@@ -3,7 +3,7 @@ ghost use Rattle.std.specs.Prelude.{IfOk};
 ghost use Rattle.hek_txn.specs.TxnTable.{Declared};
 
 use crate::answer::{
-    Answer, entries, list, number_or_none, push_number, state_text, truth, txn_or_none,
+    Answer, entries, list, number_or_none, push_number, state_text, text_answer, truth, txn_or_none,
 };
 use crate::fault::{LineFault, only_if};
 use crate::words::{Calls, Operands};
@@ -93,15 +93,15 @@ pub(crate) fn call_show(
     }
     let t = declared(txns, first)?;
     match call {
-        ShowCall::Fields => Ok(Answer::Text(fields(alloc, txns, t)?)),
-        ShowCall::Lists => Ok(Answer::Text(lists(alloc, txns, t)?)),
-        ShowCall::ReadSet => Ok(Answer::Text(list(alloc, txns.read_set(t))?)),
-        ShowCall::WriteSet => Ok(Answer::Text(entries(alloc, txns.write_set(t))?)),
-        ShowCall::BucketSet => Ok(Answer::Text(list(alloc, txns.bucket_set(t))?)),
-        ShowCall::WaitingList => Ok(Answer::Text(list(alloc, txns.waiting_list(t))?)),
-        ShowCall::FirstWrite => Ok(Answer::Text(first_write(alloc, txns, t)?)),
-        ShowCall::State => Ok(Answer::Text(state_text(alloc, txns.state(t))?)),
-        ShowCall::Dependents => Ok(Answer::Text(list(alloc, txns.dependents(t))?)),
+        ShowCall::Fields => text_answer(fields(alloc, txns, t)),
+        ShowCall::Lists => text_answer(lists(alloc, txns, t)),
+        ShowCall::ReadSet => text_answer(list(alloc, txns.read_set(t))),
+        ShowCall::WriteSet => text_answer(entries(alloc, txns.write_set(t))),
+        ShowCall::BucketSet => text_answer(list(alloc, txns.bucket_set(t))),
+        ShowCall::WaitingList => text_answer(list(alloc, txns.waiting_list(t))),
+        ShowCall::FirstWrite => text_answer(first_write(alloc, txns, t)),
+        ShowCall::State => text_answer(state_text(alloc, txns.state(t))),
+        ShowCall::Dependents => text_answer(list(alloc, txns.dependents(t))),
         shown => show_field(shown, txns, t, second),
     }
 }
