@@ -4,3 +4,4 @@ pub mod Looks
 pub mod Stops
 pub mod Explained
 pub mod Causes
+pub mod Phases

@@ -1,5 +1,6 @@
 //! Why an event is refused.
 ghost use Rattle.hek_txn.specs.TxnTable.{Declared};
+ghost use Rattle.hek_why.specs.Phases.{IsPhaseOf};
 
 use crate::facts::{has_finished, state_of};
 use crate::reason::{Phase, Reason};
@@ -7,7 +8,9 @@ use hek_machine::Machine;
 use hek_rules::{EventKind, NoMemory, Refusal, State, TxnId};
 
 /// The phase that each kind of event wants its transaction to be in.
-fn phase_of(kind: EventKind) -> Phase {
+fn phase_of(kind: EventKind) -> Phase
+    ensures { IsPhaseOf kind result }
+{
     match kind {
         EventKind::Begin => Phase::NotBegun,
         EventKind::Read
