@@ -1,5 +1,5 @@
-/* An engine's own lock words beside the proved ones of hek_c. It checks rows worked by hand, and says at last how many there
- * were, or which failed. Its exit status is 0 where all held. */
+/* An engine's own lock words beside the proved ones of hek_c. It checks rows that were worked out on paper, and prints which
+ * failed, and how many there were. Its exit status is 0 where all held. */
 #include "hek.h"
 
 #include <inttypes.h>

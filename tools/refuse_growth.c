@@ -1,5 +1,5 @@
 /* Loaded before a program (LD_PRELOAD), refuses one of its growths: the one whose number the variable HEK_REFUSE has, counted from 1 over all
-   calls of malloc, calloc and realloc; with HEK_NEXT set the one behind it too. Says so on standard error, once. tools/refused_growths
+   calls of malloc, calloc and realloc; with HEK_NEXT set the next one too. Says so on standard error, once. tools/refused_growths
    builds it. */
 #define _GNU_SOURCE
 #include <dlfcn.h>
@@ -14,7 +14,7 @@ static void *(*next_realloc)(void *, size_t);
 static atomic_long left;
 static long last;
 
-/* What dlsym wants before the calls behind these are known. */
+/* What dlsym wants before the calls that these replace are known. */
 static char early[4096];
 static size_t early_used;
 
