@@ -40,7 +40,7 @@ fn main(rt: HostRuntime) -> io::Result<()> {
         report(&rt, threads, "one word", done, time)?;
         all = all.wrapping_add(done);
         let (done, time) = crowd::measure(&rt, rt.alloc(), threads, crowd::APART, turns)?;
-        report(&rt, threads, "words of their own", done, time)?;
+        report(&rt, threads, "separate words", done, time)?;
         all = all.wrapping_add(done);
     }
     println!(rt; "{all} turns")

@@ -126,7 +126,7 @@ impl Case {
         !self.is_closed
     }
 
-    /// Adds a command line, with the status that stands before it (none: 0).
+    /// Adds a command line, with the status before it (none: 0).
     pub(crate) fn add_command(&mut self, line: usize, status: &str, text: &str) -> io::Result<()> {
         let status = match status {
             "" => 0,

@@ -1,4 +1,4 @@
-//! The bytes that a line of a case file stands for.
+//! The bytes that a line of a case file means.
 use std::io;
 use std::io::{ErrorKind, Write};
 

@@ -14,7 +14,7 @@ pub(crate) struct Words {
 }
 
 impl Words {
-    /// The words of a text, after the program's name: spaces part them, `'` stands around one with spaces or with nothing in it, and
+    /// The words of a text, after the program's name: spaces part them, `'` is around one with spaces or with nothing in it, and
     /// they may have escapes.
     pub(crate) fn read(alloc: Global, text: &str) -> io::Result<Words> {
         let mut words = Words {

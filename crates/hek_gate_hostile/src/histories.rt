@@ -78,7 +78,7 @@ a commit
 b commit
 ";
 
-/// A transaction that lists two buckets, one of them again behind its own delete, and another that inserts; both commit.
+/// A transaction that lists two buckets, one of them again after its delete, and another that inserts; both commit.
 const LISTED: &str = "buckets 2
 row 10 100
 row 11 110
@@ -179,7 +179,7 @@ fn verdict_on(
     }
 }
 
-/// Tells the history with the reply at a place raised. Whether there was memory for it.
+/// Fills a history with the reply at a place raised. Whether there was memory for it.
 fn tell(
     alloc: Global,
     schedule: &Schedule,

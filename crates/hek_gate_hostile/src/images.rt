@@ -11,7 +11,7 @@ use std::alloc::Global;
 const IMAGE: [u8; 62] =
     *b"\x48\x4B\x53\x43\x00\x02\x00\x00\x00\x04\x00\x00\x00\x01\x00\x00\x00\x01\x00\x00\x00\x01\x00\x00\x00\x00\x00\x00\x00\x0A\x00\x00\x00\x00\x00\x00\x00\x64\x01\x01\x61\x02\x00\x00\x00\x01\x00\x00\x00\x00\x00\x00\x00\x0A\x00\x00\x00\x00\x00\x00\x00\x00";
 
-/// Where the low byte of the version stands.
+/// The place of the version's low byte.
 const VERSION_AT: usize = 5;
 
 fn of_version(version: u8) -> [u8; 62] {
@@ -27,7 +27,7 @@ fn load(alloc: Global, bytes: &[u8], piece: usize, ending: Ending) -> Result<Sch
     load_image(alloc, &mut source)
 }
 
-/// Each front of both images, that ends and that fails behind its last byte.
+/// Each front of both images, that ends and that fails after its last byte.
 pub(crate) fn fronts(alloc: Global) -> Tally {
     let mut tally = Tally::new();
     for version in [1u8, 2] {
@@ -91,7 +91,7 @@ fn is_written(alloc: Global, schedule: &Schedule, image: &[u8; 62]) -> bool {
     written.is_ok() && sink.bytes() == newer.as_slice()
 }
 
-/// Both images with a byte changed here and there and zeros for ever behind them: the same fault as without, or Trailing, and little
+/// Both images with a byte changed here and there and endless zeros after them: the same fault as without, or Trailing, and little
 /// is taken.
 pub(crate) fn endless(alloc: Global) -> Tally {
     let mut tally = Tally::new();
@@ -113,7 +113,7 @@ fn is_told_at_once(alloc: Global, image: &[u8; 62]) -> bool {
     let mut finite = MemorySource::new(image, 62, Ending::Ends);
     match gathered_image(alloc, &mut finite).err() {
         None => told == Some(LoadFault::Trailing) && source.given() <= 63,
-        // more rows, transactions or steps are read from the zeros behind the image
+        // more rows, transactions or steps are read from the zeros after the image
         Some(LoadFault::Short) => told.is_some() && source.given() <= 22_083_415,
         Some(fault) => told == Some(fault) && source.given() <= 63,
     }

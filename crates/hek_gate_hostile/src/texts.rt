@@ -42,7 +42,7 @@ fn at(line: u64, kind: AsmKind) -> Option<AsmFault> {
     Some(AsmFault::At { line, kind })
 }
 
-/// Whether these words are a whole line behind the first.
+/// Whether these words are a whole line after the first.
 fn is_whole(words: &str) -> bool {
     let mut parts = words.split(' ');
     let first = parts.next().unwrap_or("");

@@ -72,7 +72,7 @@ fn is_joint_told(alloc: Global, schedule: &Schedule, front: &str, back: &str, li
     }
 }
 
-/// Whether the text is told to be at fault in this line, or is read as a transcript whose trace it is.
+/// Whether the text is reported to be at fault in this line, or is read as a transcript whose trace it is.
 fn is_told(alloc: Global, schedule: &Schedule, text: &str, line: u64) -> bool {
     match read_trace(alloc, schedule, text) {
         Ok(told) => is_trace(alloc, schedule, &told, text),

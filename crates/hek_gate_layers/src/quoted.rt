@@ -1,4 +1,4 @@
-//! Texts in quotes, in which `\n`, `\t` and `\r` stand for bytes of their own.
+//! Texts in quotes, in which `\n`, `\t` and `\r` each mean one byte.
 use crate::fault::LineFault;
 use std::alloc::Global;
 

@@ -41,7 +41,7 @@ fn agrees(rt: &HostRuntime, folder: &str, name: &str) -> io::Result<bool> {
     Ok(printed.as_slice() == stored.as_slice())
 }
 
-/// What `hek permute --levels` prints, and its fault behind it.
+/// What `hek permute --levels` prints, and its fault after it.
 fn printed(alloc: Global, schedule: Vec<u8>) -> Vec<u8> {
     let mut out = Vec::new(alloc);
     let mut faults = Vec::new(alloc);

@@ -1,4 +1,4 @@
-//! What `hek run --changes` tells, step by step, laid over the opening state, comes to the state that `hek run --state` prints.
+//! What `hek run --changes` prints, step by step, laid over the opening state, comes to the state that `hek run --state` prints.
 use hek_commands::{ScheduleFile, state_command};
 use hek_compare::{Fault, Summary};
 use hek_why_command::{Extras, explain_command};
@@ -48,7 +48,7 @@ fn comes_to_state(alloc: Global, text: &[u8]) -> Result<bool, AllocError> {
     Ok(laid.as_str() == wanted.as_str())
 }
 
-/// The state after so many steps, as `hek run --state` prints it, behind the trace.
+/// The state after so many steps, as `hek run --state` prints it, after the trace.
 fn state(alloc: Global, text: &[u8], limit: Option<u64>) -> Result<Option<String>, AllocError> {
     let file = ScheduleFile::<&[u8]>::Text(Vec::from_slice(alloc, text)?);
     let mut out = Vec::new(alloc);
@@ -78,7 +78,7 @@ fn lay_changes(alloc: Global, text: &[u8], laid: &mut Fields) -> Result<(), Allo
     Ok(())
 }
 
-/// `NAME OLD -> NEW`: the field has the new value. A version that is new is told as its line of the state, and a bucket that
+/// `NAME OLD -> NEW`: the field has the new value. A version that is new is printed as its line of the state, and a bucket that
 /// nobody locks any more has no line.
 fn lay_change(alloc: Global, change: &str, laid: &mut Fields) -> Result<(), AllocError> {
     let Some((left, new)) = change.split_once(" -> ") else {

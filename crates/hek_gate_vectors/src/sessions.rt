@@ -30,7 +30,7 @@ fn agrees(rt: &HostRuntime, folder: &str, name: &str) -> io::Result<bool> {
     Ok(out.as_slice() == stored_out.as_slice() && faults.as_slice() == stored_faults.as_slice())
 }
 
-/// What stands in a file of a folder.
+/// The content of a file of a folder.
 pub fn read(rt: &HostRuntime, folder: &str, name: &str, ending: &str) -> io::Result<Vec<u8>> {
     let path = format!(in rt.alloc(); "{folder}/{name}.{ending}")?;
     fs::read(rt, path.as_str())

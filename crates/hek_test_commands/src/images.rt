@@ -19,7 +19,7 @@ const IMAGE: [u8; 62] =
 const NO_EVENT: [u8; 62] =
     *b"\x48\x4B\x53\x43\x00\x02\x00\x00\x00\x04\x00\x00\x00\x01\x00\x00\x00\x01\x00\x00\x00\x01\x00\x00\x00\x00\x00\x00\x00\x0A\x00\x00\x00\x00\x00\x00\x00\x64\x01\x01\x61\x00\x00\x00\x00\x01\x00\x00\x00\x00\x00\x00\x00\x0A\x00\x00\x00\x00\x00\x00\x00\x00";
 
-/// The front of an image with zeros for ever after it, the most bytes that are taken, and the fault.
+/// The front of an image with endless zeros after it, the most bytes that are taken, and the fault.
 const ENDLESS: &[(&[u8], u64, LoadFault)] = &[
     (b"\x47", 32, LoadFault::BadMagic),
     (&[], 32, LoadFault::BadMagic),

@@ -18,7 +18,7 @@ const WORKERS: u64 = 8;
 const TURNS: usize = 100_000;
 
 // A try fails only where another thread has changed the word, and all others together make fewer changes than this: two
-// tokens taken and given up at each of their turns. So who tries so often wins, whatever the schedule.
+// tokens taken and given up at each of their turns. So a worker that tries so often wins, whatever the schedule.
 const TRIES: u32 = 3_000_000;
 
 // A worker for each ID from 1.

@@ -35,7 +35,7 @@ clear
 run
 ";
 
-/// Where the debugger stands after each command, and why.
+/// The debugger's position after each command, and why.
 const STOPS: &[(u64, Reason)] = &[
     (0, Set(1)),
     (0, Set(2)),

@@ -1,4 +1,4 @@
-//! Runs that were worked by hand: how each opens, and its trace.
+//! Runs that were worked out on paper: how each opens, and its trace.
 
 /// The rows and transactions of a run, and its trace.
 pub(crate) struct Run {

@@ -42,7 +42,7 @@ fn committed(report: &Report) -> usize {
         .count()
 }
 
-// Each worker on a row of its own commits, and finds what it wrote.
+// Each worker on a separate row commits, and finds what it wrote.
 fn assert_all_commit(rt: &impl Abort, report: &Report, workers: usize) {
     is(rt, committed(report), workers);
     let sevens = report

@@ -52,8 +52,8 @@ fn put_work(text: &mut Vec<u8>, worker: u64, rows: u64, reads: u64) -> io::Resul
     writeln!(text, "t{worker} read {key}")
 }
 
-/// Rows of value 100, and workers, each of which reads so many rows from that of its own number on, and then makes the value
-/// of that one 7.
+/// Rows of value 100, and workers, each of which reads so many rows from the row with its number on, and then sets that row
+/// to 7.
 pub fn crowd(rt: &impl Abort, alloc: Global, workers: u64, rows: u64, reads: u64) -> Schedule {
     let mut text = Vec::new(alloc);
     put_crowd(&mut text, workers, rows, reads).expect(rt, "memory");

@@ -48,4 +48,4 @@ by_event x event.Detect d = absurd d
 pub phase_of_kind : (k : EventKind) → IsPhaseOf k (phase_for k)
 phase_of_kind k x e same d =
     subst (λ (given : EventKind). in_phase x true e ≡ is_in x (phase_for given)) same
-      (by_event x e (subst (λ (given : EventKind). is_detect given ≡ false) (sym same) d))
+    (by_event x e (subst (λ (given : EventKind). is_detect given ≡ false) (sym same) d))
