@@ -1,0 +1,34 @@
+//! Tests that neither the lines of hek_gate_layers nor the cases of hek_gate_commands can say: devices and memory that fail, library
+//! calls that no line or command makes, and models beside which a layer is held.
+#![tactic(auto)]
+
+#[cfg(test)]
+mod asserts;
+#[cfg(test)]
+mod deadlock;
+#[cfg(test)]
+mod device;
+#[cfg(test)]
+mod faults;
+#[cfg(test)]
+mod flat;
+#[cfg(test)]
+mod images;
+#[cfg(test)]
+mod lists;
+#[cfg(test)]
+mod orders;
+#[cfg(test)]
+mod refusals;
+#[cfg(test)]
+mod replies;
+#[cfg(test)]
+mod rules;
+#[cfg(test)]
+mod schedule;
+#[cfg(test)]
+mod sessions;
+#[cfg(test)]
+mod stored;
+#[cfg(test)]
+mod weak;
