@@ -3,3 +3,4 @@ pub mod Tallies
 pub mod Plays
 pub mod Totals
 pub mod Walks
+pub mod Grown

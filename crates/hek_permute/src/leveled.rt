@@ -76,11 +76,12 @@ fn copy_steps(steps: &[Event], made: &mut Schedule) -> Result<(), OrderFault>
     ensures { OnOk result (made.new ≡ record made.old { steps = steps.now }) }
 {
     for step in steps {
-        let step = *step;
-        if !made.step_fits(step) {
+        let tried = *step;
+        let taken = *step;
+        if !made.step_fits(tried) {
             return Err(OrderFault::TooLong);
         }
-        made.add_step(step)?;
+        made.add_step(taken)?;
     }
     Ok(())
 }
