@@ -7,7 +7,7 @@ use crate::calls::rules::{PlanCalls, TextCalls};
 use crate::calls::session::Session;
 use crate::calls::word::WordCalls;
 use crate::fault::LineFault;
-use crate::repeat::{line_at, repeated};
+use crate::repeat::{line_at, repeat_of};
 use crate::stage::{Stage, is_blank, play};
 use crate::tally::{Place, Tally};
 use hek_asm::{AsmFault, assemble_text};
@@ -60,7 +60,7 @@ fn play_block(
 
 /// A line of a schedule, or the lines that it is.
 fn push_opening(alloc: Global, opening: &mut String, line: &str) -> io::Result<()> {
-    let Some(repeated) = repeated(line) else {
+    let Some(repeated) = repeat_of(line) else {
         return push_line(opening, line);
     };
     for number in repeated.from..=repeated.to {

@@ -13,7 +13,7 @@ pub(crate) struct Repeated<'t> {
 }
 
 /// What a line that begins with `for` repeats. None for another line.
-pub(crate) fn repeated(line: &str) -> Option<Repeated<'_>> {
+pub(crate) fn repeat_of(line: &str) -> Option<Repeated<'_>> {
     let (from, rest) = line.strip_prefix("for ")?.split_once(' ')?;
     let (to, line) = rest.split_once(' ')?;
     Some(Repeated {

@@ -1,7 +1,7 @@
 //! Scenes: what the calls of a block are made on.
 use crate::answer::Answer;
 use crate::fault::LineFault;
-use crate::repeat::{Repeated, line_at, repeated};
+use crate::repeat::{Repeated, line_at, repeat_of};
 use crate::tally::{Place, Tally};
 use std::alloc::Global;
 use std::io;
@@ -82,7 +82,7 @@ pub(crate) fn play<S: Stage>(
 ) -> io::Result<()> {
     for (at, line) in lines.iter().enumerate() {
         let place = first.down(at);
-        match repeated(line) {
+        match repeat_of(line) {
             Some(repeated) => play_each(rt, stage, place, repeated, tally)?,
             None if is_blank(line) => {}
             None => play_line(rt, stage, place, line, tally)?,

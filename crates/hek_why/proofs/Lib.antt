@@ -9,4 +9,3 @@ pub mod Counted
 pub mod Numbers
 pub mod LastSeen
 pub mod Causes
-pub mod PhaseLemmas
