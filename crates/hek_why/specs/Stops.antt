@@ -9,6 +9,7 @@ use Rattle.hek_rules.specs.declared.word.BeginRecord.{BeginRecord}
 use Rattle.hek_rules.specs.declared.word.BeginRecord.TheVariants.{At, By}
 use Rattle.hek_rules.specs.declared.word.EndRecord.{EndRecord}
 use Rattle.hek_rules.specs.declared.word.EndRecord.TheVariants.{Until, Lock}
+use Rattle.hek_rules.specs.Words.{readers_of}
 use Rattle.hek_rules.specs.World.{World, txn_in}
 use Rattle.hek_rules.specs.Shown.{begin_word, end_word}
 use Rattle.hek_rules.specs.Visibility.{sight}
@@ -48,9 +49,9 @@ first_claim w t vs = find (λ v. version_passes (λ v x. is_claim w t (txn_in w.
 
 -- which transaction, time or readers refuse a lock, by the End word
 abbrev pub met_by : Cause → EndRecord → Met
-met_by ReadersFull e = Readers
+met_by ReadersFull e = Readers (readers_of e)
 met_by cause (Until time) = EndedAt time
-met_by cause (Lock readers None no_more) = Readers
+met_by cause (Lock readers None no_more) = Readers readers
 met_by cause (Lock readers (Some u) no_more) = Writer u
 
 abbrev pub met_seen : Sight → Met → Met

@@ -125,14 +125,14 @@ fn met_by(cause: Cause, word: EndWord) -> Met
     ensures { result ≡ met_by cause word }
 {
     if cause == Cause::ReadersFull {
-        return Met::Readers;
+        return Met::Readers(word.readers());
     }
     if let Some(time) = word.time() {
         return Met::EndedAt(time);
     }
     match word.writer() {
         Some(u) => Met::Writer(u),
-        None => Met::Readers,
+        None => Met::Readers(word.readers()),
     }
 }
 

@@ -46,8 +46,8 @@ pub enum Met {
     EndedAt(Time),
     /// The time at which the version was made.
     MadeAt(Time),
-    /// As many readers as a version takes: 255.
-    Readers,
+    /// The readers of the version: how many there are, 0 to 255.
+    Readers(u8),
 }
 
 /// The phase that an event wants its transaction to be in.
