@@ -4,3 +4,5 @@ pub mod Looks
 pub mod Stops
 pub mod Explained
 pub mod Causes
+pub mod Same
+pub mod Changes

@@ -35,7 +35,7 @@ fn put_reason(
 ) -> Result<(), NoMemory> {
     match reason {
         Reason::ReadLocked { version, readers } => {
-            put_read_locked(schedule, machine, t, *version, readers.items(), lines)
+            put_read_locked(schedule, machine, t, *version, readers.as_slice(), lines)
         }
         Reason::Listed { holder, bucket } => put_listed(schedule, t, *holder, *bucket, lines),
         Reason::Depends(u) => put_depends(schedule, t, *u, lines),

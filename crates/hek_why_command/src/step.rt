@@ -87,7 +87,7 @@ fn put_extras(
         put_reasons(telling.schedule, step.before, t, list.as_slice(), lines)?;
     }
     if telling.extras.changes {
-        put_changes(telling.schedule, step.before, step.after, lines)?;
+        put_changes(alloc, telling.schedule, step.before, step.after, lines)?;
     }
     Ok(())
 }
