@@ -6,3 +6,4 @@ pub mod Explained
 pub mod Causes
 pub mod Same
 pub mod Changes
+pub mod RuleNames

@@ -11,6 +11,7 @@ mod kept;
 mod met;
 mod reason;
 mod refused;
+mod rule_name;
 mod see;
 mod stops;
 mod txn_difference;
