@@ -34,6 +34,8 @@ enum Form {
     Value(&'static str),
     /// `--name N`, which is required.
     NeededNumber,
+    /// `--name`, which means the first word, or `--name=WORD` with one of the words.
+    Choice(&'static str, &'static [&'static str]),
 }
 
 const FILE: ArgumentText = ArgumentText {
@@ -153,10 +155,16 @@ it prints
     ],
 };
 
+/// The word that `--why` means, if it has none.
+const REASONS: &str = "reasons";
+
+/// The word of `--why=rules`.
+pub const RULES: &str = "rules";
+
 const WHY: ArgumentText = ArgumentText {
     name: "why",
-    help: "prints the reasons of each reply under its line",
-    form: Form::Flag,
+    help: "prints the reasons of each reply under its line; =rules also names the definition that decided each",
+    form: Form::Choice(REASONS, &[REASONS, RULES]),
 };
 
 const CHANGES: ArgumentText = ArgumentText {
@@ -428,5 +436,12 @@ fn argument_of<'a>(alloc: Global, text: &ArgumentText) -> Arg<'a> {
         Form::Number => argument.long(text.name).value_name("N"),
         Form::Value(value) => argument.long(text.name).value_name(value),
         Form::NeededNumber => argument.long(text.name).value_name("N").required(true),
+        Form::Choice(first, words) => argument
+            .long(text.name)
+            .value_name("HOW")
+            .num_args(0..=1)
+            .require_equals(true)
+            .default_missing_value(first)
+            .value_parser(words),
     }
 }

@@ -1,5 +1,5 @@
 //! The command line: its words, and what the program does for them.
-use crate::arguments::read_words;
+use crate::arguments::{RULES, read_words};
 use crate::disk::{Disk, InputFile, LateFile, open};
 use clap::error::ErrorKind as ClapKind;
 use clap::{ArgMatches, Error};
@@ -14,7 +14,7 @@ use hek_permute::Form;
 use hek_permute_command::{Choice, part_of, permute_command};
 use hek_rules::{Level, number};
 use hek_threads_command::{repeat_command, threads_command};
-use hek_why_command::{Extras, drive_command, explain_command};
+use hek_why_command::{Extras, Why, drive_command, explain_command};
 use std::alloc::Global;
 use std::convert::AsStr;
 use std::env;
@@ -185,7 +185,7 @@ fn run_schedule<'a, D: Disk, I: Read + Drop, W: Write>(
     let extras = extras_of(found);
     let state = limit.is_some() || found.get_flag("state");
     let file = schedule_file(alloc, found, disk, &mut input)?;
-    if extras.why || extras.changes {
+    if extras.why.is_some() || extras.changes {
         return explain_command(alloc, file, extras, limit, state, out);
     }
     if state {
@@ -197,8 +197,13 @@ fn run_schedule<'a, D: Disk, I: Read + Drop, W: Write>(
 
 /// What the words ask for under each line of a trace.
 fn extras_of(found: &ArgMatches<'_>) -> Extras {
+    let why = match found.get_str("why") {
+        None => None,
+        Some(word) if word == RULES => Some(Why::Rules),
+        Some(_) => Some(Why::Reasons),
+    };
     Extras {
-        why: found.get_flag("why"),
+        why,
         changes: found.get_flag("changes"),
     }
 }

@@ -10,7 +10,7 @@ use hek_commands::{clock_line, put_txn, put_version, state_lines};
 use hek_debug::{Debugger, Mark};
 use hek_machine::Machine;
 use hek_rules::{Event, FromWrite, NoMemory, Schedule, TxnId, VersionId};
-use hek_why_command::{Extras, explain_step};
+use hek_why_command::{Extras, Why, explain_step};
 use std::alloc::Global;
 use std::io::Write;
 use std::mem;
@@ -19,12 +19,12 @@ use std::mem;
 const ROUND: u64 = 5;
 
 const WHY: Extras = Extras {
-    why: true,
+    why: Some(Why::Reasons),
     changes: false,
 };
 
 const CHANGES: Extras = Extras {
-    why: false,
+    why: None,
     changes: true,
 };
 

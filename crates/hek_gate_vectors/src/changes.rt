@@ -62,7 +62,7 @@ fn state(alloc: Global, text: &[u8], limit: Option<u64>) -> Result<Option<String
 fn lay_changes(alloc: Global, text: &[u8], laid: &mut Fields) -> Result<(), AllocError> {
     let file = ScheduleFile::<&[u8]>::Text(Vec::from_slice(alloc, text)?);
     let extras = Extras {
-        why: false,
+        why: None,
         changes: true,
     };
     let mut out = Vec::new(alloc);

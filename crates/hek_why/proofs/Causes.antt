@@ -1,9 +1,9 @@
 -- Where the rule table answers that a transaction is aborted by a cause, the reasons give that cause.
-use Rattle.std.proofs.Common.{◌≡◌, ℕ, ◌+◌, ◌<◌, Bool, true, false, List, [], ◌∷◌, refl, ◌∙◌, ap, sym, subst, arith, Option, Some, None, length, map}
+use Rattle.std.proofs.Common.{◌≡◌, ℕ, ◌+◌, ◌<◌, Bool, true, false, List, [], ◌∷◌, ◌++◌, refl, ◌∙◌, ap, sym, subst, arith, Option, Some, None, length, map}
 use Rattle.std.proofs.lemmas.Bool.{lt-ltb, eqb-true}
-use Rattle.std.specs.Prelude.{if◌then◌else◌, ◌&&◌, ◌||◌, ◌==◌, find, IfSome, IfOk, Result, Ok, Err, ◌⊎◌}
+use Rattle.std.specs.Prelude.{if◌then◌else◌, ◌&&◌, ◌||◌, ◌==◌, IfSome, IfOk, Result, Ok, Err, ◌⊎◌}
 use Rattle.std.proofs.Common.{inl, inr, ⊎_elim}
-use Rattle.std.specs.List.{list_any}
+use Rattle.std.specs.List.{list_any, flat_map}
 use Rattle.hek_rules.specs.declared.event.Cause.{Cause}
 use Rattle.hek_rules.specs.declared.event.Cause.TheVariants.{Cascade, Conflict, NoMoreReads, ReadersFull, NoMoreWaits, Deadlock, Asked}
 use Rattle.hek_rules.specs.declared.event.Effect.{Effect}
@@ -33,10 +33,9 @@ use Rattle.hek_why.specs.declared.reason.Met.{Met}
 use Rattle.hek_why.specs.declared.reason.Reason.{Reason}
 use Rattle.hek_why.specs.declared.reason.Reason.TheVariants.{Stopped, DoomedBy, AbortedBefore}
 use Rattle.hek_why.specs.declared.stops.Stop.{Stop}
-use Rattle.hek_why.specs.Passed.{version_passes}
-use Rattle.hek_why.specs.Stops.{refused_by, stop_by, first_some, first_stop, first_claim, met_by, met_seen, met_begin}
+use Rattle.hek_why.specs.Stops.{refused_by, stop_by, first_some, first_stop, claim_at, met_by, met_seen, met_begin}
 use Rattle.hek_why.specs.Explained.{walked, stopped_by, claimed_in, stop_in, stops_in, abort_in, reasons_in, AreReasons}
-use Rattle.hek_why.specs.Causes.{Tells, TellCause}
+use Rattle.hek_why.specs.Causes.{EachTells, Tells, TellCause}
 
 -- ---- the first stop has the cause of the walk's refusal
 
@@ -107,7 +106,7 @@ stop_below w t p target (v ∷ vs) n below =
 
 tells_one : (cause : Cause) (v : ℕ) (met : Met) → Tells cause (Stopped v cause met ∷ [])
 tells_one Cascade v met = (refl, tt)
-tells_one Conflict v met = refl
+tells_one Conflict v met = (omega arith, (refl, tt))
 tells_one NoMoreReads v met = refl
 tells_one ReadersFull v met = refl
 tells_one NoMoreWaits v met = refl
@@ -116,7 +115,7 @@ tells_one Asked v met = refl
 
 tells_before : (cause : Cause) → Tells cause (AbortedBefore cause ∷ [])
 tells_before Cascade = (refl, tt)
-tells_before Conflict = refl
+tells_before Conflict = (omega arith, (refl, tt))
 tells_before NoMoreReads = refl
 tells_before ReadersFull = refl
 tells_before NoMoreWaits = refl
@@ -140,28 +139,35 @@ tells_stop w t vs cause (Some stop) same below =
 
 -- ---- the key of an insert that is claimed
 
-abbrev pub IsFound : ℕ → Option ℕ → Type 0
-IsFound n None = ⊥
-IsFound n (Some v) = v < n
+each_append : (cause : Cause) (xs ys : List Reason) → EachTells cause xs → EachTells cause ys → EachTells cause (xs ++ ys)
+each_append cause [] ys first rest = rest
+each_append cause (x ∷ xs) ys first rest = (first.0, each_append cause xs ys first.1 rest)
 
-found_first : (b c : Bool) (v n : ℕ) (later : Option ℕ) → v < n → (b || c) ≡ true → (c ≡ true → IsFound n later) → IsFound n (if b then Some v else later)
-found_first true c v n later here either rest = here
-found_first false c v n later here either rest = rest either
+stopped_tells : (v : ℕ) (met : Option Met) → EachTells Conflict (stopped_by v Conflict met)
+stopped_tells v None = tt
+stopped_tells v (Some met) = (refl, tt)
 
-claim_found : (w : World) (f : ℕ → Version → Bool) (vs : List ℕ) → Below (length w.versions) vs → list_any (λ v. f v (version_in w.versions v)) vs ≡ true →
-    IsFound (length w.versions) (find (λ v. version_passes f v w) vs)
-claim_found w f [] below any = cc
-claim_found w f (v ∷ vs) below any =
-    let g : ℕ → Bool = λ (x : ℕ). version_passes f x w in
-    let later : Option ℕ = find g vs in
-    subst (λ (b : Bool). IsFound (length w.versions) (if b && f v (version_in w.versions v) then Some v else later)) (sym (lt-ltb v (length w.versions) below.0))
-    (found_first (f v (version_in w.versions v)) (list_any (λ x. f x (version_in w.versions x)) vs) v (length w.versions) later below.0 any (claim_found w f vs below.1))
+claims_tell : (w : World) (t : ℕ) (vs : List ℕ) → EachTells Conflict (claimed_in w t vs)
+claims_tell w t [] = tt
+claims_tell w t (v ∷ vs) = each_append Conflict (stopped_by v Conflict (claim_at w t v)) (claimed_in w t vs) (stopped_tells v (claim_at w t v)) (claims_tell w t vs)
 
-tells_claim : (w : World) (o : Option ℕ) → IsFound (length w.versions) o → Tells Conflict (claimed_in w o)
-tells_claim w None found = absurd found
-tells_claim w (Some v) found = tells_there Conflict v w (λ w v. met_begin (begin_word w v)) found
+some_claim : (v : ℕ) (b c : Bool) (met : Met) (later : List Reason) → (b || c) ≡ true → (c ≡ true → 0 < length later) →
+    0 < length (stopped_by v Conflict (if b then Some met else None) ++ later)
+some_claim v true c met later either rest = omega arith
+some_claim v false c met later either rest = rest either
 
-claims_past : (w : World) (t : ℕ) (vs : List ℕ) (o : Option Stop) → cause_at o ≡ None → Tells Conflict (claimed_in w (first_claim w t vs)) → Tells Conflict (stop_in w t vs o)
+-- a version that claims the key gives a reason
+claim_found : (w : World) (t : ℕ) (vs : List ℕ) → Below (length w.versions) vs → is_claimed w t vs ≡ true → 0 < length (claimed_in w t vs)
+claim_found w t [] below any = cc
+claim_found w t (v ∷ vs) below any =
+    let f : ℕ → Bool = λ (x : ℕ). is_claim w t (txn_in w.txns t).level (version_in w.versions x).creator in
+    subst (λ (b : Bool). 0 < length (stopped_by v Conflict (if b && f v then Some (met_begin (begin_word w v)) else None) ++ claimed_in w t vs)) (sym (lt-ltb v (length w.versions) below.0))
+    (some_claim v (f v) (list_any f vs) (met_begin (begin_word w v)) (claimed_in w t vs) any (claim_found w t vs below.1))
+
+tells_claim : (w : World) (t : ℕ) (vs : List ℕ) → Below (length w.versions) vs → is_claimed w t vs ≡ true → Tells Conflict (claimed_in w t vs)
+tells_claim w t vs below any = (claim_found w t vs below any, claims_tell w t vs)
+
+claims_past : (w : World) (t : ℕ) (vs : List ℕ) (o : Option Stop) → cause_at o ≡ None → Tells Conflict (claimed_in w t vs) → Tells Conflict (stop_in w t vs o)
 claims_past w t vs None same told = told
 claims_past w t vs (Some stop) same told = cc
 
@@ -189,7 +195,7 @@ tells_claimed w t bucket vs below allowed claimed =
     claims_past w t vs (first_stop w t ToRead None vs)
     (sym (judged_stops w t ToRead None vs) ∙ ap refused_by (sym (no_targets w t (last (seen_of w t vs)) vs))
     ∙ sym (judged_behind _ (versions_judged w t ToRead (last (seen_of w t vs)) vs)) ∙ allowed)
-    (tells_claim w (first_claim w t vs) (claim_found w (λ v x. is_claim w t (txn_in w.txns t).level x.creator) vs below claimed))
+    (tells_claim w t vs below claimed)
 
 read_refused : (w : World) (t : ℕ) (target : Option ℕ) (j : Judgement) (cause : Cause) → (after_read w t target j).reply ≡ replies.Aborted cause → refused_by j ≡ Some cause
 read_refused w t target (Refuse c) cause is = cc

@@ -9,3 +9,4 @@ pub mod Counted
 pub mod Numbers
 pub mod LastSeen
 pub mod Causes
+pub mod Adding

@@ -1,5 +1,6 @@
 -- The reasons of a reply: the versions that an event's walk goes over, where it is refused, and the reasons.
 use Rattle.std.specs.Prelude.{ℕ, ◌≡◌, true, List, [], ◌∷◌, Option, Some, None, IfSome, map}
+use Rattle.std.specs.List.{flat_map}
 use Rattle.hek_rules.specs.declared.event.Cause.{Cause}
 use Rattle.hek_rules.specs.declared.event.Cause.TheVariants.{Cascade, Conflict}
 use Rattle.hek_rules.specs.declared.event.Event.{Event}
@@ -19,7 +20,7 @@ use Rattle.hek_why.specs.declared.reason.Reason.TheVariants.{Stopped, DoomedBy, 
 use Rattle.hek_why.specs.declared.stops.Stop.{Stop}
 use Rattle.hek_why.specs.Waited.{waits_in, commits_in}
 use Rattle.hek_why.specs.Looks.{looked_reasons}
-use Rattle.hek_why.specs.Stops.{first_stop, first_claim, met_at, made_at}
+use Rattle.hek_why.specs.Stops.{first_stop, claim_at, met_at}
 
 -- the versions that the walk of an event goes over
 abbrev pub walked : World → Event → List ℕ
@@ -45,15 +46,15 @@ abbrev pub stopped_by : ℕ → Cause → Option Met → List Reason
 stopped_by v cause None = []
 stopped_by v cause (Some met) = Stopped v cause met ∷ []
 
-abbrev pub claimed_in : World → Option ℕ → List Reason
-claimed_in w None = []
-claimed_in w (Some v) = stopped_by v Conflict (made_at v w)
+-- the versions that claim the key of an insert, in the order of the walk
+abbrev pub claimed_in : World → ℕ → List ℕ → List Reason
+claimed_in w t vs = flat_map (λ v. stopped_by v Conflict (claim_at w t v)) vs
 
 abbrev pub stop_in : World → ℕ → List ℕ → Option Stop → List Reason
-stop_in w t vs None = claimed_in w (first_claim w t vs)
+stop_in w t vs None = claimed_in w t vs
 stop_in w t vs (Some stop) = stopped_by stop.version stop.cause (met_at stop.version stop.sight stop.cause w)
 
--- the version at which the walk of t is refused, or which claims the key of its insert
+-- the version at which the walk of t is refused, or those that claim the key of its insert
 abbrev pub stops_in : World → ℕ → Event → List ℕ → List Reason
 stops_in w t e vs = stop_in w t vs (first_stop w t (purpose_in e) (target_in w t e vs) vs)
 

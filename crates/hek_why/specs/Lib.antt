@@ -5,3 +5,6 @@ pub mod Stops
 pub mod Explained
 pub mod Causes
 pub mod Phases
+pub mod Same
+pub mod Changes
+pub mod RuleNames

@@ -1,6 +1,6 @@
--- The version at which a walk is refused, or which claims the key of an insert, and what is met there.
+-- The version at which a walk is refused, or those that claim the key of an insert, and what is met there.
 -- (Section 4 of the paper: record locks; reads and updates.)
-use Rattle.std.specs.Prelude.{ℕ, List, [], ◌∷◌, Option, Some, None, find}
+use Rattle.std.specs.Prelude.{ℕ, List, [], ◌∷◌, Option, Some, None, if◌then◌else◌}
 use Rattle.hek_rules.specs.declared.event.Cause.{Cause}
 use Rattle.hek_rules.specs.declared.event.Cause.TheVariants.{ReadersFull}
 use Rattle.hek_rules.specs.declared.event.Sight.{Sight}
@@ -9,6 +9,7 @@ use Rattle.hek_rules.specs.declared.word.BeginRecord.{BeginRecord}
 use Rattle.hek_rules.specs.declared.word.BeginRecord.TheVariants.{At, By}
 use Rattle.hek_rules.specs.declared.word.EndRecord.{EndRecord}
 use Rattle.hek_rules.specs.declared.word.EndRecord.TheVariants.{Until, Lock}
+use Rattle.hek_rules.specs.Words.{readers_of}
 use Rattle.hek_rules.specs.World.{World, txn_in}
 use Rattle.hek_rules.specs.Shown.{begin_word, end_word}
 use Rattle.hek_rules.specs.Visibility.{sight}
@@ -42,15 +43,11 @@ abbrev pub first_stop : World → ℕ → Purpose → Option ℕ → List ℕ �
 first_stop w t purpose target [] = None
 first_stop w t purpose target (v ∷ vs) = first_some (stop_at w t purpose target v) (first_stop w t purpose target vs)
 
--- the first version that claims the key of an insert
-abbrev pub first_claim : World → ℕ → List ℕ → Option ℕ
-first_claim w t vs = find (λ v. version_passes (λ v x. is_claim w t (txn_in w.txns t).level x.creator) v w) vs
-
 -- which transaction, time or readers refuse a lock, by the End word
 abbrev pub met_by : Cause → EndRecord → Met
-met_by ReadersFull e = Readers
+met_by ReadersFull e = Readers (readers_of e)
 met_by cause (Until time) = EndedAt time
-met_by cause (Lock readers None no_more) = Readers
+met_by cause (Lock readers None no_more) = Readers readers
 met_by cause (Lock readers (Some u) no_more) = Writer u
 
 abbrev pub met_seen : Sight → Met → Met
@@ -64,5 +61,7 @@ abbrev pub met_begin : BeginRecord → Met
 met_begin (At time) = MadeAt time
 met_begin (By u) = Creator u
 
-abbrev pub made_at : ℕ → World → Option Met
-made_at v w = of_version (λ w v. met_begin (begin_word w v)) v w
+-- the creator of version v, if v exists and claims the key of an insert
+abbrev pub claim_at : World → ℕ → ℕ → Option Met
+claim_at w t v =
+    if version_passes (λ v x. is_claim w t (txn_in w.txns t).level x.creator) v w then Some (met_begin (begin_word w v)) else None

@@ -1,21 +1,20 @@
 //! The reasons of a reply.
-ghost use Rattle.std.specs.Prelude.{◌≡◌, [], ◌∷◌, IfOk, IfSome, map};
+ghost use Rattle.std.specs.Prelude.{◌≡◌, [], ◌∷◌, ◌++◌, IfOk, IfSome, OnOk, map};
 ghost use Rattle.hek_rules.specs.Events.{txn_of};
 ghost use Rattle.hek_rules.specs.Listing.{firsts_of};
 ghost use Rattle.hek_rules.specs.World.{txn_in};
 ghost use Rattle.hek_txn.specs.TxnTable.{Declared};
 ghost use Rattle.hek_machine.specs.Judgements.{IsShown};
-ghost use Rattle.hek_why.specs.Stops.{first_claim};
 ghost use Rattle.hek_rules.specs.Aims.{purpose_of, target_of};
 ghost use Rattle.hek_why.specs.Causes.{TellCause};
 ghost use Rattle.hek_why.specs.Explained.{walked, purpose_in, target_in, stopped_by, claimed_in, stops_in, abort_in, AreReasons};
 
 use crate::dooms::Dooms;
 use crate::facts::state_of;
-use crate::met::{made_by, met_at};
+use crate::met::met_at;
 use crate::reason::{Met, Reason};
 use crate::refused::refusal_reason;
-use crate::stops::{first_claim, first_stop};
+use crate::stops::{claim_at, first_stop};
 use crate::waits::{commit_reasons, wait_reasons};
 use crate::walked::{last_seen, looks, versions_in, versions_of};
 use hek_machine::Machine;
@@ -147,7 +146,7 @@ fn doomed_by(alloc: Global, txns: &[TxnId]) -> Result<Vec<Reason>, NoMemory>
     Ok(list)
 }
 
-/// The version at which the walk of an event is refused, or which claims the key of its insert.
+/// The version at which the walk of an event is refused, or those that claim the key of its insert.
 fn stop_reasons(
     alloc: Global,
     machine: &Machine,
@@ -162,13 +161,15 @@ fn stop_reasons(
     match first_stop(machine, t, &aim, vs)? {
         Some(stop) => {
             let met = met_at(machine, stop.version, stop.sight, stop.cause);
-            stopped(alloc, stop.version, stop.cause, met)
+            let mut list = Vec::new(alloc);
+            add_stop(stop.version, stop.cause, met, &mut list)?;
+            Ok(list)
         }
         None => claim_reasons(alloc, machine, t, vs),
     }
 }
 
-/// The version that claims the key of an insert.
+/// The versions that claim the key of an insert, in the order of the walk.
 fn claim_reasons(
     alloc: Global,
     machine: &Machine,
@@ -176,33 +177,32 @@ fn claim_reasons(
     vs: &[VersionId],
 ) -> Result<Vec<Reason>, NoMemory>
     requires { Declared machine.now.txns t }
-    ensures { IfOk result (λ list. IsShown machine.now (λ w. claimed_in w (first_claim w t vs.now)) list.items) }
+    ensures { IfOk result (λ list. IsShown machine.now (λ w. claimed_in w t vs.now) list.items) }
 {
-    match first_claim(machine, t, vs) {
-        Some(v) => stopped(alloc, v, Cause::Conflict, made_by(machine, v)),
-        None => Ok(Vec::new(alloc)),
+    let mut list = Vec::new(alloc);
+    for v in vs {
+        add_stop(*v, Cause::Conflict, claim_at(machine, t, *v), &mut list)?;
     }
+    Ok(list)
 }
 
-fn stopped(
-    alloc: Global,
+/// Appends the reason that a transaction was stopped at a version, if it met something there.
+fn add_stop(
     version: VersionId,
     cause: Cause,
     met: Option<Met>,
-) -> Result<Vec<Reason>, NoMemory>
-    ensures { IfOk result (λ list. list.items ≡ stopped_by version cause met) }
+    list: &mut Vec<Reason>,
+) -> Result<(), NoMemory>
+    ensures { OnOk result (list.new.items ≡ list.old.items ++ stopped_by version cause met) }
 {
-    match met {
-        None => Ok(Vec::new(alloc)),
-        Some(met) => {
-            let reason = Reason::Stopped {
-                version,
-                cause,
-                met,
-            };
-            alone(alloc, reason)
-        }
+    if let Some(met) = met {
+        list.push(Reason::Stopped {
+            version,
+            cause,
+            met,
+        })?;
     }
+    Ok(())
 }
 
 /// Why each member of a cycle waits for the next. A reply without a cycle has no such reasons.

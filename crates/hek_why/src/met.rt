@@ -6,13 +6,13 @@ ghost use Rattle.hek_rules.specs.Locks.{reads_freely, no_read_lock, no_write_loc
 ghost use Rattle.hek_locks.specs.Locked.{is_stale, cleared_word, word_refusal};
 ghost use Rattle.hek_txn.specs.TxnTable.{Declared};
 ghost use Rattle.hek_machine.specs.Judgements.{IsShown};
-ghost use Rattle.hek_why.specs.Stops.{met_at, met_by, made_at};
+ghost use Rattle.hek_why.specs.Stops.{met_at, met_by, met_begin};
 
 use crate::facts::{has_finished, reads, state_of};
 use crate::reason::Met;
 use hek_machine::Machine;
 use hek_rules::{BeginRecord, Cause, EndRecord, NoMemory, Sight, State, TxnId, VersionId};
-use hek_word::EndWord;
+use hek_word::{BeginWord, EndWord};
 
 /// Whether the writer of a word has aborted.
 fn is_stale(machine: &Machine, word: EndWord) -> bool
@@ -125,14 +125,14 @@ fn met_by(cause: Cause, word: EndWord) -> Met
     ensures { result ≡ met_by cause word }
 {
     if cause == Cause::ReadersFull {
-        return Met::Readers;
+        return Met::Readers(word.readers());
     }
     if let Some(time) = word.time() {
         return Met::EndedAt(time);
     }
     match word.writer() {
         Some(u) => Met::Writer(u),
-        None => Met::Readers,
+        None => Met::Readers(word.readers()),
     }
 }
 
@@ -148,12 +148,12 @@ pub(crate) fn met_at(machine: &Machine, v: VersionId, sight: Sight, cause: Cause
     Some(met_by(cause, word))
 }
 
-/// The creator that the Begin word of a version names: a transaction or a time. None past the last version.
-pub(crate) fn made_by(machine: &Machine, v: VersionId) -> Option<Met>
-    ensures { IsShown machine.now (made_at v) result }
+/// The creator that a Begin word names: a transaction or a time.
+pub(crate) fn made_by(word: BeginWord) -> Met
+    ensures { result ≡ met_begin word }
 {
-    match machine.begin_word(v)?.content() {
-        BeginRecord::At(time) => Some(Met::MadeAt(time)),
-        BeginRecord::By(u) => Some(Met::Creator(u)),
+    match word.content() {
+        BeginRecord::At(time) => Met::MadeAt(time),
+        BeginRecord::By(u) => Met::Creator(u),
     }
 }

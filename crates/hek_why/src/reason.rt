@@ -1,39 +1,7 @@
 //! The reasons of a reply, as values.
-ghost use Rattle.std.specs.Prelude.{◌≡◌};
-
+use crate::items::Items;
 use hek_rules::{Cause, Refusal, Sight, State, Time, TxnId, VersionId};
 use hek_word::{BeginWord, EndWord};
-use std::marker::Model;
-
-/// A list of transactions. Contracts see it as the list of their IDs.
-#[derive(Debug, Drop)]
-pub struct TxnList {
-    txns: Vec<TxnId>,
-}
-
-impl Model for TxnList {
-    ghost use Rattle.std.specs.Prelude.{ℕ, List};
-
-    ghost Value = { List ℕ };
-
-    ghost view = { λ l. l.txns.items };
-}
-
-impl TxnList {
-    /// The list of these transactions, in this order.
-    pub fn new(txns: Vec<TxnId>) -> TxnList
-        ensures { result ≡ txns.items }
-    {
-        TxnList { txns }
-    }
-
-    /// The transactions, in order.
-    pub fn items(&self) -> &[TxnId]
-        ensures { result.now ≡ self.now }
-    {
-        self.txns.as_slice()
-    }
-}
 
 /// What a transaction met at the version where it was stopped.
 #[derive(Clone, Copy, Debug, PartialEq, Eq)]
@@ -46,8 +14,8 @@ pub enum Met {
     EndedAt(Time),
     /// The time at which the version was made.
     MadeAt(Time),
-    /// As many readers as a version takes: 255.
-    Readers,
+    /// The readers of the version: how many there are, 0 to 255.
+    Readers(u8),
 }
 
 /// The phase that an event wants its transaction to be in.
@@ -74,7 +42,7 @@ pub enum Reason {
     /// record locks).
     ReadLocked {
         version: VersionId,
-        readers: TxnList,
+        readers: Items<TxnId>,
     },
     /// The transaction waits: it is in the WaitingTxnList of the holder (section 4 of the paper: wait-for
     /// dependencies). The bucket is the first that the holder locks and in which the transaction made a version; None

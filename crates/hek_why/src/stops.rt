@@ -5,12 +5,12 @@ ghost use Rattle.hek_rules.specs.World.{txn_in};
 ghost use Rattle.hek_rules.specs.Table.{is_claim};
 ghost use Rattle.hek_txn.specs.TxnTable.{Declared};
 ghost use Rattle.hek_machine.specs.Judgements.{IsShown};
-ghost use Rattle.hek_why.specs.Passed.{version_passes};
-ghost use Rattle.hek_why.specs.Stops.{refused_by, stop_by, stop_at, first_stop, first_claim};
+ghost use Rattle.hek_why.specs.Stops.{refused_by, stop_by, stop_at, first_stop, claim_at};
 ghost use Rattle.hek_rules.specs.Aims.{purpose_of, target_of};
 
 use crate::facts::{end_of, has_finished, is_listed, read_time, state_of};
-use crate::met::{no_read_lock, no_write_lock};
+use crate::met::{made_by, no_read_lock, no_write_lock};
+use crate::reason::Met;
 use crate::see::see;
 use hek_machine::Machine;
 use hek_rules::{Aim, BeginRecord, Cause, Level, NoMemory, Sight, State, TxnId, VersionId};
@@ -145,26 +145,15 @@ fn is_claim(machine: &Machine, t: TxnId, begin: BeginWord) -> bool
     }
 }
 
-/// Whether a version exists and claims its key against an insert of t.
-fn claims(machine: &Machine, t: TxnId, v: VersionId) -> bool
+/// The creator of a version that exists and claims its key against an insert of t.
+pub(crate) fn claim_at(machine: &Machine, t: TxnId, v: VersionId) -> Option<Met>
     requires { Declared machine.now.txns t }
-    ensures { IsShown machine.now (λ w. version_passes (λ v x. is_claim w t (txn_in w.txns t).level x.creator) v w) result }
+    ensures { IsShown machine.now (λ w. claim_at w t v) result }
 {
-    match machine.begin_word(v) {
-        None => false,
-        Some(begin) => is_claim(machine, t, begin),
+    let begin = machine.begin_word(v)?;
+    if is_claim(machine, t, begin) {
+        Some(made_by(begin))
+    } else {
+        None
     }
-}
-
-/// The first of these versions that claims the key of an insert.
-pub(crate) fn first_claim(machine: &Machine, t: TxnId, vs: &[VersionId]) -> Option<VersionId>
-    requires { Declared machine.now.txns t }
-    ensures { IsShown machine.now (λ w. first_claim w t vs.now) result }
-{
-    for v in vs {
-        if claims(machine, t, *v) {
-            return Some(*v);
-        }
-    }
-    None
 }

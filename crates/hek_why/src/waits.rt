@@ -8,8 +8,9 @@ ghost use Rattle.hek_why.specs.Passed.{version_passes};
 ghost use Rattle.hek_why.specs.Waited.{is_made_in, readers_in, held_over, waiting_list_holders, depended_on, shared_bucket, waits_in, commits_in};
 
 use crate::facts::{is_dependent, is_listed, reads};
+use crate::items::Items;
 use crate::kept::keep_if;
-use crate::reason::{Reason, TxnList};
+use crate::reason::Reason;
 use crate::walked::is_of_bucket;
 use hek_machine::Machine;
 use hek_rules::{NoMemory, TxnId, VersionId, WriteEntry};
@@ -136,7 +137,7 @@ fn add_versions(
         let readers = readers_of(alloc, machine, *v)?;
         list.push(Reason::ReadLocked {
             version: *v,
-            readers: TxnList::new(readers),
+            readers: Items::new(readers),
         })?;
     }
     Ok(())

@@ -19,4 +19,4 @@ pub use drive::drive_command;
 pub use one_step::explain_step;
 pub use reason_text::put_reasons;
 pub use run::explain_command;
-pub use step::Extras;
+pub use step::{Extras, Why};

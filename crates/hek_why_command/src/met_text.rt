@@ -18,7 +18,7 @@ pub(crate) fn put_stopped(
     match met {
         Met::Writer(u) => put_writer(schedule, machine, v, cause, u, lines),
         Met::Creator(u) => put_creator(schedule, machine, v, cause, u, lines),
-        Met::Readers => put_full(machine, v, lines),
+        Met::Readers(count) => put_readers(machine, v, count, lines),
         Met::EndedAt(time) => {
             let (index, ticks) = (v.index(), time.number());
             put(write!(lines, "version {index} was written over, at {ticks}"))?;
@@ -81,9 +81,14 @@ fn put_creator(
     put_begin_word(machine, v, lines)
 }
 
-fn put_full(machine: &Machine, v: VersionId, lines: &mut Vec<u8>) -> Result<(), NoMemory> {
+fn put_readers(
+    machine: &Machine,
+    v: VersionId,
+    count: u8,
+    lines: &mut Vec<u8>,
+) -> Result<(), NoMemory> {
     let index = v.index();
-    put(write!(lines, "version {index} has 255 readers"))?;
+    put(write!(lines, "version {index} has {count} readers"))?;
     put_end_word(machine, v, lines)
 }
 

@@ -6,7 +6,7 @@ use crate::word_text::{put, put_name, put_names};
 use hek_commands::state_text;
 use hek_machine::Machine;
 use hek_rules::{Cause, NoMemory, Schedule, State, TxnId, VersionId};
-use hek_why::Reason;
+use hek_why::{Reason, Step};
 use hek_word::{BeginWord, EndWord};
 use std::io::Write;
 
@@ -26,6 +26,24 @@ pub fn put_reasons(
     Ok(())
 }
 
+/// Appends a line, after two spaces, for each reason of a step of t, with the name of the definition that decided it at
+/// its end: ` [Table.commit_rule]`.
+pub(crate) fn put_ruled_reasons(
+    schedule: &Schedule,
+    step: &Step<'_>,
+    t: TxnId,
+    reasons: &[Reason],
+    lines: &mut Vec<u8>,
+) -> Result<(), NoMemory> {
+    for reason in reasons {
+        put(write!(lines, "  "))?;
+        put_reason(schedule, step.before, t, reason, lines)?;
+        let name = reason.rule_name(step.reply);
+        put(writeln!(lines, " [{name}]"))?;
+    }
+    Ok(())
+}
+
 fn put_reason(
     schedule: &Schedule,
     machine: &Machine,
@@ -35,7 +53,7 @@ fn put_reason(
 ) -> Result<(), NoMemory> {
     match reason {
         Reason::ReadLocked { version, readers } => {
-            put_read_locked(schedule, machine, t, *version, readers.items(), lines)
+            put_read_locked(schedule, machine, t, *version, readers.as_slice(), lines)
         }
         Reason::Listed { holder, bucket } => put_listed(schedule, t, *holder, *bucket, lines),
         Reason::Depends(u) => put_depends(schedule, t, *u, lines),

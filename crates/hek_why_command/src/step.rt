@@ -4,20 +4,29 @@ ghost use Rattle.hek_laws.specs.Runs.{IsPlaced};
 ghost use Rattle.hek_asm.specs.Trace.{NamesDeclared};
 
 use crate::changes::put_changes;
-use crate::reason_text::put_reasons;
+use crate::reason_text::{put_reasons, put_ruled_reasons};
 use hek_commands::put_line;
 use hek_machine::Machine;
 use hek_rules::{Event, NoMemory, Reply, Schedule, TxnId};
-use hek_why::{Dooms, Step, reasons};
+use hek_why::{Dooms, Reason, Step, reasons};
 use std::alloc::Global;
 
 /// What is written under each line of a trace.
 #[derive(Clone, Copy, Debug, PartialEq, Eq)]
 pub struct Extras {
-    /// The reasons of the reply.
-    pub why: bool,
+    /// The reasons of the reply, if they are asked for.
+    pub why: Option<Why>,
     /// What the step changed.
     pub changes: bool,
+}
+
+/// How reasons are written.
+#[derive(Clone, Copy, Debug, PartialEq, Eq)]
+pub enum Why {
+    /// A line for each reason.
+    Reasons,
+    /// A line for each reason, with the name of the definition that decided it at its end.
+    Rules,
 }
 
 /// A run so far: the schedule, the number of events done, which abort doomed which transaction, and what is asked for
@@ -81,13 +90,27 @@ fn put_extras(
     step: &Step<'_>,
     lines: &mut Vec<u8>,
 ) -> Result<(), NoMemory> {
-    if telling.extras.why {
-        let t = step.event.txn().unwrap_or(TxnId::new(0));
+    if let Some(why) = telling.extras.why {
         let list = reasons(alloc, step, &telling.dooms)?;
-        put_reasons(telling.schedule, step.before, t, list.as_slice(), lines)?;
+        put_why(telling.schedule, step, why, list.as_slice(), lines)?;
     }
     if telling.extras.changes {
-        put_changes(telling.schedule, step.before, step.after, lines)?;
+        put_changes(alloc, telling.schedule, step.before, step.after, lines)?;
     }
     Ok(())
+}
+
+/// The reasons of the reply, as they are asked for.
+fn put_why(
+    schedule: &Schedule,
+    step: &Step<'_>,
+    why: Why,
+    list: &[Reason],
+    lines: &mut Vec<u8>,
+) -> Result<(), NoMemory> {
+    let t = step.event.txn().unwrap_or(TxnId::new(0));
+    match why {
+        Why::Reasons => put_reasons(schedule, step.before, t, list, lines),
+        Why::Rules => put_ruled_reasons(schedule, step, t, list, lines),
+    }
 }
