@@ -143,7 +143,7 @@ fn at_end<S: Source>(source: &mut S) -> Result<(), LoadFault>
 
 /// The schedule whose version 2 or version 1 image the bytes of a source are, to their end; otherwise the first fault.
 /// Takes at most one byte more than the longest image has: `taken` counts bytes by what the source has left, so it
-/// applies to sources that tell their bytes. If the source fails, a fault of the bytes that it gave before comes first;
+/// applies to sources that report their bytes. If the source fails, a fault of the bytes that it gave before comes first;
 /// the fault is Read only if those bytes have no fault, except that they may end too early.
 pub fn load_image<S: Source>(alloc: Global, source: &mut S) -> Result<Schedule, LoadFault>
     requires { S.failed source.old ≡ false }

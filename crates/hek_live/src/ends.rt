@@ -17,7 +17,7 @@ pub struct LiveWords {
 }
 
 /// The access of one thread to the words, with the tokens that it holds. It has no bytes. A seat that is dropped keeps
-/// its tokens for ever.
+/// its tokens forever.
 #[derive(Drop)]
 pub struct Seat {
     pub(crate) seat: atomic_table::Seat<Change, View>,

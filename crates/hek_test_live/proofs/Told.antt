@@ -1,4 +1,4 @@
--- What a worker was told of its tokens, as those of one word change.
+-- What replies say of a worker's tokens, as those of one word change.
 use Rattle.std.proofs.Common.{◌≡◌, ◌≢◌, ℕ, ◌<◌, Bool, List, Some, slice_get, slice_set, sym, ap, ◌∙◌, subst, arith, length-set, get_or-set_same, get_or-set_other}
 use Rattle.std.proofs.lemmas.Option.{slice_get-get_or, slice_get_within, get_or_from_slice_get}
 use mathlib.Core.Logic.{dite}
