@@ -1,12 +1,13 @@
 //! The command line: its words, and what the program does for them.
 use crate::arguments::{RULES, read_words};
-use crate::disk::{Disk, InputFile, LateFile, open};
+use crate::disk::{Disk, LateFile, open};
+use crate::schedule::{schedule_file, schedule_text};
 use clap::error::ErrorKind as ClapKind;
 use clap::{ArgMatches, Error};
 use hek_asm::level_named;
 use hek_commands::{
-    HekFault, INPUT, ScheduleFile, asm_command, buffered, check_command, dis_command, read_text,
-    release_command, report, run_command, state_command, word_command,
+    HekFault, INPUT, asm_command, check_command, dis_command, read_text, release_command, report,
+    run_command, state_command, word_command,
 };
 use hek_debug_command::{debug_command, debug_session};
 use hek_page_command::{Part, page_command};
@@ -19,7 +20,7 @@ use std::alloc::Global;
 use std::convert::AsStr;
 use std::env;
 use std::env::Env;
-use std::io::{BufReader, ErrorKind, IsTerminal, Read, Write};
+use std::io::{ErrorKind, IsTerminal, Read, Write};
 use std::sync::Wait;
 use std::thread::Threads;
 
@@ -157,7 +158,7 @@ fn asm<'a, D: Disk, I: Read + Drop>(
     let mut input = Some(input);
     let name = text(found, "FILE")?;
     let mut image = LateFile::new(disk, text(found, "OUT")?);
-    let bytes = read_text(alloc, open(disk, &mut input, name)?, name)?;
+    let bytes = schedule_text(alloc, open(disk, &mut input, name)?, name)?;
     asm_command(alloc, bytes.as_slice(), &mut image)
 }
 
@@ -384,25 +385,6 @@ fn count_from<'a>(text: &str, least: u64) -> Result<u64, HekFault<'a>> {
         Some(count) if least <= count && count <= MOST => Ok(count),
         _ => Err(HekFault::BadArgument),
     }
-}
-
-/// A file that is read in small pieces.
-type Buffered<I, F> = BufReader<InputFile<I, F>>;
-
-/// The schedule file that the words name: a text with `--text`, otherwise an image.
-fn schedule_file<'a, D: Disk, I: Read + Drop>(
-    alloc: Global,
-    found: &ArgMatches<'a>,
-    disk: &D,
-    input: &mut Option<I>,
-) -> Result<ScheduleFile<Buffered<I, D::Reader>>, HekFault<'a>> {
-    let name = text(found, "FILE")?;
-    let file = open(disk, input, name)?;
-    if found.get_flag("text") {
-        return Ok(ScheduleFile::Text(read_text(alloc, file, name)?));
-    }
-    let image = buffered(alloc, file)?;
-    Ok(ScheduleFile::Image(image))
 }
 
 fn text<'a>(found: &ArgMatches<'a>, name: &str) -> Result<&'a str, HekFault<'a>> {
