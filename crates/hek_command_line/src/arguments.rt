@@ -112,7 +112,7 @@ Where first.hek has the line `buckets 1`, first.img gets the 22 bytes of its ima
         },
         ArgumentText {
             name: "OUT",
-            help: "the image that is written",
+            help: "the image that is written, or - for standard output",
             form: Form::Word,
         },
     ],

@@ -24,6 +24,9 @@ use std::io::{ErrorKind, IsTerminal, Read, Write};
 use std::sync::Wait;
 use std::thread::Threads;
 
+/// The name of standard output, where a file is written.
+const OUTPUT: &str = "-";
+
 /// Does what the program's arguments ask for, with the files of `disk` and the threads of `system`. Reads `input` for
 /// the argument `-`, writes to `out` and `faults`, and answers the exit status: 0; 1 after a fault; 2 for a bad command
 /// line.
@@ -136,7 +139,7 @@ fn run<'a, D: Disk, I: Read + IsTerminal + Drop, W: Write, E: Write>(
             out,
         ),
         Some(("word", found)) => word_command(alloc, texts(found, "WORD")?, input, out),
-        Some(("asm", found)) => asm(alloc, found, disk, input),
+        Some(("asm", found)) => asm(alloc, found, disk, input, out),
         Some(("dis", found)) => dis(alloc, found, disk, input, out),
         Some(("run", found)) => run_schedule(alloc, found, disk, input, out),
         Some(("drive", found)) => drive(alloc, found, disk, input, out),
@@ -149,17 +152,21 @@ fn run<'a, D: Disk, I: Read + IsTerminal + Drop, W: Write, E: Write>(
     }
 }
 
-fn asm<'a, D: Disk, I: Read + Drop>(
+fn asm<'a, D: Disk, I: Read + Drop, W: Write>(
     alloc: Global,
     found: &ArgMatches<'a>,
     disk: &D,
     input: I,
+    out: &mut W,
 ) -> Result<u8, HekFault<'a>> {
     let mut input = Some(input);
     let name = text(found, "FILE")?;
-    let mut image = LateFile::new(disk, text(found, "OUT")?);
+    let image = text(found, "OUT")?;
     let bytes = schedule_text(alloc, open(disk, &mut input, name)?, name)?;
-    asm_command(alloc, bytes.as_slice(), &mut image)
+    if image == OUTPUT {
+        return asm_command(alloc, bytes.as_slice(), out);
+    }
+    asm_command(alloc, bytes.as_slice(), &mut LateFile::new(disk, image))
 }
 
 fn dis<'a, D: Disk, I: Read + Drop, W: Write>(
