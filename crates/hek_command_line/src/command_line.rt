@@ -1,6 +1,7 @@
 //! The command line: its words, and what the program does for them.
 use crate::arguments::{RULES, read_words};
 use crate::disk::{Disk, LateFile, open};
+use crate::output::NotedOutput;
 use crate::schedule::{schedule_file, schedule_text};
 use clap::error::ErrorKind as ClapKind;
 use clap::{ArgMatches, Error};
@@ -75,14 +76,12 @@ pub fn answer<S: AsStr, D: Disk, I: Read + IsTerminal + Drop, W: Write, E: Write
     out: &mut W,
     faults: &mut E,
 ) -> u8 {
-    let matches = match read_words(alloc, words) {
-        Ok(matches) => matches,
-        Err(error) => return refuse(&error, out, faults),
+    let mut out = NotedOutput::new(out);
+    let ran = match read_words(alloc, words) {
+        Ok(matches) => run(alloc, &matches, disk, input, &mut out, faults),
+        Err(error) => refuse(&error, &mut out, faults),
     };
-    match run(alloc, &matches, disk, input, out, faults) {
-        Ok(status) => status,
-        Err(fault) => report(fault, faults),
-    }
+    status_of(ran, &out, faults)
 }
 
 /// Answers the words of a command line, with the threads of a system.
@@ -94,33 +93,46 @@ pub fn answer_in_threads<
     W: Write,
     E: Write,
 >(system: &T, alloc: Global, words: &[S], disk: &D, input: I, out: &mut W, faults: &mut E) -> u8 {
-    let matches = match read_words(alloc, words) {
-        Ok(matches) => matches,
-        Err(error) => return refuse(&error, out, faults),
+    let mut out = NotedOutput::new(out);
+    let ran = match read_words(alloc, words) {
+        Ok(matches) => match matches.subcommand() {
+            Some(("threads", found)) => threads(system, alloc, found, disk, input, &mut out),
+            _ => run(alloc, &matches, disk, input, &mut out, faults),
+        },
+        Err(error) => refuse(&error, &mut out, faults),
     };
-    let result = match matches.subcommand() {
-        Some(("threads", found)) => threads(system, alloc, found, disk, input, out),
-        _ => run(alloc, &matches, disk, input, out, faults),
-    };
-    match result {
+    status_of(ran, &out, faults)
+}
+
+/// The exit status after a command, whose fault is reported. That its output's reader has left is no fault.
+fn status_of<W: Write, E: Write>(
+    ran: Result<u8, HekFault<'_>>,
+    out: &NotedOutput<'_, W>,
+    faults: &mut E,
+) -> u8 {
+    match ran {
         Ok(status) => status,
+        Err(HekFault::CannotWrite) if out.has_lost_reader() => 0,
         Err(fault) => report(fault, faults),
     }
 }
 
 /// Writes what the parser of the command line says: help on standard output, otherwise why it refuses the words.
-fn refuse<W: Write, E: Write>(error: &Error, out: &mut W, faults: &mut E) -> u8 {
+fn refuse<'a, W: Write, E: Write>(
+    error: &Error,
+    out: &mut W,
+    faults: &mut E,
+) -> Result<u8, HekFault<'a>> {
     if error.kind() == ClapKind::OutOfMemory {
-        return report(HekFault::NoMemory, faults);
+        return Err(HekFault::NoMemory);
     }
     if error.use_stderr() {
         let _ = write!(faults, "{error}");
-        2
-    } else {
-        match write!(out, "{error}") {
-            Ok(()) => 0,
-            Err(_) => report(HekFault::CannotWrite, faults),
-        }
+        return Ok(2);
+    }
+    match write!(out, "{error}") {
+        Ok(()) => Ok(0),
+        Err(_) => Err(HekFault::CannotWrite),
     }
 }
 

@@ -4,6 +4,7 @@
 mod arguments;
 mod command_line;
 mod disk;
+mod output;
 mod schedule;
 
 pub use command_line::{answer, answer_in_threads, program};
