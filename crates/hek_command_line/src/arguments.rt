@@ -383,8 +383,9 @@ The page shows each step with its reply, and the versions, transactions and lock
 /// What `hek --version` prints after the name.
 const VERSION: &str = "0.2.0";
 
+/// The commands in the order in which `hek --help` lists them: those for schedules, for engines, for words, for images.
 const COMMANDS: &[CommandText] = &[
-    RELEASE, WORD, ASM, DIS, RUN, DRIVE, DEBUG, CHECK, THREADS, PERMUTE, PAGE,
+    RUN, DEBUG, PAGE, PERMUTE, CHECK, DRIVE, THREADS, WORD, RELEASE, ASM, DIS,
 ];
 
 /// Reads the words of a command line, the program's name first.
