@@ -223,6 +223,11 @@ with the number of the first event at fault, and status 1. Each transaction is j
             help: "prints the reply that the first event at fault should have had",
             form: Form::Flag,
         },
+        ArgumentText {
+            name: "summary",
+            help: "also prints how many transactions have committed, and how many events are judged",
+            form: Form::Flag,
+        },
     ],
 };
 

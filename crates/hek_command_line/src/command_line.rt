@@ -3,6 +3,7 @@ use crate::arguments::{RULES, read_words};
 use crate::disk::{Disk, LateFile, open};
 use crate::output::NotedOutput;
 use crate::schedule::{schedule_file, schedule_text};
+use crate::summary::{note_nothing, summary_command};
 use clap::error::ErrorKind as ClapKind;
 use clap::{ArgMatches, Error};
 use hek_asm::level_named;
@@ -37,7 +38,7 @@ pub fn program<
     D: Disk,
     I: Read + IsTerminal + Drop,
     W: Write,
-    E: Write,
+    E: Write + IsTerminal,
 >(rt: &R, system: &T, disk: &D, input: I, out: &mut W, faults: &mut E) -> u8 {
     match words_of(rt) {
         Ok(words) => answer_in_threads(
@@ -68,7 +69,7 @@ fn fault_of<'a>(kind: ErrorKind) -> HekFault<'a> {
 }
 
 /// Does what these words ask for, the program's name first, without threads: no worker can be started.
-pub fn answer<S: AsStr, D: Disk, I: Read + IsTerminal + Drop, W: Write, E: Write>(
+pub fn answer<S: AsStr, D: Disk, I: Read + IsTerminal + Drop, W: Write, E: Write + IsTerminal>(
     alloc: Global,
     words: &[S],
     disk: &D,
@@ -91,7 +92,7 @@ pub fn answer_in_threads<
     D: Disk,
     I: Read + IsTerminal + Drop,
     W: Write,
-    E: Write,
+    E: Write + IsTerminal,
 >(system: &T, alloc: Global, words: &[S], disk: &D, input: I, out: &mut W, faults: &mut E) -> u8 {
     let mut out = NotedOutput::new(out);
     let ran = match read_words(alloc, words) {
@@ -136,7 +137,7 @@ fn refuse<'a, W: Write, E: Write>(
     }
 }
 
-fn run<'a, D: Disk, I: Read + IsTerminal + Drop, W: Write, E: Write>(
+fn run<'a, D: Disk, I: Read + IsTerminal + Drop, W: Write, E: Write + IsTerminal>(
     alloc: Global,
     matches: &ArgMatches<'a>,
     disk: &D,
@@ -156,7 +157,7 @@ fn run<'a, D: Disk, I: Read + IsTerminal + Drop, W: Write, E: Write>(
         Some(("run", found)) => run_schedule(alloc, found, disk, input, out),
         Some(("drive", found)) => drive(alloc, found, disk, input, out),
         Some(("debug", found)) => debug(alloc, found, disk, input, out, faults),
-        Some(("check", found)) => check(alloc, found, disk, input, out),
+        Some(("check", found)) => check(alloc, found, disk, input, out, faults),
         Some(("permute", found)) => permute(alloc, found, disk, input, out, faults),
         Some(("page", found)) => page(alloc, found, disk, input, out, faults),
         Some(("threads", _)) => Err(HekFault::NoWorker),
@@ -300,12 +301,13 @@ fn step_of<'a>(found: &ArgMatches<'a>, name: &str) -> Result<Option<u64>, HekFau
     }
 }
 
-fn check<'a, D: Disk, I: Read + Drop, W: Write>(
+fn check<'a, D: Disk, I: Read + Drop, W: Write, E: Write + IsTerminal>(
     alloc: Global,
     found: &ArgMatches<'a>,
     disk: &D,
     input: I,
     out: &mut W,
+    faults: &mut E,
 ) -> Result<u8, HekFault<'a>> {
     let mut input = Some(input);
     let level = level_of(found)?;
@@ -313,7 +315,14 @@ fn check<'a, D: Disk, I: Read + Drop, W: Write>(
     let name = text(found, "TRACE")?;
     let trace = read_text(alloc, open(disk, &mut input, name)?, name)?;
     let why = found.get_flag("why");
-    check_command(alloc, file, trace.as_slice(), level, why, out)
+    if found.get_flag("summary") {
+        return summary_command(alloc, file, trace.as_slice(), level, why, out, faults);
+    }
+    let status = check_command(alloc, file, trace.as_slice(), level, why, out)?;
+    if faults.is_terminal() {
+        note_nothing(alloc, trace.as_slice(), faults);
+    }
+    Ok(status)
 }
 
 /// How many orders are played at most, if the words give no limit.
