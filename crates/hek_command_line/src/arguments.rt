@@ -40,13 +40,19 @@ enum Form {
 
 const FILE: ArgumentText = ArgumentText {
     name: "FILE",
-    help: "a schedule image, or - for standard input",
+    help: "a schedule: a text if its name ends in .hek, otherwise an image; - is standard input",
     form: Form::Word,
 };
 
 const TEXT: ArgumentText = ArgumentText {
     name: "text",
-    help: "FILE is a schedule text",
+    help: "FILE is a schedule text, whatever its name",
+    form: Form::Flag,
+};
+
+const IMAGE: ArgumentText = ArgumentText {
+    name: "image",
+    help: "FILE is a schedule image, whatever its name",
     form: Form::Flag,
 };
 
@@ -106,7 +112,7 @@ Where first.hek has the line `buckets 1`, first.img gets the 22 bytes of its ima
         },
         ArgumentText {
             name: "OUT",
-            help: "the image that is written",
+            help: "the image that is written, or - for standard output",
             form: Form::Word,
         },
     ],
@@ -119,14 +125,14 @@ const DIS: CommandText = CommandText {
   hek dis first.img
 Where first.img is the image of a schedule with one bucket and nothing else, it prints
   buckets 1",
-    arguments: &[FILE, TEXT],
+    arguments: &[FILE, TEXT, IMAGE],
 };
 
 const RUN: CommandText = CommandText {
     name: "run",
     about: "Runs the steps of a schedule, and prints each with its reply",
     example: r"Example:
-  hek run --text first.hek
+  hek run first.hek
 Where first.hek has the lines
   buckets 1
   row 10 100
@@ -140,6 +146,7 @@ it prints
     arguments: &[
         FILE,
         TEXT,
+        IMAGE,
         ArgumentText {
             name: "state",
             help: "prints the state of the machine after the trace",
@@ -179,7 +186,7 @@ const DRIVE: CommandText = CommandText {
     example: r"Each line is an event, written as a step of a schedule: `a read 10`. The rows and transactions are those of FILE; its own steps are not run. A line that is not an event is answered with `? line 2: 2 BadWord`, and changes nothing.
 
 Example:
-  hek drive --text first.hek
+  hek drive first.hek
 Where first.hek has the lines
   buckets 1
   row 10 100
@@ -190,7 +197,7 @@ the lines
 are answered with
   1 a begin -> began 1
   2 a read 10 -> found 100",
-    arguments: &[FILE, TEXT, WHY, CHANGES],
+    arguments: &[FILE, TEXT, IMAGE, WHY, CHANGES],
 };
 
 const CHECK: CommandText = CommandText {
@@ -209,10 +216,16 @@ with the number of the first event at fault, and status 1. Each transaction is j
             form: Form::Word,
         },
         TEXT,
+        IMAGE,
         LEVEL,
         ArgumentText {
             name: "why",
             help: "prints the reply that the first event at fault should have had",
+            form: Form::Flag,
+        },
+        ArgumentText {
+            name: "summary",
+            help: "also prints how many transactions have committed, and how many events are judged",
             form: Form::Flag,
         },
     ],
@@ -235,7 +248,7 @@ const DEBUG: CommandText = CommandText {
 Without COMMANDS they are read from standard input, and each is answered at once; there `help` lists them, with the questions that only such a session has.
 
 Example:
-  hek debug --text first.hek
+  hek debug first.hek
 Where first.hek has the lines
   buckets 1
   row 10 100
@@ -258,6 +271,7 @@ are answered with
             form: Form::MaybeWord,
         },
         TEXT,
+        IMAGE,
     ],
 };
 
@@ -265,7 +279,7 @@ const THREADS: CommandText = CommandText {
     name: "threads",
     about: "Runs each transaction of a schedule in its own thread, and prints the history",
     example: r"Example:
-  hek threads --text first.hek --turns 5
+  hek threads first.hek --turns 5
 Where first.hek has the lines
   buckets 1
   row 10 100
@@ -275,6 +289,7 @@ it prints the trace of a whole run of a, from begin to end. What it prints is a 
     arguments: &[
         FILE,
         TEXT,
+        IMAGE,
         ArgumentText {
             name: "turns",
             help: "how many times a waiting transaction tries again, 0 to 1000000",
@@ -294,7 +309,7 @@ const PERMUTE: CommandText = CommandText {
     example: r#"A transaction's moves are its reads and writes, in the order of the file, and one last move that ends it. Each order of the moves of all transactions is run from the start.
 
 Example:
-  hek permute --text two.hek
+  hek permute two.hek
 Where two.hek has the lines
   buckets 1
   row 10 100
@@ -308,10 +323,11 @@ it prints
   2 a aborted conflict; b committed; rows 10=2; serial; waited 0; first b a a b
   1 a committed; b committed; rows 10=2; serial; waited 0; first a a b b
   1 a committed; b committed; rows 10=1; serial; waited 0; first b b a a
-The verdict takes all transactions as serializable. `hek permute --text two.hek --order "a b a b"` prints the events of that order as a schedule."#,
+The verdict takes all transactions as serializable. `hek permute two.hek --order "a b a b"` prints the events of that order as a schedule."#,
     arguments: &[
         FILE,
         TEXT,
+        IMAGE,
         LEVEL,
         ArgumentText {
             name: "split",
@@ -350,11 +366,12 @@ const PAGE: CommandText = CommandText {
     name: "page",
     about: "Writes a schedule's run as a page for a browser",
     example: r"Example:
-  hek page --text first.hek > first.html
+  hek page first.hek > first.html
 The page shows each step with its reply, and the versions, transactions and locks at each position. It needs no network and no other file. It has at most 2000 steps; of a longer schedule --from and --to say which.",
     arguments: &[
         FILE,
         TEXT,
+        IMAGE,
         ArgumentText {
             name: "from",
             help: "begins at step N, by default the first",
@@ -371,8 +388,9 @@ The page shows each step with its reply, and the versions, transactions and lock
 /// What `hek --version` prints after the name.
 const VERSION: &str = "0.2.0";
 
+/// The commands in the order in which `hek --help` lists them: those for schedules, for engines, for words, for images.
 const COMMANDS: &[CommandText] = &[
-    RELEASE, WORD, ASM, DIS, RUN, DRIVE, DEBUG, CHECK, THREADS, PERMUTE, PAGE,
+    RUN, DEBUG, PAGE, PERMUTE, CHECK, DRIVE, THREADS, WORD, RELEASE, ASM, DIS,
 ];
 
 /// Reads the words of a command line, the program's name first.
@@ -390,7 +408,7 @@ fn hek<'a>(alloc: Global) -> Result<Command<'a>, AllocError> {
         .about("The reference machine of pessimistic multiversion locking, step by step")
         .after_help(
             r"Examples:
-  hek run --text first.hek
+  hek run first.hek
 runs a schedule, and prints each step with its reply
   hek release 8040000000000002 1
 prints the word and the waits that are left:
@@ -422,6 +440,7 @@ fn rivals_of(name: &str) -> &'static [&'static str] {
     match name {
         "order" => &["each", "levels", "part"],
         "levels" => &["each", "level"],
+        "image" => &["text"],
         _ => &[],
     }
 }

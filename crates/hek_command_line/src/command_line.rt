@@ -1,12 +1,15 @@
 //! The command line: its words, and what the program does for them.
 use crate::arguments::{RULES, read_words};
-use crate::disk::{Disk, InputFile, LateFile, open};
+use crate::disk::{Disk, LateFile, open};
+use crate::output::NotedOutput;
+use crate::schedule::{schedule_file, schedule_text};
+use crate::summary::{note_nothing, summary_command};
 use clap::error::ErrorKind as ClapKind;
 use clap::{ArgMatches, Error};
 use hek_asm::level_named;
 use hek_commands::{
-    HekFault, INPUT, ScheduleFile, asm_command, buffered, check_command, dis_command, read_text,
-    release_command, report, run_command, state_command, word_command,
+    HekFault, INPUT, asm_command, check_command, dis_command, read_text, release_command, report,
+    run_command, state_command, word_command,
 };
 use hek_debug_command::{debug_command, debug_session};
 use hek_page_command::{Part, page_command};
@@ -19,9 +22,12 @@ use std::alloc::Global;
 use std::convert::AsStr;
 use std::env;
 use std::env::Env;
-use std::io::{BufReader, ErrorKind, IsTerminal, Read, Write};
+use std::io::{ErrorKind, IsTerminal, Read, Write};
 use std::sync::Wait;
 use std::thread::Threads;
+
+/// The name of standard output, where a file is written.
+const OUTPUT: &str = "-";
 
 /// Does what the program's arguments ask for, with the files of `disk` and the threads of `system`. Reads `input` for
 /// the argument `-`, writes to `out` and `faults`, and answers the exit status: 0; 1 after a fault; 2 for a bad command
@@ -32,7 +38,7 @@ pub fn program<
     D: Disk,
     I: Read + IsTerminal + Drop,
     W: Write,
-    E: Write,
+    E: Write + IsTerminal,
 >(rt: &R, system: &T, disk: &D, input: I, out: &mut W, faults: &mut E) -> u8 {
     match words_of(rt) {
         Ok(words) => answer_in_threads(
@@ -63,7 +69,7 @@ fn fault_of<'a>(kind: ErrorKind) -> HekFault<'a> {
 }
 
 /// Does what these words ask for, the program's name first, without threads: no worker can be started.
-pub fn answer<S: AsStr, D: Disk, I: Read + IsTerminal + Drop, W: Write, E: Write>(
+pub fn answer<S: AsStr, D: Disk, I: Read + IsTerminal + Drop, W: Write, E: Write + IsTerminal>(
     alloc: Global,
     words: &[S],
     disk: &D,
@@ -71,14 +77,12 @@ pub fn answer<S: AsStr, D: Disk, I: Read + IsTerminal + Drop, W: Write, E: Write
     out: &mut W,
     faults: &mut E,
 ) -> u8 {
-    let matches = match read_words(alloc, words) {
-        Ok(matches) => matches,
-        Err(error) => return refuse(&error, out, faults),
+    let mut out = NotedOutput::new(out);
+    let ran = match read_words(alloc, words) {
+        Ok(matches) => run(alloc, &matches, disk, input, &mut out, faults),
+        Err(error) => refuse(&error, &mut out, faults),
     };
-    match run(alloc, &matches, disk, input, out, faults) {
-        Ok(status) => status,
-        Err(fault) => report(fault, faults),
-    }
+    status_of(ran, &out, faults)
 }
 
 /// Answers the words of a command line, with the threads of a system.
@@ -88,39 +92,52 @@ pub fn answer_in_threads<
     D: Disk,
     I: Read + IsTerminal + Drop,
     W: Write,
-    E: Write,
+    E: Write + IsTerminal,
 >(system: &T, alloc: Global, words: &[S], disk: &D, input: I, out: &mut W, faults: &mut E) -> u8 {
-    let matches = match read_words(alloc, words) {
-        Ok(matches) => matches,
-        Err(error) => return refuse(&error, out, faults),
+    let mut out = NotedOutput::new(out);
+    let ran = match read_words(alloc, words) {
+        Ok(matches) => match matches.subcommand() {
+            Some(("threads", found)) => threads(system, alloc, found, disk, input, &mut out),
+            _ => run(alloc, &matches, disk, input, &mut out, faults),
+        },
+        Err(error) => refuse(&error, &mut out, faults),
     };
-    let result = match matches.subcommand() {
-        Some(("threads", found)) => threads(system, alloc, found, disk, input, out),
-        _ => run(alloc, &matches, disk, input, out, faults),
-    };
-    match result {
+    status_of(ran, &out, faults)
+}
+
+/// The exit status after a command, whose fault is reported. That its output's reader has left is no fault.
+fn status_of<W: Write, E: Write>(
+    ran: Result<u8, HekFault<'_>>,
+    out: &NotedOutput<'_, W>,
+    faults: &mut E,
+) -> u8 {
+    match ran {
         Ok(status) => status,
+        Err(HekFault::CannotWrite) if out.has_lost_reader() => 0,
         Err(fault) => report(fault, faults),
     }
 }
 
 /// Writes what the parser of the command line says: help on standard output, otherwise why it refuses the words.
-fn refuse<W: Write, E: Write>(error: &Error, out: &mut W, faults: &mut E) -> u8 {
+fn refuse<'a, W: Write, E: Write>(
+    error: &Error,
+    out: &mut W,
+    faults: &mut E,
+) -> Result<u8, HekFault<'a>> {
     if error.kind() == ClapKind::OutOfMemory {
-        return report(HekFault::NoMemory, faults);
+        return Err(HekFault::NoMemory);
     }
     if error.use_stderr() {
         let _ = write!(faults, "{error}");
-        2
-    } else {
-        match write!(out, "{error}") {
-            Ok(()) => 0,
-            Err(_) => report(HekFault::CannotWrite, faults),
-        }
+        return Ok(2);
+    }
+    match write!(out, "{error}") {
+        Ok(()) => Ok(0),
+        Err(_) => Err(HekFault::CannotWrite),
     }
 }
 
-fn run<'a, D: Disk, I: Read + IsTerminal + Drop, W: Write, E: Write>(
+fn run<'a, D: Disk, I: Read + IsTerminal + Drop, W: Write, E: Write + IsTerminal>(
     alloc: Global,
     matches: &ArgMatches<'a>,
     disk: &D,
@@ -135,12 +152,12 @@ fn run<'a, D: Disk, I: Read + IsTerminal + Drop, W: Write, E: Write>(
             out,
         ),
         Some(("word", found)) => word_command(alloc, texts(found, "WORD")?, input, out),
-        Some(("asm", found)) => asm(alloc, found, disk, input),
+        Some(("asm", found)) => asm(alloc, found, disk, input, out),
         Some(("dis", found)) => dis(alloc, found, disk, input, out),
         Some(("run", found)) => run_schedule(alloc, found, disk, input, out),
         Some(("drive", found)) => drive(alloc, found, disk, input, out),
         Some(("debug", found)) => debug(alloc, found, disk, input, out, faults),
-        Some(("check", found)) => check(alloc, found, disk, input, out),
+        Some(("check", found)) => check(alloc, found, disk, input, out, faults),
         Some(("permute", found)) => permute(alloc, found, disk, input, out, faults),
         Some(("page", found)) => page(alloc, found, disk, input, out, faults),
         Some(("threads", _)) => Err(HekFault::NoWorker),
@@ -148,17 +165,21 @@ fn run<'a, D: Disk, I: Read + IsTerminal + Drop, W: Write, E: Write>(
     }
 }
 
-fn asm<'a, D: Disk, I: Read + Drop>(
+fn asm<'a, D: Disk, I: Read + Drop, W: Write>(
     alloc: Global,
     found: &ArgMatches<'a>,
     disk: &D,
     input: I,
+    out: &mut W,
 ) -> Result<u8, HekFault<'a>> {
     let mut input = Some(input);
     let name = text(found, "FILE")?;
-    let mut image = LateFile::new(disk, text(found, "OUT")?);
-    let bytes = read_text(alloc, open(disk, &mut input, name)?, name)?;
-    asm_command(alloc, bytes.as_slice(), &mut image)
+    let image = text(found, "OUT")?;
+    let bytes = schedule_text(alloc, open(disk, &mut input, name)?, name)?;
+    if image == OUTPUT {
+        return asm_command(alloc, bytes.as_slice(), out);
+    }
+    asm_command(alloc, bytes.as_slice(), &mut LateFile::new(disk, image))
 }
 
 fn dis<'a, D: Disk, I: Read + Drop, W: Write>(
@@ -280,12 +301,13 @@ fn step_of<'a>(found: &ArgMatches<'a>, name: &str) -> Result<Option<u64>, HekFau
     }
 }
 
-fn check<'a, D: Disk, I: Read + Drop, W: Write>(
+fn check<'a, D: Disk, I: Read + Drop, W: Write, E: Write + IsTerminal>(
     alloc: Global,
     found: &ArgMatches<'a>,
     disk: &D,
     input: I,
     out: &mut W,
+    faults: &mut E,
 ) -> Result<u8, HekFault<'a>> {
     let mut input = Some(input);
     let level = level_of(found)?;
@@ -293,7 +315,14 @@ fn check<'a, D: Disk, I: Read + Drop, W: Write>(
     let name = text(found, "TRACE")?;
     let trace = read_text(alloc, open(disk, &mut input, name)?, name)?;
     let why = found.get_flag("why");
-    check_command(alloc, file, trace.as_slice(), level, why, out)
+    if found.get_flag("summary") {
+        return summary_command(alloc, file, trace.as_slice(), level, why, out, faults);
+    }
+    let status = check_command(alloc, file, trace.as_slice(), level, why, out)?;
+    if faults.is_terminal() {
+        note_nothing(alloc, trace.as_slice(), faults);
+    }
+    Ok(status)
 }
 
 /// How many orders are played at most, if the words give no limit.
@@ -384,25 +413,6 @@ fn count_from<'a>(text: &str, least: u64) -> Result<u64, HekFault<'a>> {
         Some(count) if least <= count && count <= MOST => Ok(count),
         _ => Err(HekFault::BadArgument),
     }
-}
-
-/// A file that is read in small pieces.
-type Buffered<I, F> = BufReader<InputFile<I, F>>;
-
-/// The schedule file that the words name: a text with `--text`, otherwise an image.
-fn schedule_file<'a, D: Disk, I: Read + Drop>(
-    alloc: Global,
-    found: &ArgMatches<'a>,
-    disk: &D,
-    input: &mut Option<I>,
-) -> Result<ScheduleFile<Buffered<I, D::Reader>>, HekFault<'a>> {
-    let name = text(found, "FILE")?;
-    let file = open(disk, input, name)?;
-    if found.get_flag("text") {
-        return Ok(ScheduleFile::Text(read_text(alloc, file, name)?));
-    }
-    let image = buffered(alloc, file)?;
-    Ok(ScheduleFile::Image(image))
 }
 
 fn text<'a>(found: &ArgMatches<'a>, name: &str) -> Result<&'a str, HekFault<'a>> {

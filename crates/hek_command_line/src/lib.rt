@@ -4,6 +4,9 @@
 mod arguments;
 mod command_line;
 mod disk;
+mod output;
+mod schedule;
+mod summary;
 
 pub use command_line::{answer, answer_in_threads, program};
 pub use disk::{Disk, SystemDisk};

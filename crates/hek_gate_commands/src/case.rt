@@ -1,5 +1,7 @@
 //! A case: command lines, their input, and what must come out.
 use crate::content::{number_of, put_content, unreadable};
+use crate::disk::Room;
+use crate::run::Outputs;
 use crate::words::Words;
 use std::alloc::Global;
 use std::io;
@@ -85,7 +87,7 @@ pub(crate) struct Case {
     pub(crate) commands: Vec<Command>,
     pub(crate) input: Vec<u8>,
     pub(crate) is_terminal: bool,
-    pub(crate) room: usize,
+    pub(crate) outputs: Outputs,
     pub(crate) without: String,
     pub(crate) wants: Vec<Want>,
     /// Whether a want is about the output, about standard error, and about a file that is made.
@@ -105,7 +107,7 @@ impl Case {
             commands: Vec::new(alloc),
             input: Vec::new(alloc),
             is_terminal: false,
-            room: usize::MAX,
+            outputs: Outputs::files(),
             without: String::new(alloc),
             wants: Vec::new(alloc),
             wants_output: false,
@@ -187,7 +189,9 @@ impl Case {
         self.is_closed = true;
         match name {
             "terminal" => self.is_terminal = true,
-            "room" => self.room = number_of(text)? as usize,
+            "screen" => self.outputs.is_terminal = true,
+            "room" => self.outputs.room = Room::of(number_of(text)? as usize),
+            "leaves" => self.outputs.room = Room::pipe(number_of(text)? as usize),
             "without" => self.without.push_str(text)?,
             _ => self.add_want(line, check_named(name)?, text)?,
         }

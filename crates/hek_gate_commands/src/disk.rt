@@ -136,18 +136,45 @@ impl IsTerminal for Input<'_> {
 /// The most bytes that an output takes at a time.
 const PIECE: usize = 1_000;
 
+/// How much an output takes, and what it says after that.
+#[derive(Clone, Copy)]
+pub(crate) struct Room {
+    pub(crate) bytes: usize,
+    pub(crate) full: ErrorKind,
+}
+
+impl Room {
+    /// Room for so many bytes, and then a refusal.
+    pub(crate) fn of(bytes: usize) -> Room {
+        Room {
+            bytes,
+            full: ErrorKind::Other,
+        }
+    }
+
+    /// Room in a pipe whose reader leaves after so many bytes.
+    pub(crate) fn pipe(bytes: usize) -> Room {
+        Room {
+            bytes,
+            full: ErrorKind::BrokenPipe,
+        }
+    }
+}
+
 /// An output that takes bytes while there is room, and fails after that.
 #[derive(Drop)]
 pub(crate) struct Output {
     taken: Vec<u8>,
-    room: usize,
+    room: Room,
+    is_terminal: bool,
 }
 
 impl Output {
-    pub(crate) fn new(alloc: Global, room: usize) -> Output {
+    pub(crate) fn new(alloc: Global, room: Room, is_terminal: bool) -> Output {
         Output {
             taken: Vec::new(alloc),
             room,
+            is_terminal,
         }
     }
 
@@ -159,9 +186,9 @@ impl Output {
 
 impl Write for Output {
     fn write(&mut self, buf: &[u8]) -> io::Result<usize> {
-        let room = self.room.saturating_sub(self.taken.len());
+        let room = self.room.bytes.saturating_sub(self.taken.len());
         if room == 0 {
-            return Err(refused());
+            return Err(io::Error::from(self.room.full));
         }
         let piece = buf.len().min(room).min(PIECE);
         self.taken.write(&buf[..piece])
@@ -169,5 +196,11 @@ impl Write for Output {
 
     fn flush(&mut self) -> io::Result<()> {
         Ok(())
+    }
+}
+
+impl IsTerminal for Output {
+    fn is_terminal(&self) -> bool {
+        self.is_terminal
     }
 }

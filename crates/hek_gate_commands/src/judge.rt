@@ -35,7 +35,7 @@ fn ran_for<R: System>(scene: &Scene<'_, R>, case: &Case, command: &Command) -> i
         bytes: case.input.as_slice(),
         is_terminal: case.is_terminal,
     };
-    let mut ran = run(scene.rt, scene.files, &command.words, input, case.room);
+    let mut ran = run(scene.rt, scene.files, &command.words, input, case.outputs);
     if !case.without.is_empty() {
         let out = text_of(ran.out.as_slice());
         ran.out = without(scene.rt.alloc(), out, case.without.as_str())?;

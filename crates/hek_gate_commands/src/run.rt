@@ -1,6 +1,6 @@
 //! A command line over the files of a scene.
 use crate::content::unreadable;
-use crate::disk::{Input, MemoryDisk, Output, SceneFile};
+use crate::disk::{Input, MemoryDisk, Output, Room, SceneFile};
 use crate::system::System;
 use crate::words::Words;
 use hek_command_line::program;
@@ -21,23 +21,40 @@ pub(crate) fn text_of(bytes: &[u8]) -> &str {
     str::from_utf8(bytes).unwrap_or("(not text)")
 }
 
-/// Runs a command line over these files and this input, with an output that has so much room.
+/// Where a command line writes: how much room its output has, and whether standard error is a terminal.
+#[derive(Clone, Copy)]
+pub(crate) struct Outputs {
+    pub(crate) room: Room,
+    pub(crate) is_terminal: bool,
+}
+
+impl Outputs {
+    /// Outputs that take everything, and are no terminal.
+    pub(crate) fn files() -> Outputs {
+        Outputs {
+            room: Room::of(usize::MAX),
+            is_terminal: false,
+        }
+    }
+}
+
+/// Runs a command line over these files and this input, with these outputs.
 pub(crate) fn run<R: System>(
     rt: &R,
     files: &[SceneFile],
     words: &Words,
     input: Input<'_>,
-    room: usize,
+    outputs: Outputs,
 ) -> Ran {
     let made = RefCell::new(None);
     let disk = MemoryDisk::new(rt.alloc(), files, &made);
-    let mut out = Output::new(rt.alloc(), room);
-    let mut faults = Vec::new(rt.alloc());
+    let mut out = Output::new(rt.alloc(), outputs.room, false);
+    let mut faults = Output::new(rt.alloc(), Room::of(usize::MAX), outputs.is_terminal);
     let status = program(words, rt, &disk, input, &mut out, &mut faults);
     Ran {
         status,
         out: out.into_taken(),
-        faults,
+        faults: faults.into_taken(),
         made: made.into_inner(),
     }
 }
@@ -54,7 +71,7 @@ pub(crate) fn printed<R: System>(
         bytes: input,
         is_terminal: false,
     };
-    Ok(run(rt, files, &words, input, usize::MAX).out)
+    Ok(run(rt, files, &words, input, Outputs::files()).out)
 }
 
 /// The bytes of the last file of this name.

@@ -1,0 +1,54 @@
+# Completions of hek for bash; tools/completions writes this file. Read it with `source`, or put it into
+# ~/.local/share/bash-completion/completions under the name hek.
+_hek() {
+    local word=${COMP_WORDS[COMP_CWORD]} before=${COMP_WORDS[COMP_CWORD - 1]} command=${COMP_WORDS[1]} words="" files=""
+    COMPREPLY=()
+    if [ "$COMP_CWORD" -eq 1 ]; then
+        words="run debug page permute check drive threads word release asm dis help --help --version"
+        mapfile -t COMPREPLY < <(compgen -W "$words" -- "$word")
+        return
+    fi
+    # bash parts a word at `=`
+    if [ "$word" = "=" ]; then
+        before="$before=" word=""
+    elif [ "$before" = "=" ]; then
+        before="${COMP_WORDS[COMP_CWORD - 2]}="
+    fi
+    case "$command $before" in
+    "help help") words="run debug page permute check drive threads word release asm dis" ;;
+    "run --state-at") return ;;
+    "run --why=") words="reasons rules" ;;
+    "page --from") return ;;
+    "page --to") return ;;
+    "permute --level") words="serializable repeatable snapshot" ;;
+    "permute --limit") return ;;
+    "permute --part") return ;;
+    "permute --order") return ;;
+    "check --level") words="serializable repeatable snapshot" ;;
+    "drive --why=") words="reasons rules" ;;
+    "threads --turns") return ;;
+    "threads --repeat") return ;;
+    esac
+    if [ -n "$words" ]; then
+        mapfile -t COMPREPLY < <(compgen -W "$words" -- "$word")
+        return
+    fi
+    case "$command" in
+    run) words="--text --image --state --state-at --why --changes --help" files=yes ;;
+    debug) words="--text --image --help" files=yes ;;
+    page) words="--text --image --from --to --help" files=yes ;;
+    permute) words="--text --image --level --split --limit --part --each --order --levels --help" files=yes ;;
+    check) words="--text --image --level --why --summary --help" files=yes ;;
+    drive) words="--text --image --why --changes --help" files=yes ;;
+    threads) words="--text --image --turns --repeat --help" files=yes ;;
+    word) words="--help" ;;
+    release) words="--help" ;;
+    asm) words="--help" files=yes ;;
+    dis) words="--text --image --help" files=yes ;;
+    esac
+    case "$word" in
+    -*) mapfile -t COMPREPLY < <(compgen -W "$words" -- "$word") ;;
+    *) [ -z "$files" ] || compopt -o default ;;
+    esac
+}
+complete -F _hek hek

@@ -1,0 +1,106 @@
+//! FILE, the schedule of a command: a text or an image, by its name, its first bytes and the words of the command line.
+ghost use Rattle.std.specs.Prelude.{IfErr};
+ghost use Rattle.hek_commands.specs.Commands.{ReadFails};
+
+use crate::disk::{Disk, InputFile, open};
+use clap::ArgMatches;
+use hek_commands::{HekFault, ScheduleFile, buffered, read_fault, read_text};
+use std::alloc::Global;
+use std::io::{BufReader, Chain, Cursor, Read};
+
+/// How the name of a schedule text ends.
+const TEXT_NAME: &str = ".hek";
+
+/// The bytes that each image begins with.
+const IMAGE_MARK: &[u8] = b"HKSC";
+
+/// The byte order mark, with which an editor may begin a text.
+const BYTE_ORDER_MARK: &[u8] = b"\xEF\xBB\xBF";
+
+/// How many bytes at the front of a file are looked at.
+const FRONT: u64 = 4;
+
+/// A file from its first byte, also where its front has been looked at.
+type FromFront<I, F> = Chain<Cursor<Vec<u8>>, InputFile<I, F>>;
+
+/// What a file holds.
+#[derive(Clone, Copy, PartialEq, Eq)]
+enum Holds {
+    Text,
+    Image,
+    /// A text, unless its first bytes are those of an image.
+    MaybeText,
+}
+
+/// The schedule file that the words name. `--text` and `--image` say what it holds; without them it is a text if its name ends
+/// in `.hek` and its first bytes aren't those of an image, otherwise an image.
+pub fn schedule_file<'a, D: Disk, I: Read + Drop>(
+    alloc: Global,
+    found: &ArgMatches<'a>,
+    disk: &D,
+    input: &mut Option<I>,
+) -> Result<ScheduleFile<BufReader<FromFront<I, D::Reader>>>, HekFault<'a>> {
+    let name = found.get_str("FILE").ok_or(HekFault::BadArgument)?;
+    let holds = holds_of(found, name);
+    let mut file = open(disk, input, name)?;
+    let front = match holds {
+        Holds::Image => Vec::new(alloc),
+        Holds::Text | Holds::MaybeText => front_of(alloc, &mut file, name)?,
+    };
+    let is_image = holds == Holds::Image
+        || (holds == Holds::MaybeText && front.starts_with(IMAGE_MARK));
+    let file = from_front(front, file);
+    if is_image {
+        Ok(ScheduleFile::Image(buffered(alloc, file)?))
+    } else {
+        Ok(ScheduleFile::Text(read_text(alloc, file, name)?))
+    }
+}
+
+/// All bytes of the schedule text of this name, without a byte order mark at its front.
+pub fn schedule_text<'a, R: Read + Drop>(
+    alloc: Global,
+    mut file: R,
+    name: &'a str,
+) -> Result<Vec<u8>, HekFault<'a>>
+    ensures { IfErr result (ReadFails name.now) }
+{
+    let front = front_of(alloc, &mut file, name)?;
+    read_text(alloc, from_front(front, file), name)
+}
+
+/// What the words and the name say that a file holds.
+fn holds_of(found: &ArgMatches<'_>, name: &str) -> Holds {
+    if found.get_flag("text") {
+        Holds::Text
+    } else if !found.get_flag("image") && name.ends_with(TEXT_NAME) {
+        Holds::MaybeText
+    } else {
+        Holds::Image
+    }
+}
+
+/// The first bytes of a file: `FRONT` of them, or all if it has fewer.
+fn front_of<'a, R: Read>(
+    alloc: Global,
+    file: &mut R,
+    name: &'a str,
+) -> Result<Vec<u8>, HekFault<'a>>
+    ensures { IfErr result (ReadFails name.now) }
+{
+    let mut front = Vec::new(alloc);
+    match file.take(FRONT).read_to_end(&mut front) {
+        Ok(_) => Ok(front),
+        Err(error) => Err(read_fault(error.kind(), name)),
+    }
+}
+
+/// A file again from its front, which has been read, and after a byte order mark if it has one.
+fn from_front<R: Read>(front: Vec<u8>, file: R) -> Chain<Cursor<Vec<u8>>, R> {
+    let is_marked = front.starts_with(BYTE_ORDER_MARK);
+    let mut front = Cursor::new(front);
+    if is_marked {
+        front.set_position(BYTE_ORDER_MARK.len() as u64);
+    }
+    front.chain(file)
+}
