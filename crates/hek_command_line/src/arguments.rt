@@ -343,7 +343,7 @@ const PAGE: CommandText = CommandText {
     about: "Writes a schedule's run as a page for a browser",
     example: r"Example:
   hek page --text first.hek > first.html
-The page shows each step with its reply, and the versions, transactions and locks at each position. It needs no network and no other file. It has at most 2000 steps; of a longer schedule --from and --to say which.",
+The page shows each step with its reply, and the versions, waits and lock words at each position. It needs no network and no other file. Comments of a schedule text are shown: those above its first line at the start, those above a step at that step. A page has at most 2000 steps; of a longer schedule --from and --to say which.",
     arguments: &[
         FILE,
         TEXT,
@@ -356,6 +356,26 @@ The page shows each step with its reply, and the versions, transactions and lock
             name: "to",
             help: "ends at step N, by default the last",
             form: Form::Number,
+        },
+        ArgumentText {
+            name: "title",
+            help: "the page's title, by default the name of FILE",
+            form: Form::Value("TEXT"),
+        },
+        ArgumentText {
+            name: "lesson",
+            help: "the number before the title",
+            form: Form::Number,
+        },
+        ArgumentText {
+            name: "previous",
+            help: "the address of the page before this one",
+            form: Form::Value("ADDRESS"),
+        },
+        ArgumentText {
+            name: "next",
+            help: "the address of the page after this one",
+            form: Form::Value("ADDRESS"),
         },
     ],
 };

@@ -9,7 +9,7 @@ use hek_commands::{
     release_command, report, run_command, state_command, word_command,
 };
 use hek_debug_command::{debug_command, debug_session};
-use hek_page_command::{Part, page_command};
+use hek_page_command::{Heading, Part, page_command};
 use hek_permute::Form;
 use hek_permute_command::{Choice, part_of, permute_command};
 use hek_rules::{Level, number};
@@ -263,8 +263,15 @@ fn page<'a, D: Disk, I: Read + Drop, W: Write, E: Write>(
         from: step_of(found, "from")?,
         to: step_of(found, "to")?,
     };
+    let heading = Heading {
+        file: text(found, "FILE")?,
+        title: found.get_str("title"),
+        lesson: number_of(found, "lesson")?,
+        previous: found.get_str("previous"),
+        next: found.get_str("next"),
+    };
     let file = schedule_file(alloc, found, disk, &mut input)?;
-    page_command(alloc, file, part, out, faults)
+    page_command(alloc, file, part, heading, out, faults)
 }
 
 /// The number of a step, from 1, that an option has, if the words have the option.
