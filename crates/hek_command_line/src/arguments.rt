@@ -377,6 +377,21 @@ The page shows each step with its reply, and the versions, waits and lock words 
             help: "the address of the page after this one",
             form: Form::Value("ADDRESS"),
         },
+        ArgumentText {
+            name: "orders",
+            help: "makes the explorer of every order of the moves, as hek permute plays them",
+            form: Form::Flag,
+        },
+        ArgumentText {
+            name: "split",
+            help: "with --orders: makes finish and precommit a separate move",
+            form: Form::Flag,
+        },
+        ArgumentText {
+            name: "limit",
+            help: "with --orders: writes nothing if there are more than N nodes (5000)",
+            form: Form::Number,
+        },
     ],
 };
 
@@ -434,6 +449,7 @@ fn rivals_of(name: &str) -> &'static [&'static str] {
     match name {
         "order" => &["each", "levels", "part"],
         "levels" => &["each", "level"],
+        "orders" => &["from", "to"],
         _ => &[],
     }
 }

@@ -9,4 +9,6 @@ mod permute;
 mod table;
 
 pub use choice::{Choice, part_of};
+pub use leveled::schedule_with;
+pub use lines::put_outcome;
 pub use permute::permute_command;
