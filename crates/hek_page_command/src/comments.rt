@@ -1,6 +1,6 @@
 //! What the comments of a schedule text say.
-ghost use Rattle.std.specs.Prelude.{◌≡◌, IfErr};
-ghost use Rattle.hek_commands.specs.declared.fault.HekFault.TheVariants as hek;
+ghost use Rattle.std.specs.Prelude.{IfErr};
+ghost use Rattle.hek_commands.specs.Commands.{IsStop};
 
 use hek_commands::{HekFault, ScheduleFile};
 use hek_rules::NoMemory;
@@ -28,7 +28,7 @@ pub(crate) fn comments_in<'a, R: Read + Drop>(
     alloc: Global,
     file: &ScheduleFile<R>,
 ) -> Result<Comments, HekFault<'a>>
-    ensures memory { IfErr result (λ fault. fault ≡ hek.NoMemory) }
+    ensures stops { IfErr result IsStop }
 {
     let ScheduleFile::Text(bytes) = file else {
         return Ok(no_comments(alloc));

@@ -73,7 +73,7 @@ pub(crate) fn tree_of<'a>(
     };
     for place in 0..prefixes.len() {
         let order = order_of(alloc, prefixes, place)?;
-        let played = match played(alloc, schedule, moves, form, order.as_slice()) {
+        let played = match play_of(alloc, schedule, moves, form, order.as_slice()) {
             Ok(played) => played,
             Err(fault) => return Err(fault_of(fault)),
         };
@@ -94,7 +94,7 @@ fn fault_of<'a>(fault: OrderFault) -> HekFault<'a>
 }
 
 /// Plays an order.
-fn played(
+fn play_of(
     alloc: Global,
     schedule: &Schedule,
     moves: &[Moves],
@@ -221,10 +221,9 @@ impl Tree {
                 node.counts.push(own)?;
             }
         }
-        let mut place = self.nodes.len();
-        while place > 1 {
-            place -= 1;
-            self.add_to_parent(alloc, place)?;
+        let count = self.nodes.len();
+        for back in 1..count {
+            self.add_to_parent(alloc, count - back)?;
         }
         Ok(())
     }
