@@ -161,7 +161,7 @@ fn put_reasons(t: TxnId, reasons: &[Reason], lines: &mut Vec<u8>) -> Result<(), 
 fn put_reason(t: u64, reason: &Reason, lines: &mut Vec<u8>) -> Result<(), NoMemory> {
     match reason {
         Reason::ReadLocked { version, readers } => {
-            put_readers(t, readers.items(), version.index(), lines)
+            put_readers(t, readers.as_slice(), version.index(), lines)
         }
         Reason::Listed { holder, bucket } => put_listed(t, holder.number(), *bucket, lines),
         Reason::Depends(u) => {
