@@ -26,5 +26,4 @@ pub const BUGS: [(&str, Bug); 7] = [
     ("anothers-word", Bug::AnothersWord),
     ("two-inserts", Bug::TwoInserts),
     ("last-writer-wins", Bug::LastWriterWins),
-
 ];

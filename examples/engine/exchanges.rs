@@ -18,6 +18,12 @@ pub enum Side {
     End,
 }
 
+impl Side {
+    fn name(self) -> &'static str {
+        ["begin", "end"][self as usize]
+    }
+}
+
 #[derive(Default)]
 pub struct Exchanges {
     file: Option<Mutex<BufWriter<File>>>,
@@ -43,8 +49,8 @@ impl Exchanges {
         if done {
             self.check(side, old, new, txn);
             if let Some(file) = &mut file {
-                let number = 2 * at.0 + usize::from(side == Side::End);
-                writeln!(file, "{number} {old:016X} {new:016X} {txn}").expect("the file of exchanges can be written");
+                let (side, index) = (side.name(), at.0);
+                writeln!(file, "{side}-{index} {old:016X} {new:016X} {txn}").expect("the file can be written");
             }
         }
         done
@@ -61,12 +67,12 @@ impl Exchanges {
 
     #[cfg(hek)]
     fn check(&self, side: Side, old: u64, new: u64, txn: TxnId) {
-        let (name, is_lawful) = match side {
-            Side::Begin => ("begin", hek::begin_change(old, new, txn) != hek::NO_CHANGE),
-            Side::End => ("end", hek::end_change(old, new, txn) != hek::NO_CHANGE),
+        let change = match side {
+            Side::Begin => hek::hek_begin_change(old, new, txn),
+            Side::End => hek::hek_end_change(old, new, txn),
         };
-        if !is_lawful && self.unlawful.fetch_add(1, SeqCst) < 3 {
-            eprintln!("engine: no rule leads from {name} word {old:016X} to {new:016X} by {txn}");
+        if change == hek::NO_CHANGE && self.unlawful.fetch_add(1, SeqCst) < 3 {
+            eprintln!("engine: no rule leads from {} word {old:016X} to {new:016X} by {txn}", side.name());
         }
     }
 

@@ -74,7 +74,8 @@ impl Load {
             scope.spawn(|| break_deadlocks(engine, &running, &is_over));
             let worker = |number| {
                 let (next, running, outcome) = (&next, &running[number as usize], &outcome);
-                scope.spawn(move || self.work(engine, Dice::new(self.seed * 1_000 + number + 1), next, running, outcome))
+                scope
+                    .spawn(move || self.work(engine, Dice::new(self.seed * 1_000 + number + 1), next, running, outcome))
             };
             let workers: Vec<_> = (0..self.threads).map(worker).collect();
             let ends: Vec<_> = workers.into_iter().map(|it| it.join()).collect();
@@ -105,7 +106,13 @@ impl Load {
         }
     }
 
-    fn transaction(&self, engine: &Engine, txn: TxnId, dice: &mut Dice, operations: &mut Operations) -> Result<(), Cause> {
+    fn transaction(
+        &self,
+        engine: &Engine,
+        txn: TxnId,
+        dice: &mut Dice,
+        operations: &mut Operations,
+    ) -> Result<(), Cause> {
         engine.begin(txn);
         for number in 0..1 + dice.roll(self.operations) {
             let (key, value) = (dice.roll(self.keys), txn * 100 + number);

@@ -129,7 +129,9 @@ impl Engine {
     pub fn stamp_aborted(&self, txn: TxnId, entry: Entry) -> bool {
         match entry {
             Entry::Begin(index) => self.replace(index, Side::Begin, crate::words::INFINITY, txn),
-            Entry::End(index) if self.has(Bug::AnothersWord) => self.replace(index, Side::End, crate::words::INFINITY, txn),
+            Entry::End(index) if self.has(Bug::AnothersWord) => {
+                self.replace(index, Side::End, crate::words::INFINITY, txn)
+            }
             Entry::End(index) => return self.give_back(txn, index),
         }
         true

@@ -27,7 +27,7 @@ const USAGE: &str = "\
 engine [WORDS]               a load of random transactions by threads
     --threads N --txns N --keys N --buckets N --ops N --seed N --level LEVEL
     --log FILE               writes the history, a JSON line for each transaction
-    --exchanges FILE         writes each exchange of a word: WORD OLD NEW TXN
+    --exchanges FILE         writes each exchange of a word, a line WORD OLD NEW TXN
 engine --drive FILE          loads a schedule and takes events from standard input
 engine --bugs                the names of the bugs
     --bug NAME               plants a bug, into a load or a drive";

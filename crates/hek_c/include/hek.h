@@ -67,6 +67,35 @@ struct hek_release {
  * released, else those that were given. The waits fall by one where the last reader goes under a writer. */
 struct hek_release hek_release(uint64_t number, uint64_t waits);
 
+/* The change that leads from one word to the next, as a transaction makes it by one exchange: an engine checks its own
+ * exchanges with it. HEK_NO_CHANGE if none does, or if a number is no word. Each pair of words has at most one change of
+ * a transaction. */
+
+enum hek_change {
+    HEK_NO_CHANGE = 0,
+
+    /* of a Begin word that names the transaction */
+    HEK_BEGIN_STAMPED = 1, /* the transaction committed: its end time */
+    HEK_BEGIN_VOIDED = 2,  /* the transaction aborted: infinity */
+
+    /* of an End word */
+    HEK_READER_CAME = 1,
+    HEK_READER_WENT = 2,
+    HEK_WRITER_CAME = 3,
+    HEK_WRITER_WENT = 4, /* the transaction is the writer, and gives the word back */
+    HEK_CLEARED = 5,     /* the name of another writer, which has aborted, is taken out */
+    HEK_STAMPED = 6,     /* the transaction is the writer and committed: its end time */
+
+    /* more changes of an End word in one exchange */
+    HEK_CLEARED_THEN_READ = 7,
+    HEK_CLEARED_THEN_WRITTEN = 8,
+    HEK_READER_BECAME_WRITER = 9, /* the transaction gives up its own read lock */
+    HEK_CLEARED_THEN_READER_BECAME_WRITER = 10
+};
+
+uint32_t hek_begin_change(uint64_t old_word, uint64_t new_word, uint64_t txn);
+uint32_t hek_end_change(uint64_t old_word, uint64_t new_word, uint64_t txn);
+
 #ifdef __cplusplus
 }
 #endif

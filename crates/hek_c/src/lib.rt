@@ -4,6 +4,7 @@
 #![tactic(auto)]
 
 mod begin;
+mod changes;
 mod end;
 mod locks;
 mod release;
