@@ -103,7 +103,7 @@ def transaction(session, level, number, operations):
         made["snapshot"] = session.texts("select pg_current_snapshot()")[0]
         for operation in operations:
             made["ops"].append(loads.logged(operation, session.rows(loads.statement(operation))))
-        made["xid"] = session.rows("select pg_current_xact_id_if_assigned()")
+        made["xid"] = session.texts("select pg_current_xact_id_if_assigned()")[0]
         session.texts("commit")
     except Failed as failed:
         made |= {"status": "aborted", "cause": str(failed)}
@@ -119,9 +119,9 @@ def order(transactions, commits):
         _, upper, running = it.pop("snapshot").split(":")
         unseen = sum(xid in place for xid in map(int, running.split(",")) if xid) if running else 0
         it["begin"] = 2 * (bisect.bisect_left(known, int(upper)) - unseen) + 1
-        xid = it.pop("xid", [[]])[0]
+        xid = it.pop("xid", "")
         if it["status"] == "committed":
-            it["end"] = place[xid[0]] if xid and xid[0] in place else it["begin"]
+            it["end"] = place.get(int(xid or 0), it["begin"])
 
 
 def run_load(server, level, options):
