@@ -3,7 +3,7 @@
 
 use crate::events::Asked;
 use crate::exchanges::Exchanges;
-use crate::store::{Doom, Engine, Entry, Opening, State};
+use crate::store::{Engine, Entry, Opening, State};
 use crate::words::TxnId;
 use crate::{Bug, Cause, Level};
 use std::error::Error;
@@ -156,7 +156,7 @@ impl Drive {
         write!(out, "; begin {}; end {}", time(it.begin.load(SeqCst)), time(it.drawn_end()))?;
         write!(out, "; waits {}; commits {}", it.waits.count(), it.commit_waits.load(SeqCst))?;
         write!(out, "; no-more-waits {}", either(it.waits.is_finished(), "set", "clear"))?;
-        write!(out, "; abort-now {}", either(it.doom() == Doom::Cascade, "set", "clear"))?;
+        write!(out, "; abort-now {}", either(it.doom() == Some(Cause::Cascade), "set", "clear"))?;
         write!(out, "; reads{}; writes{}", list(&held.read_locks), list(&writes))?;
         write!(out, "; buckets{}; waiting{}", list(&held.buckets), list(&it.waiting()))?;
         writeln!(out, "; dependents{}", list(&it.dependents().ids))

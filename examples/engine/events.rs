@@ -1,6 +1,6 @@
 //! The events of a transaction. An event that answers Err has aborted its transaction.
 
-use crate::store::{Doom, Engine, Entry, State};
+use crate::store::{Engine, Entry, State};
 use crate::walks::{Goal, Range};
 use crate::words::{Time, TxnId};
 use crate::{Bug, Cause};
@@ -63,7 +63,7 @@ impl Engine {
         let mut dependents = self.txn(txn).dependents();
         dependents.is_closed = true;
         for other in dependents.ids.drain(..) {
-            self.txn(other).set_doom(Doom::Cascade);
+            self.txn(other).set_doom(Cause::Cascade);
             self.txn(other).commit_waits.fetch_sub(1, SeqCst);
         }
         cause
@@ -71,11 +71,9 @@ impl Engine {
 
     /// A live transaction that is doomed aborts at its next event.
     pub fn not_doomed(&self, txn: TxnId) -> Result<(), Cause> {
-        match self.txn(txn).doom() {
-            _ if !self.txn(txn).is_live() => Ok(()),
-            Doom::None => Ok(()),
-            Doom::Cascade => Err(self.abort(txn, Cause::Cascade)),
-            Doom::Deadlock => Err(self.abort(txn, Cause::Deadlock)),
+        match self.txn(txn).doom().filter(|_| self.txn(txn).is_live()) {
+            None => Ok(()),
+            Some(cause) => Err(self.abort(txn, cause)),
         }
     }
 

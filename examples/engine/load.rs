@@ -2,7 +2,7 @@
 
 use crate::events::Asked;
 use crate::histories::{self, Operations};
-use crate::store::{Doom, Engine, Opening};
+use crate::store::{Engine, Opening};
 use crate::words::TxnId;
 use crate::{Cause, Level};
 use std::collections::BTreeMap;
@@ -165,7 +165,7 @@ fn break_deadlocks(engine: &Engine, running: &[AtomicU64], is_over: &AtomicBool)
         among.sort_unstable();
         let cycle = engine.cycle(&among);
         if cycle.is_some() && cycle == engine.cycle(&among) {
-            cycle.into_iter().for_each(|it| engine.txn(it[0]).set_doom(Doom::Deadlock));
+            cycle.into_iter().for_each(|it| engine.txn(it[0]).set_doom(Cause::Deadlock));
         }
         thread::sleep(Duration::from_micros(200));
     }

@@ -58,14 +58,6 @@ impl State {
     }
 }
 
-/// Why a transaction must abort at its next event: AbortNow, or it is the victim of a deadlock.
-#[derive(Clone, Copy, PartialEq, Eq)]
-pub enum Doom {
-    None = 0,
-    Cascade = 1,
-    Deadlock = 2,
-}
-
 /// WaitForCounter and NoMoreWaitFors in one number, so that both change at once.
 pub struct WaitCounter(AtomicU64);
 
@@ -178,16 +170,16 @@ impl Transaction {
         }
     }
 
-    pub fn doom(&self) -> Doom {
+    /// Why the transaction must abort at its next event, if it must: AbortNow, or it is the victim of a deadlock.
+    pub fn doom(&self) -> Option<Cause> {
         match self.doom.load(SeqCst) {
-            0 => Doom::None,
-            1 => Doom::Cascade,
-            _ => Doom::Deadlock,
+            0 => None,
+            number => Some(Cause::ALL[usize::from(number - 1)]),
         }
     }
 
-    pub fn set_doom(&self, doom: Doom) {
-        self.doom.fetch_max(doom as u8, SeqCst);
+    pub fn set_doom(&self, cause: Cause) {
+        self.doom.fetch_max(1 + cause as u8, SeqCst);
     }
 
     pub fn held(&self) -> MutexGuard<'_, Held> {
