@@ -1,4 +1,4 @@
-/* The two words of a version of MV/L, as hek_word reads and changes them.
+/* The two words of a version of MV/L, as hek_word and hek_changes read and change them.
  *
  * A function takes words as numbers and keeps nothing. Its caller owes nothing: to a number that is not a word, and to a change
  * that the lock does not allow, it answers 0 or a status. Changes are not atomic: an engine loads a word, computes the new
@@ -67,26 +67,27 @@ struct hek_release {
  * released, else those that were given. The waits fall by one where the last reader goes under a writer. */
 struct hek_release hek_release(uint64_t number, uint64_t waits);
 
-/* The change that leads from one word to the next, as a transaction makes it by one exchange: an engine checks its own
- * exchanges with it. HEK_NO_CHANGE if none does, or if a number is no word. Each pair of words has at most one change of
- * a transaction. */
+/* Which change by a transaction leads from one word to the next: an engine checks its own exchanges with it. HEK_NO_CHANGE
+ * if none does, or if a number is no word. From one word to another at most one change of a transaction leads. */
 
-enum hek_change {
-    HEK_NO_CHANGE = 0,
+#define HEK_NO_CHANGE 0
 
-    /* of a Begin word that names the transaction */
-    HEK_BEGIN_STAMPED = 1, /* the transaction committed: its end time */
-    HEK_BEGIN_VOIDED = 2,  /* the transaction aborted: infinity */
+/* Of a Begin word that names the transaction. */
+enum hek_begin_changes {
+    HEK_BEGIN_STAMPED = 1, /* the transaction has committed: the new word is its end time */
+    HEK_BEGIN_VOIDED = 2   /* the transaction has aborted: the new word is infinity */
+};
 
-    /* of an End word */
+/* Of an End word. */
+enum hek_end_changes {
     HEK_READER_CAME = 1,
     HEK_READER_WENT = 2,
     HEK_WRITER_CAME = 3,
     HEK_WRITER_WENT = 4, /* the transaction is the writer, and gives the word back */
     HEK_CLEARED = 5,     /* the name of another writer, which has aborted, is taken out */
-    HEK_STAMPED = 6,     /* the transaction is the writer and committed: its end time */
+    HEK_STAMPED = 6,     /* the transaction is the writer and has committed: the new word is its end time */
 
-    /* more changes of an End word in one exchange */
+    /* more changes in one exchange */
     HEK_CLEARED_THEN_READ = 7,
     HEK_CLEARED_THEN_WRITTEN = 8,
     HEK_READER_BECAME_WRITER = 9, /* the transaction gives up its own read lock */

@@ -1,6 +1,6 @@
 -- Which changes lead from a record e of a word to a record f, as a transaction t makes them by one exchange.
 -- (Section 4 of the paper: record locks; section 2: the words after the end of a transaction.)
-use Rattle.std.specs.Prelude.{◌≡◌, ◌≢◌, ℕ, ◌<◌, Some, None, IsSome}
+use Rattle.std.specs.Prelude.{◌≡◌, ◌≢◌, ℕ, ◌<◌, Some, IsSome}
 use Rattle.hek_rules.specs.declared.word.BeginRecord.{BeginRecord}
 use Rattle.hek_rules.specs.declared.word.BeginRecord.TheVariants.{At, By}
 use Rattle.hek_rules.specs.declared.word.EndRecord.{EndRecord}
@@ -20,11 +20,11 @@ BeginLeads t on_begin.Stamped (By u) (At time) = (u ≡ t) × IsDrawn time
 BeginLeads t on_begin.Voided (By u) (At time) = (u ≡ t) × (time ≡ infinity)
 BeginLeads t c e f = ⊥
 
--- t reads under the writer of e, if there is one: a transaction is not a reader of what it writes
+-- t is not the writer of e: a transaction holds no read lock of a version that it writes over
 abbrev pub IsNotWriter : ℕ → EndRecord → Type 0
 IsNotWriter t e = writer_of e ≢ Some t
 
--- e has a writer, and it is not t
+-- e has a writer, which is not t
 abbrev pub IsAnothers : ℕ → EndRecord → Type 0
 IsAnothers t e = IsSome (writer_of e) × IsNotWriter t e
 

@@ -1,6 +1,5 @@
 //! Changes of Begin words.
 ghost use Rattle.std.specs.Prelude.{◌≡◌, ◌↔◌, Some};
-ghost use Rattle.hek_rules.specs.Words.{IsTxn};
 ghost use Rattle.hek_changes.specs.declared.change.BeginChange.{BeginChange};
 ghost use Rattle.hek_changes.specs.Changes.{BeginLeads};
 

@@ -9,5 +9,5 @@ returns-in-Some-clause-none c none =
     let from : IsEndOf c.in-Some-Some.before c.args.old = (c.in-Some-Some.ensures c.in-Some-Some.before).0 refl in
     let to : IsEndOf c.in-Some-Some.after c.args.new = (c.in-Some-Some.ensures' c.in-Some-Some.after).0 refl in
     let leads : EndLeads c.args.txn c.in-Some.change c.in-Some-Some.before c.in-Some-Some.after =
-        rw c.new.ensures at ((c.in-Some.ensures c.in-Some.change).0 refl) in
+    rw c.new.ensures at ((c.in-Some.ensures c.in-Some.change).0 refl) in
     absurd (none c.in-Some.change c.in-Some-Some.before c.in-Some-Some.after from to leads)
