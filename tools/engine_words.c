@@ -1,10 +1,13 @@
 /* An engine's own lock words beside the proved ones of hek_c. It checks rows that were worked out on paper, and prints which
- * failed, and how many there were. Its exit status is 0 where all held. */
+ * failed, and how many there were. Its exit status is 0 where all held. With the word `time` it prints what one checked
+ * exchange takes. */
 #include "hek.h"
 
 #include <inttypes.h>
 #include <stddef.h>
 #include <stdio.h>
+#include <string.h>
+#include <time.h>
 
 static int rows = 0;
 static int failures = 0;
@@ -109,6 +112,71 @@ static void check_changes(void) {
     }
 }
 
+/* Which change leads from a word to the next. */
+struct exchange {
+    uint64_t old_word, new_word, txn;
+    uint32_t change;
+};
+
+static const struct exchange end_exchanges[] = {
+    {0x7FFFFFFFFFFFFFFF, 0x807FFFFFFFFFFFFF, 2, HEK_READER_CAME},
+    {0x807FFFFFFFFFFFFF, 0x80BFFFFFFFFFFFFF, 2, HEK_READER_CAME},
+    {0x8040000000000003, 0x8080000000000003, 2, HEK_READER_CAME},
+    {0x8040000000000003, 0x8080000000000003, 3, HEK_NO_CHANGE},
+    {0x80BFFFFFFFFFFFFF, 0x807FFFFFFFFFFFFF, 2, HEK_READER_WENT},
+    {0x807FFFFFFFFFFFFF, 0x7FFFFFFFFFFFFFFF, 2, HEK_READER_WENT},
+    {0x8040000000000003, 0xC000000000000003, 2, HEK_READER_WENT},
+    {0x8040000000000003, 0x8000000000000003, 2, HEK_NO_CHANGE},
+    {0x7FFFFFFFFFFFFFFF, 0x8000000000000002, 2, HEK_WRITER_CAME},
+    {0x807FFFFFFFFFFFFF, 0x8040000000000002, 2, HEK_WRITER_CAME},
+    {0x807FFFFFFFFFFFFF, 0x8040000000000002, 3, HEK_NO_CHANGE},
+    {0x8000000000000002, 0x7FFFFFFFFFFFFFFF, 2, HEK_WRITER_WENT},
+    {0x8040000000000002, 0x807FFFFFFFFFFFFF, 2, HEK_WRITER_WENT},
+    {0xC000000000000002, 0x7FFFFFFFFFFFFFFF, 2, HEK_WRITER_WENT},
+    {0x8000000000000002, 0x7FFFFFFFFFFFFFFF, 3, HEK_CLEARED},
+    {0x8040000000000002, 0x807FFFFFFFFFFFFF, 3, HEK_CLEARED},
+    {0x8000000000000002, 0x0000000000000019, 2, HEK_STAMPED},
+    {0xC000000000000002, 0x0000000000000019, 2, HEK_STAMPED},
+    {0x8040000000000002, 0x0000000000000019, 2, HEK_NO_CHANGE},
+    {0x8000000000000002, 0x0000000000000019, 3, HEK_NO_CHANGE},
+    {0x8000000000000002, 0x0000000000000000, 2, HEK_NO_CHANGE},
+    {0x8000000000000002, 0x807FFFFFFFFFFFFF, 3, HEK_CLEARED_THEN_READ},
+    {0x8040000000000002, 0x80BFFFFFFFFFFFFF, 3, HEK_CLEARED_THEN_READ},
+    {0xC000000000000002, 0x807FFFFFFFFFFFFF, 3, HEK_CLEARED_THEN_READ},
+    {0x8000000000000002, 0x807FFFFFFFFFFFFF, 2, HEK_NO_CHANGE},
+    {0x8000000000000002, 0x8000000000000003, 3, HEK_CLEARED_THEN_WRITTEN},
+    {0x8040000000000002, 0x8040000000000003, 3, HEK_CLEARED_THEN_WRITTEN},
+    {0x807FFFFFFFFFFFFF, 0x8000000000000002, 2, HEK_READER_BECAME_WRITER},
+    {0x80BFFFFFFFFFFFFF, 0x8040000000000002, 2, HEK_READER_BECAME_WRITER},
+    {0x8040000000000002, 0x8000000000000003, 3, HEK_CLEARED_THEN_READER_BECAME_WRITER},
+    {0x8080000000000002, 0x8040000000000003, 3, HEK_CLEARED_THEN_READER_BECAME_WRITER},
+    {0x8080000000000002, 0x8080000000000002, 3, HEK_NO_CHANGE},
+    {0x0000000000000005, 0x7FFFFFFFFFFFFFFF, 2, HEK_NO_CHANGE},
+    {0x803FFFFFFFFFFFFF, 0x7FFFFFFFFFFFFFFF, 2, HEK_NO_CHANGE},
+    {0x7FFFFFFFFFFFFFFF, 0xFFFFFFFFFFFFFFFF, 2, HEK_NO_CHANGE},
+};
+
+static const struct exchange begin_exchanges[] = {
+    {0x8000000000000002, 0x0000000000000019, 2, HEK_BEGIN_STAMPED},
+    {0x8000000000000002, 0x7FFFFFFFFFFFFFFF, 2, HEK_BEGIN_VOIDED},
+    {0x8000000000000002, 0x0000000000000019, 3, HEK_NO_CHANGE},
+    {0x8000000000000002, 0x0000000000000000, 2, HEK_NO_CHANGE},
+    {0x0000000000000005, 0x0000000000000019, 2, HEK_NO_CHANGE},
+    {0x8000000000000002, 0x8000000000000003, 2, HEK_NO_CHANGE},
+    {0x8040000000000002, 0x0000000000000019, 2, HEK_NO_CHANGE},
+};
+
+static void check_exchanges(void) {
+    for (size_t i = 0; i < sizeof end_exchanges / sizeof end_exchanges[0]; i++) {
+        const struct exchange *r = &end_exchanges[i];
+        is("end_change", r->old_word, hek_end_change(r->old_word, r->new_word, r->txn), r->change);
+    }
+    for (size_t i = 0; i < sizeof begin_exchanges / sizeof begin_exchanges[0]; i++) {
+        const struct exchange *r = &begin_exchanges[i];
+        is("begin_change", r->old_word, hek_begin_change(r->old_word, r->new_word, r->txn), r->change);
+    }
+}
+
 /* An engine's own word, packed by its own macros, beside the proved one. */
 #define LOCK (1ULL << 63)
 #define READER (1ULL << 54)
@@ -128,10 +196,30 @@ static void check_engine(void) {
     is("a reader more", word, hek_add_reader(word), 0);
 }
 
-int main(void) {
+/* What one call of hek_end_change takes, in nanoseconds: the mean over the exchanges above. */
+static void time_exchanges(void) {
+    const size_t count = sizeof end_exchanges / sizeof end_exchanges[0], rounds = 1000000;
+    uint32_t sum = 0;
+    clock_t began = clock();
+    for (size_t round = 0; round < rounds; round++) {
+        for (size_t i = 0; i < count; i++) {
+            const struct exchange *r = &end_exchanges[i];
+            sum += hek_end_change(r->old_word, r->new_word, r->txn);
+        }
+    }
+    double seconds = (double)(clock() - began) / CLOCKS_PER_SEC;
+    printf("%.1f nanoseconds for a checked exchange (sum %" PRIu32 ")\n", seconds / (double)(rounds * count) * 1e9, sum);
+}
+
+int main(int count, char **words) {
+    if (count > 1 && strcmp(words[1], "time") == 0) {
+        time_exchanges();
+        return 0;
+    }
     check_readings();
     check_releases();
     check_changes();
+    check_exchanges();
     check_engine();
     printf("%d rows, %d failed\n", rows, failures);
     return failures == 0 ? 0 : 1;

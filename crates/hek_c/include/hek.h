@@ -1,4 +1,4 @@
-/* The two words of a version of MV/L, as hek_word reads and changes them.
+/* The two words of a version of MV/L, as hek_word and hek_changes read and change them.
  *
  * A function takes words as numbers and keeps nothing. Its caller owes nothing: to a number that is not a word, and to a change
  * that the lock does not allow, it answers 0 or a status. Changes are not atomic: an engine loads a word, computes the new
@@ -66,6 +66,36 @@ struct hek_release {
 /* Gives up one read lock of a word whose writer waits for so many others. Word and waits are the new ones where it is
  * released, else those that were given. The waits fall by one where the last reader goes under a writer. */
 struct hek_release hek_release(uint64_t number, uint64_t waits);
+
+/* Which change by a transaction leads from one word to the next: an engine checks its own exchanges with it. HEK_NO_CHANGE
+ * if none does, or if a number is no word. From one word to another at most one change of a transaction leads. */
+
+#define HEK_NO_CHANGE 0
+
+/* Of a Begin word that names the transaction. */
+enum hek_begin_changes {
+    HEK_BEGIN_STAMPED = 1, /* the transaction has committed: the new word is its end time */
+    HEK_BEGIN_VOIDED = 2   /* the transaction has aborted: the new word is infinity */
+};
+
+/* Of an End word. */
+enum hek_end_changes {
+    HEK_READER_CAME = 1,
+    HEK_READER_WENT = 2,
+    HEK_WRITER_CAME = 3,
+    HEK_WRITER_WENT = 4, /* the transaction is the writer, and gives the word back */
+    HEK_CLEARED = 5,     /* the name of another writer, which has aborted, is taken out */
+    HEK_STAMPED = 6,     /* the transaction is the writer and has committed: the new word is its end time */
+
+    /* more changes in one exchange */
+    HEK_CLEARED_THEN_READ = 7,
+    HEK_CLEARED_THEN_WRITTEN = 8,
+    HEK_READER_BECAME_WRITER = 9, /* the transaction gives up its own read lock */
+    HEK_CLEARED_THEN_READER_BECAME_WRITER = 10
+};
+
+uint32_t hek_begin_change(uint64_t old_word, uint64_t new_word, uint64_t txn);
+uint32_t hek_end_change(uint64_t old_word, uint64_t new_word, uint64_t txn);
 
 #ifdef __cplusplus
 }
