@@ -20,6 +20,7 @@ state and an empty line; before the state of an event comes a line with the repl
 import argparse
 import random
 import re
+import shutil
 import subprocess
 import sys
 import tempfile
@@ -131,12 +132,12 @@ class Engine:
         self.state = self.read_state()
 
     def read_state(self):
-        return read_state(line.rstrip("\n") for line in iter(self.process.stdout.readline, "\n") if self.is_alive(line))
-
-    def is_alive(self, line):
-        if not line:
-            raise EOFError("the engine has ended")
-        return True
+        lines = []
+        for line in iter(self.process.stdout.readline, "\n"):
+            if not line:
+                raise EOFError("the engine has ended")
+            lines.append(line.rstrip("\n"))
+        return read_state(lines)
 
     def do(self, event):
         self.process.stdin.write(f"{event}\n")
@@ -291,6 +292,9 @@ def main():
     parser.add_argument("--save")
     parser.add_argument("engine", nargs="+")
     options, tally = parser.parse_args(), Tally()
+    for program in (options.hek, options.engine[0]):
+        if not shutil.which(program):
+            parser.error(f"there is no program {program}")
     if options.steps_of:
         with open(options.steps_of, encoding="utf-8") as file:
             opening, steps = split(file.read())
