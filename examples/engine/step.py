@@ -24,6 +24,7 @@ import shutil
 import subprocess
 import sys
 import tempfile
+from contextlib import ExitStack, closing
 
 LEVELS = ("serializable", "repeatable", "snapshot")
 KEYS, BUCKETS, TXNS = 5, 2, 6
@@ -240,7 +241,7 @@ class Tally:
         if not self.first:
             return 0
         number, opening, done, lines = self.first
-        print(f"schedule {number}, event {len(done)}: {done[-1]}")
+        print(f"schedule {number}, event {len(done)}: {done[-1] if done else 'the start'}")
         print("\n".join(f"  {line}" for line in lines))
         if save:
             with open(save, "w", encoding="utf-8") as file:
@@ -252,11 +253,12 @@ def run_schedule(options, opening, events):
     """Steps both through events, which are made from the state of hek. The answer: the events done, and what differed
     (None if nothing did)."""
     done = []
-    with tempfile.NamedTemporaryFile("w", suffix=".hek") as file:
+    with tempfile.NamedTemporaryFile("w", suffix=".hek") as file, ExitStack() as both:
         file.write("\n".join([*opening, ""]))
         file.flush()
-        hek, engine = Hek(options.hek, file.name), Engine(options.engine, file.name)
+        hek = both.enter_context(closing(Hek(options.hek, file.name)))
         try:
+            engine = both.enter_context(closing(Engine(options.engine, file.name)))
             for event in events(hek):
                 done.append(event)
                 compare(hek, engine, event, options.loose)
@@ -264,9 +266,6 @@ def run_schedule(options, opening, events):
             return done, ended.lines
         except (EOFError, OSError, ValueError) as fault:
             return done, [str(fault)]
-        finally:
-            hek.close()
-            engine.close()
     return done, None
 
 
