@@ -52,7 +52,8 @@ class Server:
         self.data = f"{self.folder}/data"
 
     def run(self, program, *words):
-        ran = subprocess.run([*self.as_user, f"{PROGRAMS}/{program}", *words], cwd=self.folder, stdin=subprocess.DEVNULL, capture_output=True, text=True)
+        words = [*self.as_user, f"{PROGRAMS}/{program}", *words]
+        ran = subprocess.run(words, cwd=self.folder, stdin=subprocess.DEVNULL, capture_output=True, text=True)
         if ran.returncode:
             sys.exit(f"{program}: {ran.stdout}{ran.stderr}")
 

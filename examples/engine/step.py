@@ -20,9 +20,11 @@ state and an empty line; before the state of an event comes a line with the repl
 import argparse
 import random
 import re
+import shutil
 import subprocess
 import sys
 import tempfile
+from contextlib import ExitStack, closing
 
 LEVELS = ("serializable", "repeatable", "snapshot")
 KEYS, BUCKETS, TXNS = 5, 2, 6
@@ -131,12 +133,12 @@ class Engine:
         self.state = self.read_state()
 
     def read_state(self):
-        return read_state(line.rstrip("\n") for line in iter(self.process.stdout.readline, "\n") if self.is_alive(line))
-
-    def is_alive(self, line):
-        if not line:
-            raise EOFError("the engine has ended")
-        return True
+        lines = []
+        for line in iter(self.process.stdout.readline, "\n"):
+            if not line:
+                raise EOFError("the engine has ended")
+            lines.append(line.rstrip("\n"))
+        return read_state(lines)
 
     def do(self, event):
         self.process.stdin.write(f"{event}\n")
@@ -239,7 +241,7 @@ class Tally:
         if not self.first:
             return 0
         number, opening, done, lines = self.first
-        print(f"schedule {number}, event {len(done)}: {done[-1]}")
+        print(f"schedule {number}, event {len(done)}: {done[-1] if done else 'the start'}")
         print("\n".join(f"  {line}" for line in lines))
         if save:
             with open(save, "w", encoding="utf-8") as file:
@@ -251,11 +253,12 @@ def run_schedule(options, opening, events):
     """Steps both through events, which are made from the state of hek. The answer: the events done, and what differed
     (None if nothing did)."""
     done = []
-    with tempfile.NamedTemporaryFile("w", suffix=".hek") as file:
+    with tempfile.NamedTemporaryFile("w", suffix=".hek") as file, ExitStack() as both:
         file.write("\n".join([*opening, ""]))
         file.flush()
-        hek, engine = Hek(options.hek, file.name), Engine(options.engine, file.name)
+        hek = both.enter_context(closing(Hek(options.hek, file.name)))
         try:
+            engine = both.enter_context(closing(Engine(options.engine, file.name)))
             for event in events(hek):
                 done.append(event)
                 compare(hek, engine, event, options.loose)
@@ -263,9 +266,6 @@ def run_schedule(options, opening, events):
             return done, ended.lines
         except (EOFError, OSError, ValueError) as fault:
             return done, [str(fault)]
-        finally:
-            hek.close()
-            engine.close()
     return done, None
 
 
@@ -291,6 +291,9 @@ def main():
     parser.add_argument("--save")
     parser.add_argument("engine", nargs="+")
     options, tally = parser.parse_args(), Tally()
+    for program in (options.hek, options.engine[0]):
+        if not shutil.which(program):
+            parser.error(f"there is no program {program}")
     if options.steps_of:
         with open(options.steps_of, encoding="utf-8") as file:
             opening, steps = split(file.read())
