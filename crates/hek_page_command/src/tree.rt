@@ -185,18 +185,26 @@ impl Tree {
     }
 
     fn add_step(&mut self, alloc: Global, line: &[u8], step: StepText) -> Result<usize, NoMemory> {
-        let waits = match step.waits {
+        let StepText {
+            changed,
+            gone,
+            why,
+            sees,
+            waits,
+            ends,
+        } = step;
+        let waits = match waits {
             Some(waits) => Some(self.add_text(waits)?),
             None => None,
         };
         let places = StepPlaces {
             line: self.add_text(Vec::from_slice(alloc, line)?)?,
-            changed: self.add_text(step.changed)?,
-            gone: self.add_text(step.gone)?,
-            why: self.add_text(step.why)?,
-            sees: self.add_text(step.sees)?,
+            changed: self.add_text(changed)?,
+            gone: self.add_text(gone)?,
+            why: self.add_text(why)?,
+            sees: self.add_text(sees)?,
             waits,
-            ends: self.add_text(step.ends)?,
+            ends: self.add_text(ends)?,
         };
         let (place, _) = self.steps.insert_full(places)?;
         Ok(place)
