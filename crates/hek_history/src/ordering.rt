@@ -1,0 +1,253 @@
+//! The rules of a certificate that order moments.
+ghost use Rattle.std.specs.Prelude.{◌≡◌, ◌↔◌, ◌⊎◌, ◌<◌, ℕ, true, Option, Some, None, List, IsTrue, IfSome};
+ghost use Rattle.hek_history.specs.declared.certificate.Moment.TheVariants.{Begin as BeginOf, Commit as CommitOf};
+ghost use Rattle.hek_history.specs.declared.certificate.Writer.TheVariants.{Transaction};
+ghost use Rattle.hek_history.specs.Claims.{AllHold, Holds, Follows};
+
+use crate::certificate::{Claim, Moment, Writer};
+use crate::edges::{is_before, is_same_moment, moment_of, moments_at, takes_place};
+use crate::history::{History, Order};
+use crate::shown::Shown;
+use crate::sources::only_source;
+use crate::table::Written;
+use crate::transactions::{is_serializable, writes};
+
+/// The opening is before each other moment.
+pub(crate) fn first(
+    history: &History,
+    order: Order,
+    rows: &[Written],
+    shown: &[Shown],
+    second: Moment,
+) -> Option<Claim>
+    ensures { IfSome result (λ claim. Follows history.now order rows.now shown.now claim) }
+{
+    if is_same_moment(history, Moment::Opening, second) {
+        return None;
+    }
+    Some(Claim::Before {
+        first: Moment::Opening,
+        second,
+    })
+}
+
+/// A snapshot transaction begins before it commits.
+pub(crate) fn own(
+    history: &History,
+    order: Order,
+    rows: &[Written],
+    shown: &[Shown],
+    t: usize,
+) -> Option<Claim>
+    ensures { IfSome result (λ claim. Follows history.now order rows.now shown.now claim) }
+{
+    if is_serializable(history, t) {
+        return None;
+    }
+    Some(Claim::Before {
+        first: Moment::Begin(t),
+        second: Moment::Commit(t),
+    })
+}
+
+/// The only candidate is before its reader.
+pub(crate) fn read(
+    history: &History,
+    order: Order,
+    rows: &[Written],
+    shown: &[Shown],
+    among: usize,
+) -> Option<Claim>
+    ensures { IfSome result (λ claim. Follows history.now order rows.now shown.now claim) }
+{
+    let Some(only) = only_source(rows, shown, among) else {
+        return None;
+    };
+    Some(Claim::Before {
+        first: moment_of(only.writer),
+        second: Moment::Begin(only.reader),
+    })
+}
+
+/// Another writer of the key that commits after the only candidate does so after the reader begins.
+pub(crate) fn after(
+    history: &History,
+    order: Order,
+    rows: &[Written],
+    shown: &[Shown],
+    among: usize,
+    other: usize,
+    premise: usize,
+) -> Option<Claim>
+    ensures { IfSome result (λ claim. Follows history.now order rows.now shown.now claim) }
+{
+    let Some(only) = only_source(rows, shown, among) else {
+        return None;
+    };
+    if other == only.reader {
+        return None;
+    }
+    if !writes(history, other, only.key) {
+        return None;
+    }
+    if !is_before(
+        history,
+        shown,
+        premise,
+        moment_of(only.writer),
+        Moment::Commit(other),
+    ) {
+        return None;
+    }
+    Some(Claim::Before {
+        first: Moment::Begin(only.reader),
+        second: Moment::Commit(other),
+    })
+}
+
+/// Whether the writer is this transaction.
+pub(crate) fn is_writer(writer: Writer, t: usize) -> bool
+    ensures { IsTrue result ↔ writer ≡ Transaction t }
+{
+    match writer {
+        Writer::Opening => false,
+        Writer::Transaction(x) => x == t,
+    }
+}
+
+/// Another writer of the key that commits before the reader begins does so before the only candidate.
+pub(crate) fn before(
+    history: &History,
+    order: Order,
+    rows: &[Written],
+    shown: &[Shown],
+    among: usize,
+    other: usize,
+    premise: usize,
+) -> Option<Claim>
+    ensures { IfSome result (λ claim. Follows history.now order rows.now shown.now claim) }
+{
+    let Some(only) = only_source(rows, shown, among) else {
+        return None;
+    };
+    if is_writer(only.writer, other) {
+        return None;
+    }
+    if !writes(history, other, only.key) {
+        return None;
+    }
+    if !is_before(
+        history,
+        shown,
+        premise,
+        Moment::Commit(other),
+        Moment::Begin(only.reader),
+    ) {
+        return None;
+    }
+    Some(Claim::Before {
+        first: Moment::Commit(other),
+        second: moment_of(only.writer),
+    })
+}
+
+/// Of two who write a key, and of which the first begins before the second commits, the first commits before the second
+/// begins.
+pub(crate) fn winner(
+    history: &History,
+    order: Order,
+    rows: &[Written],
+    shown: &[Shown],
+    t: usize,
+    x: usize,
+    key: u64,
+    premise: usize,
+) -> Option<Claim>
+    ensures { IfSome result (λ claim. Follows history.now order rows.now shown.now claim) }
+{
+    if t == x {
+        return None;
+    }
+    if !writes(history, t, key) {
+        return None;
+    }
+    if !writes(history, x, key) {
+        return None;
+    }
+    if !is_before(
+        history,
+        shown,
+        premise,
+        Moment::Begin(t),
+        Moment::Commit(x),
+    ) {
+        return None;
+    }
+    Some(Claim::Before {
+        first: Moment::Commit(t),
+        second: Moment::Begin(x),
+    })
+}
+
+/// One before a second, and this one before a third.
+pub(crate) fn chain(
+    history: &History,
+    order: Order,
+    rows: &[Written],
+    shown: &[Shown],
+    first: usize,
+    second: usize,
+) -> Option<Claim>
+    ensures { IfSome result (λ claim. Follows history.now order rows.now shown.now claim) }
+{
+    let Some(one) = moments_at(shown, first) else {
+        return None;
+    };
+    let Some(next) = moments_at(shown, second) else {
+        return None;
+    };
+    if !is_same_moment(history, one.second, next.first) {
+        return None;
+    }
+    Some(Claim::Before {
+        first: one.first,
+        second: next.second,
+    })
+}
+
+/// The transaction of a moment.
+pub(crate) fn transaction_of(moment: Moment) -> Option<usize>
+    ensures { IfSome result (λ t. (moment ≡ BeginOf t) ⊎ (moment ≡ CommitOf t)) }
+{
+    match moment {
+        Moment::Opening => None,
+        Moment::Begin(t) => Some(t),
+        Moment::Commit(t) => Some(t),
+    }
+}
+
+/// Who is before one that takes place does so too.
+pub(crate) fn inside(
+    history: &History,
+    order: Order,
+    rows: &[Written],
+    shown: &[Shown],
+    premise: usize,
+    taken: Option<usize>,
+) -> Option<Claim>
+    ensures { IfSome result (λ claim. Follows history.now order rows.now shown.now claim) }
+{
+    let Some(turn) = moments_at(shown, premise) else {
+        return None;
+    };
+    let Some(t) = transaction_of(turn.first) else {
+        return None;
+    };
+    let Some(x) = transaction_of(turn.second) else {
+        return None;
+    };
+    if !takes_place(history, shown, x, taken) {
+        return None;
+    }
+    Some(Claim::TakesPlace(t))
+}
