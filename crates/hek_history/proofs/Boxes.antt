@@ -134,7 +134,7 @@ module _ (h : History) (order : Order) (rows : List Written) where
       follows points e (all_hold points e shown sound all)))
       (λ d a. cc))
 
--- ---- a step, over the lists that it reads
+  -- ---- a step, over the lists that it reads
 
   pub step_none : (shown seen again : List Shown) (x : Shown) → IsSound h order rows shown → seen ≡ shown → again ≡ shown → NoneAssumed again →
       (x.contrary ≡ None → Follows h order rows seen x.claim) → (x.claim ≡ Contradiction) × (x.contrary ≡ None) → HasNoExplanation h order

@@ -73,8 +73,7 @@ pub pushed : (op : Operation) (rest : List Operation) (x key : ℕ) (value : Opt
     new ≡ old ++ row_of key value x ∷ [] → AreKept old new × (HaveWrites rest x old → HaveWrites (op ∷ rest) x new)
 pushed op rest x key value old new k v n =
     let is : new ≡ old ++ row_of (key_of op) (after (change_of op) None) x ∷ [] =
-    n ∙ ap (λ (m : ℕ). old ++ row_of m value x ∷ []) k ∙ ap (λ (o : Option ℕ). old ++ row_of (key_of op) o x ∷ []) v in
-    (
+    n ∙ ap (λ (m : ℕ). old ++ row_of m value x ∷ []) k ∙ ap (λ (o : Option ℕ). old ++ row_of (key_of op) o x ∷ []) v in (
       subst (AreKept old) (sym is) (kept-push old _),
       λ has. subst (HaveWrites (op ∷ rest) x) (sym is) (has-pushed op rest x old has),
     )

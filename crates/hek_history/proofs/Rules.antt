@@ -103,6 +103,7 @@ module _ (h : History) (points : List Point) (e : IsExplanation h points) where
           let c : At points j (Commit t) = subst (λ (n : ℕ). At points n (Commit t)) one a in
           let f : Some (Commit t) ≡ Some (Commit x) = sym c ∙ b in
           cc
+
       not_begin : (t x i k : ℕ) → i ≡ k → At points i (Commit t) → At points k (Begin x) → ⊥
       not_begin t x i k one a b =
           let c : At points k (Commit t) = subst (λ (n : ℕ). At points n (Commit t)) one a in

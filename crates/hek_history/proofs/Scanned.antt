@@ -210,6 +210,7 @@ scan_right lenient op scope pairs rows own scan by_key at_pairs at_own at_rows =
   where
     f : ℕ → Option ℕ
     f = seen (get nat_cmp rows) (get nat_cmp own)
+
     outside : (op : Operation) (scope : Scope) (pairs : List (ℕ × ℕ)) (k : ℕ) (v : Option ℕ) → IsScan op scope pairs → covers scope k ≡ false → value_of pairs k ≡ None → tells k op v ≡ true
     outside (Scan s found) scope pairs k v scan other none =
         let c : covers s k ≡ false = ap (λ x. covers x k) scan.0 ∙ other in
@@ -220,6 +221,7 @@ scan_right lenient op scope pairs rows own scan by_key at_pairs at_own at_rows =
     outside (Insert a b d) scope pairs k v scan other none = absurd scan
     outside (Update a b d) scope pairs k v scan other none = absurd scan
     outside (Delete a d) scope pairs k v scan other none = absurd scan
+
     inside : (op : Operation) (scope : Scope) (pairs : List (ℕ × ℕ)) (k : ℕ) → IsScan op scope pairs → covers scope k ≡ true → value_of pairs k ≡ None → tells k op None ≡ true
     inside (Scan s found) scope pairs k scan covered none =
         let c : covers s k ≡ true = ap (λ x. covers x k) scan.0 ∙ covered in

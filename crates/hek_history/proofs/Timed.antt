@@ -229,13 +229,17 @@ module _ (h : History) (points : List Point) where
       first_of_both : (a b : Bool) → (a && b) ≡ true → a ≡ true
       first_of_both true b e = refl
       first_of_both false b e = cc
+
       second_of_both : (a b : Bool) → (a && b) ≡ true → b ≡ true
       second_of_both true b e = e
       second_of_both false b e = cc
+
       replaced : (k : ℕ) → (writes h t k && is_some (end_of h t)) ≡ true → new k ≡ Some t
       replaced k does = more k ∙ rw does refl
+
       kept_at : (k : ℕ) → (writes h t k && is_some (end_of h t)) ≡ false → new k ≡ last k
       kept_at k not' = more k ∙ rw not' refl
+
       same_commit : (u : ℕ) → At points n (Commit u) → u ≡ t
       same_commit u c = let e : Commit u ≡ Commit t = same_point points n (Commit u) (Commit t) c here in cc
 
