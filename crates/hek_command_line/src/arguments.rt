@@ -367,7 +367,7 @@ const PAGE: CommandText = CommandText {
     about: "Writes a schedule's run as a page for a browser",
     example: r"Example:
   hek page first.hek > first.html
-The page shows each step with its reply, and the versions, waits and lock words at each position. It needs no network and no other file. Comments of a schedule text are shown: those above its first line at the start, those above a step at that step. A page has at most 2000 steps; of a longer schedule --from and --to say which.",
+The page shows each step with its reply, and the versions, transactions and locks at each position. It needs no network and no other file. It has at most 2000 steps; of a longer schedule --from and --to say which.",
     arguments: &[
         FILE,
         TEXT,
@@ -380,41 +380,6 @@ The page shows each step with its reply, and the versions, waits and lock words 
         ArgumentText {
             name: "to",
             help: "ends at step N, by default the last",
-            form: Form::Number,
-        },
-        ArgumentText {
-            name: "title",
-            help: "the page's title, by default the name of FILE",
-            form: Form::Value("TEXT"),
-        },
-        ArgumentText {
-            name: "lesson",
-            help: "the number before the title",
-            form: Form::Number,
-        },
-        ArgumentText {
-            name: "previous",
-            help: "the address of the page before this one",
-            form: Form::Value("ADDRESS"),
-        },
-        ArgumentText {
-            name: "next",
-            help: "the address of the page after this one",
-            form: Form::Value("ADDRESS"),
-        },
-        ArgumentText {
-            name: "orders",
-            help: "makes the explorer of every order of the moves, as hek permute plays them",
-            form: Form::Flag,
-        },
-        ArgumentText {
-            name: "split",
-            help: "with --orders: makes finish and precommit a separate move",
-            form: Form::Flag,
-        },
-        ArgumentText {
-            name: "limit",
-            help: "with --orders: writes nothing if there are more than N nodes (5000)",
             form: Form::Number,
         },
     ],
@@ -476,7 +441,6 @@ fn rivals_of(name: &str) -> &'static [&'static str] {
         "order" => &["each", "levels", "part"],
         "levels" => &["each", "level"],
         "image" => &["text"],
-        "orders" => &["from", "to"],
         _ => &[],
     }
 }

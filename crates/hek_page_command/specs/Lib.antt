@@ -1,3 +1,1 @@
 pub mod Pages
-pub mod Explorers
-pub mod Sheets

@@ -8,5 +8,4 @@ mod permute;
 mod table;
 
 pub use choice::{Choice, part_of};
-pub use lines::put_outcome;
 pub use permute::permute_command;
