@@ -1,5 +1,5 @@
 -- Claims of which some are assumed, one after another.
-use Rattle.std.proofs.Common.{◌≡◌, ℕ, zero, suc, ◌<◌, true, false, List, [], ◌∷◌, ◌++◌, Option, Some, None, refl, sym, ap, ◌∙◌, subst, inl, inr, ◌⊎◌, take, length, arith}
+use Rattle.std.proofs.Common.{◌≡◌, ℕ, zero, suc, ◌<◌, List, [], ◌∷◌, ◌++◌, Option, Some, None, refl, sym, ap, ◌∙◌, subst, inl, inr, ◌⊎◌, take, length, arith}
 use Rattle.std.proofs.lemmas.Bool.{cases_order}
 use Rattle.std.proofs.lemmas.Option.{slice_get_within}
 use Rattle.std.specs.Prelude.{slice_get}
@@ -134,7 +134,7 @@ module _ (h : History) (order : Order) (rows : List Written) where
       follows points e (all_hold points e shown sound all)))
       (λ d a. cc))
 
--- ---- a step, over the lists that it reads
+  -- ---- a step, over the lists that it reads
 
   pub step_none : (shown seen again : List Shown) (x : Shown) → IsSound h order rows shown → seen ≡ shown → again ≡ shown → NoneAssumed again →
       (x.contrary ≡ None → Follows h order rows seen x.claim) → (x.claim ≡ Contradiction) × (x.contrary ≡ None) → HasNoExplanation h order

@@ -1,6 +1,6 @@
 -- Candidates for a source.
-use Rattle.std.proofs.Common.{◌≡◌, ℕ, suc, ◌+◌, ◌-◌, ◌<◌, ◌≤◌, Bool, true, false, List, Option, Some, None, refl, sym, ap, ◌∙◌, subst, inl, inr, ◌⊎◌, get_or, arith}
-use Rattle.std.proofs.lemmas.Bool.{cases_eq, cases_lt}
+use Rattle.std.proofs.Common.{◌≡◌, ℕ, ◌+◌, ◌<◌, ◌≤◌, Bool, true, false, List, Option, Some, None, refl, sym, ap, ◌∙◌, subst, inl, inr, get_or, arith}
+use Rattle.std.proofs.lemmas.Bool.{cases_eq}
 use Rattle.std.proofs.lemmas.Option.{slice_get-get_or}
 use Rattle.std.specs.Prelude.{slice_get}
 use Rattle.std.specs.List.{Contains}
@@ -12,7 +12,7 @@ use Rattle.hek_history.specs.declared.certificate.Writer.TheVariants as writer
 use Rattle.hek_history.specs.declared.needs.Need.{Need}
 use Rattle.hek_history.specs.declared.table.Written.{Written}
 use Rattle.hek_history.specs.Answers.{allows, after, last_change}
-use Rattle.hek_history.specs.Histories.{operations_of, is_lenient, is_possible}
+use Rattle.hek_history.specs.Histories.{operations_of, is_lenient}
 use Rattle.hek_history.specs.Explanation.{IsExplanation, Occurs}
 use Rattle.hek_history.specs.Moments.{left_by, IsSource}
 use Rattle.hek_history.specs.Readings.{IsReading, Meets}

@@ -1,17 +1,16 @@
 -- Points in the order that is asked for.
-use Rattle.std.proofs.Common.{◌≡◌, ◌&&◌, ◌↔◌, ℕ, suc, ◌+◌, ◌<◌, ◌≤◌, Bool, true, false, cond, List, Option, Some, None, refl, sym, ap, ◌∙◌, subst, inl, inr, ◌⊎◌, length, arith}
-use Rattle.std.proofs.lemmas.Bool.{cases_Bool, cases_order, cases_lt, both_ways}
+use Rattle.std.proofs.Common.{◌≡◌, ◌&&◌, ◌↔◌, ℕ, ◌+◌, ◌<◌, ◌≤◌, Bool, true, false, cond, List, Option, Some, None, refl, sym, ap, ◌∙◌, subst, inl, inr, ◌⊎◌, length, arith}
+use Rattle.std.proofs.lemmas.Bool.{cases_Bool, cases_order, both_ways}
 use Rattle.std.proofs.lemmas.Option.{slice_get_within}
-use Rattle.std.specs.Prelude.{slice_get, is_some, nat_lt}
+use Rattle.std.specs.Prelude.{is_some}
 use Rattle.hek_history.specs.declared.history.History.{History}
-use Rattle.hek_history.specs.declared.history.Order.{Order}
 use Rattle.hek_history.specs.declared.history.Order.TheVariants.{Any, Versions, Times, Real}
 use Rattle.hek_history.specs.declared.history.Point.{Point}
 use Rattle.hek_history.specs.declared.history.Point.TheVariants.{Begin, Commit}
 use Rattle.hek_history.specs.Histories.{end_of, writes}
-use Rattle.hek_history.specs.Orders.{earlier, time_of, answered_at, invoked_at, AreVersions, IsAsked}
+use Rattle.hek_history.specs.Orders.{earlier, time_of, answered_at, invoked_at, AreVersions}
 use Rattle.hek_history.specs.Explanation.{At, AreInOrder}
-use Rattle.hek_history.specs.Replays.{first_time, second_time, AreTimed, AreNewest, IsNewestTo, end_at, end_of_last}
+use Rattle.hek_history.specs.Replays.{AreTimed, AreNewest, IsNewestTo, end_at, end_of_last}
 use Rattle.hek_history.proofs.Places.{same_point, cases_below}
 
 earlier-self : (o : Option ℕ) → earlier o o ≡ false
@@ -229,13 +228,17 @@ module _ (h : History) (points : List Point) where
       first_of_both : (a b : Bool) → (a && b) ≡ true → a ≡ true
       first_of_both true b e = refl
       first_of_both false b e = cc
+
       second_of_both : (a b : Bool) → (a && b) ≡ true → b ≡ true
       second_of_both true b e = e
       second_of_both false b e = cc
+
       replaced : (k : ℕ) → (writes h t k && is_some (end_of h t)) ≡ true → new k ≡ Some t
       replaced k does = more k ∙ rw does refl
+
       kept_at : (k : ℕ) → (writes h t k && is_some (end_of h t)) ≡ false → new k ≡ last k
       kept_at k not' = more k ∙ rw not' refl
+
       same_commit : (u : ℕ) → At points n (Commit u) → u ≡ t
       same_commit u c = let e : Commit u ≡ Commit t = same_point points n (Commit u) (Commit t) c here in cc
 

@@ -11,9 +11,7 @@ use crate::edges::takes_place;
 use crate::history::{History, Order, Point};
 use crate::shown::Shown;
 use crate::table::Written;
-use crate::transactions::{
-    answered_of, begin_of, end_of, invoked_of, is_serializable, writes,
-};
+use crate::transactions::{answered_of, begin_of, end_of, invoked_of, is_serializable, writes};
 
 /// Whether both times are given, and the first is less.
 pub(crate) fn earlier(first: Option<u64>, second: Option<u64>) -> bool

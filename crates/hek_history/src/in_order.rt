@@ -106,11 +106,7 @@ fn is_newest(history: &History, last: &BTreeMap<u64, usize>, t: usize) -> bool
 }
 
 /// t is the last to write its keys from now on, if its end is given.
-fn mark(
-    history: &History,
-    last: &mut BTreeMap<u64, usize>,
-    t: usize,
-) -> Result<(), NoMemory>
+fn mark(history: &History, last: &mut BTreeMap<u64, usize>, t: usize) -> Result<(), NoMemory>
     ensures { OnOk result ((k : ℕ) → get_in nat_cmp last.new k ≡ (if writes_it history.now t k && is_some (end_in history.now t) then Some t else get_in nat_cmp last.old k)) }
 {
     if end_of(history, t).is_none() {

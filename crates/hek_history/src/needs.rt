@@ -57,11 +57,7 @@ fn own_need(operation: &Operation) -> Need
         Operation::Put(_, _) | Operation::Scan(_, _) => Need::Anything,
         Operation::Insert(_, _, done) => { if *done { Need::Absent } else { Need::Present } }
         Operation::Update(_, _, done) | Operation::Delete(_, done) => {
-            if *done {
-                Need::Present
-            } else {
-                Need::Absent
-            }
+            if *done { Need::Present } else { Need::Absent }
         }
     }
 }

@@ -174,13 +174,7 @@ pub(crate) fn winner(
     if !writes(history, x, key) {
         return None;
     }
-    if !is_before(
-        history,
-        shown,
-        premise,
-        Moment::Begin(t),
-        Moment::Commit(x),
-    ) {
+    if !is_before(history, shown, premise, Moment::Begin(t), Moment::Commit(x)) {
         return None;
     }
     Some(Claim::Before {

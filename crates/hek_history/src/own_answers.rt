@@ -35,12 +35,7 @@ pub(crate) fn contradicted(
     if !is_change(own) {
         return None;
     }
-    if allows(
-        is_lenient(history, t),
-        key,
-        operation,
-        after(own, None),
-    ) {
+    if allows(is_lenient(history, t), key, operation, after(own, None)) {
         return None;
     }
     if !takes_place(history, shown, t, taken) {

@@ -63,13 +63,15 @@ fn range_at(rows: &[Written], shown: &[Shown], place: usize) -> Option<Range>
     ensures { IfSome result (λ range. (h : TheHistory) (points : List ThePoint) → AllHold h rows.now points shown.now → Holds h rows.now points (Among range.reader range.key range.opening range.from range.to)) }
 {
     match claim_at(shown, place) {
-        Some(Claim::Among {
-            reader,
-            key,
-            opening,
-            from,
-            to,
-        }) => Some(Range {
+        Some(
+            Claim::Among {
+                reader,
+                key,
+                opening,
+                from,
+                to,
+            },
+        ) => Some(Range {
             reader,
             key,
             opening,
@@ -251,11 +253,13 @@ fn is_not(shown: &[Shown], place: usize, reader: usize, key: u64, writer: Writer
     ensures { IsTrue result → (h : TheHistory) (rows : List TheWritten) (points : List ThePoint) → AllHold h rows points shown.now → Occurs points reader → IsSource h points reader key writer → ⊥ }
 {
     match claim_at(shown, place) {
-        Some(Claim::Not {
-            reader: t,
-            key: k,
-            writer: w,
-        }) => t == reader && k == key && is_same_writer(w, writer),
+        Some(
+            Claim::Not {
+                reader: t,
+                key: k,
+                writer: w,
+            },
+        ) => t == reader && k == key && is_same_writer(w, writer),
         _ => false,
     }
 }
