@@ -1,6 +1,6 @@
 -- Candidates for a source.
-use Rattle.std.proofs.Common.{◌≡◌, ℕ, suc, ◌+◌, ◌-◌, ◌<◌, ◌≤◌, Bool, true, false, List, Option, Some, None, refl, sym, ap, ◌∙◌, subst, inl, inr, ◌⊎◌, get_or, arith}
-use Rattle.std.proofs.lemmas.Bool.{cases_eq, cases_lt}
+use Rattle.std.proofs.Common.{◌≡◌, ℕ, ◌+◌, ◌<◌, ◌≤◌, Bool, true, false, List, Option, Some, None, refl, sym, ap, ◌∙◌, subst, inl, inr, get_or, arith}
+use Rattle.std.proofs.lemmas.Bool.{cases_eq}
 use Rattle.std.proofs.lemmas.Option.{slice_get-get_or}
 use Rattle.std.specs.Prelude.{slice_get}
 use Rattle.std.specs.List.{Contains}
@@ -12,7 +12,7 @@ use Rattle.hek_history.specs.declared.certificate.Writer.TheVariants as writer
 use Rattle.hek_history.specs.declared.needs.Need.{Need}
 use Rattle.hek_history.specs.declared.table.Written.{Written}
 use Rattle.hek_history.specs.Answers.{allows, after, last_change}
-use Rattle.hek_history.specs.Histories.{operations_of, is_lenient, is_possible}
+use Rattle.hek_history.specs.Histories.{operations_of, is_lenient}
 use Rattle.hek_history.specs.Explanation.{IsExplanation, Occurs}
 use Rattle.hek_history.specs.Moments.{left_by, IsSource}
 use Rattle.hek_history.specs.Readings.{IsReading, Meets}
@@ -21,28 +21,6 @@ use Rattle.hek_history.proofs.Found.{found, MayHave}
 
 same_row : (a b : Written) → Some a ≡ Some b → a ≡ b
 same_row a b e = cc
-
--- the opening is the only candidate
-pub only_opening : (rows : List Written) (from to : ℕ) (w : Writer) → to ≤ from → IsAmong rows true from to w → w ≡ writer.Opening
-only_opening rows from to writer.Opening l a = refl
-only_opening rows from to (writer.Transaction x) l a = absurd (let b = a.2 in let c = a.3 in omega (arith, l, b, c))
-
--- one row is
-pub only_row : (rows : List Written) (from to : ℕ) (row : Written) (w : Writer) → to ≡ from + 1 → slice_get rows from ≡ Some row → IsAmong rows false from to w → w ≡ writer.Transaction row.writer
-only_row rows from to row writer.Opening l there a = cc
-only_row rows from to row (writer.Transaction x) l there a =
-    let b = a.2 in
-    let c = a.3 in
-    let same : a.0 ≡ from = omega (arith, l, b, c) in
-    let at : slice_get rows from ≡ Some a.1 = subst (λ (n : ℕ). slice_get rows n ≡ Some a.1) same a.4 in
-    let one : a.1 ≡ row = same_row a.1 row (sym at ∙ there) in
-    let is : row.writer ≡ x = sym (ap (λ (r : Written). r.writer) one) ∙ a.5 in
-    ap (λ (n : ℕ). writer.Transaction n) (sym is)
-
--- none is
-pub no_candidate : (rows : List Written) (from to : ℕ) (w : Writer) → to ≤ from → IsAmong rows false from to w → ⊥
-no_candidate rows from to writer.Opening l a = cc
-no_candidate rows from to (writer.Transaction x) l a = let b = a.2 in let c = a.3 in omega (arith, l, b, c)
 
 pub among-drop_opening : (rows : List Written) (opening : Bool) (from to : ℕ) (w : Writer) → (w ≡ writer.Opening → ⊥) → IsAmong rows opening from to w → IsAmong rows false from to w
 among-drop_opening rows opening from to writer.Opening not a = absurd (not refl)

@@ -1,5 +1,5 @@
 -- The table of last writes: what it has, and between which places.
-use Rattle.std.proofs.Common.{◌≡◌, ℕ, zero, suc, ◌+◌, ◌-◌, ◌<◌, ◌≤◌, ◌==◌, Bool, true, false, cond, List, [], ◌∷◌, ◌++◌, Option, Some, None, refl, sym, ap, ◌∙◌, subst, inl, inr, ◌⊎◌, length, get_or, drop, arith}
+use Rattle.std.proofs.Common.{◌≡◌, ℕ, zero, suc, ◌+◌, ◌-◌, ◌<◌, ◌≤◌, ◌==◌, true, false, List, [], ◌∷◌, ◌++◌, Option, Some, None, refl, sym, ap, ◌∙◌, subst, inl, inr, ◌⊎◌, length, get_or, drop, arith}
 use Rattle.std.proofs.lemmas.Bool.{cases_Bool, cases_lt, eqb-true, both_ways}
 use Rattle.std.proofs.lemmas.Option.{slice_get-get_or, slice_get_within, get_or_from_slice_get}
 use Rattle.std.proofs.lemmas.List.Elements.{Contains-append_left, Contains-push}
@@ -13,9 +13,9 @@ use Rattle.hek_history.specs.declared.history.Change.TheVariants.{Keep, Remove, 
 use Rattle.hek_history.specs.declared.needs.Need.{Need}
 use Rattle.hek_history.specs.declared.table.Written.{Written}
 use Rattle.hek_history.specs.Answers.{key_of, change_of, after, is_change, followed_by, change_at, last_change}
-use Rattle.hek_history.specs.Histories.{operations_of, is_possible, writes}
+use Rattle.hek_history.specs.Histories.{operations_of, is_possible}
 use Rattle.hek_history.specs.Readings.{Meets}
-use Rattle.hek_history.specs.Tables.{height, IsNotAfter, IsListed, IsCompleteTo, IsSorted, AreKept, HaveWrites}
+use Rattle.hek_history.specs.Tables.{height, IsNotAfter, IsCompleteTo, IsSorted, AreKept, HaveWrites}
 use Rattle.hek_history.proofs.Rows.{Keep-from_kept}
 
 pub kept-refl : (rows : List Written) → AreKept rows rows
@@ -61,31 +61,11 @@ has-more op rest x old new kept added has key changed =
           ]
     ]
 
-pub has-pushed : (op : Operation) (rest : List Operation) (x : ℕ) (old : List Written) → HaveWrites rest x old →
-    HaveWrites (op ∷ rest) x (old ++ (record { key = key_of op; value = after (change_of op) None; writer = x }) ∷ [])
-has-pushed op rest x old has =
-    has-more op rest x old (old ++ (record { key = key_of op; value = after (change_of op) None; writer = x }) ∷ []) (kept-push old _) (λ c n. Contains-push old _) has
-
-abbrev pub row_of : ℕ → Option ℕ → ℕ → Written
-row_of key value x = record { key = key; value = value; writer = x }
-
-pub pushed : (op : Operation) (rest : List Operation) (x key : ℕ) (value : Option ℕ) (old new : List Written) → key ≡ key_of op → value ≡ after (change_of op) None →
-    new ≡ old ++ row_of key value x ∷ [] → AreKept old new × (HaveWrites rest x old → HaveWrites (op ∷ rest) x new)
-pushed op rest x key value old new k v n =
-    let is : new ≡ old ++ row_of (key_of op) (after (change_of op) None) x ∷ [] =
-    n ∙ ap (λ (m : ℕ). old ++ row_of m value x ∷ []) k ∙ ap (λ (o : Option ℕ). old ++ row_of (key_of op) o x ∷ []) v in (
-      subst (AreKept old) (sym is) (kept-push old _),
-      λ has. subst (HaveWrites (op ∷ rest) x) (sym is) (has-pushed op rest x old has),
-    )
-
 pub has-not : (op : Operation) (rest : List Operation) (x : ℕ) (old : List Written) → (is_change (change_of op) ≡ false) ⊎ (is_change (last_change (key_of op) rest) ≡ true) →
     HaveWrites rest x old → HaveWrites (op ∷ rest) x old
 has-not op rest x old none has =
     has-more op rest x old old (kept-refl old)
     (λ c n. absurd (elim none [ inl no_change ↦ both_ways _ no_change c | inr later ↦ both_ways _ n later ])) has
-
-pub has-none : (x : ℕ) (rows : List Written) → HaveWrites [] x rows
-has-none x rows key e = cc
 
 -- a transaction more
 pub complete-more : (h : History) (old new : List Written) (n : ℕ) → AreKept old new → (is_possible h n ≡ true → HaveWrites (operations_of h n) n new) → IsCompleteTo h old n → IsCompleteTo h new (n + 1)

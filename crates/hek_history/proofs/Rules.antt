@@ -1,8 +1,7 @@
 -- The rules of a certificate, each in one explanation.
-use Rattle.std.proofs.Common.{◌≡◌, ℕ, suc, ◌+◌, ◌*◌, ◌<◌, ◌≤◌, true, false, List, Some, refl, sym, ap, ◌∙◌, subst, inl, inr, ◌⊎◌, length, arith}
-use Rattle.std.proofs.lemmas.Bool.{cases_Bool, cases_order, cases_lt, both_ways}
+use Rattle.std.proofs.Common.{◌≡◌, ℕ, suc, ◌<◌, ◌≤◌, true, List, Some, refl, sym, ap, ◌∙◌, subst, inl, inr, ◌⊎◌, length, arith}
+use Rattle.std.proofs.lemmas.Bool.{cases_order, cases_lt}
 use Rattle.std.proofs.lemmas.Option.{slice_get_within}
-use Rattle.std.specs.Prelude.{slice_get}
 use Rattle.hek_history.specs.declared.history.History.{History}
 use Rattle.hek_history.specs.declared.history.Order.{Order}
 use Rattle.hek_history.specs.declared.history.Point.{Point}
@@ -11,12 +10,11 @@ use Rattle.hek_history.specs.declared.certificate.Moment.{Moment}
 use Rattle.hek_history.specs.declared.certificate.Moment.TheVariants as moment
 use Rattle.hek_history.specs.declared.certificate.Writer.{Writer}
 use Rattle.hek_history.specs.declared.certificate.Writer.TheVariants as writer
-use Rattle.hek_history.specs.Histories.{is_serializable, writes}
+use Rattle.hek_history.specs.Histories.{writes}
 use Rattle.hek_history.specs.Orders.{IsAsked}
 use Rattle.hek_history.specs.Explanation.{At, IsExplanation, IsExplanationIn, Occurs}
 use Rattle.hek_history.specs.Moments.{place, settled, rank_in, rank, moment_of, IsSource}
-use Rattle.hek_history.proofs.Places.{same_place}
-use Rattle.hek_history.proofs.Ranks.{rank_in-injective, commit_is_begin, place-is, occurs_or_not, begins_first, own, not_after_commit, not_before_place, rank-begin, rank-snapshot, rank-commit, at-place, occurs-commit, occurs-begin, commit_within, begin_within, commits_before}
+use Rattle.hek_history.proofs.Ranks.{rank_in-injective, commit_is_begin, place-is, occurs_or_not, not_after_commit, not_before_place, rank-commit, at-place, occurs-commit, occurs-begin, commit_within, begin_within}
 
 -- the moment of a writer is settled
 settled_moment : (h : History) (w : Writer) → settled h (moment_of w) ≡ moment_of w

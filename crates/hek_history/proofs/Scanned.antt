@@ -1,10 +1,10 @@
 -- Answers over what a transaction sees.
-use Rattle.std.proofs.Common.{◌≡◌, ◌==◌, ◌||◌, ◌&&◌, ◌↔◌, ℕ, zero, suc, ◌+◌, ◌<◌, ◌≤◌, Vec, Global, Bool, true, false, cond, List, [], ◌∷◌, Option, Some, None, refl, sym, ap, ◌∙◌, subst, inl, inr, ◌⊎◌, take, length, get_or, arith}
-use Rattle.std.proofs.lemmas.Bool.{cases_Bool, eqb-true, eq-eqb, both_ways}
+use Rattle.std.proofs.Common.{◌≡◌, ◌==◌, ◌↔◌, ℕ, zero, suc, ◌+◌, ◌<◌, ◌≤◌, Vec, Global, Bool, true, false, cond, List, [], ◌∷◌, Option, Some, None, refl, sym, ap, ◌∙◌, subst, inl, inr, ◌⊎◌, take, length, get_or, arith}
+use Rattle.std.proofs.lemmas.Bool.{cases_Bool, eqb-true}
 use Rattle.std.proofs.lemmas.Option.{slice_get_within}
 use Rattle.std.proofs.lemmas.Map.Views.{Contains-keys_from_lookup}
-use Rattle.std.specs.Prelude.{slice_get, is_some, not, nat_lt, IsSome, IsTrue}
-use Rattle.std.specs.List.{list_all, Contains}
+use Rattle.std.specs.Prelude.{slice_get, nat_lt, IsSome, IsTrue}
+use Rattle.std.specs.List.{list_all}
 use Rattle.std.specs.BTreeMap.{get, keys, BTreeMap}
 use Rattle.std.specs.Ordering.{nat_cmp, eq_by_cmp}
 use Rattle.hek_rules.specs.Listing.{value_of}
@@ -13,7 +13,7 @@ use Rattle.hek_history.specs.declared.history.Operation.TheVariants.{Read, Put, 
 use Rattle.hek_history.specs.declared.history.Scope.{Scope}
 use Rattle.hek_history.specs.declared.history.Change.{Change}
 use Rattle.hek_history.specs.declared.history.Change.TheVariants.{Keep, Remove, Set}
-use Rattle.hek_history.specs.Answers.{key_of, change_of, fits, covers, same_found, tells, allows, IsByKey, IsRight, AreRight, after, is_change, followed_by, change_at, last_change, lay_all}
+use Rattle.hek_history.specs.Answers.{key_of, change_of, fits, covers, tells, allows, IsByKey, IsRight, AreRight, after, is_change, followed_by, change_at, last_change}
 use Rattle.hek_history.specs.Replays.{seen, kept, allowed_within, IsScan, AreRightOver}
 use Rattle.hek_history.proofs.Rows.{value_of-lay_all}
 use Rattle.hek_history.proofs.Places.{cases_below}

@@ -1,17 +1,16 @@
 -- Points in the order that is asked for.
-use Rattle.std.proofs.Common.{◌≡◌, ◌&&◌, ◌↔◌, ℕ, suc, ◌+◌, ◌<◌, ◌≤◌, Bool, true, false, cond, List, Option, Some, None, refl, sym, ap, ◌∙◌, subst, inl, inr, ◌⊎◌, length, arith}
-use Rattle.std.proofs.lemmas.Bool.{cases_Bool, cases_order, cases_lt, both_ways}
+use Rattle.std.proofs.Common.{◌≡◌, ◌&&◌, ◌↔◌, ℕ, ◌+◌, ◌<◌, ◌≤◌, Bool, true, false, cond, List, Option, Some, None, refl, sym, ap, ◌∙◌, subst, inl, inr, ◌⊎◌, length, arith}
+use Rattle.std.proofs.lemmas.Bool.{cases_Bool, cases_order, both_ways}
 use Rattle.std.proofs.lemmas.Option.{slice_get_within}
-use Rattle.std.specs.Prelude.{slice_get, is_some, nat_lt}
+use Rattle.std.specs.Prelude.{is_some}
 use Rattle.hek_history.specs.declared.history.History.{History}
-use Rattle.hek_history.specs.declared.history.Order.{Order}
 use Rattle.hek_history.specs.declared.history.Order.TheVariants.{Any, Versions, Times, Real}
 use Rattle.hek_history.specs.declared.history.Point.{Point}
 use Rattle.hek_history.specs.declared.history.Point.TheVariants.{Begin, Commit}
 use Rattle.hek_history.specs.Histories.{end_of, writes}
-use Rattle.hek_history.specs.Orders.{earlier, time_of, answered_at, invoked_at, AreVersions, IsAsked}
+use Rattle.hek_history.specs.Orders.{earlier, time_of, answered_at, invoked_at, AreVersions}
 use Rattle.hek_history.specs.Explanation.{At, AreInOrder}
-use Rattle.hek_history.specs.Replays.{first_time, second_time, AreTimed, AreNewest, IsNewestTo, end_at, end_of_last}
+use Rattle.hek_history.specs.Replays.{AreTimed, AreNewest, IsNewestTo, end_at, end_of_last}
 use Rattle.hek_history.proofs.Places.{same_point, cases_below}
 
 earlier-self : (o : Option ℕ) → earlier o o ≡ false

@@ -1,4 +1,4 @@
-use Rattle.std.proofs.Common.{◌≡◌, true, refl, sym, ap, ◌∙◌, subst}
+use Rattle.std.proofs.Common.{◌≡◌, true, refl, sym, subst}
 use Rattle.hek_history.specs.declared.history.Order.{Order}
 use Rattle.hek_history.specs.Orders.{earlier, time_of, IsAsked}
 use Rattle.hek_history.proofs.Rules.{time}

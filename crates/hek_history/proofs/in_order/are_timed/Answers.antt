@@ -1,4 +1,4 @@
-use Rattle.std.proofs.Common.{◌≡◌, ◌∙◌, ◌↔◌, ◌⊎◌, subst, ℕ, Option, false, true, Some, refl, sym, ap, get_or}
+use Rattle.std.proofs.Common.{◌≡◌, ◌∙◌, ◌↔◌, ◌⊎◌, subst, ℕ, Option, false, true, refl, sym, ap, get_or}
 use Rattle.std.proofs.lemmas.Option.{slice_get-get_or}
 use Rattle.hek_history.specs.declared.history.Point.TheVariants.{Begin}
 use Rattle.hek_history.specs.Orders.{earlier}

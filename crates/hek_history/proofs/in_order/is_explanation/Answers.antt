@@ -1,4 +1,4 @@
-use Rattle.std.proofs.Common.{◌∙◌, refl, sym}
+use Rattle.std.proofs.Common.{◌∙◌, sym}
 use Rattle.hek_history.proofs.Replayed.{if_ok}
 use Rattle.hek_history.proofs.in_order.is_explanation.Goals as goal
 

@@ -2,8 +2,7 @@ use Rattle.std.proofs.Common.{◌∙◌, Some, ap}
 use Rattle.std.proofs.lemmas.Option.{slice_get-get_or}
 use Rattle.std.specs.BTreeMap.{get}
 use Rattle.std.specs.Ordering.{nat_cmp}
-use Rattle.hek_history.specs.declared.history.Point.TheVariants.{Begin, Commit}
-use Rattle.hek_history.specs.Explanation.{At}
+use Rattle.hek_history.specs.declared.history.Point.TheVariants.{Begin}
 use Rattle.hek_history.proofs.Timed.{newest-begin}
 use Rattle.hek_history.proofs.in_order.is_newest_point.Goals as goal
 

@@ -1,7 +1,5 @@
-use Rattle.std.proofs.Common.{◌≡◌, ℕ, Bool, Option, true, refl, sym, subst}
-use Rattle.hek_history.specs.declared.history.Operation.{Operation}
+use Rattle.std.proofs.Common.{◌≡◌, Bool, true, refl, sym, subst}
 use Rattle.hek_history.specs.Answers.{allows}
-use Rattle.hek_history.specs.Histories.{is_lenient}
 use Rattle.hek_history.proofs.Found.{disagree}
 use Rattle.hek_history.proofs.own_answers.disagree.Goals as goal
 

@@ -2,7 +2,7 @@ use Rattle.std.proofs.Common.{◌≡◌, Some, refl}
 use Rattle.std.specs.Prelude.{slice_get}
 use Rattle.std.proofs.lemmas.Bool.{false≢true}
 use Rattle.std.proofs.lemmas.Option.{slice_get_read}
-use Rattle.hek_history.specs.Histories.{operations_of, is_lenient}
+use Rattle.hek_history.specs.Histories.{operations_of}
 use Rattle.hek_history.proofs.Found.{by_key}
 use Rattle.hek_history.proofs.own_answers.unordered.Goals as goal
 

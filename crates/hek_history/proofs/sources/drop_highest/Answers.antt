@@ -1,4 +1,4 @@
-use Rattle.std.proofs.Common.{◌≡◌, ◌-◌, ◌+◌, Some, refl, subst, arith}
+use Rattle.std.proofs.Common.{◌≡◌, ◌-◌, Some, refl, subst, arith}
 use Rattle.std.proofs.lemmas.Option.{slice_get_read}
 use Rattle.std.specs.Prelude.{slice_get}
 use Rattle.hek_history.specs.declared.certificate.Writer.{Writer}

@@ -1,4 +1,3 @@
-use Rattle.std.proofs.Common.{arith}
 use Rattle.hek_history.proofs.Listed.{complete-none}
 use Rattle.hek_history.proofs.table.all_writes.Goals as goal
 
