@@ -10,7 +10,8 @@ use crate::tree::tree_of;
 use crate::tree_data::tree_data;
 use hek_commands::{HekFault, ScheduleFile, schedule_in};
 use hek_permute::{Form, moves_of};
-use hek_rules::Schedule;
+use hek_rules::{NoMemory, Schedule};
+use serde_json::Value;
 use std::alloc::Global;
 use std::io::{Read, Write};
 
@@ -60,8 +61,31 @@ fn write_explorer<'a, W: Write, E: Write>(
         let _ = writeln!(faults, "hek: page: more than {limit} nodes");
         return Ok(1);
     };
-    let tree = tree_of(alloc, schedule, moves, form, prefixes.as_slice())?;
-    let data = tree_data(alloc, schedule, moves, form, &tree, heading, comments)?;
-    write_sheet(alloc, heading, &data, out)?;
-    Ok(0)
+    match tree_of(alloc, schedule, moves, form, prefixes.as_slice()) {
+        Ok(tree) => {
+            let data = tree_data(alloc, schedule, moves, form, &tree, heading, comments);
+            write_data(alloc, heading, data, out)
+        }
+        Err(fault) => Err(fault),
+    }
+}
+
+/// Writes the page of these data, if there was memory for them.
+fn write_data<'a, W: Write>(
+    alloc: Global,
+    heading: &Heading<'_>,
+    data: Result<Value, NoMemory>,
+    out: &mut W,
+) -> Result<u8, HekFault<'a>>
+    ensures answer { IfOk result (λ status. IsExplored status (W.contents out.old) (W.contents out.new)) }
+    ensures stops { IfErr result IsExploreStop }
+{
+    let Ok(data) = data else {
+        return Err(HekFault::NoMemory);
+    };
+    match write_sheet(alloc, heading, &data, out) {
+        Ok(()) => Ok(0),
+        Err(HekFault::CannotWrite) => Err(HekFault::CannotWrite),
+        Err(_) => Err(HekFault::NoMemory),
+    }
 }
