@@ -423,10 +423,25 @@ The page shows each step with its reply, and the versions, waits and lock words 
 /// What `hek --version` prints after the name.
 const VERSION: &str = "0.2.0";
 
-/// The commands in the order in which `hek --help` lists them: those for schedules, for engines, for words, for images.
-const COMMANDS: &[CommandText] = &[
-    RUN, DEBUG, PAGE, PERMUTE, CHECK, DRIVE, THREADS, WORD, RELEASE, ASM, DIS,
-];
+/// The commands in the order in which `hek --help` lists them: those for schedules, for engines, for words and images. They are
+/// in three tables, each of which has a function, since a proof takes a table as one term.
+const SCHEDULE_COMMANDS: &[CommandText] = &[RUN, DEBUG, PAGE];
+
+const ENGINE_COMMANDS: &[CommandText] = &[PERMUTE, CHECK, DRIVE, THREADS];
+
+const WORD_COMMANDS: &[CommandText] = &[WORD, RELEASE, ASM, DIS];
+
+fn schedule_commands() -> &'static [CommandText] {
+    SCHEDULE_COMMANDS
+}
+
+fn engine_commands() -> &'static [CommandText] {
+    ENGINE_COMMANDS
+}
+
+fn word_commands() -> &'static [CommandText] {
+    WORD_COMMANDS
+}
 
 /// Reads the words of a command line, the program's name first.
 pub fn read_words<'a, S: AsStr>(alloc: Global, words: &'a [S]) -> Result<ArgMatches<'a>, Error> {
@@ -435,8 +450,8 @@ pub fn read_words<'a, S: AsStr>(alloc: Global, words: &'a [S]) -> Result<ArgMatc
 
 fn hek<'a>(alloc: Global) -> Result<Command<'a>, AllocError> {
     let mut commands = Vec::new(alloc);
-    for text in COMMANDS {
-        commands.push(command(alloc, text)?)?;
+    for texts in [schedule_commands(), engine_commands(), word_commands()] {
+        push_commands(alloc, texts, &mut commands)?;
     }
     Command::new(alloc, "hek")
         .version(VERSION)
@@ -456,6 +471,17 @@ says whether a trace over it is serial",
         )
         .subcommand_required(true)
         .subcommands(commands)
+}
+
+fn push_commands<'a>(
+    alloc: Global,
+    texts: &[CommandText],
+    commands: &mut Vec<Command<'a>>,
+) -> Result<(), AllocError> {
+    for text in texts {
+        commands.push(command(alloc, text)?)?;
+    }
+    Ok(())
 }
 
 fn command<'a>(alloc: Global, text: &CommandText) -> Result<Command<'a>, AllocError> {
