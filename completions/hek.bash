@@ -20,6 +20,11 @@ _hek() {
     "run --why=") words="reasons rules" ;;
     "page --from") return ;;
     "page --to") return ;;
+    "page --title") return ;;
+    "page --lesson") return ;;
+    "page --previous") return ;;
+    "page --next") return ;;
+    "page --limit") return ;;
     "permute --level") words="serializable repeatable snapshot" ;;
     "permute --limit") return ;;
     "permute --part") return ;;
@@ -36,7 +41,7 @@ _hek() {
     case "$command" in
     run) words="--text --image --state --state-at --why --changes --help" files=yes ;;
     debug) words="--text --image --help" files=yes ;;
-    page) words="--text --image --from --to --help" files=yes ;;
+    page) words="--text --image --from --to --title --lesson --previous --next --orders --split --limit --help" files=yes ;;
     permute) words="--text --image --level --split --limit --part --each --order --levels --help" files=yes ;;
     check) words="--text --image --level --why --summary --help" files=yes ;;
     drive) words="--text --image --why --changes --help" files=yes ;;

@@ -31,6 +31,13 @@ complete -c hek -n '__fish_seen_subcommand_from page' -l text -d 'FILE is a sche
 complete -c hek -n '__fish_seen_subcommand_from page' -l image -d 'FILE is a schedule image, whatever its name'
 complete -c hek -n '__fish_seen_subcommand_from page' -l from -x -d 'begins at step N, by default the first'
 complete -c hek -n '__fish_seen_subcommand_from page' -l to -x -d 'ends at step N, by default the last'
+complete -c hek -n '__fish_seen_subcommand_from page' -l title -x -d 'the page\'s title, by default the name of FILE'
+complete -c hek -n '__fish_seen_subcommand_from page' -l lesson -x -d 'the number before the title'
+complete -c hek -n '__fish_seen_subcommand_from page' -l previous -x -d 'the address of the page before this one'
+complete -c hek -n '__fish_seen_subcommand_from page' -l next -x -d 'the address of the page after this one'
+complete -c hek -n '__fish_seen_subcommand_from page' -l orders -d 'makes the explorer of every order of the moves, as hek permute plays them'
+complete -c hek -n '__fish_seen_subcommand_from page' -l split -d 'with --orders: makes finish and precommit a separate move'
+complete -c hek -n '__fish_seen_subcommand_from page' -l limit -x -d 'with --orders: writes nothing if there are more than N nodes (5000)'
 complete -c hek -n '__fish_seen_subcommand_from page' -s h -l help -d 'Print help'
 complete -c hek -n '__fish_seen_subcommand_from page' -F
 complete -c hek -n '__fish_seen_subcommand_from permute' -l text -d 'FILE is a schedule text, whatever its name'

@@ -367,7 +367,7 @@ const PAGE: CommandText = CommandText {
     about: "Writes a schedule's run as a page for a browser",
     example: r"Example:
   hek page first.hek > first.html
-The page shows each step with its reply, and the versions, transactions and locks at each position. It needs no network and no other file. It has at most 2000 steps; of a longer schedule --from and --to say which.",
+The page shows each step with its reply, and the versions, waits and lock words at each position. It needs no network and no other file. Comments of a schedule text are shown: those above its first line at the start, those above a step at that step. A page has at most 2000 steps; of a longer schedule --from and --to say which.",
     arguments: &[
         FILE,
         TEXT,
@@ -382,16 +382,66 @@ The page shows each step with its reply, and the versions, transactions and lock
             help: "ends at step N, by default the last",
             form: Form::Number,
         },
+        ArgumentText {
+            name: "title",
+            help: "the page's title, by default the name of FILE",
+            form: Form::Value("TEXT"),
+        },
+        ArgumentText {
+            name: "lesson",
+            help: "the number before the title",
+            form: Form::Number,
+        },
+        ArgumentText {
+            name: "previous",
+            help: "the address of the page before this one",
+            form: Form::Value("ADDRESS"),
+        },
+        ArgumentText {
+            name: "next",
+            help: "the address of the page after this one",
+            form: Form::Value("ADDRESS"),
+        },
+        ArgumentText {
+            name: "orders",
+            help: "makes the explorer of every order of the moves, as hek permute plays them",
+            form: Form::Flag,
+        },
+        ArgumentText {
+            name: "split",
+            help: "with --orders: makes finish and precommit a separate move",
+            form: Form::Flag,
+        },
+        ArgumentText {
+            name: "limit",
+            help: "with --orders: writes nothing if there are more than N nodes (5000)",
+            form: Form::Number,
+        },
     ],
 };
 
 /// What `hek --version` prints after the name.
 const VERSION: &str = "0.2.0";
 
-/// The commands in the order in which `hek --help` lists them: those for schedules, for engines, for words, for images.
-const COMMANDS: &[CommandText] = &[
-    RUN, DEBUG, PAGE, PERMUTE, CHECK, DRIVE, THREADS, WORD, RELEASE, ASM, DIS,
-];
+/// The commands in the order in which `hek --help` lists them: those for schedules, for engines, for words and images. They are
+/// in three tables, each of which has a function, since a proof takes a table as one term.
+const SCHEDULE_COMMANDS: &[CommandText] = &[RUN, DEBUG, PAGE];
+
+const ENGINE_COMMANDS: &[CommandText] = &[PERMUTE, CHECK, DRIVE, THREADS];
+
+const WORD_COMMANDS: &[CommandText] = &[WORD, RELEASE, ASM, DIS];
+
+fn schedule_commands() -> &'static [CommandText] {
+    SCHEDULE_COMMANDS
+}
+
+fn engine_commands() -> &'static [CommandText] {
+    ENGINE_COMMANDS
+}
+
+fn word_commands() -> &'static [CommandText] {
+    WORD_COMMANDS
+}
 
 /// Reads the words of a command line, the program's name first.
 pub fn read_words<'a, S: AsStr>(alloc: Global, words: &'a [S]) -> Result<ArgMatches<'a>, Error> {
@@ -400,8 +450,8 @@ pub fn read_words<'a, S: AsStr>(alloc: Global, words: &'a [S]) -> Result<ArgMatc
 
 fn hek<'a>(alloc: Global) -> Result<Command<'a>, AllocError> {
     let mut commands = Vec::new(alloc);
-    for text in COMMANDS {
-        commands.push(command(alloc, text)?)?;
+    for texts in [schedule_commands(), engine_commands(), word_commands()] {
+        push_commands(alloc, texts, &mut commands)?;
     }
     Command::new(alloc, "hek")
         .version(VERSION)
@@ -423,6 +473,17 @@ says whether a trace over it is serial",
         .subcommands(commands)
 }
 
+fn push_commands<'a>(
+    alloc: Global,
+    texts: &[CommandText],
+    commands: &mut Vec<Command<'a>>,
+) -> Result<(), AllocError> {
+    for text in texts {
+        commands.push(command(alloc, text)?)?;
+    }
+    Ok(())
+}
+
 fn command<'a>(alloc: Global, text: &CommandText) -> Result<Command<'a>, AllocError> {
     let mut arguments = Vec::new(alloc);
     for argument in text.arguments {
@@ -441,6 +502,7 @@ fn rivals_of(name: &str) -> &'static [&'static str] {
         "order" => &["each", "levels", "part"],
         "levels" => &["each", "level"],
         "image" => &["text"],
+        "orders" => &["from", "to"],
         _ => &[],
     }
 }

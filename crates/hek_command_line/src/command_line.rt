@@ -12,7 +12,7 @@ use hek_commands::{
     run_command, state_command, word_command,
 };
 use hek_debug_command::{debug_command, debug_session};
-use hek_page_command::{Part, page_command};
+use hek_page_command::{Extent, Heading, MOST_NODES, Part, explorer_command, page_command};
 use hek_permute::Form;
 use hek_permute_command::{Choice, part_of, permute_command};
 use hek_rules::{Level, number};
@@ -289,8 +289,36 @@ fn page<'a, D: Disk, I: Read + Drop, W: Write, E: Write>(
         from: step_of(found, "from")?,
         to: step_of(found, "to")?,
     };
+    let extent = Extent {
+        form: form_of(found),
+        limit: number_of(found, "limit")?.unwrap_or(MOST_NODES),
+    };
+    let heading = heading_of(found)?;
     let file = schedule_file(alloc, found, disk, &mut input)?;
-    page_command(alloc, file, part, out, faults)
+    if found.get_flag("orders") {
+        return explorer_command(alloc, file, extent, heading, out, faults);
+    }
+    page_command(alloc, file, part, heading, out, faults)
+}
+
+/// What the words say of a page's title and links.
+fn heading_of<'a>(found: &ArgMatches<'a>) -> Result<Heading<'a>, HekFault<'a>> {
+    Ok(Heading {
+        file: text(found, "FILE")?,
+        title: found.get_str("title"),
+        lesson: number_of(found, "lesson")?,
+        previous: found.get_str("previous"),
+        next: found.get_str("next"),
+    })
+}
+
+/// How the end of a transaction is cut into moves.
+fn form_of(found: &ArgMatches<'_>) -> Form {
+    if found.get_flag("split") {
+        Form::Split
+    } else {
+        Form::Whole
+    }
 }
 
 /// The number of a step, from 1, that an option has, if the words have the option.
@@ -345,11 +373,7 @@ fn permute<'a, D: Disk, I: Read + Drop, W: Write, E: Write>(
 fn choice_of<'a>(found: &ArgMatches<'a>) -> Result<Choice<'a>, HekFault<'a>> {
     Ok(Choice {
         level: level_of(found)?,
-        form: if found.get_flag("split") {
-            Form::Split
-        } else {
-            Form::Whole
-        },
+        form: form_of(found),
         limit: limit_of(found)?,
         part: parts_of(found)?,
         each: found.get_flag("each"),

@@ -1,59 +1,86 @@
-//! The elements of a page that the script fills: those before the style, those from the style to the data, and those
-//! after the data.
+//! The page around its title, style, data and script. Written by tools/assets.
 
-pub(crate) const FRONT: &str = r##"<!DOCTYPE html>
+pub(crate) const FRONT: &str = r#"<!DOCTYPE html>
 <html lang="en">
 <head>
 <meta charset="utf-8">
 <meta name="viewport" content="width=device-width, initial-scale=1">
-<title>Hek: a schedule, step by step</title>
-<style>
-"##;
+<title>"#;
 
-pub(crate) const MIDDLE: &str = r##"</style>
+pub(crate) const HEAD: &str = r#"</title>
+<style>
+"#;
+
+pub(crate) const MIDDLE: &str = r#"</style>
 </head>
 <body>
-<header>
-<h1>A schedule, step by step</h1>
-<p id="summary"></p>
-</header>
-<nav aria-label="Position">
-<button type="button" id="first" title="To the start (Home)" aria-label="To the start">|&lt;</button>
-<button type="button" id="back" title="One step back (left arrow)" aria-label="One step back">&lt;</button>
-<button type="button" id="on" title="One step on (right arrow)" aria-label="One step on">&gt;</button>
-<button type="button" id="last" title="To the end (End)" aria-label="To the end">&gt;|</button>
-<input type="range" id="slider" aria-label="Position, in steps done">
-<output id="position" for="slider"></output>
+<svg width="0" height="0" aria-hidden="true" class="defs"><defs>
+<pattern id="p-finished" width="10" height="10" patternUnits="userSpaceOnUse" patternTransform="rotate(45)"><rect width="10" height="10" class="pf1"/><rect width="1.6" height="10" class="pf2"/></pattern>
+<pattern id="p-preparing" width="9" height="9" patternUnits="userSpaceOnUse"><rect width="9" height="9" class="pp1"/><circle cx="2.6" cy="2.6" r="1.7" class="pp2"/><circle cx="7.1" cy="7.1" r="1.7" class="pp2"/></pattern>
+<pattern id="p-aborted" width="9" height="9" patternUnits="userSpaceOnUse"><rect width="9" height="9" class="pa1"/><path d="M0 0L9 9M9 0L0 9" class="pa2"/></pattern>
+<pattern id="p-wait" width="12" height="12" patternUnits="userSpaceOnUse" patternTransform="rotate(45)"><rect width="12" height="12" class="pw1"/><rect width="5" height="12" class="pw2"/></pattern>
+<pattern id="p-never" width="8" height="8" patternUnits="userSpaceOnUse"><rect width="8" height="8" class="pn1"/><path d="M0 0L8 8M8 0L0 8" class="pn2"/></pattern>
+</defs></svg>
+<header id="bar">
+<a id="previous" class="way" hidden></a>
+<h1><span id="title"></span> <span id="about"></span></h1>
+<a id="next" class="way" hidden></a>
+<span class="space"></span>
+<span id="score" role="status" hidden></span>
+<nav aria-label="Steps">
+<button type="button" data-do="first" aria-label="To the start" title="Home"><svg viewBox="0 0 20 16" class="icon" aria-hidden="true"><path d="M3 2h2.4v12H3zM17 2v12L7 8z"/></svg></button>
+<button type="button" data-do="back" aria-label="One step back" title="left arrow, Page Up"><svg viewBox="0 0 20 16" class="icon" aria-hidden="true"><path d="M14.5 1.5v13L4 8z"/></svg></button>
+<output id="position"></output>
+<button type="button" data-do="on" aria-label="One step on" title="right arrow, Page Down, Space"><svg viewBox="0 0 20 16" class="icon" aria-hidden="true"><path d="M5.500 1.5v13L16 8z"/></svg></button>
+<button type="button" data-do="last" aria-label="To the end" title="End"><svg viewBox="0 0 20 16" class="icon" aria-hidden="true"><path d="M14.600 2h2.4v12h-2.4zM3 2v12L13 8z"/></svg></button>
 </nav>
+<span class="modes">
+<button type="button" data-do="predict" aria-pressed="false" title="? : guess each reply before it is shown">Predict</button>
+<button type="button" data-do="secret" aria-pressed="false" title="? : hide the outcomes, to guess" hidden>Hide outcomes</button>
+<button type="button" data-do="future" aria-pressed="false" title="f : show the steps to come">Future</button>
+<button type="button" data-do="present" aria-pressed="false" title="p : larger type">Larger</button>
+<button type="button" data-do="theme" aria-label="Light or dark" title="d : light or dark"><svg viewBox="0 0 20 16" class="icon" aria-hidden="true"><path d="M10 1.500a6.500 6.500 0 0 0 0 13z"/><circle cx="10" cy="8" r="6.500" fill="none" stroke="currentColor" stroke-width="1.600"/></svg></button>
+<button type="button" data-do="help" aria-label="Keys" title="h : keys">Keys</button>
+</span>
+</header>
 <main>
-<section id="timeline" aria-labelledby="timeline-title">
-<h2 id="timeline-title">Steps</h2>
-<p class="key"><span class="band active">active</span> <span class="band preparing">preparing</span> <span class="band committed">committed</span> <span class="band aborted">aborted</span> <span class="reply waits">waits</span> <span class="reply refused">refused</span></p>
-<div class="scroll" id="steps-scroll"><div id="grid"></div></div>
+<section id="top">
+<div id="lanes" aria-label="Timeline: a lane for each transaction"></div>
+<input type="range" id="slider" min="0" aria-label="Position, in steps done" hidden>
+<div id="path" hidden></div>
+<section id="say" aria-label="This step">
+<div id="said" aria-live="polite"></div>
+<div id="because"></div>
 </section>
-<section id="moment" aria-labelledby="moment-title">
-<h2 id="moment-title">The machine</h2>
-<p id="said" aria-live="polite"></p>
-<ul id="reasons"></ul>
-<p id="clock"></p>
-<h3>Versions</h3>
-<div class="scroll"><table id="versions"><thead><tr><th scope="col">version</th><th scope="col">value</th><th scope="col">Begin word</th><th scope="col">End word</th></tr></thead></table></div>
-<h3>Transactions</h3>
-<div id="txns"></div>
-<h3>Bucket locks</h3>
-<ul id="buckets"></ul>
-<h3>Who waits for whom</h3>
-<div class="scroll"><svg id="graph" role="img" aria-labelledby="graph-text" width="0" height="0"></svg></div>
-<p id="graph-text"></p>
 </section>
-<section id="serial" aria-labelledby="serial-title">
-<h2 id="serial-title">Serial order</h2>
-<p id="verdict"></p>
-<ol id="order"></ol>
+<section id="versions" class="panel" aria-labelledby="versions-title">
+<h2 id="versions-title">Versions <small><span class="sub">from Begin to End, by the clock</span> <span class="legend"><svg viewBox="0 0 20 20"><circle cx="10" cy="10" r="8"/></svg>reads <svg viewBox="0 0 20 20"><rect x="1" y="3" width="18" height="14"/></svg>writes <svg viewBox="0 0 20 20" class="g"><circle cx="10" cy="10" r="8.500"/><path d="M4.500 10h11"/></svg>no more reads</span></small></h2>
+<div id="chains" class="fill"></div>
+</section>
+<section id="waits" class="panel" aria-labelledby="waits-title">
+<h2 id="waits-title">Who waits for whom</h2>
+<div id="graph" class="fill"></div>
+<p id="graph-said" class="hidden"></p>
+</section>
+<section id="words" class="panel" aria-labelledby="words-title">
+<h2 id="words-title">Lock word</h2>
+<div id="word" class="fill"></div>
 </section>
 </main>
+<dialog id="dialog"><div id="dialog-body"></div><form method="dialog"><button>Close</button></form></dialog>
+<div id="blank" hidden></div>
+<table id="print"></table>
 <noscript><p>This page needs its script: the states are data in it.</p></noscript>
 <script type="application/json" id="data">
-"##;
+"#;
 
-pub(crate) const BACK: &str = "</script>\n<script>\n";
+pub(crate) const BACK: &str = r#"
+</script>
+<script>
+"#;
+
+pub(crate) const END: &str = r#"
+</script>
+</body>
+</html>
+"#;

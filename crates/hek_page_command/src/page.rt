@@ -3,12 +3,13 @@ ghost use Rattle.std.specs.Prelude.{◌≡◌, length, IfOk, IfErr, OnOk, MatchR
 ghost use Rattle.hek_commands.specs.Commands.{PrintFails, IsStop};
 ghost use Rattle.hek_page_command.specs.Pages.{Pages, IsAnswer, WritesPage, count_of, done_of, last_step};
 
-use crate::data::{Shown, data_of};
-use crate::frame::{BACK, FRONT, MIDDLE};
-use crate::script::SCRIPT;
-use crate::style::STYLE;
-use hek_commands::{HekFault, ScheduleFile, schedule_in, send};
-use hek_rules::{NoMemory, Schedule};
+use crate::comments::{Comments, comments_in};
+use crate::data::data_of;
+use crate::heading::Heading;
+use crate::sheet::write_sheet;
+use crate::tell::Shown;
+use hek_commands::{HekFault, ScheduleFile, schedule_in};
+use hek_rules::Schedule;
 use std::alloc::Global;
 use std::io::{Read, Write};
 
@@ -28,19 +29,23 @@ pub fn page_command<'a, R: Read + Drop, W: Write, E: Write>(
     alloc: Global,
     file: ScheduleFile<R>,
     part: Part,
+    heading: Heading<'_>,
     out: &mut W,
     faults: &mut E,
 ) -> Result<u8, HekFault<'a>>
     ensures { MatchResult result (λ status. Pages R.remaining file part status (W.contents out.old) (W.contents out.new)) (PrintFails R.remaining file) }
 {
+    let comments = comments_in(alloc, &file)?;
     let schedule = schedule_in(alloc, file)?;
-    write_page(alloc, &schedule, part, out, faults)
+    write_page(alloc, &schedule, part, &heading, &comments, out, faults)
 }
 
 fn write_page<'a, W: Write, E: Write>(
     alloc: Global,
     schedule: &Schedule,
     part: Part,
+    heading: &Heading<'_>,
+    comments: &Comments,
     out: &mut W,
     faults: &mut E,
 ) -> Result<u8, HekFault<'a>>
@@ -52,9 +57,8 @@ fn write_page<'a, W: Write, E: Write>(
         let _ = writeln!(faults, "hek: page: more than {MOST_STEPS} steps");
         return Ok(1);
     }
-    let data = text_of(alloc, schedule, shown)?;
-    let mut page = page_of(alloc, data.as_str())?;
-    send(&mut page, out)?;
+    let data = data_of(alloc, schedule, shown, heading, comments)?;
+    write_sheet(alloc, heading, &data, out)?;
     Ok(0)
 }
 
@@ -69,23 +73,3 @@ fn shown_of(part: Part, steps: u64) -> Shown
         last: last as usize,
     }
 }
-
-/// The data of the page as text.
-fn text_of<'a>(alloc: Global, schedule: &Schedule, shown: Shown) -> Result<String, HekFault<'a>>
-    ensures stops { IfErr result IsStop }
-{
-    let data = data_of(alloc, schedule, shown)?;
-    data.to_string(alloc).map_err(|_| HekFault::NoMemory)
-}
-
-/// The page of these data. The data have names of small letters, digits and underscores, and words and numbers of the
-/// program: no part of them ends the element that holds them, and the script sets them as text.
-fn page_of(alloc: Global, data: &str) -> Result<Vec<u8>, NoMemory> {
-    let mut page = Vec::new(alloc);
-    for part in [FRONT, STYLE, MIDDLE, data, BACK, SCRIPT, END] {
-        page.extend_from_slice(part.as_bytes())?;
-    }
-    Ok(page)
-}
-
-const END: &str = "</script>\n</body>\n</html>\n";

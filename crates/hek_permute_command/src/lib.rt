@@ -8,4 +8,5 @@ mod permute;
 mod table;
 
 pub use choice::{Choice, part_of};
+pub use lines::put_outcome;
 pub use permute::permute_command;

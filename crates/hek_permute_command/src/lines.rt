@@ -5,8 +5,8 @@ use hek_rules::{NoMemory, Reply, Schedule, TxnId};
 use std::alloc::Global;
 use std::io::Write;
 
-/// An outcome: how each transaction ended, the rows and the verdict.
-pub(crate) fn put_outcome(
+/// Appends an outcome: how each transaction ended, the rows and the verdict, as a line of `hek permute` has them.
+pub fn put_outcome(
     alloc: Global,
     schedule: &Schedule,
     outcome: &Outcome,

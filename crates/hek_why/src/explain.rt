@@ -81,7 +81,11 @@ fn alone(alloc: Global, reason: Reason) -> Result<Vec<Reason>, NoMemory>
 }
 
 /// The versions that the walk of an event goes over.
-fn walked(alloc: Global, machine: &Machine, event: &Event) -> Result<Vec<VersionId>, NoMemory>
+pub(crate) fn walked(
+    alloc: Global,
+    machine: &Machine,
+    event: &Event,
+) -> Result<Vec<VersionId>, NoMemory>
     ensures { IfOk result (λ vs. IsShown machine.now (λ w. walked w event.now) vs.items) }
 {
     match *event {

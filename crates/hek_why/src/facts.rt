@@ -42,7 +42,7 @@ pub(crate) fn has_finished(machine: &Machine, u: TxnId) -> bool
 }
 
 /// The time at which a transaction reads: its begin time at the snapshot level, otherwise the clock.
-pub(crate) fn read_time(machine: &Machine, t: TxnId) -> Time
+pub fn read_time(machine: &Machine, t: TxnId) -> Time
     requires { Declared machine.now.txns t }
     ensures { IsShown machine.now (λ w. read_time_in w t) result }
 {

@@ -85,8 +85,8 @@ pub(crate) fn last_seen(machine: &Machine, t: TxnId, vs: &[VersionId]) -> Option
     seen
 }
 
-/// What a transaction sees of each of these versions.
-pub(crate) fn looks(
+/// What a transaction sees of each of these versions at its read time: a reason `Looked` for each, in their order.
+pub fn looks(
     alloc: Global,
     machine: &Machine,
     t: TxnId,

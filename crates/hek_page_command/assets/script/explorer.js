@@ -1,0 +1,152 @@
+/* ================================================================ the explorer */
+
+/** In the explorer: the place of the step of this move that tells most, where the move is over here; else this step's. */
+function tellingStep() {
+  if (!isTree) return here;
+  const ends = endsOfPath();
+  const place = placeHere();
+  if (ends[place] !== here || place === 0) return here;
+  const first = ends[place - 1] + 1;
+  let best = here;
+  for (let at = here; at >= first; at--) if (weightOf(run.steps[at - 1]) > weightOf(run.steps[best - 1])) best = at;
+  return best;
+}
+
+/** How much a step tells, beside others of its move. */
+function weightOf(step) {
+  return ({ victim: 6, failed: 5, waiting: 4, committed: 3 })[step.r[0]] ?? (step.r[0] === "aborted" ? (step.op === "precommit" ? 1 : 5) : /^(read|scan|insert|update|delete)$/.test(step.op) ? 2 : 0);
+}
+
+/** In the explorer: the events of the move up to here, each a button. */
+function eventsOfMove(shown) {
+  const ends = endsOfPath();
+  let place = ends.findIndex((end) => end >= here);
+  while (ends[place + 1] === ends[place] && place < placeHere()) place++;
+  if (place < 1) return "";
+  const first = ends.slice(0, place).reduce((most, it) => (it < here ? Math.max(most, it) : most), 0) + 1;
+  const items = [];
+  const all = [];
+  for (let at = first; at <= Math.min(ends[place], run.last); at++) all.push(at);
+  const telling = [...all].sort((a, b) => (b === shown) - (a === shown) || weightOf(run.steps[b - 1]) - weightOf(run.steps[a - 1])).slice(0, 4);
+  for (const at of all) {
+    if (!telling.includes(at)) continue;
+    const step = run.steps[at - 1];
+    items.push(`<button type="button" data-at="${at}" class="${kindOf(step)}${at > here ? " ahead" : ""}"${at === shown ? ' aria-current="step"' : ""}>${step.name ? tagName(step.name) + " " : ""}${esc(step.op)} \u2192 ${esc(step.reply)}</button>`);
+  }
+  if (items.length < 2) return "";
+  return `<p class="events" aria-label="The events of this move">${items.join(" ")}${all.length > items.length ? ` <span class="soft">and ${all.length - items.length} more</span>` : ""}</p>`;
+}
+
+const total = (counts) => counts.reduce((sum, it) => sum + it, 0);
+const isWhole = () => tree.nodes[tree.path.at(-1)].next.length === 0;
+
+/** An outcome in few words: of more than two transactions those that don't commit. */
+function outcomeOf(text) {
+  const parts = text.split("; ");
+  const txns = parts.filter((it) => /(committed|aborted|unended)/.test(it) && !/^rows/.test(it)).map((it) => it.split(" "));
+  const rows = parts.find((it) => it.startsWith("rows")) ?? "";
+  const serial = parts.at(-1);
+  const telling = txns.length > 2 ? txns.filter(([, state]) => state !== "committed") : txns;
+  const endOf = (state, cause) => (state === "committed" ? "commits" : state === "unended" ? "goes on" : `aborts (${cause})`);
+  const said = telling.map(([name, state, cause]) => `${tagName(name)} ${endOf(state, cause)}`).join(", ") || "all commit";
+  return `${said}<span class="soft"> \u00b7 ${esc(rows.replace("rows ", ""))}${serial === "serial" ? "" : " \u00b7 <b>not serial</b>"}</span>`;
+}
+
+const letterOf = (outcome) => "ABCDEFGHIJKLMNOPQRSTUVWXYZ"[outcome] ?? String(outcome);
+let isSecret = false;
+
+/** How many orders, and how many of them lead to each outcome where these are few. */
+function countsSaid(counts) {
+  const orders = `${total(counts)} ${total(counts) === 1 ? "order" : "orders"}`;
+  const each = counts.map((count, at) => (count ? `${count} ${letterOf(at)}` : "")).filter(Boolean);
+  return counts.length > 3 && each.length > 1 ? orders : `${orders}: ${each.join(", ")}`;
+}
+
+/** The outcomes that have room, the possible ones first if not all have. */
+function outcomesShown(counts) {
+  const all = [...counts.keys()];
+  const room = isSmall() ? all.length : Math.max(2, Math.floor((sizes.word[1] + 0.1 * rem()) / (1.95 * rem())));
+  if (all.length <= 3 || all.length <= room) return all;
+  return [...all].sort((a, b) => (counts[b] > 0) - (counts[a] > 0)).slice(0, room - 1).sort((a, b) => a - b);
+}
+
+function outcomeBar(counts) {
+  if (isSecret) return "";
+  return `<span class="share">${counts.map((it, at) => (it ? `<i class="o${at % 6}" style="flex:${it}"></i>` : "")).join("")}</span>`;
+}
+
+function showTree() {
+  const place = placeHere();
+  const ends = endsOfPath();
+  const node = tree.nodes[tree.path[place]];
+  const isAt = ends[place] === here;
+  const done = movesDone(node.index);
+  // breadcrumbs
+  const crumbs = tree.path.slice(1).map((at, index) => {
+    const it = tree.nodes[at];
+    const move = tree.moves[it.who][movesDone(at)[it.who] - 1];
+    return `<button type="button" data-crumb="${index + 1}" class="${index + 1 <= place ? "" : "ahead"}"${index + 1 === place ? ' aria-current="true"' : ""}>${tagName(tree.names[it.who])} ${esc(move)}</button>`;
+  });
+  $("path").hidden = false;
+  $("path").innerHTML = `<button type="button" data-crumb="0"${place === 0 ? ' aria-current="true"' : ""}>start</button>${crumbs.map((it) => `<span aria-hidden="true">\u203a</span>${it}`).join("")}<span class="space"></span><button type="button" data-do="undo"${place === 0 ? " disabled" : ""} title="Backspace">\u21b6 undo</button>`;
+  const current = $("path").querySelector('[aria-current="true"]');
+  if (current) $("path").scrollLeft = Math.max(0, current.offsetLeft - $("path").clientWidth * 0.6);
+  // the choices
+  const whole = node.next.length === 0;
+  const reach = total(node.counts);
+  const choices = node.next.map((next, who) => {
+    if (next === undefined) return "";
+    const it = tree.nodes[next];
+    const move = tree.moves[who][done[who]];
+    const isTaken = tree.path[place + 1] === next;
+    const idle = it.steps.length === 0 ? ' <span class="soft">(has aborted)</span>' : "";
+    return `<button type="button" class="choice${isTaken ? " taken" : ""}" data-next="${next}"><kbd>${who + 1}</kbd> <span>${tagName(tree.names[who])} <b>${esc(move)}</b>${idle}</span>${outcomeBar(it.counts)}<span class="count">${isSecret ? "" : countsSaid(it.counts)}</span></button>`;
+  }).join("");
+  const found = whole && isAt ? `<p class="whose">This order is complete.</p><p class="final">${outcomeOf(data.outcomes[node.outcome])}</p><p>The checker: <b>${esc(data.outcomes[node.outcome].split("; ").at(-1))}</b>. ${reachSaid(node)}</p>` : "";
+  const inside = isAt ? "" : `<p class="whose">In the middle of a move</p><p>\u2192 goes on with it.</p>`;
+  $("because").innerHTML = `<div class="moves">${found || inside || `<p class="whose">Who moves next?</p><div class="pick" style="--n:${Math.min(node.next.filter((it) => it !== undefined).length, 3)}">${choices}</div>`}</div>`;
+  // the outcomes that can still be reached
+  if (!pinned) {
+    $("words-title").innerHTML = `Outcomes from here <small>${reach} of ${total(tree.nodes[0].counts)} orders left</small>`;
+    if (isSecret) $("words-title").textContent = "Outcomes: what do you think?";
+    const shown = isSecret ? [] : outcomesShown(node.counts);
+    const rows = shown.map((at) => {
+      const [text, count] = [data.outcomes[at], node.counts[at]];
+      return `<li class="${count ? "" : "out"}"><span class="n">${count}</span><span class="swatch o${at % 6}"></span><b>${letterOf(at)}</b><span class="what">${outcomeOf(text)}</span><button type="button" data-find="${at}"${count ? "" : " disabled"}>find one</button><span class="rail"><i class="o${at % 6}" style="width:${f1((100 * count) / Math.max(reach, 1))}%"></i></span></li>`;
+    });
+    const left = isSecret ? 0 : data.outcomes.length - shown.length;
+    put("word", `<ul class="outcomes${data.outcomes.length > 3 ? " many" : ""}">${rows.join("")}${left ? `<li class="rest soft">and ${left} more</li>` : ""}</ul>`);
+  }
+}
+
+/** How common an outcome is. */
+function reachSaid(node) {
+  const [count, all] = [tree.nodes[0].counts[node.outcome], total(tree.nodes[0].counts)];
+  return `${count} of all ${all} orders end so.`;
+}
+
+/** Goes on with a move; another one than the path had takes the rest of the path away. */
+function takeMove(next) {
+  const place = placeHere();
+  if (tree.path[place + 1] !== next) { tree.path = [...tree.path.slice(0, place + 1), next]; run = runOfPath(); }
+  // A move of a transaction that has aborted does nothing.
+  goToPlace(place + 1);
+}
+
+function goToPlace(place) {
+  tree.cursor = place;
+  move(endsOfPath()[place]);
+}
+
+function findOutcome(outcome) {
+  const place = placeHere();
+  let at = tree.path[place];
+  const path = tree.path.slice(0, place + 1);
+  while (tree.nodes[at].next.length) {
+    at = tree.nodes[at].next.find((it) => it !== undefined && tree.nodes[it].counts[outcome] > 0);
+    path.push(at);
+  }
+  tree.path = path;
+  run = runOfPath();
+  move(here);
+}

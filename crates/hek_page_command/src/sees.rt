@@ -1,0 +1,140 @@
+//! What the transaction of a step sees of versions.
+ghost use Rattle.hek_txn.specs.TxnTable.{Declared};
+
+use hek_machine::Machine;
+use hek_rules::{Event, NoMemory, Reply, Schedule, Sight, State, TxnId, VersionId};
+use hek_why::{Reason, Step, looks, read_time, sights};
+use std::alloc::Global;
+use std::io::Write;
+
+/// A line with the time at which the transaction of a step looks, as `at 3`, and a line for each version that it looks
+/// at: `0 seen`, `1 passed over`, `2 seen if a`, `3 passed over if a`. A step that walks looks at the versions of its walk
+/// as they were before it, `begin` at all versions. Empty for a step that looks at none.
+pub(crate) fn sees_of(
+    alloc: Global,
+    schedule: &Schedule,
+    step: &Step<'_>,
+) -> Result<Vec<u8>, NoMemory> {
+    let mut lines = Vec::new(alloc);
+    let Some(t) = step.event.txn() else {
+        return Ok(lines);
+    };
+    if let (Event::Begin(_), Reply::Began(_)) = (step.event, step.reply) {
+        let versions = all_versions(alloc, step.after)?;
+        put_looks(
+            alloc,
+            schedule,
+            step.after,
+            t,
+            versions.as_slice(),
+            &mut lines,
+        )?;
+    } else if may_walk(step.before, t) && !matches!(step.reply, Reply::Refused(_)) {
+        put_walk(alloc, schedule, step.before, t, &step.event, &mut lines)?;
+    }
+    Ok(lines)
+}
+
+/// Whether a transaction is one whose reads and writes walk over versions.
+fn may_walk(machine: &Machine, t: TxnId) -> bool {
+    machine.is_declared(t)
+        && machine.state(t) == State::Active
+        && !machine.no_more_waits(t)
+        && !machine.abort_now(t)
+}
+
+fn all_versions(alloc: Global, machine: &Machine) -> Result<Vec<VersionId>, NoMemory> {
+    let mut versions = Vec::new(alloc);
+    for index in 0..machine.versions() {
+        versions.push(VersionId::new(index as u64))?;
+    }
+    Ok(versions)
+}
+
+fn put_looks(
+    alloc: Global,
+    schedule: &Schedule,
+    machine: &Machine,
+    t: TxnId,
+    versions: &[VersionId],
+    lines: &mut Vec<u8>,
+) -> Result<(), NoMemory> {
+    if !machine.is_declared(t) {
+        return Ok(());
+    }
+    let seen = looks(alloc, machine, t, versions)?;
+    put_seen(schedule, machine, t, seen.as_slice(), lines)
+}
+
+fn put_walk(
+    alloc: Global,
+    schedule: &Schedule,
+    machine: &Machine,
+    t: TxnId,
+    event: &Event,
+    lines: &mut Vec<u8>,
+) -> Result<(), NoMemory> {
+    if !machine.is_declared(t) {
+        return Ok(());
+    }
+    let seen = sights(alloc, machine, t, event)?;
+    put_seen(schedule, machine, t, seen.as_slice(), lines)
+}
+
+fn put_seen(
+    schedule: &Schedule,
+    machine: &Machine,
+    t: TxnId,
+    seen: &[Reason],
+    lines: &mut Vec<u8>,
+) -> Result<(), NoMemory>
+    requires { Declared machine.now.txns t }
+{
+    if seen.is_empty() {
+        return Ok(());
+    }
+    let time = read_time(machine, t).number();
+    put(writeln!(lines, "at {time}").is_ok())?;
+    for reason in seen {
+        if let Reason::Looked { version, sight } = reason {
+            put_sight(schedule, *version, *sight, lines)?;
+        }
+    }
+    Ok(())
+}
+
+fn put_sight(
+    schedule: &Schedule,
+    version: VersionId,
+    sight: Sight,
+    lines: &mut Vec<u8>,
+) -> Result<(), NoMemory> {
+    let index = version.index();
+    let written = match sight {
+        Sight::Seen => writeln!(lines, "{index} seen"),
+        Sight::Hidden | Sight::HiddenActive(_) => writeln!(lines, "{index} passed over"),
+        Sight::SeenIf(u) => {
+            let name = name_of(schedule, u);
+            writeln!(lines, "{index} seen if {name}")
+        }
+        Sight::HiddenIf(u) => {
+            let name = name_of(schedule, u);
+            writeln!(lines, "{index} passed over if {name}")
+        }
+    };
+    put(written.is_ok())
+}
+
+/// The name of a transaction that the schedule declares.
+fn name_of(schedule: &Schedule, u: TxnId) -> &str {
+    if u.number() > 0 && u.number() <= schedule.txn_count() as u64 {
+        schedule.name_of(u)
+    } else {
+        "?"
+    }
+}
+
+/// NoMemory if a line could not be written.
+fn put(written: bool) -> Result<(), NoMemory> {
+    if written { Ok(()) } else { Err(NoMemory) }
+}

@@ -1,0 +1,280 @@
+//! The tree of all orders of a schedule's moves: each node is a prefix of orders, played.
+ghost use Rattle.std.specs.Prelude.{◌≡◌, IfOk, IfErr, map};
+ghost use Rattle.hek_page_command.specs.Explorers.{ArePlayed, IsExploreStop};
+
+use crate::prefixes::{Prefix, is_whole, order_of};
+use crate::tell::{Opening, Shown, StepText, Told, tell};
+use hek_commands::HekFault;
+use hek_permute::{Form, Moves, OrderFault, Play, outcome_of, play_order, schedule_with};
+use hek_permute_command::put_outcome;
+use hek_rules::{Event, NoMemory, Schedule, TxnId};
+use indexmap::IndexSet;
+use std::alloc::Global;
+
+/// A tree of orders: its nodes in the order of the prefixes, and what they name by place.
+#[derive(Drop)]
+pub(crate) struct Tree {
+    pub opening: Opening,
+    pub nodes: Vec<Node>,
+    pub outcomes: IndexSet<Vec<u8>>,
+    pub steps: IndexSet<StepPlaces>,
+    pub texts: IndexSet<Vec<u8>>,
+}
+
+/// A node: the prefix, the steps that its last move makes, by their places, the place of its outcome if the order is
+/// whole, and for each outcome how many orders that begin so have it.
+#[derive(Drop)]
+pub(crate) struct Node {
+    pub parent: usize,
+    pub who: TxnId,
+    pub steps: Vec<usize>,
+    pub outcome: Option<usize>,
+    pub counts: Vec<u64>,
+    /// How many events the play of the prefix has.
+    events: usize,
+}
+
+/// A step by the places of its texts.
+#[derive(Clone, Copy, PartialEq, Eq, Hash)]
+pub(crate) struct StepPlaces {
+    pub line: usize,
+    pub changed: usize,
+    pub gone: usize,
+    pub why: usize,
+    pub sees: usize,
+    pub waits: Option<usize>,
+    pub ends: usize,
+}
+
+/// The events of an order's play, and its outcome if the order is whole.
+#[derive(Drop)]
+struct Played {
+    events: Vec<Event>,
+    outcome: Option<Vec<u8>>,
+}
+
+/// The tree of these prefixes.
+pub(crate) fn tree_of<'a>(
+    alloc: Global,
+    schedule: &Schedule,
+    moves: &[Moves],
+    form: Form,
+    prefixes: &[Prefix],
+) -> Result<Tree, HekFault<'a>>
+    ensures stops { IfErr result IsExploreStop }
+{
+    let start = tell(alloc, schedule, Shown { done: 0, last: 0 })?;
+    let mut tree = Tree {
+        opening: start.opening,
+        nodes: Vec::new(alloc),
+        outcomes: IndexSet::new(alloc),
+        steps: IndexSet::new(alloc),
+        texts: IndexSet::new(alloc),
+    };
+    for place in 0..prefixes.len() {
+        let order = order_of(alloc, prefixes, place)?;
+        let played = match play_of(alloc, schedule, moves, form, order.as_slice()) {
+            Ok(played) => played,
+            Err(fault) => return Err(fault_of(fault)),
+        };
+        tree.add_node(alloc, schedule, prefixes[place], played)?;
+    }
+    tree.add_counts(alloc)?;
+    Ok(tree)
+}
+
+/// The fault of an order as that of a command.
+fn fault_of<'a>(fault: OrderFault) -> HekFault<'a>
+    ensures stops { IsExploreStop result }
+{
+    match fault {
+        OrderFault::NoMemory | OrderFault::Stopped => HekFault::NoMemory,
+        OrderFault::Mismatch | OrderFault::TooMany | OrderFault::TooLong => HekFault::Mismatch(0),
+    }
+}
+
+/// Plays an order.
+fn play_of(
+    alloc: Global,
+    schedule: &Schedule,
+    moves: &[Moves],
+    form: Form,
+    order: &[TxnId],
+) -> Result<Played, OrderFault>
+    ensures played { IfOk result (λ played. ArePlayed form moves.now order.now played.events.items) }
+{
+    let play = play_order(alloc, schedule, moves, form, order)?;
+    let events = events_of(alloc, &play)?;
+    if !is_whole(moves, form, order) {
+        return Ok(Played {
+            events,
+            outcome: None,
+        });
+    }
+    let outcome = outcome_of(alloc, schedule, play)?;
+    let mut text = Vec::new(alloc);
+    put_outcome(alloc, schedule, &outcome, &mut text)?;
+    Ok(Played {
+        events,
+        outcome: Some(text),
+    })
+}
+
+fn events_of(alloc: Global, play: &Play) -> Result<Vec<Event>, NoMemory>
+    ensures { IfOk result (λ events. events.items ≡ map (λ entry. entry.event) play.now.history.items) }
+{
+    Ok(play.history.iter().map(|entry| entry.event).collect(alloc)?)
+}
+
+impl Tree {
+    /// Adds the node of a prefix that was played: its steps are those after the play of its parent.
+    fn add_node<'a>(
+        &mut self,
+        alloc: Global,
+        schedule: &Schedule,
+        prefix: Prefix,
+        played: Played,
+    ) -> Result<(), HekFault<'a>>
+        ensures stops { IfErr result IsExploreStop }
+    {
+        let Played { events, outcome } = played;
+        let shown = Shown {
+            done: self.events_of(prefix.parent),
+            last: events.len(),
+        };
+        let run = match schedule_with(alloc, schedule, None, events.as_slice()) {
+            Ok(run) => run,
+            Err(fault) => return Err(fault_of(fault)),
+        };
+        let told = tell(alloc, &run, shown)?;
+        let steps = self.add_steps(alloc, told)?;
+        let outcome = self.add_outcome(outcome)?;
+        let node = Node {
+            parent: prefix.parent,
+            who: prefix.who,
+            steps,
+            outcome,
+            counts: Vec::new(alloc),
+            events: events.len(),
+        };
+        match self.nodes.push(node) {
+            Ok(()) => Ok(()),
+            Err(_) => Err(HekFault::NoMemory),
+        }
+    }
+
+    /// How many events the play of the node at a place has; none before the first node.
+    fn events_of(&self, place: usize) -> usize {
+        match self.nodes.get(place) {
+            Some(node) => node.events,
+            None => 0,
+        }
+    }
+
+    /// Adds the steps that were told, and answers their places.
+    fn add_steps(&mut self, alloc: Global, told: Told) -> Result<Vec<usize>, NoMemory> {
+        let Told { trace, steps, .. } = told;
+        let mut places = Vec::new(alloc);
+        let mut rest = trace.as_slice();
+        for step in steps {
+            let (line, after) = line_of(rest);
+            rest = after;
+            places.push(self.add_step(alloc, line, step)?)?;
+        }
+        Ok(places)
+    }
+
+    fn add_step(&mut self, alloc: Global, line: &[u8], step: StepText) -> Result<usize, NoMemory> {
+        let StepText {
+            changed,
+            gone,
+            why,
+            sees,
+            waits,
+            ends,
+        } = step;
+        let waits = match waits {
+            Some(waits) => Some(self.add_text(waits)?),
+            None => None,
+        };
+        let places = StepPlaces {
+            line: self.add_text(Vec::from_slice(alloc, line)?)?,
+            changed: self.add_text(changed)?,
+            gone: self.add_text(gone)?,
+            why: self.add_text(why)?,
+            sees: self.add_text(sees)?,
+            waits,
+            ends: self.add_text(ends)?,
+        };
+        let (place, _) = self.steps.insert_full(places)?;
+        Ok(place)
+    }
+
+    fn add_text(&mut self, text: Vec<u8>) -> Result<usize, NoMemory> {
+        let (place, _) = self.texts.insert_full(text)?;
+        Ok(place)
+    }
+
+    fn add_outcome(&mut self, outcome: Option<Vec<u8>>) -> Result<Option<usize>, NoMemory> {
+        let Some(text) = outcome else {
+            return Ok(None);
+        };
+        let (place, _) = self.outcomes.insert_full(text)?;
+        Ok(Some(place))
+    }
+
+    /// Counts the outcomes of each node: its own, and those of the nodes below it, which come after it.
+    fn add_counts(&mut self, alloc: Global) -> Result<(), NoMemory> {
+        let outcomes = self.outcomes.len();
+        for node in self.nodes.as_mut_slice() {
+            for place in 0..outcomes {
+                let own = u64::from(node.outcome == Some(place));
+                node.counts.push(own)?;
+            }
+        }
+        let count = self.nodes.len();
+        for back in 1..count {
+            self.add_to_parent(alloc, count - back)?;
+        }
+        Ok(())
+    }
+
+    /// Adds the counts of a node to those of its parent.
+    fn add_to_parent(&mut self, alloc: Global, place: usize) -> Result<(), NoMemory> {
+        let Some(node) = self.nodes.get(place) else {
+            return Ok(());
+        };
+        let counts = Vec::from_slice(alloc, node.counts.as_slice())?;
+        let parent = node.parent;
+        if let Some(parent) = self.nodes.get_mut(parent) {
+            add_all(parent.counts.as_mut_slice(), counts.as_slice());
+        }
+        Ok(())
+    }
+}
+
+fn add_all(counts: &mut [u64], more: &[u64]) {
+    for place in 0..counts.len() {
+        if let (Some(count), Some(own)) = (counts.get_mut(place), more.get(place)) {
+            *count = count.saturating_add(*own);
+        }
+    }
+}
+
+/// The first line of a trace without its number and its end, and the lines after it.
+fn line_of(trace: &[u8]) -> (&[u8], &[u8]) {
+    let (line, rest) = split_at(trace, b'\n');
+    let (_, event) = split_at(line, b' ');
+    (event, rest)
+}
+
+/// What is before the first byte of a kind, and what is after it.
+fn split_at(text: &[u8], byte: u8) -> (&[u8], &[u8]) {
+    for place in 0..text.len() {
+        if text[place] == byte {
+            let (front, back) = text.split_at(place);
+            return (front, &back[1..]);
+        }
+    }
+    (text, &[])
+}

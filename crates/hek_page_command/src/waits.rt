@@ -1,0 +1,209 @@
+//! Which transaction waits for which, and where a wait ends.
+ghost use Rattle.hek_txn.specs.TxnTable.{Declared};
+
+use hek_machine::Machine;
+use hek_rules::{Event, NoMemory, Reply, State, TxnId};
+use hek_why::{Reason, commit_reasons, wait_reasons};
+use std::alloc::Global;
+use std::io::Write;
+
+/// The waits at the last look, and the transactions that were answered `waiting` and still wait.
+#[derive(Drop)]
+pub(crate) struct Waits {
+    lines: Vec<u8>,
+    asked: Vec<Ask>,
+}
+
+/// A transaction that must wait before it precommits, or before it commits.
+#[derive(Clone, Copy)]
+struct Ask {
+    txn: TxnId,
+    is_commit: bool,
+}
+
+impl Waits {
+    pub(crate) fn new(alloc: Global) -> Waits {
+        Waits {
+            lines: Vec::new(alloc),
+            asked: Vec::new(alloc),
+        }
+    }
+
+    /// The lines of all waits, if they are not those of the last look: `2 1 version 0` where transaction 2 waits for
+    /// transaction 1, which read-locks version 0, `2 1 bucket 3` for a bucket's lock, `2 1 commit` for a commit. This
+    /// look becomes the last one.
+    pub(crate) fn changes(
+        &mut self,
+        alloc: Global,
+        machine: &Machine,
+    ) -> Result<Option<Vec<u8>>, NoMemory> {
+        let lines = wait_lines(alloc, machine)?;
+        if lines == self.lines {
+            return Ok(None);
+        }
+        self.lines = Vec::from_slice(alloc, lines.as_slice())?;
+        Ok(Some(lines))
+    }
+
+    /// Notes the reply of a step. Answers a line for each transaction whose wait has ended with the step: its number.
+    pub(crate) fn note(
+        &mut self,
+        alloc: Global,
+        machine: &Machine,
+        event: &Event,
+        reply: &Reply,
+    ) -> Result<Vec<u8>, NoMemory> {
+        let mut ended = Vec::new(alloc);
+        let mut kept = Vec::new(alloc);
+        for ask in &self.asked {
+            if still_waits(machine, *ask) {
+                kept.push(*ask)?;
+            } else {
+                put_number(ask.txn, &mut ended)?;
+            }
+        }
+        if let Some(ask) = ask_of(event, reply) {
+            if !has(kept.as_slice(), ask.txn) {
+                kept.push(ask)?;
+            }
+        }
+        self.asked = kept;
+        Ok(ended)
+    }
+
+    /// A line for each transaction that has asked and waits: `2 waits`, or `2 commits`.
+    pub(crate) fn asked_lines(&self, alloc: Global) -> Result<Vec<u8>, NoMemory> {
+        let mut lines = Vec::new(alloc);
+        for ask in &self.asked {
+            let number = ask.txn.number();
+            let kind = if ask.is_commit { "commits" } else { "waits" };
+            put(writeln!(lines, "{number} {kind}").is_ok())?;
+        }
+        Ok(lines)
+    }
+}
+
+/// The wait that a reply asks for.
+fn ask_of(event: &Event, reply: &Reply) -> Option<Ask> {
+    let txn = event.txn()?;
+    match reply {
+        Reply::Waiting(_) => Some(Ask {
+            txn,
+            is_commit: false,
+        }),
+        Reply::WaitingCommits(_) => Some(Ask {
+            txn,
+            is_commit: true,
+        }),
+        _ => None,
+    }
+}
+
+fn has(asked: &[Ask], txn: TxnId) -> bool {
+    for ask in asked {
+        if ask.txn == txn {
+            return true;
+        }
+    }
+    false
+}
+
+/// Whether a transaction that asked still has something to wait for.
+fn still_waits(machine: &Machine, ask: Ask) -> bool {
+    if !machine.is_declared(ask.txn) {
+        return false;
+    }
+    match machine.state(ask.txn) {
+        State::Active => !ask.is_commit && machine.waits(ask.txn) > 0,
+        State::Preparing => ask.is_commit && machine.commit_deps(ask.txn) > 0,
+        _ => false,
+    }
+}
+
+/// A line for each wait of each transaction, by ID.
+fn wait_lines(alloc: Global, machine: &Machine) -> Result<Vec<u8>, NoMemory> {
+    let mut lines = Vec::new(alloc);
+    for place in 0..machine.txns() {
+        let t = TxnId::new(place + 1);
+        if machine.is_declared(t) {
+            put_waits_of(alloc, machine, t, &mut lines)?;
+        }
+    }
+    Ok(lines)
+}
+
+fn put_waits_of(
+    alloc: Global,
+    machine: &Machine,
+    t: TxnId,
+    lines: &mut Vec<u8>,
+) -> Result<(), NoMemory>
+    requires { Declared machine.now.txns t }
+{
+    if machine.waits(t) > 0 {
+        let reasons = wait_reasons(alloc, machine, t)?;
+        put_reasons(t, reasons.as_slice(), lines)?;
+    }
+    if machine.commit_deps(t) > 0 {
+        let reasons = commit_reasons(alloc, machine, t)?;
+        put_reasons(t, reasons.as_slice(), lines)?;
+    }
+    Ok(())
+}
+
+fn put_reasons(t: TxnId, reasons: &[Reason], lines: &mut Vec<u8>) -> Result<(), NoMemory> {
+    for reason in reasons {
+        put_reason(t.number(), reason, lines)?;
+    }
+    Ok(())
+}
+
+fn put_reason(t: u64, reason: &Reason, lines: &mut Vec<u8>) -> Result<(), NoMemory> {
+    match reason {
+        Reason::ReadLocked { version, readers } => {
+            put_readers(t, readers.as_slice(), version.index(), lines)
+        }
+        Reason::Listed { holder, bucket } => put_listed(t, holder.number(), *bucket, lines),
+        Reason::Depends(u) => {
+            let u = u.number();
+            put(writeln!(lines, "{t} {u} commit").is_ok())
+        }
+        _ => Ok(()),
+    }
+}
+
+fn put_readers(
+    t: u64,
+    readers: &[TxnId],
+    version: u64,
+    lines: &mut Vec<u8>,
+) -> Result<(), NoMemory> {
+    for reader in readers {
+        let reader = reader.number();
+        put(writeln!(lines, "{t} {reader} version {version}").is_ok())?;
+    }
+    Ok(())
+}
+
+/// A wait for a bucket's lock; without the bucket once the holder has given it back.
+fn put_listed(
+    t: u64,
+    holder: u64,
+    bucket: Option<u64>,
+    lines: &mut Vec<u8>,
+) -> Result<(), NoMemory> {
+    match bucket {
+        Some(bucket) => put(writeln!(lines, "{t} {holder} bucket {bucket}").is_ok()),
+        None => put(writeln!(lines, "{t} {holder} bucket").is_ok()),
+    }
+}
+
+fn put_number(t: TxnId, lines: &mut Vec<u8>) -> Result<(), NoMemory> {
+    let number = t.number();
+    put(writeln!(lines, "{number}").is_ok())
+}
+
+/// NoMemory if a line could not be written.
+fn put(written: bool) -> Result<(), NoMemory> {
+    if written { Ok(()) } else { Err(NoMemory) }
+}

@@ -1,0 +1,209 @@
+"""Browsers without a window, for tools/page_test: Chromium by the pipe of its DevTools, Firefox by Marionette.
+
+Both have the same methods: `open` a page from disk, `press` a key, `eval` an expression of the page, `size` the window, `scheme` light or
+dark, `shoot` a picture, `close`. Both want Debian's package on the path, and install nothing.
+"""
+import base64
+import json
+import os
+import socket
+import subprocess
+import sys
+import time
+
+CODES = {" ": "Space"}
+# The keys that WebDriver names by a character of Unicode's private area.
+DRIVER_KEYS = {"ArrowLeft": "\ue012", "ArrowUp": "\ue013", "ArrowRight": "\ue014", "ArrowDown": "\ue015", "PageUp": "\ue00e", "PageDown": "\ue00f",
+               "Home": "\ue011", "End": "\ue010", "Enter": "\ue007", "Escape": "\ue00c", "Backspace": "\ue003"}
+READY = "document.readyState === 'complete' && !!document.body && document.body.dataset.position !== undefined"
+
+
+def stop(why):
+    sys.exit(f"page_test: {why}")
+
+
+class Chromium:
+    """Chromium: a message is JSON, ended by a zero byte."""
+
+    name = "chromium"
+
+    def __init__(self, profile):
+        to_child, self.out = os.pipe()
+        self.in_, from_child = os.pipe()
+        words = ["chromium", "--headless", "--no-sandbox", "--disable-gpu", "--hide-scrollbars", "--remote-debugging-pipe",
+                 f"--user-data-dir={profile}"]
+
+        def place():
+            # Chromium reads from 3 and writes to 4.
+            spare = [os.dup(to_child), os.dup(from_child)]
+            os.dup2(spare[0], 3)
+            os.dup2(spare[1], 4)
+
+        self.child = subprocess.Popen(words, preexec_fn=place, close_fds=False, stdout=subprocess.DEVNULL, stderr=subprocess.DEVNULL)
+        os.close(to_child)
+        os.close(from_child)
+        self.left, self.last, self.session, self.errors = b"", 0, None, []
+        target = self.call("Target.createTarget", url="about:blank")["targetId"]
+        self.session = self.call("Target.attachToTarget", targetId=target, flatten=True)["sessionId"]
+        self.call("Page.enable")
+        self.call("Runtime.enable")
+
+    def message(self):
+        while b"\0" not in self.left:
+            got = os.read(self.in_, 1 << 16)
+            if not got:
+                stop("chromium has ended")
+            self.left += got
+        text, _, self.left = self.left.partition(b"\0")
+        return json.loads(text)
+
+    def call(self, method, **params):
+        self.last += 1
+        said = {"id": self.last, "method": method, "params": params}
+        if self.session:
+            said["sessionId"] = self.session
+        os.write(self.out, json.dumps(said).encode() + b"\0")
+        while True:
+            got = self.message()
+            if got.get("method") == "Runtime.exceptionThrown":
+                details = got["params"]["exceptionDetails"]
+                self.errors.append(details.get("exception", {}).get("description", details["text"]))
+            if got.get("id") == self.last:
+                if "error" in got:
+                    stop(f"{method}: {got['error']}")
+                return got["result"]
+
+    def open(self, path, place=""):
+        self.call("Page.navigate", url="about:blank")
+        self.call("Page.navigate", url=f"file://{path}{place}")
+        while self.eval(READY) is not True:
+            time.sleep(0.01)
+
+    def press(self, key):
+        for kind in ("keyDown", "keyUp"):
+            text = {"text": key} if len(key) == 1 and kind == "keyDown" else {}
+            self.call("Input.dispatchKeyEvent", type=kind, key=key, code=CODES.get(key, key), **text)
+
+    def eval(self, expression):
+        got = self.call("Runtime.evaluate", expression=expression, returnByValue=True, awaitPromise=True)
+        if "exceptionDetails" in got:
+            stop(got["exceptionDetails"].get("exception", {}).get("description", "an exception"))
+        return got["result"].get("value")
+
+    def size(self, width, height):
+        self.call("Emulation.setDeviceMetricsOverride", width=width, height=height, deviceScaleFactor=1, mobile=False)
+
+    def scheme(self, scheme):
+        features = [{"name": "prefers-color-scheme", "value": scheme}, {"name": "prefers-reduced-motion", "value": "reduce"}]
+        self.call("Emulation.setEmulatedMedia", features=features)
+
+    def grey(self, is_grey):
+        self.call("Emulation.setEmulatedVisionDeficiency", type="achromatopsia" if is_grey else "none")
+
+    def shoot(self, path):
+        data = self.call("Page.captureScreenshot", format="png")["data"]
+        with open(path, "wb") as it:
+            it.write(base64.b64decode(data))
+
+    def close(self):
+        self.child.terminate()
+        self.child.wait()
+
+
+class Firefox:
+    """Firefox: a message is its length, a colon, and JSON: its kind, its number, the command or the fault, and what goes with it."""
+
+    name = "firefox"
+
+    def __init__(self, profile):
+        os.makedirs(profile, exist_ok=True)
+        with socket.socket() as free:
+            free.bind(("127.0.0.1", 0))
+            port = free.getsockname()[1]
+        with open(f"{profile}/user.js", "w", encoding="utf-8") as it:
+            it.write(f'user_pref("marionette.port", {port});\nuser_pref("ui.prefersReducedMotion", 1);\n')
+        words = ["firefox-esr", "--headless", "--marionette", "--no-remote", "--profile", profile]
+        self.child = subprocess.Popen(words, stdout=subprocess.DEVNULL, stderr=subprocess.DEVNULL)
+        self.left, self.last, self.errors, self.theme = b"", 0, [], "light"
+        self.socket = self.connect(port)
+        self.message()
+        self.call("WebDriver:NewSession", capabilities={"alwaysMatch": {"unhandledPromptBehavior": "ignore"}})
+        self.call("WebDriver:Navigate", url="about:blank")
+
+    def connect(self, port):
+        for _ in range(600):
+            try:
+                return socket.create_connection(("127.0.0.1", port), timeout=120)
+            except OSError:
+                time.sleep(0.1)
+        return stop("firefox doesn't listen")
+
+    def message(self):
+        while b":" not in self.left:
+            self.receive()
+        length, _, self.left = self.left.partition(b":")
+        while len(self.left) < int(length):
+            self.receive()
+        text, self.left = self.left[:int(length)], self.left[int(length):]
+        return json.loads(text)
+
+    def receive(self):
+        got = self.socket.recv(1 << 16)
+        if not got:
+            stop("firefox has ended")
+        self.left += got
+
+    def call(self, command, **params):
+        self.last += 1
+        text = json.dumps([0, self.last, command, params]).encode()
+        self.socket.sendall(f"{len(text)}:".encode() + text)
+        while True:
+            _, number, fault, result = self.message()
+            if number == self.last:
+                if fault:
+                    stop(f"{command}: {fault.get('message', fault)}")
+                return result
+
+    def open(self, path, place=""):
+        self.call("WebDriver:Navigate", url="about:blank")
+        self.call("WebDriver:Navigate", url=f"file://{path}{place}")
+        while self.eval(READY) is not True:
+            time.sleep(0.01)
+        self.scheme(self.theme)
+
+    def press(self, key):
+        value = DRIVER_KEYS.get(key, key)
+        taps = [{"type": "keyDown", "value": value}, {"type": "keyUp", "value": value}]
+        self.call("WebDriver:PerformActions", actions=[{"type": "key", "id": "keys", "actions": taps}])
+
+    def eval(self, expression):
+        script = "return Promise.resolve(window.wrappedJSObject.eval(arguments[0])).then((it) => JSON.stringify(it === undefined ? null : it));"
+        got = self.call("WebDriver:ExecuteScript", script=script, args=[expression], sandbox="default", newSandbox=True)["value"]
+        return json.loads(got)
+
+    def size(self, width, height):
+        """The window, made so large that the page in it has this size."""
+        outer = [width, height]
+        for _ in range(3):
+            self.call("WebDriver:SetWindowRect", width=outer[0], height=outer[1])
+            inner = self.eval("[innerWidth, innerHeight]")
+            outer = [outer[0] + width - inner[0], outer[1] + height - inner[1]]
+            if inner == [width, height]:
+                return
+
+    def scheme(self, scheme):
+        """Light or dark, as the page's own button sets it."""
+        self.theme = scheme
+        self.eval(f"document.documentElement.dataset.theme = '{scheme}'")
+
+    def shoot(self, path):
+        data = self.call("WebDriver:TakeScreenshot", full=False)["value"]
+        with open(path, "wb") as it:
+            it.write(base64.b64decode(data))
+
+    def close(self):
+        self.child.terminate()
+        self.child.wait()
+
+
+BROWSERS = {"chromium": Chromium, "firefox": Firefox}
