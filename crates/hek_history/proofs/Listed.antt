@@ -2,7 +2,7 @@
 use Rattle.std.proofs.Common.{◌≡◌, ℕ, zero, suc, ◌+◌, ◌-◌, ◌<◌, ◌≤◌, ◌==◌, true, false, List, [], ◌∷◌, ◌++◌, Option, Some, None, refl, sym, ap, ◌∙◌, subst, inl, inr, ◌⊎◌, length, get_or, drop, arith}
 use Rattle.std.proofs.lemmas.Bool.{cases_Bool, cases_lt, eqb-true, both_ways}
 use Rattle.std.proofs.lemmas.Option.{slice_get-get_or, slice_get_within, get_or_from_slice_get}
-use Rattle.std.proofs.lemmas.List.Elements.{Contains-append_left, Contains-push}
+use Rattle.std.proofs.lemmas.List.Elements.{Contains-push}
 use Rattle.std.proofs.Math.Seq.{drop-cons}
 use Rattle.std.specs.Prelude.{slice_get}
 use Rattle.std.specs.List.{Contains}
@@ -20,9 +20,6 @@ use Rattle.hek_history.proofs.Rows.{Keep-from_kept}
 
 pub kept-refl : (rows : List Written) → AreKept rows rows
 kept-refl rows row there = there
-
-pub kept-push : (rows : List Written) (new : Written) → AreKept rows (rows ++ new ∷ [])
-kept-push rows new row there = Contains-append_left rows (new ∷ []) row there
 
 pub kept-trans : (a b c : List Written) → AreKept a b → AreKept b c → AreKept a c
 kept-trans a b c f g row there = g row (f row there)

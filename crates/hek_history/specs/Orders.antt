@@ -18,7 +18,7 @@ abbrev pub time_of : History → Point → Option ℕ
 time_of h (Begin t) = if is_serializable h t then end_of h t else begin_of h t
 time_of h (Commit t) = end_of h t
 
--- who writes a key commits before one who writes it too and ends later
+-- a writer of a key commits before another writer of it that ends later
 abbrev pub AreVersions : History → Point → Point → Type 0
 AreVersions h (Commit t) (Commit x) = (key : ℕ) × (writes h t key ≡ true) × (writes h x key ≡ true) × (earlier (end_of h t) (end_of h x) ≡ true)
 AreVersions h p q = ⊥

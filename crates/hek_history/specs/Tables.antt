@@ -21,7 +21,7 @@ IsNotAfter a b = (a.key < b.key) ⊎ ((a.key ≡ b.key) × (height a.value ≤ h
 abbrev pub IsListed : History → List Written → ℕ → ℕ → Type 0
 IsListed h rows x key = Contains rows (record { key = key; value = after (last_change key (operations_of h x)) None; writer = x })
 
--- whoever may have committed, of the first n transactions, has a row for each key that he writes
+-- each of the first n transactions that may have committed has a row for each key that it writes
 abbrev pub IsCompleteTo : History → List Written → ℕ → Type 0
 IsCompleteTo h rows n = (x key : ℕ) → x < n → is_possible h x ≡ true → writes h x key ≡ true → IsListed h rows x key
 

@@ -71,7 +71,7 @@ fn are_timed(history: &History, order: Order, points: &[Point]) -> bool
     true
 }
 
-/// When the one ended who wrote a key last.
+/// The end of the last writer of a key.
 fn last_end(history: &History, last: &BTreeMap<u64, usize>, key: u64) -> Option<u64>
     ensures { result ≡ end_of_last history.now (get_in nat_cmp last.now) key }
 {
@@ -81,7 +81,7 @@ fn last_end(history: &History, last: &BTreeMap<u64, usize>, key: u64) -> Option<
     }
 }
 
-/// Whether a key that t writes was not written by one who ended later.
+/// Whether a key that t writes was not written by a transaction that ended later.
 fn is_newest_at(history: &History, last: &BTreeMap<u64, usize>, t: usize, key: u64) -> bool
     ensures { IsTrue result ↔ (writes_it history.now t key ≡ true → earlier_of (end_in history.now t) (end_of_last history.now (get_in nat_cmp last.now) key) ≡ false) }
 {
@@ -92,7 +92,7 @@ fn is_newest_at(history: &History, last: &BTreeMap<u64, usize>, t: usize, key: u
     }
 }
 
-/// Whether no key that t writes was written by one who ended later.
+/// Whether no key that t writes was written by a transaction that ended later.
 fn is_newest(history: &History, last: &BTreeMap<u64, usize>, t: usize) -> bool
     ensures { IsTrue result ↔ ((key : ℕ) → writes_it history.now t key ≡ true → earlier_of (end_in history.now t) (end_of_last history.now (get_in nat_cmp last.now) key) ≡ false) }
 {
@@ -116,7 +116,7 @@ fn mark(history: &History, last: &mut BTreeMap<u64, usize>, t: usize) -> Result<
     Ok(())
 }
 
-/// Whether t, who commits at the place n, comes after nobody who wrote one of its keys and ended later.
+/// Whether no transaction before the place n, at which t commits, wrote one of t's keys and ended later.
 fn commits_newest(
     history: &History,
     points: &[Point],
@@ -137,7 +137,7 @@ fn commits_newest(
     Ok(true)
 }
 
-/// The same of the point at the place n.
+/// Whether no transaction before the point at the place n wrote one of its keys and ended later.
 fn is_newest_point(
     history: &History,
     points: &[Point],
@@ -157,7 +157,7 @@ fn is_newest_point(
     }
 }
 
-/// Whether nobody commits after one who wrote a key that he writes too, and ended later.
+/// Whether no transaction commits after one that wrote one of its keys and ended later.
 fn are_newest(alloc: Global, history: &History, points: &[Point]) -> Result<bool, NoMemory>
     ensures { IfOk result (λ yes. IsTrue yes ↔ AreNewest history.now points.now) }
 {

@@ -1,4 +1,4 @@
-//! What an answer tells of the value that its transaction found at a key.
+//! What an answer says of the value that its transaction found at a key.
 ghost use Rattle.std.specs.Prelude.{◌≡◌, ◌<◌, ℕ, suc, Option, true, IsTrue};
 ghost use Rattle.hek_history.specs.Answers.{allows as allowed_by, tells as told_by, fits as fits_at, same_found as same_as};
 ghost use Rattle.hek_history.specs.Readings.{Meets};
@@ -7,7 +7,7 @@ ghost use Rattle.hek_history.specs.Tables.{height};
 use crate::answers::{covers, fits, key_of, same_found, value_of};
 use crate::history::Operation;
 
-/// What an answer tells of the value.
+/// What an answer says of the value.
 #[derive(Clone, Copy)]
 pub enum Need {
     Anything,
@@ -17,7 +17,7 @@ pub enum Need {
     Value(u64),
 }
 
-/// Whether the answer tells that the key had this value, or was absent.
+/// Whether the answer says that the key had this value, or was absent.
 pub(crate) fn tells(key: u64, operation: &Operation, value: Option<u64>) -> bool
     ensures { result ≡ told_by key operation.now value }
 {
@@ -40,7 +40,7 @@ pub(crate) fn tells(key: u64, operation: &Operation, value: Option<u64>) -> bool
     }
 }
 
-/// Whether the answer allows that: of a lenient transaction, what tells absence is not judged.
+/// Whether the answer allows this. No answer of absence by a lenient transaction is judged.
 pub(crate) fn allows(lenient: bool, key: u64, operation: &Operation, value: Option<u64>) -> bool
     ensures { result ≡ allowed_by lenient key operation.now value }
 {
@@ -72,7 +72,7 @@ fn pair_need(found: Option<u64>) -> Need
     }
 }
 
-/// What an answer tells at a key.
+/// What an answer says of a key.
 fn told_need(key: u64, operation: &Operation) -> Need
     ensures { (value : Option ℕ) → told_by key operation.now value ≡ true → Meets result value }
 {

@@ -151,7 +151,7 @@ pub(crate) fn before(
     })
 }
 
-/// Of two who write a key, and of which the first begins before the second commits, the first commits before the second
+/// Of two writers of a key, of which the first begins before the second commits, the first commits before the second
 /// begins.
 pub(crate) fn winner(
     history: &History,

@@ -158,7 +158,7 @@ pub(crate) fn start(
     })
 }
 
-/// Nobody is the source of what he reads himself.
+/// No transaction is the source of what it reads.
 pub(crate) fn not_self(
     history: &History,
     order: Order,
@@ -205,7 +205,7 @@ pub(crate) fn not_later(
     })
 }
 
-/// A writer is not the source, if another who writes the key commits after it, and before the reader begins.
+/// A writer is not the source if another writer of the key commits after it and before the reader begins.
 pub(crate) fn not_cover(
     history: &History,
     order: Order,
