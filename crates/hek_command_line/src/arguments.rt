@@ -91,11 +91,33 @@ const WORD: CommandText = CommandText {
 prints
   end lock readers 1 writer 2 no-more-reads clear
   begin time 7; end time 7",
-    arguments: &[ArgumentText {
-        name: "WORD",
-        help: "a word, as 16 hexadecimal digits, or - for standard input, one word a line",
-        form: Form::Words,
-    }],
+    arguments: &[
+        ArgumentText {
+            name: "WORD",
+            help: "a word, as 16 hexadecimal digits, or - for standard input, one word a line",
+            form: Form::Words,
+        },
+        ArgumentText {
+            name: "changes",
+            help: "reads exchanges, lines OLD NEW TXN or WORD OLD NEW TXN, and names the change that leads from OLD to NEW",
+            form: Form::Flag,
+        },
+        ArgumentText {
+            name: "clock",
+            help: "refuses times from N on",
+            form: Form::Number,
+        },
+        ArgumentText {
+            name: "txns",
+            help: "refuses transactions past N",
+            form: Form::Number,
+        },
+        ArgumentText {
+            name: "readers",
+            help: "refuses more than N readers",
+            form: Form::Number,
+        },
+    ],
 };
 
 const ASM: CommandText = CommandText {
@@ -503,6 +525,7 @@ fn rivals_of(name: &str) -> &'static [&'static str] {
         "levels" => &["each", "level"],
         "image" => &["text"],
         "orders" => &["from", "to"],
+        "clock" | "txns" | "readers" => &["changes"],
         _ => &[],
     }
 }

@@ -9,7 +9,7 @@ use clap::{ArgMatches, Error};
 use hek_asm::level_named;
 use hek_commands::{
     HekFault, INPUT, asm_command, check_command, dis_command, read_text, release_command, report,
-    run_command, state_command, word_command,
+    run_command, state_command,
 };
 use hek_debug_command::{debug_command, debug_session};
 use hek_page_command::{Extent, Heading, MOST_NODES, Part, explorer_command, page_command};
@@ -18,6 +18,7 @@ use hek_permute_command::{Choice, part_of, permute_command};
 use hek_rules::{Level, number};
 use hek_threads_command::{repeat_command, threads_command};
 use hek_why_command::{Extras, Why, drive_command, explain_command};
+use hek_word_command::{Bounds, changes_command, word_command};
 use std::alloc::Global;
 use std::convert::AsStr;
 use std::env;
@@ -151,7 +152,7 @@ fn run<'a, D: Disk, I: Read + IsTerminal + Drop, W: Write, E: Write + IsTerminal
             text(found, "WAITS")?,
             out,
         ),
-        Some(("word", found)) => word_command(alloc, texts(found, "WORD")?, input, out),
+        Some(("word", found)) => word(alloc, found, input, out),
         Some(("asm", found)) => asm(alloc, found, disk, input, out),
         Some(("dis", found)) => dis(alloc, found, disk, input, out),
         Some(("run", found)) => run_schedule(alloc, found, disk, input, out),
@@ -163,6 +164,24 @@ fn run<'a, D: Disk, I: Read + IsTerminal + Drop, W: Write, E: Write + IsTerminal
         Some(("threads", _)) => Err(HekFault::NoWorker),
         _ => Err(HekFault::BadArgument),
     }
+}
+
+fn word<'a, I: Read + Drop, W: Write>(
+    alloc: Global,
+    found: &ArgMatches<'a>,
+    input: I,
+    out: &mut W,
+) -> Result<u8, HekFault<'a>> {
+    let words = texts(found, "WORD")?;
+    if found.get_flag("changes") {
+        return changes_command(alloc, words, input, out);
+    }
+    let bounds = Bounds {
+        clock: number_of(found, "clock")?,
+        txns: number_of(found, "txns")?,
+        readers: number_of(found, "readers")?,
+    };
+    word_command(alloc, words, bounds, input, out)
 }
 
 fn asm<'a, D: Disk, I: Read + Drop, W: Write>(

@@ -12,7 +12,6 @@ mod release;
 mod run;
 mod schedule_file;
 mod state;
-mod word;
 
 pub use asm::asm_command;
 pub use check::check_command;
@@ -21,8 +20,7 @@ pub use fault::{HekFault, read_fault, report};
 pub use gathered::{put_line, put_reply};
 pub use input::{INPUT, buffered};
 pub use lines::send;
-pub use release::release_command;
+pub use release::{hex_number, release_command};
 pub use run::{run_command, state_command};
 pub use schedule_file::{ScheduleFile, read_text, schedule_in};
 pub use state::{clock_line, put_bucket, put_txn, put_version, state_lines, state_text};
-pub use word::word_command;
