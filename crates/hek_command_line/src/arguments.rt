@@ -1,4 +1,5 @@
 //! The words of the command line: the commands, their arguments and help.
+use crate::nearest::nearest;
 use clap::{Arg, ArgAction, ArgMatches, Command, Error};
 use std::alloc::{AllocError, Global};
 use std::convert::AsStr;
@@ -392,6 +393,17 @@ const VERSION: &str = "0.2.0";
 const COMMANDS: &[CommandText] = &[
     RUN, DEBUG, PAGE, PERMUTE, CHECK, DRIVE, THREADS, WORD, RELEASE, ASM, DIS,
 ];
+
+/// The command that a word means which is none, if one is near. Without memory it is none.
+pub fn meant_command(alloc: Global, word: &str) -> Option<&'static str> {
+    let mut names = Vec::new(alloc);
+    for text in COMMANDS {
+        if names.push(text.name).is_err() {
+            return None;
+        }
+    }
+    nearest(alloc, word, names.as_slice())
+}
 
 /// Reads the words of a command line, the program's name first.
 pub fn read_words<'a, S: AsStr>(alloc: Global, words: &'a [S]) -> Result<ArgMatches<'a>, Error> {
