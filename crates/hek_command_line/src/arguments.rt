@@ -1,4 +1,5 @@
 //! The words of the command line: the commands, their arguments and help.
+use crate::nearest::nearest;
 use clap::{Arg, ArgAction, ArgMatches, Command, Error};
 use std::alloc::{AllocError, Global};
 use std::convert::AsStr;
@@ -463,6 +464,17 @@ fn engine_commands() -> &'static [CommandText] {
 
 fn word_commands() -> &'static [CommandText] {
     WORD_COMMANDS
+}
+
+/// The command that a word means which is none, if one is near. Without memory it is none.
+pub fn meant_command(alloc: Global, word: &str) -> Option<&'static str> {
+    let mut names = Vec::new(alloc);
+    for text in COMMANDS {
+        if names.push(text.name).is_err() {
+            return None;
+        }
+    }
+    nearest(alloc, word, names.as_slice())
 }
 
 /// Reads the words of a command line, the program's name first.

@@ -1,5 +1,6 @@
 //! The command line: its words, and what the program does for them.
-use crate::arguments::{RULES, read_words};
+use crate::advice::advice_of;
+use crate::arguments::{RULES, meant_command, read_words};
 use crate::disk::{Disk, LateFile, open};
 use crate::output::NotedOutput;
 use crate::schedule::{schedule_file, schedule_text};
@@ -80,8 +81,15 @@ pub fn answer<S: AsStr, D: Disk, I: Read + IsTerminal + Drop, W: Write, E: Write
 ) -> u8 {
     let mut out = NotedOutput::new(out);
     let ran = match read_words(alloc, words) {
-        Ok(matches) => run(alloc, &matches, disk, input, &mut out, faults),
-        Err(error) => refuse(&error, &mut out, faults),
+        Ok(matches) => {
+            let ran = run(alloc, &matches, disk, input, &mut out, faults);
+            advised(alloc, ran, &matches, faults)
+        }
+        Err(error) => {
+            let refused = refuse(&error, &mut out, faults);
+            suggest(alloc, &error, words, faults);
+            refused
+        }
     };
     status_of(ran, &out, faults)
 }
@@ -97,13 +105,42 @@ pub fn answer_in_threads<
 >(system: &T, alloc: Global, words: &[S], disk: &D, input: I, out: &mut W, faults: &mut E) -> u8 {
     let mut out = NotedOutput::new(out);
     let ran = match read_words(alloc, words) {
-        Ok(matches) => match matches.subcommand() {
-            Some(("threads", found)) => threads(system, alloc, found, disk, input, &mut out),
-            _ => run(alloc, &matches, disk, input, &mut out, faults),
-        },
-        Err(error) => refuse(&error, &mut out, faults),
+        Ok(matches) => {
+            let ran = match matches.subcommand() {
+                Some(("threads", found)) => threads(system, alloc, found, disk, input, &mut out),
+                _ => run(alloc, &matches, disk, input, &mut out, faults),
+            };
+            advised(alloc, ran, &matches, faults)
+        }
+        Err(error) => {
+            let refused = refuse(&error, &mut out, faults);
+            suggest(alloc, &error, words, faults);
+            refused
+        }
     };
     status_of(ran, &out, faults)
+}
+
+/// What came of a command. A bad argument is reported here if standard error is a terminal, with what is wrong and what
+/// is wanted.
+fn advised<'a, E: Write + IsTerminal>(
+    alloc: Global,
+    ran: Result<u8, HekFault<'a>>,
+    matches: &ArgMatches<'_>,
+    faults: &mut E,
+) -> Result<u8, HekFault<'a>> {
+    match ran {
+        Err(HekFault::BadArgument) if faults.is_terminal() => {
+            let status = report(HekFault::BadArgument, faults);
+            if let Some((_, found)) = matches.subcommand() {
+                if let Some(advice) = advice_of(alloc, found) {
+                    let _ = write!(faults, "{advice}");
+                }
+            }
+            Ok(status)
+        }
+        ran => ran,
+    }
 }
 
 /// The exit status after a command, whose fault is reported. That its output's reader has left is no fault.
@@ -135,6 +172,23 @@ fn refuse<'a, W: Write, E: Write>(
     match write!(out, "{error}") {
         Ok(()) => Ok(0),
         Err(_) => Err(HekFault::CannotWrite),
+    }
+}
+
+/// At a terminal, names the command that a mistyped one means.
+fn suggest<S: AsStr, E: Write + IsTerminal>(
+    alloc: Global,
+    error: &Error,
+    words: &[S],
+    faults: &mut E,
+) {
+    if error.kind() != ClapKind::InvalidSubcommand || !faults.is_terminal() {
+        return;
+    }
+    if let Some(word) = words.get(1) {
+        if let Some(name) = meant_command(alloc, word.as_str()) {
+            let _ = writeln!(faults, "  | did you mean `{name}`?");
+        }
     }
 }
 

@@ -1,9 +1,11 @@
 //! The command line of the program: its words and their help, the files that it opens, and the command that is called.
 #![tactic(auto)]
 
+mod advice;
 mod arguments;
 mod command_line;
 mod disk;
+mod nearest;
 mod output;
 mod schedule;
 mod summary;

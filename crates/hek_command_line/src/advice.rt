@@ -1,0 +1,196 @@
+//! What is wrong with a bad argument and what is wanted in its place, for a reader at a terminal.
+use crate::nearest::nearest;
+use clap::ArgMatches;
+use hek_asm::level_named;
+use hek_permute_command::part_of;
+use hek_rules::number;
+use std::alloc::Global;
+use std::fmt;
+use std::fmt::{Display, Formatter};
+
+/// An option whose value is a number: its name, what the number is, its range, and what to say of a lesser number.
+struct Count {
+    option: &'static str,
+    what: &'static str,
+    least: u64,
+    most: u64,
+    below: &'static str,
+}
+
+const COUNTS: &[Count] = &[
+    Count {
+        option: "state-at",
+        what: "a number of steps",
+        least: 0,
+        most: u64::MAX,
+        below: "",
+    },
+    Count {
+        option: "limit",
+        what: "a number of orders",
+        least: 0,
+        most: u64::MAX,
+        below: "",
+    },
+    Count {
+        option: "turns",
+        what: "a number of turns",
+        least: 0,
+        most: 1_000_000,
+        below: "",
+    },
+    Count {
+        option: "repeat",
+        what: "a number of runs",
+        least: 1,
+        most: 1_000_000,
+        below: "",
+    },
+    Count {
+        option: "from",
+        what: "a step, the first being 1",
+        least: 1,
+        most: u64::MAX,
+        below: ": steps are counted from 1",
+    },
+    Count {
+        option: "to",
+        what: "a step, the first being 1",
+        least: 1,
+        most: u64::MAX,
+        below: ": steps are counted from 1",
+    },
+];
+
+const LEVELS: &[&str] = &["serializable", "repeatable", "snapshot"];
+
+/// What is wrong with the value of an option.
+#[derive(Clone, Copy)]
+enum Wrong<'a> {
+    NoNumber(&'a Count),
+    TooSmall(&'a Count),
+    TooLarge(&'a Count),
+    /// No level has this name, but maybe one that is near.
+    NoLevel(Option<&'a str>),
+    NoPart,
+    NoOrder,
+}
+
+/// An option with a value that is at fault. Its text is a line each: the option with its value, what is wrong
+/// under it, what is wanted, and what is meant, if that is known.
+#[derive(Clone, Copy)]
+pub struct Advice<'a> {
+    option: &'a str,
+    value: &'a str,
+    wrong: Wrong<'a>,
+}
+
+/// The first option at fault of a command line, if there is one.
+pub fn advice_of<'a>(alloc: Global, found: &ArgMatches<'a>) -> Option<Advice<'a>> {
+    for count in COUNTS {
+        if let Some(advice) = on_count(found, count) {
+            return Some(advice);
+        }
+    }
+    match found.get_str("level") {
+        Some(value) if level_named(value.as_bytes()).is_none() => {
+            let wrong = Wrong::NoLevel(nearest(alloc, value, LEVELS));
+            return Some(Advice::new("level", value, wrong));
+        }
+        _ => {}
+    }
+    match found.get_str("part") {
+        Some(value) if part_of(value).is_none() => {
+            return Some(Advice::new("part", value, Wrong::NoPart));
+        }
+        _ => {}
+    }
+    match found.get_str("order") {
+        Some(value) => Some(Advice::new("order", value, Wrong::NoOrder)),
+        None => None,
+    }
+}
+
+/// What is wrong with the number of an option, if the command line has the option.
+fn on_count<'a>(found: &ArgMatches<'a>, count: &'static Count) -> Option<Advice<'a>> {
+    let value = found.get_str(count.option)?;
+    let wrong = match number(value.as_bytes()) {
+        None if is_digits(value) => Wrong::TooLarge(count),
+        None => Wrong::NoNumber(count),
+        Some(given) if given < count.least => Wrong::TooSmall(count),
+        Some(given) if given > count.most => Wrong::TooLarge(count),
+        Some(_) => return None,
+    };
+    Some(Advice::new(count.option, value, wrong))
+}
+
+/// Whether a text has decimal digits alone, at least one.
+fn is_digits(text: &str) -> bool {
+    !text.is_empty() && text.as_bytes().iter().all(|byte| byte.is_ascii_digit())
+}
+
+impl<'a> Advice<'a> {
+    fn new(option: &'a str, value: &'a str, wrong: Wrong<'a>) -> Advice<'a> {
+        Advice {
+            option,
+            value,
+            wrong,
+        }
+    }
+
+    fn write_wrong<W: fmt::Write>(&self, f: &mut Formatter<W>) -> fmt::Result {
+        let option = self.option;
+        let value = self.value;
+        match self.wrong {
+            Wrong::NoNumber(_) => {
+                write!(
+                    f,
+                    "`--{option}` wants a number, and `{value}` is not a number"
+                )
+            }
+            Wrong::TooSmall(count) => {
+                write!(f, "`{value}` is too small for `--{option}`{}", count.below)
+            }
+            Wrong::TooLarge(_) => write!(f, "`{value}` is too large for `--{option}`"),
+            Wrong::NoLevel(_) => write!(f, "no level is called `{value}`"),
+            Wrong::NoPart => write!(f, "`{value}` is not a part"),
+            Wrong::NoOrder => write!(f, "`{value}` is not an order of the moves"),
+        }
+    }
+
+    fn write_wanted<W: fmt::Write>(&self, f: &mut Formatter<W>) -> fmt::Result {
+        match self.wrong {
+            Wrong::NoNumber(count) | Wrong::TooSmall(count) | Wrong::TooLarge(count) => {
+                write!(f, "{}, {} to {}", count.what, count.least, count.most)
+            }
+            Wrong::NoLevel(_) => f.write_str("serializable repeatable snapshot"),
+            Wrong::NoPart => f.write_str("K/N, as in `1/3`, K from 1 to N"),
+            Wrong::NoOrder => f.write_str("the name of its transaction for each move"),
+        }
+    }
+}
+
+impl Display for Advice<'_> {
+    fn fmt<W: fmt::Write>(&self, f: &mut Formatter<W>) -> fmt::Result {
+        write!(f, "  | --{} {}\n  |   ", self.option, self.value)?;
+        put(f, ' ', self.option.chars().count())?;
+        f.write_str(" ")?;
+        put(f, '^', self.value.chars().count().max(1))?;
+        f.write_str(" ")?;
+        self.write_wrong(f)?;
+        f.write_str("\n  | wanted: ")?;
+        self.write_wanted(f)?;
+        match self.wrong {
+            Wrong::NoLevel(Some(level)) => write!(f, "\n  | did you mean `{level}`?\n"),
+            _ => f.write_str("\n"),
+        }
+    }
+}
+
+/// Writes a character so many times.
+fn put<W: fmt::Write>(f: &mut Formatter<W>, mark: char, times: usize) -> fmt::Result {
+    for _ in 0..times {
+        f.write_char(mark)?;
+    }
+    Ok(())
+}
