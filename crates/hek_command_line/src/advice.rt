@@ -27,7 +27,7 @@ const COUNTS: &[Count] = &[
     },
     Count {
         option: "limit",
-        what: "a number of orders",
+        what: "how many at most",
         least: 0,
         most: u64::MAX,
         below: "",
@@ -59,6 +59,27 @@ const COUNTS: &[Count] = &[
         least: 1,
         most: u64::MAX,
         below: ": steps are counted from 1",
+    },
+    Count {
+        option: "clock",
+        what: "a time",
+        least: 0,
+        most: u64::MAX,
+        below: "",
+    },
+    Count {
+        option: "txns",
+        what: "a number of transactions",
+        least: 0,
+        most: u64::MAX,
+        below: "",
+    },
+    Count {
+        option: "readers",
+        what: "a number of readers",
+        least: 0,
+        most: u64::MAX,
+        below: "",
     },
 ];
 

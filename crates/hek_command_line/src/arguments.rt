@@ -469,12 +469,19 @@ fn word_commands() -> &'static [CommandText] {
 /// The command that a word means which is none, if one is near. Without memory it is none.
 pub fn meant_command(alloc: Global, word: &str) -> Option<&'static str> {
     let mut names = Vec::new(alloc);
-    for text in COMMANDS {
-        if names.push(text.name).is_err() {
+    for texts in [schedule_commands(), engine_commands(), word_commands()] {
+        if push_names(texts, &mut names).is_err() {
             return None;
         }
     }
     nearest(alloc, word, names.as_slice())
+}
+
+fn push_names(texts: &[CommandText], names: &mut Vec<&'static str>) -> Result<(), AllocError> {
+    for text in texts {
+        names.push(text.name)?;
+    }
+    Ok(())
 }
 
 /// Reads the words of a command line, the program's name first.
