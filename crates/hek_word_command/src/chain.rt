@@ -1,8 +1,7 @@
 //! Whether each exchange of a word begins with what the one before it left.
-ghost use Rattle.std.specs.Prelude.{◌≡◌, ℕ, Some, IfOk, OnOk, OnErr, IfErr};
+ghost use Rattle.std.specs.Prelude.{◌≡◌, IfOk, OnOk, IfErr};
 ghost use Rattle.hek_commands.specs.declared.fault.HekFault.TheVariants as hek;
-ghost use Rattle.hek_word_command.specs.declared.exchange.Side.{Side};
-ghost use Rattle.hek_word_command.specs.Chain.{last_of};
+ghost use Rattle.hek_word_command.specs.Chain.{IsNoted, last_of};
 
 use crate::exchange::{Side, WordName};
 use hek_commands::HekFault;
@@ -28,14 +27,16 @@ impl Chain {
     /// the first.
     pub fn note<'a>(&mut self, word: WordName, new: u64) -> Result<Option<u64>, HekFault<'a>>
         ensures last { IfOk result (λ last. last ≡ last_of self.old word.side word.version) }
-        ensures noted { OnOk result (last_of self.new word.side word.version ≡ Some new) }
+        ensures noted { OnOk result (IsNoted self.old self.new word.side word.version new) }
         ensures refused { IfErr result (λ fault. fault ≡ hek.NoMemory) }
     {
-        let side = match word.side {
-            Side::Begin => &mut self.begins,
-            Side::End => &mut self.ends,
+        let noted = match word.side {
+            Side::Begin => self.begins.insert(word.version, new),
+            Side::End => self.ends.insert(word.version, new),
         };
-        side.insert(word.version, new)
-            .map_err(|_| HekFault::NoMemory)
+        match noted {
+            Ok(last) => Ok(last),
+            Err(_) => Err(HekFault::NoMemory),
+        }
     }
 }
