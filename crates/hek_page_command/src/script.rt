@@ -538,27 +538,83 @@ function put(id, html) {
   if (drawn.get(id) === html) return;
   drawn.set(id, html);
   const place = $(id);
-  const focused = place.contains(document.activeElement) ? keyOf(document.activeElement) : null;
-  place.innerHTML = html;
-  if (focused) (place.querySelector(focused) ?? place.querySelector("[tabindex]"))?.focus();
+  keepFocus(place, () => { place.innerHTML = html; });
 }
 
-/** What finds an element again after its place is drawn anew. */
+/** Draws a place anew. What has the focus there keeps it. */
+function keepFocus(place, draw) {
+  const focused = place.contains(document.activeElement) ? document.activeElement : null;
+  draw();
+  if (!focused || place.contains(document.activeElement)) return;
+  const key = keyOf(focused);
+  ((key && place.querySelector(key)) ?? place.querySelector("[tabindex]"))?.focus();
+}
+
+/** What finds an element again after its place is drawn anew; from a step the focus goes on to the step that is shown then. */
 function keyOf(element) {
-  const name = ["at", "v", "txn", "next", "find"].find((it) => element.dataset[it] !== undefined);
+  if (element.dataset.at !== undefined) return '[aria-current="step"]';
+  const name = ["v", "txn", "next", "find"].find((it) => element.dataset[it] !== undefined);
   return name ? `[data-${name}="${element.dataset[name]}"]` : null;
 }
 
-/** Whether the page is one column, as the style has it. */
-const isSmall = () => matchMedia("(max-width: 40rem)").matches;
-const rem = () => unit;
-/* The sizes of the panels: measured when the page is built or its type changes; then an observer reports them. */
+/** Puts a drawing into a place: its attributes, and layers of parts, each with its shift to the right. A part is the text of one element.
+    Those that are there already stay, so that the browser lays out and paints only what a step changes. */
+function putDrawing(id, attributes, layers) {
+  const place = $(id);
+  keepFocus(place, () => {
+    if (!(drawn.get(id) instanceof Array)) {
+      place.innerHTML = `<svg>${layers.map(() => "<g></g>").join("")}</svg>`;
+      drawn.set(id, layers.map(() => new Map()));
+    }
+    const svg = place.firstElementChild;
+    setAttributes(svg, attributes);
+    layers.forEach(({ shift, parts }, index) => {
+      setAttributes(svg.children[index], { transform: `translate(${f1(shift)} 0)` });
+      drawn.get(id)[index] = putParts(svg.children[index], drawn.get(id)[index], parts);
+    });
+  });
+}
+
+function setAttributes(element, attributes) {
+  for (const [name, value] of Object.entries(attributes)) if (element.getAttribute(name) !== value) element.setAttribute(name, value);
+}
+
+/** Puts these parts, in their order, in place of those that a layer had; answers its elements by their texts. */
+function putParts(layer, old, parts) {
+  const now = new Map(parts.map((it) => [it, old.get(it)]));
+  for (const [text, element] of old) if (!now.has(text)) element.remove();
+  let next = layer.firstChild;
+  for (const [text, kept] of now) {
+    if (kept !== undefined && kept === next) { next = next.nextSibling; continue; }
+    const element = kept ?? elementOf(text);
+    layer.insertBefore(element, next);
+    now.set(text, element);
+  }
+  return now;
+}
+
+const reader = document.createElement("template");
+/** The element of SVG that a text is of. */
+function elementOf(text) {
+  reader.innerHTML = `<svg>${text}</svg>`;
+  return reader.content.firstChild.firstChild;
+}
+
+/* What a drawing reads of the page's size is measured when the page is built or its type changes, and is not read again while a step is
+   drawn: each reading would have the browser lay out what was drawn so far. An observer reports later sizes of the panels. */
 const DRAWN = { lanes: () => showLanes(), chains: () => showChains(), graph: () => showGraph(), word: () => { if (!isTree || pinned) showWord(); else showTree(); } };
 const sizes = {};
 let unit = 16;
+let isOneColumn = false;
+let viewHeight = 0;
+const rem = () => unit;
+/** Whether the page is one column, as the style has it. */
+const isSmall = () => isOneColumn;
 
 function measure() {
   unit = parseFloat(getComputedStyle(document.documentElement).fontSize);
+  isOneColumn = matchMedia("(max-width: 40rem)").matches;
+  viewHeight = innerHeight;
   for (const id of [...Object.keys(DRAWN), "because"]) sizes[id] = [$(id).clientWidth, $(id).clientHeight];
 }
 
@@ -571,13 +627,22 @@ const watcher = new ResizeObserver((entries) => {
   }
 });
 
-const canvas = document.createElement("canvas").getContext("2d");
-let fontKey = "";
-const widths = new Map();
+/** Widths of texts at 100 px, by weight and text: a canvas for each weight, since setting its font costs more than measuring. */
+const rulers = new Map();
+
+function rulerOf(weight) {
+  const canvas = document.createElement("canvas").getContext("2d");
+  canvas.font = `${weight} 100px ${getComputedStyle(document.body).fontFamily}`;
+  const ruler = { canvas, widths: new Map() };
+  rulers.set(weight, ruler);
+  return ruler;
+}
+
 function widthOf(text, size, weight = 400) {
-  const key = `${weight} ${size} ${text}`;
-  if (!widths.has(key)) { canvas.font = `${weight} ${size}px ${fontKey}`; widths.set(key, canvas.measureText(text).width); }
-  return widths.get(key);
+  const { canvas, widths } = rulers.get(weight) ?? rulerOf(weight);
+  let width = widths.get(text);
+  if (width === undefined) widths.set(text, (width = canvas.measureText(text).width));
+  return (width * size) / 100;
 }
 /** The first of some texts that fits a width, else none. */
 const fitting = (texts, width, size, weight) => texts.find((it) => widthOf(it, size, weight) <= width) ?? "";
@@ -659,18 +724,21 @@ function showLanes() {
     first = Math.min(Math.max(0, here + lead - fits), count - fits);
   }
   const shownLast = Math.min(count, first + fits);
-  const most = isPhone ? 4 : Math.max(3, Math.floor(innerHeight / u / 9));
+  const most = isPhone ? 4 : Math.max(3, Math.floor(viewHeight / u / 9));
   const { ids, more } = lanesShown(first, Math.min(run.last, shownLast), most);
   const { hasDetect } = run;
-  const isShort = innerHeight < 48 * u && !isPhone;
+  const isShort = viewHeight < 48 * u && !isPhone;
   const tight = ids.length > 4 || isShort;
   const roomy = ids.length <= 2 && !isPhone && !tight;
   const laneH = (tight ? 2.85 : roomy ? 5 : ids.length > 3 ? 3.66 : 3.75) * u;
   const axisH = 1.35 * u;
   const detectH = hasDetect ? 2.1 * u : 0;
   const H = axisH + ids.length * laneH + detectH + 0.2 * u;
-  const x = (at) => gutter + (at - 1 - first) * cell; // the left edge of the column of a step
-  const xEdge = (at) => Math.min(Math.max(x(at), gutter), W);
+  // The columns are drawn as if the first step were at the left edge, and shifted: a step's column stays what it is.
+  const x = (at) => (at - 1) * cell;
+  const shift = gutter - first * cell;
+  const [low, high] = [first * cell, W - shift];
+  const xEdge = (at) => Math.min(Math.max(x(at), low), high);
   const laneY = new Map(ids.map((id, index) => [id, axisH + index * laneH]));
   if (hasDetect) laneY.set("detect", axisH + ids.length * laneH);
   const stripH = (roomy ? 1.15 : 1.05) * u;
@@ -679,9 +747,10 @@ function showLanes() {
   const isOneLine = cellH < 2 * u;
   const detectCell = detectH - 0.35 * u;
   const horizon = isFuture ? run.last : here;
+  const still = [];
   const out = [];
   // the column of this step
-  if (here > first) out.push(`<rect class="now" x="${f1(x(here))}" y="0" width="${f1(cell)}" height="${f1(H)}"/>`);
+  if (here > first) still.push(`<rect class="now" x="${f1(x(here) + shift)}" y="0" width="${f1(cell)}" height="${f1(H)}"/>`);
   // the axis
   const every = widthOf(String(run.done + run.last), 0.95 * u) > cell * 0.8 ? 5 : 1;
   for (let at = first + 1; at <= shownLast && at <= run.last; at++) {
@@ -691,20 +760,19 @@ function showLanes() {
   }
   ids.forEach((id) => {
     const y = laneY.get(id);
-    out.push(`<line class="rule" x1="0" x2="${W}" y1="${f1(y)}" y2="${f1(y)}"/>`);
-    out.push(laneHead(id, y, laneH, gutter, u, isPhone));
-    out.push(laneStrip(id, y, stripH, x, xEdge, first, Math.min(shownLast, run.last), horizon, u, cell));
+    still.push(`<line class="rule" x1="0" x2="${W}" y1="${f1(y)}" y2="${f1(y)}"/>`, laneHead(id, y, laneH, gutter, u, isPhone));
+    out.push(...laneStrip(id, y, stripH, x, xEdge, first, Math.min(shownLast, run.last), horizon, u, cell));
     for (const wait of run.waitings.get(id)) {
       if (wait.from > horizon) continue;
       const to = wait.to !== null && wait.to <= horizon ? x(wait.to) + cell / 2 : x(Math.min(horizon, run.last) + 1);
-      const [left, right] = [Math.max(x(wait.from) + cell / 2, gutter), Math.min(to, W)];
+      const [left, right] = [Math.max(x(wait.from) + cell / 2, low), Math.min(to, high)];
       if (right <= left) continue;
       out.push(`<rect class="waiting" x="${f1(left)}" y="${f1(cellY(id) + cellH * 0.16)}" width="${f1(right - left)}" height="${f1(cellH * 0.68)}"/>`);
     }
   });
   if (hasDetect) {
     const y = laneY.get("detect");
-    out.push(`<line class="rule" x1="0" x2="${W}" y1="${f1(y)}" y2="${f1(y)}"/><text class="lane-name soft" x="${f1(0.2 * u)}" y="${f1(y + 1.35 * u)}">${isPhone ? "search" : "deadlock search"}</text>`);
+    still.push(`<line class="rule" x1="0" x2="${W}" y1="${f1(y)}" y2="${f1(y)}"/>`, `<text class="lane-name soft" x="${f1(0.2 * u)}" y="${f1(y + 1.35 * u)}">${isPhone ? "search" : "deadlock search"}</text>`);
   }
   // arrows go up and down in the column of their step
   for (let at = first + 1; at <= Math.min(shownLast, horizon); at++) {
@@ -759,8 +827,9 @@ function showLanes() {
       out.push(`<g class="cell ghost next" data-next="${next}" role="button" tabindex="0" aria-label="${esc(tree.names[who])} moves: ${esc(words.join(" "))}"><rect x="${f1(x(here + 1) + 0.1 * u)}" y="${f1(cellY(id))}" width="${f1(cell - 0.2 * u)}" height="${f1(cellH)}" rx="${f1(0.3 * u)}"/><text class="op" x="${f1(cx)}" y="${f1(cellY(id) + cellH / 2 - (isOneLine ? -0.34 : 0.14) * u)}" text-anchor="middle">${esc(op)}</text>${isOneLine ? "" : `<text class="detail" x="${f1(cx)}" y="${f1(cellY(id) + cellH / 2 + 0.9 * u)}" text-anchor="middle">${esc(about)}</text>`}</g>`);
     });
   }
-  if (more > 0) out.push(`<text class="tick" x="${f1(0.2 * u)}" y="${f1(0.95 * u)}">+ ${more} more</text>`);
-  put("lanes", `<svg width="${W}" height="${f1(H)}" viewBox="0 0 ${W} ${f1(H)}" role="group" aria-label="Steps ${run.done + first + 1} to ${run.done + Math.min(shownLast, run.last)}">${out.join("")}</svg>`);
+  if (more > 0) still.push(`<text class="tick" x="${f1(0.2 * u)}" y="${f1(0.95 * u)}">+ ${more} more</text>`);
+  const label = `Steps ${run.done + first + 1} to ${run.done + Math.min(shownLast, run.last)}`;
+  putDrawing("lanes", { width: `${W}`, height: `${f1(H)}`, viewBox: `0 0 ${W} ${f1(H)}`, role: "group", "aria-label": label }, [{ shift: 0, parts: still }, { shift, parts: out }]);
   document.body.dataset.lanes = ids.length;
   $("slider").hidden = !isWindow;
   view = { first, cell, gutter };
@@ -794,7 +863,7 @@ function laneHead(id, y, h, gutter, u, isPhone) {
 
 const PHASES = { active: ["active", "act"], finished: ["finished", "fin"], preparing: ["preparing", "prep"], committed: ["committed", "com"], aborted: ["aborted", "abo"] };
 
-/** The strip of a lane: its phases, each with its pattern and its name. */
+/** The parts of the strip of a lane: its phases, each with its pattern and its name. */
 function laneStrip(id, y, h, x, xEdge, first, shownLast, horizon, u, cell) {
   const list = run.phases.get(id);
   const out = [];
@@ -809,9 +878,9 @@ function laneStrip(id, y, h, x, xEdge, first, shownLast, horizon, u, cell) {
     if (phase.kind === "terminated") { out.push(`<line class="over" x1="${f1(left)}" x2="${f1(right)}" y1="${f1(y + h / 2 + 0.2 * u)}" y2="${f1(y + h / 2 + 0.2 * u)}"/>`); return; }
     out.push(`<rect class="strip ${phase.kind}${isOpen ? " open" : ""}" x="${f1(left)}" y="${f1(y + 0.2 * u)}" width="${f1(right - left)}" height="${f1(h)}"/>`);
     const text = fitting(PHASES[phase.kind], right - left - 0.6 * u, 0.95 * u, 600);
-    if (text) out.push(`<rect class="plate ${phase.kind}" x="${f1(left + 0.2 * u)}" y="${f1(y + 0.28 * u)}" width="${f1(widthOf(text, 0.95 * u, 600) + 0.4 * u)}" height="${f1(h - 0.16 * u)}"/><text class="phase ${phase.kind}" x="${f1(left + 0.4 * u)}" y="${f1(y + 0.2 * u + h * 0.78)}">${text}</text>`);
+    if (text) out.push(`<g><rect class="plate ${phase.kind}" x="${f1(left + 0.2 * u)}" y="${f1(y + 0.28 * u)}" width="${f1(widthOf(text, 0.95 * u, 600) + 0.4 * u)}" height="${f1(h - 0.16 * u)}"/><text class="phase ${phase.kind}" x="${f1(left + 0.4 * u)}" y="${f1(y + 0.2 * u + h * 0.78)}">${text}</text></g>`);
   });
-  return out.join("");
+  return out;
 }
 
 /* ---- the versions on an axis of time */
@@ -864,7 +933,7 @@ function showChains() {
   const buckets = run.bucketIds.map((it) => run.get(it, here)).filter(Boolean);
   const axisH = 1.5 * u;
   const bucketH = buckets.length ? 1.7 * u : 0;
-  const least = (innerHeight < 48 * u && !isPhone ? 1.68 : 2.05) * u;
+  const least = (viewHeight < 48 * u && !isPhone ? 1.68 : 2.05) * u;
   const rowsFit = isPhone ? 12 : Math.max(2, Math.floor((room - axisH - bucketH - 0.3 * u) / least));
   const { keys, hidden } = keysShown(rowsFit, step, sights);
   const count = keys.reduce((sum, it) => sum + it.versions.length, 0);
@@ -903,11 +972,12 @@ function showChains() {
   out.push(`<text class="tick inf" x="${f1(endX)}" y="${f1(1.12 * u)}" text-anchor="middle">\u221e</text>`);
   let y = top;
   const tokens = [];
+  const readers = readersHere();
   for (const { key, versions } of keys) {
     out.push(`<line class="rule" x1="0" x2="${W}" y1="${f1(y)}" y2="${f1(y)}"/>`);
     out.push(`<text class="keyname" x="${f1(0.2 * u)}" y="${f1(y + rowH / 2 + 0.38 * u * k)}">${isPhone ? "" : "key "}${esc(key)}</text>`);
     for (const it of versions) {
-      const [under, over] = versionRow(it, y, rowH, { u: u * k, W, X, endX, futureX, left, right, sights, actor, isPhone, narrow, now, lookX: time !== null && place.has(time) ? X(time) : null });
+      const [under, over] = versionRow(it, y, rowH, { u: u * k, W, X, endX, futureX, left, right, sights, actor, isPhone, narrow, now, readers, lookX: time !== null && place.has(time) ? X(time) : null });
       out.push(under);
       tokens.push(over);
       y += rowH;
@@ -922,10 +992,11 @@ function showChains() {
   out.push(...tokens);
   if (bucketH) {
     const texts = buckets.map((it) => `bucket ${it.bucket}: locked by ${it.holders.map(nameOf).join(", ")}`).join("; ");
-    out.push(`<line class="rule" x1="0" x2="${W}" y1="${f1(foot)}" y2="${f1(foot)}"/><text class="bucket" x="${f1(0.2 * u)}" y="${f1(foot + 1.2 * u)}">${esc(fitting([texts, texts.slice(0, Math.floor(W / u * 1.7)) + "\u2026"], W - u, u) || texts.slice(0, 40))}</text>`);
+    out.push(`<line class="rule" x1="0" x2="${W}" y1="${f1(foot)}" y2="${f1(foot)}"/>`, `<text class="bucket" x="${f1(0.2 * u)}" y="${f1(foot + 1.2 * u)}">${esc(fitting([texts, texts.slice(0, Math.floor(W / u * 1.7)) + "\u2026"], W - u, u) || texts.slice(0, 40))}</text>`);
   }
   if (hidden) out.push(`<text class="tick" x="${f1(0.2 * u)}" y="${f1(1.05 * u)}">+ ${hidden} more</text>`);
-  put("chains", `<svg width="${W}" height="${f1(H)}" viewBox="0 0 ${W} ${f1(H)}" style="font-size:${f1(u * k)}px" role="group" aria-label="Versions">${out.join("")}</svg>`);
+  const attributes = { width: `${W}`, height: `${f1(H)}`, viewBox: `0 0 ${W} ${f1(H)}`, style: `font-size:${f1(u * k)}px`, role: "group", "aria-label": "Versions" };
+  putDrawing("chains", attributes, [{ shift: 0, parts: out }]);
 }
 
 /** The plate over the line at which a transaction looks: over the line, and left of the label of now where that is another time. */
@@ -933,6 +1004,13 @@ function plateOf(text, x, nowX, W, u) {
   const wide = widthOf(text, 0.95 * u, 600) + 0.6 * u;
   const most = nowX === null ? W - wide : Math.max(x - wide + 0.4 * u, nowX - 2 * u - wide);
   return { text, wide, left: Math.max(Math.min(x - wide / 2, most), 0) };
+}
+
+/** The transactions that read-lock each version here. */
+function readersHere() {
+  const readers = new Map();
+  for (const id of run.txnIds) for (const v of run.txn(id, here).reads) readers.set(v, [...(readers.get(v) ?? []), id]);
+  return readers;
 }
 
 function versionRow(it, y, h, at) {
@@ -989,7 +1067,7 @@ function versionRow(it, y, h, at) {
   // the locks: readers as round tokens, the writer as a square one with a lock
   const under = out.splice(0).join("") + "</g>";
   out.push(`<g class="version${touched ? " touched" : ""}${isNever ? " never" : ""}" data-v="${it.v}">`);
-  const readers = run.txnIds.filter((id) => run.txn(id, here).reads.includes(String(it.v)));
+  const readers = at.readers.get(String(it.v)) ?? [];
   const r = Math.min(h * 0.36, 0.9 * u);
   const mid = y + h / 2;
   let width = readers.length * (2 * r + 0.15 * u) + (it.writer ? 2 * r + 1.15 * u : 0) + (it.noMore ? 2 * r + 0.3 * u : 0);
@@ -1632,8 +1710,6 @@ function fromHash(hash = decodeURIComponent(location.hash.slice(1))) {
 }
 
 function resized() {
-  fontKey = getComputedStyle(document.body).fontFamily;
-  widths.clear();
   measure();
   show();
 }
@@ -1657,7 +1733,6 @@ if (isTree) {
   document.querySelector('[data-do="secret"]').hidden = false;
   for (const name of ["predict", "future"]) document.querySelector(`[data-do="${name}"]`).hidden = true;
 }
-fontKey = getComputedStyle(document.body).fontFamily;
 measure();
 fromHash();
 measure();

@@ -81,7 +81,7 @@ main { flex: 1; min-height: 0; display: grid; grid-template-columns: minmax(0, 1
 .rule { stroke: var(--line); stroke-width: 1; fill: none; }
 .tick { fill: var(--soft); font-size: 0.95rem; font-variant-numeric: tabular-nums; }
 .tick.at { fill: var(--ink); font-weight: 700; font-size: 1.05rem; }
-#lanes .now ~ .tick.at { fill: var(--here-ink); }
+#lanes .tick.at { fill: var(--here-ink); }
 .lane-name { font-size: 1.5rem; font-weight: 700; fill: var(--c, var(--ink)); }
 .lane-name.soft { font-size: 1rem; font-weight: 400; fill: var(--soft); }
 .lane-level { font-size: 0.95rem; fill: var(--soft); }
@@ -265,11 +265,11 @@ dialog::backdrop { background: #0009; }
 @media (max-width: 40rem) {
   html { font-size: 16px; } html.present { font-size: 19px; }
   body { display: block; height: auto; overflow: auto; }
-  #bar { flex-wrap: wrap; padding: 0.3rem 0.5rem; gap: 0.3rem; } #bar > :is(h1, .way) { order: -1; } #about { display: none; } #bar h1 { font-size: 1.05rem; flex: 1 1 40%; } #bar .space { display: none; } .modes { flex: 1 1 0 !important; min-width: 0; overflow-x: auto; } .modes button { min-height: 2.4rem; } #bar nav { flex: none; gap: 0.15rem; } #bar nav button { min-width: 2.3rem; min-height: 2.4rem; padding: 0; } #position { min-width: 3.7rem; font-size: 1rem; }
+  #bar { flex-wrap: wrap; padding: 0.3rem 0.5rem; gap: 0.3rem; } #bar > :is(h1, .way) { order: -1; } #about { display: none; } #bar h1 { font-size: 1.05rem; flex: 1 1 40%; } #bar .space { display: none; } .modes { flex: 1 1 0 !important; min-width: 0; overflow-x: auto; } .modes button { min-height: 2.4rem; white-space: nowrap; } #bar nav { flex: none; gap: 0.15rem; } #bar nav button { min-width: 2.3rem; min-height: 2.4rem; padding: 0; } #position { min-width: 3.7rem; font-size: 1rem; }
   [data-do="present"] { display: none; }
   main { display: block; padding: 0.2rem 0.5rem; }
   #top { position: sticky; top: 0; background: var(--bg); z-index: 2; padding-bottom: 0.3rem; }
-  #say { display: block; height: auto; max-height: 13rem; overflow: auto; } .plain { font-size: 1.2rem; } .event { font-size: 1.05rem; } .tree #say { height: auto; max-height: 19rem; }
+  #say { display: block; height: auto; max-height: 15.5rem; overflow: auto; } .plain { font-size: 1.2rem; } .event { font-size: 1.05rem; } .tree #say { height: auto; max-height: 19rem; }
   .choices button { font-size: 0.95rem; padding: 0.4rem 0.35rem; } .pick { grid-template-columns: 1fr; gap: 0.3rem; }
   .panel { margin-top: 0.5rem; } .legend { display: block; margin-left: 0; } .legend svg:first-child { margin-left: 0; } #waits .fill { height: 8rem; flex: none; } .fill { overflow: visible; contain: none; }
 }

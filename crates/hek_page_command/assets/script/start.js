@@ -29,8 +29,6 @@ function fromHash(hash = decodeURIComponent(location.hash.slice(1))) {
 }
 
 function resized() {
-  fontKey = getComputedStyle(document.body).fontFamily;
-  widths.clear();
   measure();
   show();
 }
@@ -54,7 +52,6 @@ if (isTree) {
   document.querySelector('[data-do="secret"]').hidden = false;
   for (const name of ["predict", "future"]) document.querySelector(`[data-do="${name}"]`).hidden = true;
 }
-fontKey = getComputedStyle(document.body).fontFamily;
 measure();
 fromHash();
 measure();

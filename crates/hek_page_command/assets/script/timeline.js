@@ -73,18 +73,21 @@ function showLanes() {
     first = Math.min(Math.max(0, here + lead - fits), count - fits);
   }
   const shownLast = Math.min(count, first + fits);
-  const most = isPhone ? 4 : Math.max(3, Math.floor(innerHeight / u / 9));
+  const most = isPhone ? 4 : Math.max(3, Math.floor(viewHeight / u / 9));
   const { ids, more } = lanesShown(first, Math.min(run.last, shownLast), most);
   const { hasDetect } = run;
-  const isShort = innerHeight < 48 * u && !isPhone;
+  const isShort = viewHeight < 48 * u && !isPhone;
   const tight = ids.length > 4 || isShort;
   const roomy = ids.length <= 2 && !isPhone && !tight;
   const laneH = (tight ? 2.85 : roomy ? 5 : ids.length > 3 ? 3.66 : 3.75) * u;
   const axisH = 1.35 * u;
   const detectH = hasDetect ? 2.1 * u : 0;
   const H = axisH + ids.length * laneH + detectH + 0.2 * u;
-  const x = (at) => gutter + (at - 1 - first) * cell; // the left edge of the column of a step
-  const xEdge = (at) => Math.min(Math.max(x(at), gutter), W);
+  // The columns are drawn as if the first step were at the left edge, and shifted: a step's column stays what it is.
+  const x = (at) => (at - 1) * cell;
+  const shift = gutter - first * cell;
+  const [low, high] = [first * cell, W - shift];
+  const xEdge = (at) => Math.min(Math.max(x(at), low), high);
   const laneY = new Map(ids.map((id, index) => [id, axisH + index * laneH]));
   if (hasDetect) laneY.set("detect", axisH + ids.length * laneH);
   const stripH = (roomy ? 1.15 : 1.05) * u;
@@ -93,9 +96,10 @@ function showLanes() {
   const isOneLine = cellH < 2 * u;
   const detectCell = detectH - 0.35 * u;
   const horizon = isFuture ? run.last : here;
+  const still = [];
   const out = [];
   // the column of this step
-  if (here > first) out.push(`<rect class="now" x="${f1(x(here))}" y="0" width="${f1(cell)}" height="${f1(H)}"/>`);
+  if (here > first) still.push(`<rect class="now" x="${f1(x(here) + shift)}" y="0" width="${f1(cell)}" height="${f1(H)}"/>`);
   // the axis
   const every = widthOf(String(run.done + run.last), 0.95 * u) > cell * 0.8 ? 5 : 1;
   for (let at = first + 1; at <= shownLast && at <= run.last; at++) {
@@ -105,20 +109,19 @@ function showLanes() {
   }
   ids.forEach((id) => {
     const y = laneY.get(id);
-    out.push(`<line class="rule" x1="0" x2="${W}" y1="${f1(y)}" y2="${f1(y)}"/>`);
-    out.push(laneHead(id, y, laneH, gutter, u, isPhone));
-    out.push(laneStrip(id, y, stripH, x, xEdge, first, Math.min(shownLast, run.last), horizon, u, cell));
+    still.push(`<line class="rule" x1="0" x2="${W}" y1="${f1(y)}" y2="${f1(y)}"/>`, laneHead(id, y, laneH, gutter, u, isPhone));
+    out.push(...laneStrip(id, y, stripH, x, xEdge, first, Math.min(shownLast, run.last), horizon, u, cell));
     for (const wait of run.waitings.get(id)) {
       if (wait.from > horizon) continue;
       const to = wait.to !== null && wait.to <= horizon ? x(wait.to) + cell / 2 : x(Math.min(horizon, run.last) + 1);
-      const [left, right] = [Math.max(x(wait.from) + cell / 2, gutter), Math.min(to, W)];
+      const [left, right] = [Math.max(x(wait.from) + cell / 2, low), Math.min(to, high)];
       if (right <= left) continue;
       out.push(`<rect class="waiting" x="${f1(left)}" y="${f1(cellY(id) + cellH * 0.16)}" width="${f1(right - left)}" height="${f1(cellH * 0.68)}"/>`);
     }
   });
   if (hasDetect) {
     const y = laneY.get("detect");
-    out.push(`<line class="rule" x1="0" x2="${W}" y1="${f1(y)}" y2="${f1(y)}"/><text class="lane-name soft" x="${f1(0.2 * u)}" y="${f1(y + 1.35 * u)}">${isPhone ? "search" : "deadlock search"}</text>`);
+    still.push(`<line class="rule" x1="0" x2="${W}" y1="${f1(y)}" y2="${f1(y)}"/>`, `<text class="lane-name soft" x="${f1(0.2 * u)}" y="${f1(y + 1.35 * u)}">${isPhone ? "search" : "deadlock search"}</text>`);
   }
   // arrows go up and down in the column of their step
   for (let at = first + 1; at <= Math.min(shownLast, horizon); at++) {
@@ -173,8 +176,9 @@ function showLanes() {
       out.push(`<g class="cell ghost next" data-next="${next}" role="button" tabindex="0" aria-label="${esc(tree.names[who])} moves: ${esc(words.join(" "))}"><rect x="${f1(x(here + 1) + 0.1 * u)}" y="${f1(cellY(id))}" width="${f1(cell - 0.2 * u)}" height="${f1(cellH)}" rx="${f1(0.3 * u)}"/><text class="op" x="${f1(cx)}" y="${f1(cellY(id) + cellH / 2 - (isOneLine ? -0.34 : 0.14) * u)}" text-anchor="middle">${esc(op)}</text>${isOneLine ? "" : `<text class="detail" x="${f1(cx)}" y="${f1(cellY(id) + cellH / 2 + 0.9 * u)}" text-anchor="middle">${esc(about)}</text>`}</g>`);
     });
   }
-  if (more > 0) out.push(`<text class="tick" x="${f1(0.2 * u)}" y="${f1(0.95 * u)}">+ ${more} more</text>`);
-  put("lanes", `<svg width="${W}" height="${f1(H)}" viewBox="0 0 ${W} ${f1(H)}" role="group" aria-label="Steps ${run.done + first + 1} to ${run.done + Math.min(shownLast, run.last)}">${out.join("")}</svg>`);
+  if (more > 0) still.push(`<text class="tick" x="${f1(0.2 * u)}" y="${f1(0.95 * u)}">+ ${more} more</text>`);
+  const label = `Steps ${run.done + first + 1} to ${run.done + Math.min(shownLast, run.last)}`;
+  putDrawing("lanes", { width: `${W}`, height: `${f1(H)}`, viewBox: `0 0 ${W} ${f1(H)}`, role: "group", "aria-label": label }, [{ shift: 0, parts: still }, { shift, parts: out }]);
   document.body.dataset.lanes = ids.length;
   $("slider").hidden = !isWindow;
   view = { first, cell, gutter };
@@ -208,7 +212,7 @@ function laneHead(id, y, h, gutter, u, isPhone) {
 
 const PHASES = { active: ["active", "act"], finished: ["finished", "fin"], preparing: ["preparing", "prep"], committed: ["committed", "com"], aborted: ["aborted", "abo"] };
 
-/** The strip of a lane: its phases, each with its pattern and its name. */
+/** The parts of the strip of a lane: its phases, each with its pattern and its name. */
 function laneStrip(id, y, h, x, xEdge, first, shownLast, horizon, u, cell) {
   const list = run.phases.get(id);
   const out = [];
@@ -223,7 +227,7 @@ function laneStrip(id, y, h, x, xEdge, first, shownLast, horizon, u, cell) {
     if (phase.kind === "terminated") { out.push(`<line class="over" x1="${f1(left)}" x2="${f1(right)}" y1="${f1(y + h / 2 + 0.2 * u)}" y2="${f1(y + h / 2 + 0.2 * u)}"/>`); return; }
     out.push(`<rect class="strip ${phase.kind}${isOpen ? " open" : ""}" x="${f1(left)}" y="${f1(y + 0.2 * u)}" width="${f1(right - left)}" height="${f1(h)}"/>`);
     const text = fitting(PHASES[phase.kind], right - left - 0.6 * u, 0.95 * u, 600);
-    if (text) out.push(`<rect class="plate ${phase.kind}" x="${f1(left + 0.2 * u)}" y="${f1(y + 0.28 * u)}" width="${f1(widthOf(text, 0.95 * u, 600) + 0.4 * u)}" height="${f1(h - 0.16 * u)}"/><text class="phase ${phase.kind}" x="${f1(left + 0.4 * u)}" y="${f1(y + 0.2 * u + h * 0.78)}">${text}</text>`);
+    if (text) out.push(`<g><rect class="plate ${phase.kind}" x="${f1(left + 0.2 * u)}" y="${f1(y + 0.28 * u)}" width="${f1(widthOf(text, 0.95 * u, 600) + 0.4 * u)}" height="${f1(h - 0.16 * u)}"/><text class="phase ${phase.kind}" x="${f1(left + 0.4 * u)}" y="${f1(y + 0.2 * u + h * 0.78)}">${text}</text></g>`);
   });
-  return out.join("");
+  return out;
 }

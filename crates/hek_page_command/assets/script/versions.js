@@ -48,7 +48,7 @@ function showChains() {
   const buckets = run.bucketIds.map((it) => run.get(it, here)).filter(Boolean);
   const axisH = 1.5 * u;
   const bucketH = buckets.length ? 1.7 * u : 0;
-  const least = (innerHeight < 48 * u && !isPhone ? 1.68 : 2.05) * u;
+  const least = (viewHeight < 48 * u && !isPhone ? 1.68 : 2.05) * u;
   const rowsFit = isPhone ? 12 : Math.max(2, Math.floor((room - axisH - bucketH - 0.3 * u) / least));
   const { keys, hidden } = keysShown(rowsFit, step, sights);
   const count = keys.reduce((sum, it) => sum + it.versions.length, 0);
@@ -87,11 +87,12 @@ function showChains() {
   out.push(`<text class="tick inf" x="${f1(endX)}" y="${f1(1.12 * u)}" text-anchor="middle">\u221e</text>`);
   let y = top;
   const tokens = [];
+  const readers = readersHere();
   for (const { key, versions } of keys) {
     out.push(`<line class="rule" x1="0" x2="${W}" y1="${f1(y)}" y2="${f1(y)}"/>`);
     out.push(`<text class="keyname" x="${f1(0.2 * u)}" y="${f1(y + rowH / 2 + 0.38 * u * k)}">${isPhone ? "" : "key "}${esc(key)}</text>`);
     for (const it of versions) {
-      const [under, over] = versionRow(it, y, rowH, { u: u * k, W, X, endX, futureX, left, right, sights, actor, isPhone, narrow, now, lookX: time !== null && place.has(time) ? X(time) : null });
+      const [under, over] = versionRow(it, y, rowH, { u: u * k, W, X, endX, futureX, left, right, sights, actor, isPhone, narrow, now, readers, lookX: time !== null && place.has(time) ? X(time) : null });
       out.push(under);
       tokens.push(over);
       y += rowH;
@@ -106,10 +107,11 @@ function showChains() {
   out.push(...tokens);
   if (bucketH) {
     const texts = buckets.map((it) => `bucket ${it.bucket}: locked by ${it.holders.map(nameOf).join(", ")}`).join("; ");
-    out.push(`<line class="rule" x1="0" x2="${W}" y1="${f1(foot)}" y2="${f1(foot)}"/><text class="bucket" x="${f1(0.2 * u)}" y="${f1(foot + 1.2 * u)}">${esc(fitting([texts, texts.slice(0, Math.floor(W / u * 1.7)) + "\u2026"], W - u, u) || texts.slice(0, 40))}</text>`);
+    out.push(`<line class="rule" x1="0" x2="${W}" y1="${f1(foot)}" y2="${f1(foot)}"/>`, `<text class="bucket" x="${f1(0.2 * u)}" y="${f1(foot + 1.2 * u)}">${esc(fitting([texts, texts.slice(0, Math.floor(W / u * 1.7)) + "\u2026"], W - u, u) || texts.slice(0, 40))}</text>`);
   }
   if (hidden) out.push(`<text class="tick" x="${f1(0.2 * u)}" y="${f1(1.05 * u)}">+ ${hidden} more</text>`);
-  put("chains", `<svg width="${W}" height="${f1(H)}" viewBox="0 0 ${W} ${f1(H)}" style="font-size:${f1(u * k)}px" role="group" aria-label="Versions">${out.join("")}</svg>`);
+  const attributes = { width: `${W}`, height: `${f1(H)}`, viewBox: `0 0 ${W} ${f1(H)}`, style: `font-size:${f1(u * k)}px`, role: "group", "aria-label": "Versions" };
+  putDrawing("chains", attributes, [{ shift: 0, parts: out }]);
 }
 
 /** The plate over the line at which a transaction looks: over the line, and left of the label of now where that is another time. */
@@ -117,6 +119,13 @@ function plateOf(text, x, nowX, W, u) {
   const wide = widthOf(text, 0.95 * u, 600) + 0.6 * u;
   const most = nowX === null ? W - wide : Math.max(x - wide + 0.4 * u, nowX - 2 * u - wide);
   return { text, wide, left: Math.max(Math.min(x - wide / 2, most), 0) };
+}
+
+/** The transactions that read-lock each version here. */
+function readersHere() {
+  const readers = new Map();
+  for (const id of run.txnIds) for (const v of run.txn(id, here).reads) readers.set(v, [...(readers.get(v) ?? []), id]);
+  return readers;
 }
 
 function versionRow(it, y, h, at) {
@@ -173,7 +182,7 @@ function versionRow(it, y, h, at) {
   // the locks: readers as round tokens, the writer as a square one with a lock
   const under = out.splice(0).join("") + "</g>";
   out.push(`<g class="version${touched ? " touched" : ""}${isNever ? " never" : ""}" data-v="${it.v}">`);
-  const readers = run.txnIds.filter((id) => run.txn(id, here).reads.includes(String(it.v)));
+  const readers = at.readers.get(String(it.v)) ?? [];
   const r = Math.min(h * 0.36, 0.9 * u);
   const mid = y + h / 2;
   let width = readers.length * (2 * r + 0.15 * u) + (it.writer ? 2 * r + 1.15 * u : 0) + (it.noMore ? 2 * r + 0.3 * u : 0);
