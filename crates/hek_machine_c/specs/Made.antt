@@ -1,0 +1,41 @@
+-- What the functions for C answer.
+use Rattle.std.specs.Prelude.{ℕ, ◌≡◌, ◌≤◌, ◌++◌, List, length, take, Ok, Err, Some}
+use Rattle.hek_rules.specs.Plan.{Plan}
+use Rattle.hek_asm.specs.declared.fault.AsmKind.{AsmKind}
+use Rattle.hek_asm.specs.Text.{schedule_of}
+use Rattle.hek_commands.specs.declared.fault.HekFault.{HekFault}
+use Rattle.hek_commands.specs.declared.fault.HekFault.TheVariants.{Line, NotText, CannotWrite}
+use Rattle.hek_commands.specs.Commands.{ScheduleTextFails}
+use Rattle.hek_commands.specs.Ran.{trace_of_steps, trace_of, first_events, clock_text, world_after}
+
+abbrev pub status_of : HekFault → ℕ
+status_of (Line line kind) = 1
+status_of NotText = 2
+status_of fault = 3
+
+abbrev pub line_of : HekFault → ℕ
+line_of (Line line kind) = line
+line_of fault = 0
+
+-- the trace of the schedule that a text describes
+abbrev pub IsTraceOfText : List ℕ → List ℕ → Type 0
+IsTraceOfText text made = (plan : Plan) × (schedule_of text ≡ Ok plan) × (made ≡ trace_of_steps plan)
+
+-- the trace of its first steps, the line of the clock after them, and the other lines of that state
+abbrev pub IsStateOfText : ℕ → List ℕ → List ℕ → Type 0
+IsStateOfText steps text made =
+    (plan : Plan) × (schedule_of text ≡ Ok plan) × (more : List ℕ)
+    × (made ≡ trace_of plan (first_events (Some steps) plan.steps) ++ (clock_text (world_after plan (first_events (Some steps) plan.steps)).clock ++ more))
+
+-- the text is at the beginning of the room, whose length is as it was
+abbrev pub IsIn : List ℕ → List ℕ → List ℕ → Type 0
+IsIn made before after = (length after ≡ length before) × (length made ≤ length before) × (take (length made) after ≡ made)
+
+-- this line of the text is the first at fault
+abbrev pub HasFaultAt : ℕ → List ℕ → Type 0
+HasFaultAt line text = (kind : AsmKind) × (schedule_of text ≡ Err (line, kind))
+
+-- why nothing is made of a text
+abbrev pub MakingFails : List ℕ → HekFault → Type 0
+MakingFails text CannotWrite = Unit {0}
+MakingFails text fault = ScheduleTextFails text fault

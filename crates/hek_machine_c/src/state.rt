@@ -1,0 +1,31 @@
+//! The state after some steps of a schedule.
+ghost use Rattle.std.specs.Prelude.{◌≡◌, ◌≢◌, ℕ, List, length, MatchResult};
+ghost use Rattle.hek_machine_c.specs.Made.{HasFaultAt, MakingFails, IsIn, IsStateOfText};
+
+use crate::copied::{copied, owned};
+use crate::made::{HekMade, failed};
+use hek_commands::{HekFault, ScheduleFile, state_command};
+use std::alloc::Global;
+
+/// Runs the first `steps` steps of the schedule that a text describes, or all if it has fewer, and writes their trace and then
+/// the state into the room at `out`, as `hek run --text --state-at` prints them.
+#[unsafe(no_mangle)]
+pub extern "C" fn hek_state(alloc: Global, text: &[u8], steps: u64, out: &mut [u8]) -> HekMade
+    ensures made { result.status ≡ 0 → (lines : List ℕ) × IsStateOfText steps text.now lines × IsIn lines out.old out.new × (result.length ≡ length lines) }
+    ensures kept { result.status ≢ 0 → out.new ≡ out.old }
+    ensures line { result.status ≡ 1 → HasFaultAt result.line text.now }
+{
+    match state(alloc, text, steps) {
+        Ok(lines) => copied(lines.as_slice(), out),
+        Err(fault) => failed(fault),
+    }
+}
+
+fn state<'a>(alloc: Global, text: &[u8], steps: u64) -> Result<Vec<u8>, HekFault<'a>>
+    ensures { MatchResult result (λ lines. IsStateOfText steps text.now lines.items) (MakingFails text.now) }
+{
+    let file: ScheduleFile<&[u8]> = ScheduleFile::Text(owned(alloc, text)?);
+    let mut lines = Vec::new(alloc);
+    state_command(alloc, file, Some(steps), &mut lines)?;
+    Ok(lines)
+}
