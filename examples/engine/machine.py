@@ -74,6 +74,7 @@ def main(file, library=f"{ROOT}/bin/libhek_machine.so"):
     print(*machine.state(len(steps)), sep="\n")
 
 
-if len(sys.argv) not in (2, 3):
-    sys.exit(__doc__)
-main(*sys.argv[1:])
+if __name__ == "__main__":
+    if len(sys.argv) not in (2, 3):
+        sys.exit(__doc__)
+    main(*sys.argv[1:])
