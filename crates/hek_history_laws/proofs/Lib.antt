@@ -1,0 +1,5 @@
+pub mod EndTimes
+pub mod InOrder
+pub mod Points
+pub mod Answered
+pub mod Explained
