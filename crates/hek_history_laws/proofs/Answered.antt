@@ -1,7 +1,7 @@
 -- The operations of a transaction that were answered: what they write, and that their answers are right.
-use Rattle.std.proofs.Common.{◌≡◌, ◌==◌, ℕ, zero, suc, ◌<◌, Bool, true, false, cond, List, [], ◌∷◌, ◌++◌, Option, Some, None, refl, sym, ap, ◌∙◌, inl, inr, ⊎_elim, subst, take, arith}
+use Rattle.std.proofs.Common.{◌≡◌, ◌==◌, ℕ, zero, suc, ◌<◌, Bool, true, false, List, [], ◌∷◌, ◌++◌, Option, Some, None, refl, sym, ap, ◌∙◌, ⊎_elim, subst, take, arith}
 use Rattle.std.proofs.lemmas.Bool.{cases_Bool, cond-true, cond-false, cond_both, eq-eqb, eqb-true, ne_eqb}
-use Rattle.std.specs.Prelude.{◌&&◌, ◌%◌, not, is_some, slice_get, map, filter, if◌then◌else◌}
+use Rattle.std.specs.Prelude.{◌&&◌, ◌%◌, not, is_some, map, if◌then◌else◌}
 use Rattle.hek_rules.specs.declared.event.Level.TheVariants.{Serializable}
 use Rattle.hek_rules.specs.declared.event.Event.{Event}
 use Rattle.hek_rules.specs.declared.event.Event.TheVariants as event
@@ -46,10 +46,10 @@ first_true true b c e = refl
 first_true false b c e = e
 
 unwritten : (t : ℕ) (e : Event) (r : Reply) → (is_of t e && is_operation e && is_answer r) ≡ false → write_of t e r ≡ []
-unwritten t (event.Insert x key value) reply.Done no = rw (plain_true (x == t) no) refl
-unwritten t (event.Update x key value) reply.Done no = rw (plain_true (x == t) no) refl
-unwritten t (event.Delete x key) reply.Done no = rw (plain_true (x == t) no) refl
-unwritten t e r no = refl
+unwritten t (event.Insert x key value) reply.Done off = rw (plain_true (x == t) off) refl
+unwritten t (event.Update x key value) reply.Done off = rw (plain_true (x == t) off) refl
+unwritten t (event.Delete x key) reply.Done off = rw (plain_true (x == t) off) refl
+unwritten t e r off = refl
 
 -- what an operation writes is what its entry writes
 abbrev WritesAs : ℕ → Operation → List (ℕ × ℕ) → Event × Reply → Type 0
@@ -73,10 +73,10 @@ writes_as buckets t (Scan (Bucket count bucket) pairs) rows p e =
 -- the first entry, if it was answered and if it was not
 with_first : (buckets t : ℕ) (p : Event × Reply) (ps : List (Event × Reply)) (ops : List Operation) → AreAnswered buckets t (p ∷ ps) ops → is_answered t p ≡ true →
     map (entry_of buckets t) ops ≡ Some p ∷ map Some (answered t ps)
-with_first buckets t p ps ops e yes = e ∙ ap (map Some) (cond-true (is_answered t p) (p ∷ answered t ps) (answered t ps) yes)
+with_first buckets t p ps ops e on = e ∙ ap (map Some) (cond-true (is_answered t p) (p ∷ answered t ps) (answered t ps) on)
 
 without_first : (buckets t : ℕ) (p : Event × Reply) (ps : List (Event × Reply)) (ops : List Operation) → AreAnswered buckets t (p ∷ ps) ops → is_answered t p ≡ false → AreAnswered buckets t ps ops
-without_first buckets t p ps ops e no = e ∙ ap (map Some) (cond-false (is_answered t p) (p ∷ answered t ps) (answered t ps) no)
+without_first buckets t p ps ops e off = e ∙ ap (map Some) (cond-false (is_answered t p) (p ∷ answered t ps) (answered t ps) off)
 
 heads : (x y : Option (Event × Reply)) (xs ys : List (Option (Event × Reply))) → x ∷ xs ≡ y ∷ ys → x ≡ y
 heads x y xs ys e = cc
@@ -91,17 +91,17 @@ pub writes_answered : (buckets t : ℕ) (h : List (Event × Reply)) (ops : List 
 writes_answered buckets t [] [] rows e = refl
 writes_answered buckets t [] (op ∷ ops) rows e = absurd (no_head _ _ (sym e))
 writes_answered buckets t (p ∷ ps) [] rows e =
-    ⊎_elim (λ yes. absurd (no_head _ _ (with_first buckets t p ps [] e yes)))
-    (λ no. ap (λ ws. laid (ws ++ writes_of t ps) rows) (unwritten t p.0 p.1 no) ∙ writes_answered buckets t ps [] rows (without_first buckets t p ps [] e no))
+    ⊎_elim (λ on. absurd (no_head _ _ (with_first buckets t p ps [] e on)))
+    (λ off. ap (λ ws. laid (ws ++ writes_of t ps) rows) (unwritten t p.0 p.1 off) ∙ writes_answered buckets t ps [] rows (without_first buckets t p ps [] e off))
     (cases_Bool (is_answered t p))
 writes_answered buckets t (p ∷ ps) (op ∷ ops) rows e =
     ⊎_elim
-    (λ yes.
-    let both = with_first buckets t p ps (op ∷ ops) e yes in
+    (λ on.
+    let both = with_first buckets t p ps (op ∷ ops) e on in
     lay_all-append (write_of t p.0 p.1) (writes_of t ps) rows
     ∙ ap (laid (writes_of t ps)) (writes_as buckets t op rows p (heads _ _ _ _ both))
     ∙ writes_answered buckets t ps ops (lay (key_of op) (change_of op) rows) (tails _ _ _ _ both))
-    (λ no. ap (λ ws. laid (ws ++ writes_of t ps) rows) (unwritten t p.0 p.1 no) ∙ writes_answered buckets t ps (op ∷ ops) rows (without_first buckets t p ps (op ∷ ops) e no))
+    (λ off. ap (λ ws. laid (ws ++ writes_of t ps) rows) (unwritten t p.0 p.1 off) ∙ writes_answered buckets t ps (op ∷ ops) rows (without_first buckets t p ps (op ∷ ops) e off))
     (cases_Bool (is_answered t p))
 
 -- ---- answers
@@ -112,23 +112,23 @@ same_self (Some x) = eq-eqb x x refl
 
 read_fits : (found value : Option ℕ) → IsSerial (Some (found_in value)) (found_in found) → same_found found value ≡ true
 read_fits None None e = refl
-read_fits None (Some y) e = let no : reply.Absent ≡ reply.Found y = e in cc
-read_fits (Some x) None e = let no : reply.Found x ≡ reply.Absent = e in cc
+read_fits None (Some y) e = let off : reply.Absent ≡ reply.Found y = e in cc
+read_fits (Some x) None e = let off : reply.Found x ≡ reply.Absent = e in cc
 read_fits (Some x) (Some y) e = let is : reply.Found x ≡ reply.Found y = e in let same : x ≡ y = cc in eq-eqb x y same
 
 insert_fits : (value : Option ℕ) (done : Bool) → IsSerial (Some (if is_some value then reply.Exists else reply.Done)) (if done then reply.Done else reply.Exists) →
     (if done then not (is_some value) else is_some value) ≡ true
 insert_fits None true e = refl
-insert_fits None false e = let no : reply.Exists ≡ reply.Done = e in cc
-insert_fits (Some x) true e = let no : reply.Done ≡ reply.Exists = e in cc
+insert_fits None false e = let off : reply.Exists ≡ reply.Done = e in cc
+insert_fits (Some x) true e = let off : reply.Done ≡ reply.Exists = e in cc
 insert_fits (Some x) false e = refl
 
 change_fits : (value : Option ℕ) (done : Bool) → IsSerial (Some (if is_some value then reply.Done else reply.Absent)) (if done then reply.Done else reply.Absent) →
     (if done then is_some value else not (is_some value)) ≡ true
-change_fits None true e = let no : reply.Done ≡ reply.Absent = e in cc
+change_fits None true e = let off : reply.Done ≡ reply.Absent = e in cc
 change_fits None false e = refl
 change_fits (Some x) true e = refl
-change_fits (Some x) false e = let no : reply.Absent ≡ reply.Done = e in cc
+change_fits (Some x) false e = let off : reply.Absent ≡ reply.Done = e in cc
 
 -- an answer says something of its own key alone
 at_key : (op : Operation) (key : ℕ) (rows : List (ℕ × ℕ)) → fits op (value_of rows key) ≡ true → (k : ℕ) → (if key == k then fits op (value_of rows k) else true) ≡ true
@@ -212,18 +212,18 @@ right_answered buckets t [] (op ∷ ops) rows some r e right = absurd (no_head _
 right_answered buckets t (p ∷ ps) (op ∷ ops) rows some r e right =
     let rest : AreRightIn Serializable buckets t (laid (write_of t p.0 p.1) rows) ps = right.1 in
     ⊎_elim
-    (λ yes.
-    let both = with_first buckets t p ps (op ∷ ops) e yes in
+    (λ on.
+    let both = with_first buckets t p ps (op ∷ ops) e on in
     let entry : entry_of buckets t op ≡ Some p = heads _ _ _ _ both in
-    let mine : is_of t p.0 ≡ true = first_true (is_of t p.0) (is_operation p.0) (is_answer p.1) yes in
+    let mine : is_of t p.0 ≡ true = first_true (is_of t p.0) (is_operation p.0) (is_answer p.1) on in
     let wrote : laid (write_of t p.0 p.1) rows ≡ lay (key_of op) (change_of op) rows = writes_as buckets t op rows p entry in
     one_right op ops rows (right_as buckets t op rows p some r entry (right.0 mine))
     (right_answered buckets t ps ops (lay (key_of op) (change_of op) rows) some
     (subst AreRising wrote (rising-lay_all (write_of t p.0 p.1) rows r)) (tails _ _ _ _ both)
     (subst (λ (left : List (ℕ × ℕ)). AreRightIn Serializable buckets t left ps) wrote rest)))
-    (λ no.
-    right_answered buckets t ps (op ∷ ops) rows some r (without_first buckets t p ps (op ∷ ops) e no)
-    (subst (λ (ws : List Write). AreRightIn Serializable buckets t (laid ws rows) ps) (unwritten t p.0 p.1 no) rest))
+    (λ off.
+    right_answered buckets t ps (op ∷ ops) rows some r (without_first buckets t p ps (op ∷ ops) e off)
+    (subst (λ (ws : List Write). AreRightIn Serializable buckets t (laid ws rows) ps) (unwritten t p.0 p.1 off) rest))
     (cases_Bool (is_answered t p))
 
 -- ---- rows that have the same values

@@ -1,5 +1,5 @@
 -- A history that records a serial transcript has the order of end times as an explanation.
-use Rattle.std.proofs.Common.{◌≡◌, ◌==◌, ℕ, zero, suc, ◌+◌, ◌<◌, ◌≤◌, Bool, true, false, cond, List, [], ◌∷◌, Option, Some, None, refl, sym, ap, ◌∙◌, subst, take, arith}
+use Rattle.std.proofs.Common.{◌≡◌, ℕ, zero, suc, ◌<◌, ◌≤◌, Bool, true, false, List, [], ◌∷◌, Option, Some, refl, sym, ap, ◌∙◌, subst, take, arith}
 use Rattle.std.proofs.lemmas.Bool.{cond-true, ltb-true}
 use Rattle.std.specs.Prelude.{nat_lt, is_some, slice_get, map, filter}
 use Rattle.hek_rules.specs.declared.event.Level.{Level}
@@ -9,8 +9,8 @@ use Rattle.hek_rules.specs.declared.reply.Reply.{Reply}
 use Rattle.hek_rules.specs.declared.serial.Verdict.TheVariants.{Serial}
 use Rattle.hek_rules.specs.Events.{txn_of}
 use Rattle.hek_rules.specs.Recorded.{Recorded}
-use Rattle.hek_rules.specs.Listing.{value_of, is_among}
-use Rattle.hek_rules.specs.Serial.{lay_all as laid, write_of, writes_of, is_of, end_of as drawn_end, committed_in, serial_order, serial_rows, laid_over as laid_in, IsRightAt, AreRight as AreRightIn}
+use Rattle.hek_rules.specs.Listing.{value_of}
+use Rattle.hek_rules.specs.Serial.{lay_all as laid, write_of, writes_of, is_of, end_of as drawn_end, serial_order, serial_rows, laid_over as laid_in, IsRightAt, AreRight as AreRightIn}
 use Rattle.hek_rules.specs.Faults.{put_all, level_of, is_declared, IsRight, IsRightIf, IsVerdict}
 use Rattle.hek_laws.specs.Rows.{AreRising}
 use Rattle.hek_laws.proofs.Lists.Rising.{rising-lay_all}
@@ -23,17 +23,17 @@ use Rattle.hek_history.specs.declared.history.History.{History}
 use Rattle.hek_history.specs.declared.history.Operation.{Operation}
 use Rattle.hek_history.specs.declared.history.Point.{Point}
 use Rattle.hek_history.specs.declared.history.Point.TheVariants.{Begin, Commit}
-use Rattle.hek_history.specs.declared.history.Order.TheVariants.{Any, Versions, Times}
+use Rattle.hek_history.specs.declared.history.Order.TheVariants.{Versions, Times}
 use Rattle.hek_history.specs.Answers.{lay_all, AreRight}
-use Rattle.hek_history.specs.Histories.{transaction, operations_in, operations_of, serializable_at, serializable_in, is_serializable, lenient_at, lenient_in, is_lenient, possible_by, possible_in, is_possible, is_committed, end_in, end_of, begin_of, laid_over, rows_after}
-use Rattle.hek_history.specs.Orders.{earlier, time_of, IsAsked}
+use Rattle.hek_history.specs.Histories.{operations_in, operations_of, serializable_at, serializable_in, is_serializable, lenient_at, lenient_in, is_lenient, possible_by, possible_in, is_possible, end_in, end_of, begin_of, laid_over, rows_after}
+use Rattle.hek_history.specs.Orders.{earlier, time_of}
 use Rattle.hek_history.specs.Explanation.{At, IsBegin, IsCommit, IsExplanation, AreInOrder}
 use Rattle.hek_history.proofs.Boxes.{front_at}
-use Rattle.hek_history_laws.specs.Recording.{HasCommitted, IsRunOf, IsRecordedAt, Records}
+use Rattle.hek_history_laws.specs.Recording.{HasCommitted, IsRecordedAt, Records}
 use Rattle.hek_history_laws.specs.Laws.{points_of, SerialRunsHaveExplanations}
 use Rattle.hek_history_laws.proofs.EndTimes.{AreApart, ends_apart}
 use Rattle.hek_history_laws.proofs.InOrder.{times_rise, in-from, place-from, one_place, earlier_place, filter-before}
-use Rattle.hek_history_laws.proofs.Points.{twice, twice-is, IsTurn, turn_begun, turn_committed, begins_at, commits_at, points_before}
+use Rattle.hek_history_laws.proofs.Points.{twice, twice-is, turn_begun, turn_committed, begins_at, commits_at, points_before}
 use Rattle.hek_history_laws.proofs.Answered.{writes_answered, right_answered, same_values, right_over}
 
 -- ---- from the places of a history to its entries in turn

@@ -1,5 +1,5 @@
 -- The serial order of a transcript without a fault: its times rise.
-use Rattle.std.proofs.Common.{◌≡◌, ℕ, zero, suc, ◌<◌, ◌≤◌, true, false, List, [], ◌∷◌, Option, Some, None, refl, sym, ap, ◌∙◌, inl, inr, ⊎_elim, take, subst, arith}
+use Rattle.std.proofs.Common.{◌≡◌, ℕ, zero, suc, ◌<◌, ◌≤◌, true, List, [], ◌∷◌, Option, Some, None, refl, sym, ap, ◌∙◌, inl, inr, ⊎_elim, take, subst, arith}
 use Rattle.std.proofs.lemmas.Bool.{cases_order, cond-true, cond-false, cond_both, eq-eqb, ltb-true, ltb-false, lt-ltb, le-ltb, or_left, or_right, false≢true}
 use Rattle.std.specs.Prelude.{◌==◌, nat_lt, filter, slice_get}
 use Rattle.hek_rules.specs.declared.event.Event.{Event}
