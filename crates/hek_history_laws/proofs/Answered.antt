@@ -22,7 +22,7 @@ use Rattle.hek_history.proofs.Scanned.{IsRight-same}
 use Rattle.hek_history_laws.specs.Recording.{entry_of, is_operation, is_answer, answered}
 use Rattle.hek_history_laws.proofs.InOrder.{rises}
 
-abbrev is_answered : ℕ → Event × Reply → Bool
+abbrev pub is_answered : ℕ → Event × Reply → Bool
 is_answered t p = is_of t p.0 && is_operation p.0 && is_answer p.1
 
 -- these operations are those of t in a history that were answered
@@ -41,7 +41,7 @@ plain_true : (b : Bool) → (b && true && true) ≡ false → b ≡ false
 plain_true true e = e
 plain_true false e = refl
 
-first_true : (a b c : Bool) → (a && b && c) ≡ true → a ≡ true
+pub first_true : (a b c : Bool) → (a && b && c) ≡ true → a ≡ true
 first_true true b c e = refl
 first_true false b c e = e
 

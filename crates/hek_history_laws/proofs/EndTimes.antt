@@ -27,11 +27,11 @@ among-append (y ∷ ys) x t e =
     (λ rest. ⊎_elim (λ old. inl (or_right (y == t) (is_among ys t) old)) (λ new. inr new) (among-append ys x t rest))
     (or_cases (y == t) (is_among (ys ++ x ∷ []) t) e)
 
-one_at_most : (e : Event) (r : Reply) → (committed_by e r ≡ []) ⊎ ((x : ℕ) × (committed_by e r ≡ x ∷ []))
+pub one_at_most : (e : Event) (r : Reply) → (committed_by e r ≡ []) ⊎ ((x : ℕ) × (committed_by e r ≡ x ∷ []))
 one_at_most (event.Commit x) reply.Committed = inr (x, refl)
 one_at_most e r = inl refl
 
-same_time : (m n : ℕ) → ◌≡◌ {A = Option ℕ} (Some m) (Some n) → m ≡ n
+pub same_time : (m n : ℕ) → ◌≡◌ {A = Option ℕ} (Some m) (Some n) → m ≡ n
 same_time m n s = cc
 
 -- an end time that was drawn stays as the history grows

@@ -1,24 +1,20 @@
 -- A history that records a serial transcript has the order of end times as an explanation.
 use Rattle.std.proofs.Common.{◌≡◌, ℕ, zero, suc, ◌<◌, ◌≤◌, Bool, true, false, List, [], ◌∷◌, Option, Some, refl, sym, ap, ◌∙◌, subst, take, arith}
 use Rattle.std.proofs.lemmas.Bool.{cond-true, ltb-true}
-use Rattle.std.specs.Prelude.{nat_lt, is_some, slice_get, map, filter}
-use Rattle.hek_rules.specs.declared.event.Level.{Level}
+use Rattle.std.specs.Prelude.{nat_lt, slice_get, filter}
 use Rattle.hek_rules.specs.declared.event.Level.TheVariants.{Serializable}
 use Rattle.hek_rules.specs.declared.event.Event.{Event}
 use Rattle.hek_rules.specs.declared.reply.Reply.{Reply}
 use Rattle.hek_rules.specs.declared.serial.Verdict.TheVariants.{Serial}
-use Rattle.hek_rules.specs.Events.{txn_of}
 use Rattle.hek_rules.specs.Recorded.{Recorded}
 use Rattle.hek_rules.specs.Listing.{value_of}
-use Rattle.hek_rules.specs.Serial.{lay_all as laid, write_of, writes_of, is_of, end_of as drawn_end, serial_order, serial_rows, laid_over as laid_in, IsRightAt, AreRight as AreRightIn}
-use Rattle.hek_rules.specs.Faults.{put_all, level_of, is_declared, IsRight, IsRightIf, IsVerdict}
+use Rattle.hek_rules.specs.Serial.{lay_all as laid, writes_of, end_of as drawn_end, serial_order, serial_rows, laid_over as laid_in}
+use Rattle.hek_rules.specs.Faults.{put_all, IsVerdict}
 use Rattle.hek_laws.specs.Rows.{AreRising}
 use Rattle.hek_laws.proofs.Lists.Rising.{rising-lay_all}
 use Rattle.hek_laws.proofs.Runs.Opening.{base-rising}
-use Rattle.hek_laws.proofs.Worlds.Histories.{lay_all-append}
 use Rattle.hek_serial.specs.Leveled.{at_level}
-use Rattle.hek_serial.proofs.Orders.{IsEnder, enders_of, in_order-ender}
-use Rattle.hek_serial.proofs.Verdicts.{is_of-to}
+use Rattle.hek_serial.proofs.Orders.{in_order-ender}
 use Rattle.hek_history.specs.declared.history.History.{History}
 use Rattle.hek_history.specs.declared.history.Operation.{Operation}
 use Rattle.hek_history.specs.declared.history.Point.{Point}
@@ -31,28 +27,10 @@ use Rattle.hek_history.specs.Explanation.{At, IsBegin, IsCommit, IsExplanation, 
 use Rattle.hek_history.proofs.Boxes.{front_at}
 use Rattle.hek_history_laws.specs.Recording.{HasCommitted, IsRecordedAt, Records}
 use Rattle.hek_history_laws.specs.Laws.{points_of, SerialRunsHaveExplanations}
-use Rattle.hek_history_laws.proofs.EndTimes.{AreApart, ends_apart}
-use Rattle.hek_history_laws.proofs.InOrder.{times_rise, in-from, place-from, one_place, earlier_place, filter-before}
+use Rattle.hek_history_laws.proofs.NoFault.{ends_are_apart, order_rises, ender_of, right_in_turn}
+use Rattle.hek_history_laws.proofs.InOrder.{place-from, one_place, earlier_place, filter-before}
 use Rattle.hek_history_laws.proofs.Points.{twice, twice-is, turn_begun, turn_committed, begins_at, commits_at, points_before}
 use Rattle.hek_history_laws.proofs.Answered.{writes_answered, right_answered, same_values, right_over}
-
--- ---- from the places of a history to its entries in turn
-
-pub right_along : (level : Level) (buckets t : ℕ) (rows : List (ℕ × ℕ)) (h : List (Event × Reply)) →
-    ((i : ℕ) (p : Event × Reply) → slice_get h i ≡ Some p → is_of t p.0 ≡ true → IsRightAt level buckets (laid (writes_of t (take i h)) rows) p.0 p.1) → AreRightIn level buckets t rows h
-right_along level buckets t rows [] right = tt
-right_along level buckets t rows (p ∷ ps) right = (
-  right zero p refl,
-  right_along level buckets t (laid (write_of t p.0 p.1) rows) ps
-      (λ i q there mine. subst (λ (left : List (ℕ × ℕ)). IsRightAt level buckets left q.0 q.1) (lay_all-append (write_of t p.0 p.1) (writes_of t (take i ps)) rows) (right (suc i) q there mine)),
-)
-
--- each declared transaction has the level of all
-level_is : (levels : List Level) (level : Level) (t : ℕ) → is_some (level_of (map (λ _. level) levels) t) ≡ true → level_of (map (λ _. level) levels) t ≡ Some level
-level_is levels level zero e = cc
-level_is [] level (suc i) e = cc
-level_is (x ∷ xs) level (suc zero) e = refl
-level_is (x ∷ xs) level (suc (suc i)) e = level_is xs level (suc i) e
 
 rising-laid_in : (h : List (Event × Reply)) (order rows : List (ℕ × ℕ)) → AreRising rows → AreRising (laid_in h order rows)
 rising-laid_in h [] rows r = r
@@ -64,29 +42,6 @@ module _ (s : Recorded) (h : History) (place : ℕ → ℕ) (some : 0 < s.bucket
 
   abbrev points : List Point
   points = points_of place order
-
-  -- ---- what no fault says
-
-  right_at : (i : ℕ) (p : Event × Reply) → slice_get s.history i ≡ Some p → IsRight (at_level Serializable s) i p.0 p.1
-  right_at i p there = subst (IsRightIf (at_level Serializable s) i) there (serial i)
-
-  apart : AreApart s.history
-  apart = ends_apart s.history (λ i e r there. (right_at i (e, r) there).commits)
-
-  rising : AreRising order
-  rising = times_rise s.history apart
-
-  ender : (n : ℕ) (x : ℕ × ℕ) → slice_get order n ≡ Some x → IsEnder s.history x
-  ender n x there = enders_of s.history x (in-from order n x there)
-
-  right_in_turn : (x : ℕ × ℕ) → IsEnder s.history x → AreRightIn Serializable s.buckets x.1 (serial_rows s.history (put_all s.rows []) x.0) s.history
-  right_in_turn x end =
-      right_along Serializable s.buckets x.1 (serial_rows s.history (put_all s.rows []) x.0) s.history
-      (λ i p there mine.
-      let right = right_at i p there in
-      let of : txn_of p.0 ≡ Some x.1 = is_of-to p.0 x.1 mine in
-      let declared : is_some (level_of (map (λ _. Serializable) s.levels) x.1) ≡ true = subst (λ (o : Option ℕ). is_declared (map (λ _. Serializable) s.levels) o ≡ true) of right.declared in
-      right.replies x.1 x.0 Serializable of (level_is s.levels Serializable x.1 declared) end.committed end.end)
 
   -- ---- what is recorded
 
@@ -124,18 +79,18 @@ module _ (s : Recorded) (h : History) (place : ℕ → ℕ) (some : 0 < s.bucket
   -- the rows at a turn
   rows_at : (n : ℕ) (x : ℕ × ℕ) → slice_get order n ≡ Some x → (k : ℕ) → value_of (serial_rows s.history (put_all s.rows []) x.0) k ≡ value_of (rows_after h (take (twice n) points)) k
   rows_at n x there k =
-      ap (λ xs. value_of (laid_in s.history xs (put_all s.rows [])) k) (filter-before order n x rising there)
-      ∙ sym (rows_agree (take n order) (λ m y at. (ender m y ((front_at order n m y at).1)).committed) h.rows.items (put_all s.rows []) rec.rows k)
+      ap (λ xs. value_of (laid_in s.history xs (put_all s.rows [])) k) (filter-before order n x (order_rises s serial) there)
+      ∙ sym (rows_agree (take n order) (λ m y at. (ender_of s m y ((front_at order n m y at).1)).committed) h.rows.items (put_all s.rows []) rec.rows k)
       ∙ ap (λ ps. value_of (laid_over h ps h.rows.items) k) (sym (points_before place order n))
 
   answers : (n : ℕ) (x : ℕ × ℕ) → slice_get order n ≡ Some x → AreRight (is_lenient h (place x.1)) (operations_of h (place x.1)) (rows_after h (take (twice n) points))
   answers n x there =
-      let end = ender n x there in
+      let end = ender_of s n x there in
       let f = found x.1 end.committed in
       let ops = f.found.operations.items in
       let rows = serial_rows s.history (put_all s.rows []) x.0 in
       let risen : AreRising rows = rising-laid_in s.history (filter (λ (y : ℕ × ℕ). nat_lt y.0 x.0) order) (put_all s.rows []) (base-rising s.rows) in
-      let right : AreRight false ops rows = right_answered s.buckets x.1 s.history ops rows some risen f.run.operations (right_in_turn x end) in
+      let right : AreRight false ops rows = right_answered s.buckets x.1 s.history ops rows some risen f.run.operations (right_in_turn s serial x end) in
       let here : AreRight false ops (rows_after h (take (twice n) points)) = right_over ops rows (rows_after h (take (twice n) points)) (rows_at n x there) right in
       let of : AreRight false (operations_of h (place x.1)) (rows_after h (take (twice n) points)) =
       subst (λ (o : List Operation). AreRight false o (rows_after h (take (twice n) points))) (sym (ap operations_in f.at)) here in
@@ -148,11 +103,11 @@ module _ (s : Recorded) (h : History) (place : ℕ → ℕ) (some : 0 < s.bucket
 
   same_turn : (m n : ℕ) (x y : ℕ × ℕ) → slice_get order m ≡ Some x → slice_get order n ≡ Some y → place x.1 ≡ place y.1 → m ≡ n
   same_turn m n x y a b same =
-      let c = ender m x a in
-      let d = ender n y b in
+      let c = ender_of s m x a in
+      let d = ender_of s n y b in
       let one : x.1 ≡ y.1 = rec.apart x.1 y.1 c.committed d.committed same in
       let time : x.0 ≡ y.0 = same_end x.0 y.0 (sym c.end ∙ ap (λ t. drawn_end t s.history) one ∙ d.end) in
-      one_place order m n x y rising a b time
+      one_place order m n x y (order_rises s serial) a b time
 
   begins_once : (n : ℕ) (x : ℕ × ℕ) → slice_get order n ≡ Some x → (j : ℕ) → At points j (Begin (place x.1)) → j ≡ twice n
   begins_once n x there j a =
@@ -168,7 +123,7 @@ module _ (s : Recorded) (h : History) (place : ℕ → ℕ) (some : 0 < s.bucket
 
   begin_is : (n : ℕ) (x : ℕ × ℕ) → slice_get order n ≡ Some x → IsBegin h points (twice n) (place x.1)
   begin_is n x there =
-      let end = ender n x there in
+      let end = ender_of s n x there in
       record {
         possible = possible x.1 end.committed;
         once = begins_once n x there;
@@ -199,7 +154,7 @@ module _ (s : Recorded) (h : History) (place : ℕ → ℕ) (some : 0 < s.bucket
         subst (λ (q : ℕ). IsCommit h points i q) t.named (subst (λ (j : ℕ). IsCommit h points j (place t.entry.1)) (sym r.1) (commit_is r.0 t.entry t.there)));
     committed = λ p c.
         (let o = rec.others p c in
-        let end = apart.drawn o.0 o.1 in
+        let end = (ends_are_apart s serial).drawn o.0 o.1 in
         let at = place-from (end.0, o.0) order (in_order-ender s.history o.0 end.0 o.1 end.1) in
         (suc (twice at.0), subst (λ (q : ℕ). At points (suc (twice at.0)) (Commit q)) o.2 (commits_at place order at.0 (end.0, o.0) at.1)));
   }
@@ -219,7 +174,7 @@ module _ (s : Recorded) (h : History) (place : ℕ → ℕ) (some : 0 < s.bucket
   in_turn (Begin p) i a =
       let r = turn_begun place order i p a in
       let t = r.2 in
-      let end = ender r.0 t.entry t.there in
+      let end = ender_of s r.0 t.entry t.there in
       let at : i ≡ twice r.0 = r.1 in
       record {
         turn = r.0;
@@ -234,7 +189,7 @@ module _ (s : Recorded) (h : History) (place : ℕ → ℕ) (some : 0 < s.bucket
   in_turn (Commit p) i a =
       let r = turn_committed place order i p a in
       let t = r.2 in
-      let end = ender r.0 t.entry t.there in
+      let end = ender_of s r.0 t.entry t.there in
       let at : i ≡ suc (twice r.0) = r.1 in
       record {
         turn = r.0;
@@ -250,7 +205,7 @@ module _ (s : Recorded) (h : History) (place : ℕ → ℕ) (some : 0 < s.bucket
       let x = in_turn p i a in
       let y = in_turn q j b in
       let less : nat_lt x.entry.0 y.entry.0 ≡ true = sym (ap (λ o. earlier o (time_of h q)) x.time ∙ ap (earlier (Some x.entry.0)) y.time) ∙ asked in
-      let before : x.turn < y.turn = earlier_place order x.turn y.turn x.entry y.entry rising x.there y.there (ltb-true _ _ less) in
+      let before : x.turn < y.turn = earlier_place order x.turn y.turn x.entry y.entry (order_rises s serial) x.there y.there (ltb-true _ _ less) in
       let m = twice-is x.turn in
       let n = twice-is y.turn in
       let u = x.upto in

@@ -1,5 +1,6 @@
 -- The law of serial transcripts and explanations, in a sentence.
 use Rattle.std.specs.Prelude.{ℕ, ◌<◌, List, [], ◌∷◌}
+use Rattle.std.specs.Global.{Global}
 use Rattle.hek_rules.specs.declared.event.Level.TheVariants.{Serializable}
 use Rattle.hek_rules.specs.declared.serial.Verdict.TheVariants.{Serial}
 use Rattle.hek_rules.specs.Recorded.{Recorded}
@@ -11,7 +12,7 @@ use Rattle.hek_history.specs.declared.history.Point.{Point}
 use Rattle.hek_history.specs.declared.history.Point.TheVariants.{Begin, Commit}
 use Rattle.hek_history.specs.declared.history.Order.TheVariants.{Any, Versions, Times}
 use Rattle.hek_history.specs.Explanation.{IsExplanationIn}
-use Rattle.hek_history_laws.specs.Recording.{Records}
+use Rattle.hek_history_laws.specs.Recording.{Records, IsShort}
 
 -- each transaction of an order, at its place in a history, reads and commits at once
 abbrev pub points_of : (ℕ → ℕ) → List (ℕ × ℕ) → List Point
@@ -28,3 +29,13 @@ SerialRunsHaveExplanations =
     Records h place s →
     let points = points_of place (serial_order s.history) in
     IsExplanationIn h Any points × IsExplanationIn h Versions points × IsExplanationIn h Times points
+
+-- each transcript that a checker finds serial at the serializable level is recorded by some history
+abbrev pub SerialRunsAreRecorded : Type 0
+SerialRunsAreRecorded =
+    Global →
+    (s : Recorded) →
+    0 < s.buckets →
+    IsShort s →
+    IsVerdict (at_level Serializable s) Serial →
+    (h : History) × (place : ℕ → ℕ) × Records h place s

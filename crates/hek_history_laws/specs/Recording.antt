@@ -1,5 +1,5 @@
 -- Histories that record a transcript: the rows, and each committed transaction with the operations that were answered.
-use Rattle.std.specs.Prelude.{ℕ, ◌≡◌, Bool, true, false, ◌&&◌, ◌==◌, if◌then◌else◌, List, [], Option, Some, None, map, filter}
+use Rattle.std.specs.Prelude.{ℕ, ◌≡◌, ◌<◌, ◌^◌, Bool, true, false, ◌&&◌, ◌==◌, if◌then◌else◌, List, [], Option, Some, None, map, filter, length, slice_get}
 use Rattle.hek_rules.specs.declared.event.Event.{Event}
 use Rattle.hek_rules.specs.declared.event.Event.TheVariants as event
 use Rattle.hek_rules.specs.declared.reply.Reply.{Reply}
@@ -78,3 +78,9 @@ pub record Records (h : History) (place : ℕ → ℕ) (s : Recorded) : Type 0 w
   pub apart : (t u : ℕ) → HasCommitted s t → HasCommitted s u → place t ≡ place u → t ≡ u
   -- no other is said to have committed
   pub others : (i : ℕ) → is_committed h i ≡ true → (t : ℕ) × HasCommitted s t × (place t ≡ i)
+
+-- the lists of a transcript are as short as those of a program are
+pub record IsShort (s : Recorded) : Type 0 where
+  pub rows : length (put_all s.rows []) < 2 ^ 63
+  pub history : length s.history < 2 ^ 63
+  pub scans : (i : ℕ) (e : Event) (pairs : List (ℕ × ℕ)) → slice_get s.history i ≡ Some (e, reply.Rows pairs) → length pairs < 2 ^ 63

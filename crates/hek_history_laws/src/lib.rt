@@ -1,7 +1,7 @@
-//! A law between the checker of transcripts and the definition of explanations, as the contract of a function with an
-//! empty body.
+//! Laws between the checker of transcripts and the definition of explanations, as contracts of functions with empty
+//! bodies.
 #![tactic(auto)]
 
 mod laws;
 
-pub use laws::serial_runs_have_explanations;
+pub use laws::{serial_runs_are_recorded, serial_runs_have_explanations};
