@@ -1,4 +1,4 @@
--- The law of serial transcripts and explanations, in a sentence.
+-- The laws of serial transcripts and explanations, each in a sentence.
 use Rattle.std.specs.Prelude.{ℕ, ◌<◌, List, [], ◌∷◌}
 use Rattle.std.specs.Global.{Global}
 use Rattle.hek_rules.specs.declared.event.Level.TheVariants.{Serializable}
@@ -19,8 +19,8 @@ abbrev pub points_of : (ℕ → ℕ) → List (ℕ × ℕ) → List Point
 points_of place [] = []
 points_of place (x ∷ xs) = Begin (place x.1) ∷ Commit (place x.1) ∷ points_of place xs
 
--- where a checker finds a transcript serial at the serializable level, a history that records it has the order of end
--- times as an explanation
+-- Where a checker finds a transcript serial at the serializable level, a history that records it has the order of end times
+-- as an explanation, whichever of three orders is asked for.
 abbrev pub SerialRunsHaveExplanations : Type 0
 SerialRunsHaveExplanations =
     (s : Recorded) (h : History) (place : ℕ → ℕ) →
@@ -30,7 +30,8 @@ SerialRunsHaveExplanations =
     let points = points_of place (serial_order s.history) in
     IsExplanationIn h Any points × IsExplanationIn h Versions points × IsExplanationIn h Times points
 
--- each transcript that a checker finds serial at the serializable level is recorded by some history
+-- Each transcript that a checker finds serial at the serializable level is recorded by some history. The lists of a history
+-- have an allocator.
 abbrev pub SerialRunsAreRecorded : Type 0
 SerialRunsAreRecorded =
     Global →

@@ -79,7 +79,7 @@ pub record Records (h : History) (place : ℕ → ℕ) (s : Recorded) : Type 0 w
   -- no other is said to have committed
   pub others : (i : ℕ) → is_committed h i ≡ true → (t : ℕ) × HasCommitted s t × (place t ≡ i)
 
--- the lists of a transcript are as short as those of a program are
+-- no list of the transcript is longer than a program's can be
 pub record IsShort (s : Recorded) : Type 0 where
   pub rows : length (put_all s.rows []) < 2 ^ 63
   pub history : length s.history < 2 ^ 63
