@@ -1,0 +1,7 @@
+pub mod EndTimes
+pub mod InOrder
+pub mod NoFault
+pub mod Points
+pub mod Answered
+pub mod Explained
+pub mod Recordable
