@@ -33,6 +33,9 @@ _hek() {
     "drive --why=") words="reasons rules" ;;
     "threads --turns") return ;;
     "threads --repeat") return ;;
+    "word --clock") return ;;
+    "word --txns") return ;;
+    "word --readers") return ;;
     esac
     if [ -n "$words" ]; then
         mapfile -t COMPREPLY < <(compgen -W "$words" -- "$word")
@@ -46,7 +49,7 @@ _hek() {
     check) words="--text --image --level --why --summary --help" files=yes ;;
     drive) words="--text --image --why --changes --help" files=yes ;;
     threads) words="--text --image --turns --repeat --help" files=yes ;;
-    word) words="--help" ;;
+    word) words="--changes --clock --txns --readers --help" ;;
     release) words="--help" ;;
     asm) words="--help" files=yes ;;
     dis) words="--text --image --help" files=yes ;;

@@ -70,6 +70,10 @@ complete -c hek -n '__fish_seen_subcommand_from threads' -l turns -x -d 'how man
 complete -c hek -n '__fish_seen_subcommand_from threads' -l repeat -x -d 'runs N times, 1 to 1000000, and prints the outcomes'
 complete -c hek -n '__fish_seen_subcommand_from threads' -s h -l help -d 'Print help'
 complete -c hek -n '__fish_seen_subcommand_from threads' -F
+complete -c hek -n '__fish_seen_subcommand_from word' -l changes -d 'reads exchanges, lines OLD NEW TXN or WORD OLD NEW TXN, and names the change that leads from OLD to NEW'
+complete -c hek -n '__fish_seen_subcommand_from word' -l clock -x -d 'refuses times from N on'
+complete -c hek -n '__fish_seen_subcommand_from word' -l txns -x -d 'refuses transactions past N'
+complete -c hek -n '__fish_seen_subcommand_from word' -l readers -x -d 'refuses more than N readers'
 complete -c hek -n '__fish_seen_subcommand_from word' -s h -l help -d 'Print help'
 complete -c hek -n '__fish_seen_subcommand_from release' -s h -l help -d 'Print help'
 complete -c hek -n '__fish_seen_subcommand_from asm' -s h -l help -d 'Print help'
