@@ -150,8 +150,7 @@ impl Known<'_> {
     fn add_times_between(&mut self, first: &[Timed], second: &[Timed]) -> Result<(), NoMemory> {
         for one in first {
             for other in second {
-                let _fact =
-                    self.begin_with(one.which, other.which, Reason::Time { taken: None })?;
+                let _fact = self.begin_with(one.which, other.which, Reason::Time { taken: None })?;
             }
         }
         Ok(())
@@ -372,10 +371,7 @@ impl Known<'_> {
 
 /// The times that the order that is asked for goes by: the nodes of those who are known to have committed, or the transactions
 /// that were answered.
-pub(crate) fn asked_times(
-    alloc: Global,
-    known: &Known,
-) -> Result<Vec<Timed>, NoMemory> {
+pub(crate) fn asked_times(alloc: Global, known: &Known) -> Result<Vec<Timed>, NoMemory> {
     match known.problem.order {
         Order::Any | Order::Versions => Ok(Vec::new(alloc)),
         Order::Times => committed_times(alloc, known),

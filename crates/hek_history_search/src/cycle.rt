@@ -146,7 +146,9 @@ impl Shortest<'_> {
 
     /// Reaches a node by an edge from another, if this turn hasn't yet. Answers whether it is new.
     fn reach(&mut self, from: usize, edge: Edge) -> bool {
-        if !self.tangle.has(edge.node) || number_at(self.turn_of.as_slice(), edge.node) == self.turn {
+        if !self.tangle.has(edge.node)
+            || number_at(self.turn_of.as_slice(), edge.node) == self.turn
+        {
             return false;
         }
         put_number(&mut self.turn_of, edge.node, self.turn);

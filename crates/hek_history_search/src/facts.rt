@@ -55,11 +55,18 @@ pub(crate) enum Reason {
     /// A transaction begins before it commits.
     Own,
     /// Both write the key, and the first ends before the second.
-    Version { key: usize, taken: Option<usize> },
+    Version {
+        key: usize,
+        taken: Option<usize>,
+    },
     /// The time of the first is less.
-    Time { taken: Option<usize> },
+    Time {
+        taken: Option<usize>,
+    },
     /// From the commit of a transaction to the time of its answer.
-    Answered { taken: Option<usize> },
+    Answered {
+        taken: Option<usize>,
+    },
     /// From a time of the clock to the next.
     Later,
     /// From a time of the clock to the begin of a transaction that was invoked after it.
@@ -70,7 +77,10 @@ pub(crate) enum Reason {
         source: Option<usize>,
     },
     /// By a path.
-    Follows { ground: Ground, path: Path },
+    Follows {
+        ground: Ground,
+        path: Path,
+    },
     /// A decision.
     Assumed,
     /// The decision came to a conflict, together with others.
@@ -80,15 +90,27 @@ pub(crate) enum Reason {
         others: Path,
     },
     /// No other source meets the need.
-    OnlySource { taken: Option<usize> },
+    OnlySource {
+        taken: Option<usize>,
+    },
     /// A decision on a source.
-    AssumedSource { taken: Option<usize> },
+    AssumedSource {
+        taken: Option<usize>,
+    },
     /// All other sources are excluded.
-    LastSource { taken: Option<usize>, nots: Path },
+    LastSource {
+        taken: Option<usize>,
+        nots: Path,
+    },
     /// The path goes from the reader to the writer.
-    NotLater { path: Path },
+    NotLater {
+        path: Path,
+    },
     /// The first path goes from the writer to another one of the key, the second from that to the reader.
-    NotCovered { later: Path, earlier: Path },
+    NotCovered {
+        later: Path,
+        earlier: Path,
+    },
     /// The transaction is before one that takes place.
     Taken {
         by: usize,
@@ -224,9 +246,15 @@ impl Facts {
     }
 
     /// Adds the facts on which another rests to a list.
-    pub(crate) fn add_premises(&self, list: &mut Vec<usize>, reason: Reason) -> Result<(), NoMemory> {
+    pub(crate) fn add_premises(
+        &self,
+        list: &mut Vec<usize>,
+        reason: Reason,
+    ) -> Result<(), NoMemory> {
         match reason {
-            Reason::First | Reason::Own | Reason::Later | Reason::Invoked | Reason::Assumed => Ok(()),
+            Reason::First | Reason::Own | Reason::Later | Reason::Invoked | Reason::Assumed => Ok(
+                (),
+            ),
             Reason::Version { taken, .. }
             | Reason::Time { taken }
             | Reason::Answered { taken }

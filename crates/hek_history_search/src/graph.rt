@@ -79,7 +79,12 @@ impl Graph {
     }
 
     /// Adds an edge, whether or not the order agrees with it.
-    pub(crate) fn link(&mut self, first: usize, second: usize, fact: usize) -> Result<(), NoMemory> {
+    pub(crate) fn link(
+        &mut self,
+        first: usize,
+        second: usize,
+        fact: usize,
+    ) -> Result<(), NoMemory> {
         if let Some(list) = self.out.get_mut(first) {
             list.push(Edge { fact, node: second })?;
         }
@@ -142,7 +147,12 @@ impl Graph {
     }
 
     /// Sees the nodes before one, down to a place of the order, and adds them to the queue.
-    fn see_before(&mut self, node: usize, end: usize, queue: &mut Vec<usize>) -> Result<(), NoMemory> {
+    fn see_before(
+        &mut self,
+        node: usize,
+        end: usize,
+        queue: &mut Vec<usize>,
+    ) -> Result<(), NoMemory> {
         for edge in list_at(self.into.as_slice(), node) {
             let next = edge.node;
             let is_new = number_at(self.seen.as_slice(), next) != self.turn;
@@ -173,7 +183,12 @@ impl Graph {
     }
 
     /// A shortest path from a node to another, if one is found within so many nodes.
-    pub(crate) fn reach(&mut self, from: usize, to: usize, limit: usize) -> Result<Reach, NoMemory> {
+    pub(crate) fn reach(
+        &mut self,
+        from: usize,
+        to: usize,
+        limit: usize,
+    ) -> Result<Reach, NoMemory> {
         if self.place_of(from) >= self.place_of(to) {
             return Ok(Reach::No);
         }

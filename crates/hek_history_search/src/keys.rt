@@ -75,11 +75,7 @@ fn add_all_named(
 }
 
 /// Each key in its bucket.
-fn divide(
-    bucketed: &mut Vec<Bucketed>,
-    keys: &[u64],
-    buckets: u64,
-) -> Result<(), NoMemory> {
+fn divide(bucketed: &mut Vec<Bucketed>, keys: &[u64], buckets: u64) -> Result<(), NoMemory> {
     if buckets == 0 {
         return Ok(());
     }
@@ -122,13 +118,7 @@ impl Keys {
     pub(crate) fn place_of(&self, key: u64) -> Option<usize> {
         let place = self.keys.as_slice().partition_point(|one| *one < key);
         match self.keys.get(place) {
-            Some(there) => {
-                if *there == key {
-                    Some(place)
-                } else {
-                    None
-                }
-            }
+            Some(there) => { if *there == key { Some(place) } else { None } }
             None => None,
         }
     }
@@ -155,12 +145,7 @@ impl Keys {
     }
 
     /// The places of the keys of a bucket.
-    fn of_bucket(
-        &self,
-        alloc: Global,
-        buckets: u64,
-        bucket: u64,
-    ) -> Result<Vec<usize>, NoMemory> {
+    fn of_bucket(&self, alloc: Global, buckets: u64, bucket: u64) -> Result<Vec<usize>, NoMemory> {
         let all = self.bucketed.as_slice();
         let from = all.partition_point(|one| (one.buckets, one.bucket) < (buckets, bucket));
         let to = all.partition_point(|one| (one.buckets, one.bucket) <= (buckets, bucket));

@@ -179,7 +179,12 @@ impl<'a> Known<'a> {
     }
 
     /// A path from a node to another; from the opening there is one to each.
-    pub(crate) fn reach(&mut self, from: usize, to: usize, limit: usize) -> Result<Reach, NoMemory> {
+    pub(crate) fn reach(
+        &mut self,
+        from: usize,
+        to: usize,
+        limit: usize,
+    ) -> Result<Reach, NoMemory> {
         if from == OPENING && to != OPENING {
             let mut path = Vec::new(self.alloc);
             path.push(self.facts.add_before(OPENING, to, 0, Reason::First)?)?;
@@ -252,7 +257,9 @@ impl<'a> Known<'a> {
         }
         self.open_decision(violation)?;
         let level = self.level();
-        let fact = self.facts.add_before(first, second, level, Reason::Assumed)?;
+        let fact = self
+            .facts
+            .add_before(first, second, level, Reason::Assumed)?;
         self.link(fact)?;
         Ok(None)
     }
@@ -278,7 +285,9 @@ impl<'a> Known<'a> {
         level: usize,
         reason: Reason,
     ) -> Result<(), Stop> {
-        let fact = self.facts.add(Says::Source { reading, source }, level, reason)?;
+        let fact = self
+            .facts
+            .add(Says::Source { reading, source }, level, reason)?;
         self.note(fact)?;
         put_option(&mut self.sources, reading, Some(fact));
         self.read_from(reading, source, Some(fact))
@@ -340,7 +349,9 @@ impl<'a> Known<'a> {
         level: usize,
         reason: Reason,
     ) -> Result<(), NoMemory> {
-        let fact = self.facts.add(Says::Not { reading, source }, level, reason)?;
+        let fact = self
+            .facts
+            .add(Says::Not { reading, source }, level, reason)?;
         self.note(fact)?;
         if let Some(list) = self.nots.get_mut(reading) {
             list.push(Excluded { source, fact })?;

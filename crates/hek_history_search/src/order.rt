@@ -120,7 +120,11 @@ impl Sorting<'_> {
 }
 
 /// How many edges lead to each node.
-fn degrees(alloc: Global, graph: &Graph, assumptions: &Assumptions) -> Result<Vec<usize>, NoMemory> {
+fn degrees(
+    alloc: Global,
+    graph: &Graph,
+    assumptions: &Assumptions,
+) -> Result<Vec<usize>, NoMemory> {
     let mut counts = Vec::with_capacity(alloc, graph.len())?;
     for node in 0..graph.len() {
         counts.push(graph.edges_into(node).len())?;

@@ -40,13 +40,25 @@ pub(crate) struct Candidates {
 #[derive(Clone, Copy, Debug, PartialEq, Eq)]
 pub enum OwnFault {
     /// The operation contradicts what the transaction itself did to the key before.
-    Contradicted { operation: usize, key: u64 },
+    Contradicted {
+        operation: usize,
+        key: u64,
+    },
     /// The two operations tell of two values of the key, which the transaction didn't change between them.
-    Disagree { first: usize, second: usize, key: u64 },
+    Disagree {
+        first: usize,
+        second: usize,
+        key: u64,
+    },
     /// The pairs of the scan are not by key.
-    Unordered { operation: usize },
+    Unordered {
+        operation: usize,
+    },
     /// The scan has a pair whose key it isn't of.
-    Outside { operation: usize, key: u64 },
+    Outside {
+        operation: usize,
+        key: u64,
+    },
 }
 
 /// A history, reduced. Keys are named by their places in `keys`, transactions by their places in the history.

@@ -57,19 +57,9 @@ fn need_of(operation: &Operation) -> Need {
         Operation::Read(_, Some(value)) => Need::Value(*value),
         Operation::Read(_, None) => Need::Absent,
         Operation::Put(_, _) | Operation::Scan(_, _) => Need::Anything,
-        Operation::Insert(_, _, done) => {
-            if *done {
-                Need::Absent
-            } else {
-                Need::Present
-            }
-        }
+        Operation::Insert(_, _, done) => { if *done { Need::Absent } else { Need::Present } }
         Operation::Update(_, _, done) | Operation::Delete(_, done) => {
-            if *done {
-                Need::Present
-            } else {
-                Need::Absent
-            }
+            if *done { Need::Present } else { Need::Absent }
         }
     }
 }
@@ -86,13 +76,7 @@ fn change_of(operation: &Operation) -> Change {
                 Change::Keep
             }
         }
-        Operation::Delete(_, done) => {
-            if *done {
-                Change::Remove
-            } else {
-                Change::Keep
-            }
-        }
+        Operation::Delete(_, done) => { if *done { Change::Remove } else { Change::Keep } }
     }
 }
 
@@ -197,7 +181,14 @@ impl Gathering {
     }
 
     /// Notes the pairs of a scan, and what is wrong with them.
-    fn show(&mut self, keys: &Keys, t: usize, operation: usize, scope: Scope, pairs: &[(u64, u64)]) {
+    fn show(
+        &mut self,
+        keys: &Keys,
+        t: usize,
+        operation: usize,
+        scope: Scope,
+        pairs: &[(u64, u64)],
+    ) {
         let mut before: Option<u64> = None;
         for pair in pairs {
             if before.is_some_and(|key| pair.0 <= key) {

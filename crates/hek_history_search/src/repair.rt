@@ -35,7 +35,9 @@ struct Chance {
 
 /// Before its reader, after it, or of a transaction that may not take place.
 const BEFORE: usize = 0;
+
 const AFTER: usize = 1;
+
 const DOUBTFUL: usize = 2;
 
 /// The path, if one was found.
@@ -60,7 +62,13 @@ impl Known<'_> {
             return self.follow(one.first, one.second, one.ground, path.as_slice(), level);
         }
         if let Some(path) = found(self.reach(one.second, one.first, sight.nodes)?) {
-            return self.follow(other.first, other.second, other.ground, path.as_slice(), level);
+            return self.follow(
+                other.first,
+                other.second,
+                other.ground,
+                path.as_slice(),
+                level,
+            );
         }
         match self.decide(one.first, one.second, violation)? {
             Some(path) => self.follow(
@@ -217,8 +225,7 @@ impl Known<'_> {
             if reading.key == key {
                 if let Some(settled) = self.source(place) {
                     let source = problem.transaction_of(settled.source);
-                    return source != Some(other)
-                        && is_expected_before(hints, source, other);
+                    return source != Some(other) && is_expected_before(hints, source, other);
                 }
             }
             place = place.saturating_add(1);
@@ -359,7 +366,12 @@ impl Known<'_> {
     }
 
     /// The writer is after the reader.
-    fn exclude_later(&mut self, place: usize, source: Source, path: &[usize]) -> Result<(), NoMemory> {
+    fn exclude_later(
+        &mut self,
+        place: usize,
+        source: Source,
+        path: &[usize],
+    ) -> Result<(), NoMemory> {
         let level = self.facts.level_of(path);
         let kept = self.facts.keep(path)?;
         self.exclude(place, source, level, Reason::NotLater { path: kept })
@@ -373,10 +385,7 @@ impl Known<'_> {
         later: &[usize],
         earlier: &[usize],
     ) -> Result<(), NoMemory> {
-        let level = self
-            .facts
-            .level_of(later)
-            .max(self.facts.level_of(earlier));
+        let level = self.facts.level_of(later).max(self.facts.level_of(earlier));
         let after = self.facts.keep(later)?;
         let before = self.facts.keep(earlier)?;
         let reason = Reason::NotCovered {

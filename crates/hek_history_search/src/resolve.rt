@@ -111,7 +111,11 @@ impl Known<'_> {
     }
 
     /// Takes the last decision of a conflict back, and says its contrary. Answers the conflict to which that comes.
-    fn turn_last(&mut self, conflict: Conflict, blame: Blame) -> Result<Option<Conflict>, NoMemory> {
+    fn turn_last(
+        &mut self,
+        conflict: Conflict,
+        blame: Blame,
+    ) -> Result<Option<Conflict>, NoMemory> {
         let Blame {
             last,
             others,

@@ -9,7 +9,9 @@ use hek_rules::NoMemory;
 fn add_below(known: &Known, todo: &mut Vec<usize>, reason: Reason) -> Result<(), NoMemory> {
     known.facts.add_premises(todo, reason)?;
     let Reason::Case {
-        decision, conflict, ..
+        decision,
+        conflict,
+        ..
     } = reason
     else {
         return Ok(());
@@ -39,11 +41,7 @@ pub(crate) fn needed(known: &Known, conflict: &Conflict) -> Result<Vec<bool>, No
 }
 
 /// The decisions on which a fact rests, where those of all facts before it are known.
-fn decisions_of(
-    known: &Known,
-    rests: &[Vec<usize>],
-    place: usize,
-) -> Result<Vec<usize>, NoMemory> {
+fn decisions_of(known: &Known, rests: &[Vec<usize>], place: usize) -> Result<Vec<usize>, NoMemory> {
     let fact = known.facts.get(place);
     let mut found = Vec::new(known.alloc);
     let mut premises = Vec::new(known.alloc);

@@ -65,12 +65,7 @@ pub(crate) fn planned(known: &Known) -> Result<Plan, NoMemory> {
             clock.push(one.time)?;
         }
     }
-    let of_nodes = node_hints(
-        alloc,
-        &known.nodes,
-        found.as_slice(),
-        clock.as_slice(),
-    )?;
+    let of_nodes = node_hints(alloc, &known.nodes, found.as_slice(), clock.as_slice())?;
     Ok(Plan {
         hints: found,
         node_hints: of_nodes,

@@ -302,7 +302,11 @@ pub(crate) fn hint_at(hints: &[Hint], t: usize) -> Hint {
 }
 
 /// The start of the search fails: a transaction contradicts itself, or a reading has no source.
-pub(crate) fn start_conflict(alloc: Global, problem: &Problem, lost: Option<usize>) -> Result<(), Stop> {
+pub(crate) fn start_conflict(
+    alloc: Global,
+    problem: &Problem,
+    lost: Option<usize>,
+) -> Result<(), Stop> {
     if let Some(transaction) = own_fault(problem) {
         return Err(Stop::Conflict(Conflict::OwnFault {
             transaction,

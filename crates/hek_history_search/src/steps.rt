@@ -166,7 +166,9 @@ impl<'a, 'b> Writing<'a, 'b> {
         match fact.reason {
             Reason::Assumed | Reason::AssumedSource { .. } => return Ok(()),
             Reason::Case {
-                decision, conflict, ..
+                decision,
+                conflict,
+                ..
             } => return self.begin_case(place, decision, conflict),
             Reason::Answered { .. } | Reason::Later | Reason::Invoked => {}
             _ => self.tasks.push(Task::Build(place))?,
@@ -311,9 +313,7 @@ impl<'a, 'b> Writing<'a, 'b> {
         let fact = self.fact(place);
         let claim = match fact.says {
             Says::Before { first, second } => self.build_before(first, second, fact.reason)?,
-            Says::Source { reading, source } => {
-                self.build_source(reading, source, fact.reason)?
-            }
+            Says::Source { reading, source } => { self.build_source(reading, source, fact.reason)? }
             Says::Not { reading, source } => self.build_not(reading, source, fact.reason)?,
             Says::Taken(_) => self.build_taken(fact.reason)?,
         };
