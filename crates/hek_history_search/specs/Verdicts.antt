@@ -1,5 +1,4 @@
 -- What a verdict claims of a history.
-use Rattle.std.specs.Prelude.{Unit}
 use Rattle.hek_history.specs.declared.history.History.{History}
 use Rattle.hek_history.specs.declared.history.Order.{Order}
 use Rattle.hek_history.specs.Explanation.{IsExplanationIn, HasNoExplanation}

@@ -263,13 +263,11 @@ impl Gathering {
                 self.answered = writer_at(known, first);
                 Ok(())
             }
-            Reason::Invoked => self.add(by_key(
-                known,
-                EdgeKind::RealTime,
-                self.answered,
-                writer_at(known, second),
-                None,
-            )),
+            Reason::Invoked => {
+                let before = self.answered;
+                let after = writer_at(known, second);
+                self.add(by_key(known, EdgeKind::RealTime, before, after, None))
+            }
             _ => match edge_of(known, first, second, fact.reason) {
                 Some(edge) => self.add(edge),
                 None => Ok(()),

@@ -61,11 +61,10 @@ impl Known<'_> {
     ) -> Result<(), NoMemory> {
         for one in first {
             for other in second {
-                let _fact = self.begin_with(
-                    self.nodes.commit(one.which),
-                    self.nodes.commit(other.which),
-                    Reason::Version { key, taken: None },
-                )?;
+                let before = self.nodes.commit(one.which);
+                let after = self.nodes.commit(other.which);
+                let reason = Reason::Version { key, taken: None };
+                let _fact = self.begin_with(before, after, reason)?;
             }
         }
         Ok(())
@@ -330,8 +329,10 @@ impl Known<'_> {
             let other = *doubtful;
             let by = self.taken_by(other);
             if other != t && by.is_some() {
-                self.order_with(node, taken, self.nodes.begin(other), by)?;
-                self.order_with(node, taken, self.nodes.commit(other), by)?;
+                let begin = self.nodes.begin(other);
+                let commit = self.nodes.commit(other);
+                self.order_with(node, taken, begin, by)?;
+                self.order_with(node, taken, commit, by)?;
             }
         }
         Ok(())

@@ -78,6 +78,19 @@ impl Graph {
         self.order = order;
     }
 
+    /// Whether each edge leads from a node to a later one.
+    pub(crate) fn is_in_order(&self) -> bool {
+        for node in 0..self.len() {
+            let place = self.place_of(node);
+            for edge in self.out_of(node) {
+                if self.place_of(edge.node) <= place {
+                    return false;
+                }
+            }
+        }
+        true
+    }
+
     /// Adds an edge, whether or not the order agrees with it.
     pub(crate) fn link(
         &mut self,

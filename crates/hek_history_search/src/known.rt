@@ -305,15 +305,13 @@ impl<'a> Known<'a> {
         };
         let writer = self.problem.transaction_of(source);
         let level = self.facts.level_of_one(settled);
-        let fact = self.force(
-            self.nodes.commit_of(writer),
-            self.nodes.begin(read.reader),
-            level,
-            Reason::Read {
-                reading,
-                source: settled,
-            },
-        )?;
+        let commit = self.nodes.commit_of(writer);
+        let begin = self.nodes.begin(read.reader);
+        let reason = Reason::Read {
+            reading,
+            source: settled,
+        };
+        let fact = self.force(commit, begin, level, reason)?;
         match writer {
             Some(t) => Ok(self.take(t, fact, read.reader)?),
             None => Ok(()),

@@ -22,6 +22,8 @@ mod repair;
 mod replay;
 mod resolve;
 mod rests;
+mod rounds;
+mod seeds;
 mod seek;
 mod start;
 mod steps;

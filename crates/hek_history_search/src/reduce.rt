@@ -140,11 +140,12 @@ impl Gathering {
             self.join(known.reading, wanted);
             return Ok(());
         }
+        let reading = self.readings.len();
         self.put_at_key(
             wanted.key,
             AtKey {
                 needed_by: Some(wanted.reader),
-                reading: self.readings.len(),
+                reading,
                 ..known
             },
         );
@@ -206,10 +207,11 @@ impl Gathering {
             }
             if let Some(key) = keys.place_of(pair.0) {
                 let known = self.at_key(key);
+                let scan = self.scans;
                 self.put_at_key(
                     key,
                     AtKey {
-                        shown_by: Some(self.scans),
+                        shown_by: Some(scan),
                         shown: pair.1,
                         ..known
                     },

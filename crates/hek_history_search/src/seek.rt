@@ -1,5 +1,5 @@
 //! The search: by the hints, by facts, and by repairs.
-use crate::anchor::{anchor, guesses};
+use crate::anchor::guesses;
 use crate::asked::{Timed, answers, asked_times};
 use crate::cycle::{Tangle, shortest_cycle};
 use crate::hints::{Hint, all_hints};
@@ -7,18 +7,12 @@ use crate::known::Known;
 use crate::nodes::Nodes;
 use crate::order::{Assumed, Assumptions, Sorted, sort_nodes};
 use crate::problem::Problem;
-use crate::repair::Sight;
-use crate::replay::{points, violations};
-use crate::resolve::Resolved;
+use crate::rounds::{anchor_again, repair_until};
 use crate::start::{node_hints, only_sources, start_conflict};
 use crate::stop::{Conflict, Stop};
-use crate::violation::Violation;
 use hek_history::{Order, Point};
 use hek_rules::NoMemory;
 use std::alloc::Global;
-
-/// How many nodes are looked at for a path.
-const NEAR: usize = 1000;
 
 /// What the search comes to.
 #[derive(Drop)]
@@ -32,10 +26,10 @@ pub(crate) enum Outcome {
 /// What stays the same during a search.
 #[derive(Drop)]
 pub(crate) struct Plan {
-    hints: Vec<Hint>,
-    node_hints: Vec<u64>,
-    times: Vec<Timed>,
-    guesses: Vec<Assumed>,
+    pub hints: Vec<Hint>,
+    pub node_hints: Vec<u64>,
+    pub times: Vec<Timed>,
+    pub guesses: Vec<Assumed>,
 }
 
 /// The state of a search before its first fact, and what its start fails on.
@@ -91,126 +85,6 @@ fn begin(known: &mut Known, plan: &Plan, lost: Option<usize>) -> Result<(), Stop
     }
     known.graph.set_order(order);
     Ok(known.take_sources()?)
-}
-
-/// The order is anew by the facts of now and the guesses.
-fn anchor_again(known: &mut Known, plan: &Plan) -> Result<(), NoMemory> {
-    anchor(
-        known.alloc,
-        &mut known.graph,
-        plan.guesses.as_slice(),
-        plan.node_hints.as_slice(),
-    )
-}
-
-/// What is open in a search: violations to repair, and what is left of the effort.
-#[derive(Drop)]
-struct Work {
-    violations: Vec<Violation>,
-    effort: usize,
-}
-
-/// Takes the violations of the order, the first one last. Where they hardly became fewer, the order is made anew before.
-fn replayed(known: &mut Known, plan: &Plan, before: usize) -> Result<Vec<Violation>, NoMemory> {
-    let mut found = violations(known)?;
-    if found.len().saturating_mul(2) > before {
-        anchor_again(known, plan)?;
-        found = violations(known)?;
-    }
-    found.reverse();
-    Ok(found)
-}
-
-/// A step that may come to a conflict.
-fn one_step(known: &mut Known, plan: &Plan, violation: Option<Violation>) -> Result<(), Stop> {
-    known.activate_pending(plan.times.as_slice())?;
-    let sight = Sight {
-        hints: plan.hints.as_slice(),
-        nodes: NEAR,
-    };
-    match violation {
-        Some(one) => known.repair(one, sight)?,
-        None => {}
-    }
-    known.activate_pending(plan.times.as_slice())
-}
-
-/// What a step comes to.
-#[derive(Drop)]
-enum Stepped {
-    Done,
-    Again,
-    Refuted(Conflict),
-}
-
-/// A step, and the contrary of a decision where it comes to a conflict. Answers the conflict that rests on none, or whether
-/// the step has to be made again.
-fn resolved_step(
-    known: &mut Known,
-    plan: &Plan,
-    violation: Option<Violation>,
-) -> Result<Stepped, NoMemory> {
-    match one_step(known, plan, violation) {
-        Ok(()) => Ok(Stepped::Done),
-        Err(Stop::NoMemory) => Err(NoMemory),
-        Err(Stop::Conflict(conflict)) => match known.resolve(conflict)? {
-            Resolved::Yes => Ok(Stepped::Again),
-            Resolved::Refuted(last) => Ok(Stepped::Refuted(last)),
-        },
-    }
-}
-
-/// Repairs violations until none is left, or nothing is left of the effort. Answers a conflict that rests on no decision.
-fn repair_all(
-    known: &mut Known,
-    plan: &Plan,
-    work: &mut Work,
-) -> Result<Option<Conflict>, NoMemory> {
-    for _ in 0..work.effort {
-        let next = work.violations.pop();
-        if next.is_none() && known.pending.is_empty() {
-            break;
-        }
-        work.effort = work.effort.saturating_sub(1);
-        match resolved_step(known, plan, next)? {
-            Stepped::Done => {}
-            Stepped::Refuted(conflict) => return Ok(Some(conflict)),
-            Stepped::Again => {
-                if let Some(violation) = next {
-                    work.violations.push(violation)?;
-                }
-                work.violations.extend_from_slice(known.again.as_slice())?;
-                known.again.clear();
-            }
-        }
-    }
-    Ok(None)
-}
-
-/// Replays and repairs until nothing fails.
-fn repair_until(known: &mut Known, plan: &Plan, effort: usize) -> Result<Outcome, NoMemory> {
-    let mut work = Work {
-        violations: Vec::new(known.alloc),
-        effort,
-    };
-    let mut before = usize::MAX;
-    for _ in 0..effort {
-        work.violations = replayed(known, plan, before)?;
-        before = work.violations.len();
-        if work.violations.is_empty() && known.pending.is_empty() {
-            return Ok(Outcome::Points(points(known)?));
-        }
-        if let Some(conflict) = repair_all(known, plan, &mut work)? {
-            return Ok(Outcome::Refuted(conflict));
-        }
-        if work.effort == 0 {
-            break;
-        }
-    }
-    Ok(Outcome::Unknown {
-        conflicts: known.conflicts,
-        violations: work.violations.len(),
-    })
 }
 
 /// Searches from the start.

@@ -153,11 +153,9 @@ impl Known<'_> {
             reading,
             source: None,
         };
-        let fact = self.begin_with(
-            self.nodes.of_source(self.problem, source),
-            self.nodes.begin(reader),
-            reason,
-        )?;
+        let commit = self.nodes.of_source(self.problem, source);
+        let begin = self.nodes.begin(reader);
+        let fact = self.begin_with(commit, begin, reason)?;
         Ok(Some(fact))
     }
 
@@ -195,11 +193,9 @@ impl Known<'_> {
                 reading: other.reading,
                 source: None,
             };
-            let _fact = self.begin_with(
-                self.nodes.begin(read.reader),
-                self.nodes.commit(over.reader),
-                Reason::Follows { ground, path },
-            )?;
+            let begin = self.nodes.begin(read.reader);
+            let commit = self.nodes.commit(over.reader);
+            let _fact = self.begin_with(begin, commit, Reason::Follows { ground, path })?;
         }
         Ok(())
     }

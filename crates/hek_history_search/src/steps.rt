@@ -615,9 +615,11 @@ impl<'a, 'b> Writing<'a, 'b> {
             Reason::Answered { taken } => self.claim_of_taken(taken),
             _ => None,
         };
+        let t = self.transaction(first);
+        let x = self.transaction(second);
         self.put(Step::Real {
-            first: self.transaction(first),
-            second: self.transaction(second),
+            first: t,
+            second: x,
             taken,
         })
     }
