@@ -26,7 +26,7 @@ pub enum Anomaly {
     ReadSkew,
     /// G2-item: two transactions each read a row that the other wrote over.
     WriteSkew,
-    /// G2: a scan missed what another inserted.
+    /// G2: a scan missed a row that another inserted.
     Phantom,
     /// Two transactions saw two others commit in either order.
     LongFork,
@@ -96,8 +96,8 @@ struct Counts {
     times: usize,
     real: usize,
     cases: usize,
-    scanned: usize,
-    absent: usize,
+    /// Readings written over in which a scan shows that a key is absent.
+    missed: usize,
 }
 
 impl Counts {
@@ -228,6 +228,14 @@ fn reading_of(known: &Known, reason: Reason) -> Option<Reading> {
     }
 }
 
+/// Whether a scan shows that the key is absent.
+fn is_missed(reading: Reading) -> bool {
+    match reading.need {
+        Need::Absent => reading.scanned,
+        Need::Anything | Need::Present | Need::Value(_) => false,
+    }
+}
+
 /// A cycle as it is gathered.
 #[derive(Drop)]
 struct Gathering {
@@ -251,11 +259,8 @@ impl Gathering {
             return Ok(());
         };
         if let Some(reading) = reading_of(known, fact.reason) {
-            if reading.scanned {
-                self.counts.scanned = self.counts.scanned.saturating_add(1);
-            }
-            if let Need::Absent = reading.need {
-                self.counts.absent = self.counts.absent.saturating_add(1);
+            if is_missed(reading) {
+                self.counts.missed = self.counts.missed.saturating_add(1);
             }
         }
         match fact.reason {
@@ -346,6 +351,9 @@ fn name_of_writes(counts: Counts) -> Anomaly {
 /// The name of a cycle in which something that was read is written over.
 fn name_of_reads(counts: Counts, edges: &[CycleEdge]) -> Anomaly {
     let transactions = transactions_in(edges);
+    if counts.missed > 0 {
+        return Anomaly::Phantom;
+    }
     if transactions == 2 && is_of_one_key(edges) {
         return Anomaly::LostUpdate;
     }
@@ -355,9 +363,6 @@ fn name_of_reads(counts: Counts, edges: &[CycleEdge]) -> Anomaly {
     let is_fork = counts.overwritten == 2 && counts.reads == 2 && counts.versions == 0;
     if is_fork && transactions == 4 {
         return Anomaly::LongFork;
-    }
-    if counts.scanned > 0 && counts.absent > 0 {
-        return Anomaly::Phantom;
     }
     if counts.overwritten == 2 && transactions == 2 {
         return Anomaly::WriteSkew;
@@ -377,8 +382,7 @@ fn of_cycle(known: &Known, facts: &[usize]) -> Result<Cause, NoMemory> {
             times: 0,
             real: 0,
             cases: 0,
-            scanned: 0,
-            absent: 0,
+            missed: 0,
         },
         answered: Writer::Opening,
     };
