@@ -91,12 +91,12 @@ fn judge_points(
     alloc: Global,
     history: &History,
     order: Order,
-    points: Vec<Point>,
+    found: Vec<Point>,
 ) -> Result<Verdict, NoMemory>
     ensures { IfOk result (λ verdict. IsVerdict history.now order verdict) }
 {
-    if is_explanation(alloc, history, order, points.as_slice())? {
-        Ok(Verdict::Serial(points))
+    if is_explanation(alloc, history, order, found.as_slice())? {
+        Ok(Verdict::Serial(found))
     } else {
         Ok(Verdict::Unknown(NOWHERE))
     }

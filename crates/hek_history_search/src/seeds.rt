@@ -35,12 +35,12 @@ fn number_of(violation: Violation) -> Number {
 
 /// The violations of the first order, and those that were looked at.
 #[derive(Drop)]
-struct Seeds {
+struct Survey {
     all: Vec<Number>,
     done: Vec<Number>,
 }
 
-impl Seeds {
+impl Survey {
     fn is_done(&self, violation: Violation) -> bool {
         self.done.contains(&number_of(violation))
     }
@@ -82,7 +82,7 @@ fn follow(
     known: &mut Known,
     plan: &Plan,
     work: &mut Work,
-    seeds: &mut Seeds,
+    seeds: &mut Survey,
     violation: Violation,
 ) -> Result<Option<Conflict>, NoMemory> {
     let most = known.conflicts.saturating_add(CONFLICTS);
@@ -127,7 +127,7 @@ pub(crate) fn seeds(
     known.again.clear();
     anchor_again(known, plan)?;
     let first = violations(known)?;
-    let mut looked = Seeds {
+    let mut looked = Survey {
         all: Vec::new(known.alloc),
         done: Vec::new(known.alloc),
     };

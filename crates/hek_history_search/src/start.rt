@@ -202,11 +202,11 @@ impl Known<'_> {
 
     /// The same for two of those who overwrote it, among the readers of a version.
     fn add_overwritten(&mut self, readers: &[OfVersion]) -> Result<(), NoMemory> {
-        let mut count = 0;
+        let mut count: usize = 0;
         for one in readers {
             if one.overwrites {
                 self.add_after(*one, readers)?;
-                count += 1;
+                count = count.saturating_add(1);
             }
             if count == 2 {
                 break;
