@@ -12,9 +12,9 @@ use hek_rules::NoMemory;
 const FAR: usize = 200_000;
 
 /// How many violations are looked at, how often the order is replayed for each, with how many conflicts and new violations.
-const SEEDS: usize = 200;
+const LOOKED_AT: usize = 200;
 
-const REPLAYS: usize = 8;
+const TIMES: usize = 8;
 
 const CONFLICTS: usize = 30;
 
@@ -88,7 +88,7 @@ fn follow(
     let most = known.conflicts.saturating_add(CONFLICTS);
     work.violations.clear();
     work.violations.push(violation)?;
-    for _ in 0..REPLAYS {
+    for _ in 0..TIMES {
         seeds.note(work.violations.as_slice())?;
         if let Some(conflict) = repair_all(known, plan, work, FAR, most)? {
             return Ok(Some(conflict));
@@ -135,7 +135,7 @@ pub(crate) fn seeds(
         looked.all.push(number_of(*violation))?;
     }
     looked.all.sort_unstable();
-    for place in 0..first.len().min(SEEDS) {
+    for place in 0..first.len().min(LOOKED_AT) {
         let Some(violation) = first.get(place) else {
             break;
         };
