@@ -33,6 +33,8 @@ pub(crate) struct Graph {
     seen: Vec<usize>,
     reached_by: Vec<Edge>,
     turn: usize,
+    /// How many nodes paths were looked for from.
+    looked_at: usize,
 }
 
 impl Graph {
@@ -47,6 +49,7 @@ impl Graph {
             seen: Vec::from_elem(alloc, 0, nodes)?,
             reached_by: Vec::from_elem(alloc, Edge { fact: 0, node: 0 }, nodes)?,
             turn: 0,
+            looked_at: 0,
         })
     }
 
@@ -64,6 +67,10 @@ impl Graph {
 
     pub(crate) fn place_of(&self, node: usize) -> usize {
         number_at(self.place.as_slice(), node)
+    }
+
+    pub(crate) fn looked_at(&self) -> usize {
+        self.looked_at
     }
 
     pub(crate) fn order(&self) -> &[usize] {
@@ -139,6 +146,7 @@ impl Graph {
         wanted: usize,
         queue: &mut Vec<usize>,
     ) -> Result<bool, NoMemory> {
+        self.looked_at = self.looked_at.saturating_add(1);
         for edge in list_at(self.out.as_slice(), node) {
             let next = edge.node;
             let is_new = number_at(self.seen.as_slice(), next) != self.turn;

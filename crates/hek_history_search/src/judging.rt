@@ -46,7 +46,7 @@ const NOWHERE: Progress = Progress {
     violations: 0,
 };
 
-/// Searches by facts and decisions, with so much effort: the number of repairs.
+/// Searches by facts and decisions, with so much effort.
 fn search_further(
     alloc: Global,
     history: &History,
@@ -72,7 +72,7 @@ fn search_further(
 }
 
 /// Searches for an explanation of this order, or for a certificate that there is none. First it tries the points by the times
-/// of the log, and then makes up to `effort` repairs of an order.
+/// of the log, and then makes up to `effort` repairs of an order, one for which many nodes are looked at counting as several.
 pub fn search(
     alloc: Global,
     history: &History,

@@ -13,9 +13,10 @@ use hek_rules::NoMemory;
 /// How many nodes are looked at for a path.
 const NEAR: usize = 1000;
 
-/// After how many replays and conflicts the violations of the first order are looked at one by one.
+/// After how many replays the violations of the first order are looked at one by one.
 const ROUNDS: usize = 4;
 
+/// How many conflicts there must have been before that.
 const CONFLICTS: usize = 5;
 
 /// How many conflicts a round may have before that.
@@ -31,11 +32,20 @@ pub(crate) fn anchor_again(known: &mut Known, plan: &Plan) -> Result<(), NoMemor
     )
 }
 
-/// What is left to do: violations to repair, the last one first, and how many repairs may still be made.
+/// What is left to do: violations to repair, the last one first, and how many repairs may still be made, one for which many nodes
+/// are looked at counting as several.
 #[derive(Drop)]
 pub(crate) struct Work {
     pub violations: Vec<Violation>,
     pub effort: usize,
+}
+
+impl Work {
+    /// Something was done for which so many nodes were looked at.
+    pub(crate) fn spend(&mut self, nodes: usize) {
+        let cost = (nodes / NEAR).saturating_add(1);
+        self.effort = self.effort.saturating_sub(cost);
+    }
 }
 
 /// Takes the violations of the order, the first one last. Where they hardly became fewer, the order is made anew before.
@@ -101,8 +111,10 @@ pub(crate) fn repair_last(
     nodes: usize,
 ) -> Result<Stepped, NoMemory> {
     let next = work.violations.pop();
-    work.effort = work.effort.saturating_sub(1);
+    let before = known.graph.looked_at();
     let stepped = step(known, plan, next, nodes)?;
+    let looked_at = known.graph.looked_at().saturating_sub(before);
+    work.spend(looked_at);
     if let Stepped::Again = &stepped {
         if let Some(violation) = next {
             work.violations.push(violation)?;
@@ -124,7 +136,7 @@ pub(crate) fn repair_all(
 ) -> Result<Option<Conflict>, NoMemory> {
     for _ in 0..work.effort {
         let is_done = work.violations.is_empty() && known.pending.is_empty();
-        if is_done || known.conflicts > conflicts {
+        if is_done || known.conflicts > conflicts || work.effort == 0 {
             break;
         }
         if let Stepped::Refuted(conflict) = repair_last(known, plan, work, nodes)? {
@@ -172,6 +184,7 @@ pub(crate) fn repair_until(
     let mut most = CONFLICTS_OF_ROUND;
     for round in 0..effort {
         work.violations = replayed(known, plan, before)?;
+        work.spend(known.graph.len());
         before = work.violations.len();
         if work.violations.is_empty() && known.pending.is_empty() {
             return Ok(Outcome::Points(points(known)?));

@@ -11,13 +11,16 @@ use hek_rules::NoMemory;
 /// How many nodes are looked at for a path.
 const FAR: usize = 200_000;
 
-/// How many violations are looked at, how often the order is replayed for each, with how many conflicts and new violations.
+/// How many violations are looked at.
 const LOOKED_AT: usize = 200;
 
+/// How often the order is replayed for one violation.
 const TIMES: usize = 8;
 
+/// How many conflicts there may be for one violation.
 const CONFLICTS: usize = 30;
 
+/// How many violations may come of one.
 const MOST: usize = 400;
 
 /// A violation as numbers, by which violations are sorted.
@@ -97,6 +100,7 @@ fn follow(
             break;
         }
         work.violations = seeds.due(known)?;
+        work.spend(known.graph.len());
         if work.violations.is_empty() || work.violations.len() > MOST {
             break;
         }
@@ -139,6 +143,9 @@ pub(crate) fn seeds(
         let Some(violation) = first.get(place) else {
             break;
         };
+        if work.effort == 0 {
+            break;
+        }
         if looked.is_done(*violation) {
             continue;
         }
@@ -147,6 +154,7 @@ pub(crate) fn seeds(
             return Ok(Some(conflict));
         }
         return_to(known, plan, order.as_slice())?;
+        work.spend(known.graph.len());
     }
     Ok(None)
 }
