@@ -387,6 +387,45 @@ fn row_places(alloc: Global, table: &[Left], keys: usize) -> Result<Vec<usize>, 
     Ok(places)
 }
 
+/// The places at which the readings of each transaction begin, and what it leaves, with the places after the last ones.
+#[derive(Drop)]
+struct Starts {
+    readings: Vec<usize>,
+    left: Vec<usize>,
+}
+
+impl Starts {
+    /// Notes where the next transaction begins.
+    fn note(&mut self, gathering: &Gathering) -> Result<(), NoMemory> {
+        self.readings.push(gathering.readings.len())?;
+        self.left.push(gathering.left.len())?;
+        Ok(())
+    }
+}
+
+/// Takes all transactions that may have committed. Answers where each begins.
+fn take_transactions(
+    gathering: &mut Gathering,
+    keys: &Keys,
+    history: &History,
+) -> Result<Starts, NoMemory> {
+    let alloc = gathering.alloc;
+    let count = history.transactions.len();
+    let mut starts = Starts {
+        readings: Vec::with_capacity(alloc, count)?,
+        left: Vec::with_capacity(alloc, count)?,
+    };
+    for (t, transaction) in history.transactions.iter().enumerate() {
+        starts.note(gathering)?;
+        if transaction.status != Status::Aborted {
+            let lenient = transaction.level == Level::Repeatable;
+            gathering.take_all(keys, t, transaction.operations.as_slice(), lenient)?;
+        }
+    }
+    starts.note(gathering)?;
+    Ok(starts)
+}
+
 /// A history as the search sees it.
 pub(crate) fn reduced(
     alloc: Global,
@@ -395,27 +434,17 @@ pub(crate) fn reduced(
 ) -> Result<Problem<'_>, NoMemory> {
     let keys = Keys::of(alloc, history)?;
     let opening = opening_of(alloc, history, &keys)?;
-    let count = history.transactions.len();
     let mut gathering = Gathering {
         alloc,
         at_keys: Vec::from_elem(alloc, UNTOUCHED, keys.len())?,
         readings: Vec::new(alloc),
         left: Vec::new(alloc),
-        faults: Vec::from_elem(alloc, None, count)?,
+        faults: Vec::from_elem(alloc, None, history.transactions.len())?,
         scans: 0,
     };
-    let mut reading_from = Vec::with_capacity(alloc, count)?;
-    let mut left_from = Vec::with_capacity(alloc, count)?;
-    for (t, transaction) in history.transactions.iter().enumerate() {
-        reading_from.push(gathering.readings.len())?;
-        left_from.push(gathering.left.len())?;
-        if transaction.status != Status::Aborted {
-            let lenient = transaction.level == Level::Repeatable;
-            gathering.take_all(&keys, t, transaction.operations.as_slice(), lenient)?;
-        }
-    }
-    reading_from.push(gathering.readings.len())?;
-    left_from.push(gathering.left.len())?;
+    let starts = take_transactions(&mut gathering, &keys, history)?;
+    let table = table_of(alloc, gathering.left.as_slice())?;
+    let row_from = row_places(alloc, table.as_slice(), keys.len())?;
     let Gathering {
         alloc: _,
         at_keys,
@@ -425,8 +454,10 @@ pub(crate) fn reduced(
         scans: _,
     } = gathering;
     drop(at_keys);
-    let table = table_of(alloc, left.as_slice())?;
-    let row_from = row_places(alloc, table.as_slice(), keys.len())?;
+    let Starts {
+        readings: reading_from,
+        left: left_from,
+    } = starts;
     Ok(Problem {
         history,
         order,

@@ -131,14 +131,13 @@ impl Known<'_> {
             return Ok(());
         };
         let source = self.problem.transaction_of(settled.source);
-        let begin = self.nodes.begin(reading.reader);
         let its = self.nodes.commit_of(source);
         let others = self.nodes.commit_of(writer);
         if source == writer || self.graph.place_of(others) < self.graph.place_of(its) {
             return Ok(());
         }
         let after = Way {
-            first: begin,
+            first: self.nodes.begin(reading.reader),
             second: others,
             ground: Ground::After {
                 reading: place,

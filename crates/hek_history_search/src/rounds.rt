@@ -207,8 +207,13 @@ pub(crate) fn repair_until(
             break;
         }
     }
-    Ok(Outcome::Unknown {
+    Ok(unknown(known, &work))
+}
+
+/// How far the search came.
+fn unknown(known: &Known, work: &Work) -> Outcome {
+    Outcome::Unknown {
         conflicts: known.conflicts,
         violations: work.violations.len(),
-    })
+    }
 }

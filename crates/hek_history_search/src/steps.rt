@@ -1,11 +1,11 @@
 //! The certificate of a conflict: the facts on which it rests as steps, each once in the case that it belongs to.
-use crate::facts::{Fact, Ground, Path, Reason, Says, add_conflict};
+use crate::facts::{Fact, Reason, Says, add_conflict};
 use crate::known::Known;
 use crate::lists::{list_at, number_at, option_at, part, put_number, put_option};
 use crate::problem::{OwnFault, Reading, Source};
 use crate::rests::{needed, rests_of};
 use crate::stop::Conflict;
-use hek_history::{Moment, Need, Point, Step, Writer};
+use hek_history::{Moment, Step, Writer};
 use hek_rules::NoMemory;
 
 /// How many tasks are done before the certificate counts as too long.
@@ -26,7 +26,7 @@ enum Task {
 
 /// What was said within a case.
 #[derive(Clone, Copy)]
-enum Noted {
+pub(crate) enum Noted {
     Fact(usize),
     /// The only source of a reading.
     Reading(usize),
@@ -43,12 +43,12 @@ struct Case {
 /// The steps so far, and where each claim is.
 #[derive(Drop)]
 pub(crate) struct Writing<'a, 'b> {
-    known: &'a Known<'b>,
+    pub known: &'a Known<'b>,
     steps: Vec<Step>,
     /// How many claims there are.
     height: usize,
     said: Vec<Option<usize>>,
-    only_said: Vec<Option<usize>>,
+    pub only_said: Vec<Option<usize>>,
     cases: Vec<Case>,
     tasks: Vec<Task>,
     rests: Vec<Vec<usize>>,
@@ -75,12 +75,12 @@ impl<'a, 'b> Writing<'a, 'b> {
         })
     }
 
-    fn fact(&self, place: usize) -> Fact {
+    pub(crate) fn fact(&self, place: usize) -> Fact {
         self.known.facts.get(place)
     }
 
     /// Adds a step whose claim is added to those that are shown. Answers the place of the claim.
-    fn put(&mut self, step: Step) -> Result<usize, NoMemory> {
+    pub(crate) fn put(&mut self, step: Step) -> Result<usize, NoMemory> {
         self.steps.push(step)?;
         let place = self.height;
         self.height = place.saturating_add(1);
@@ -88,24 +88,24 @@ impl<'a, 'b> Writing<'a, 'b> {
     }
 
     /// Notes what was said for the case that is open.
-    fn note(&mut self, noted: Noted) -> Result<(), NoMemory> {
+    pub(crate) fn note(&mut self, noted: Noted) -> Result<(), NoMemory> {
         if let Some(case) = self.cases.last_mut() {
             case.noted.push(noted)?;
         }
         Ok(())
     }
 
-    fn remember(&mut self, fact: usize, place: usize) -> Result<(), NoMemory> {
+    pub(crate) fn remember(&mut self, fact: usize, place: usize) -> Result<(), NoMemory> {
         put_option(&mut self.said, fact, Some(place));
         self.note(Noted::Fact(fact))
     }
 
-    fn place_of(&self, fact: usize) -> Option<usize> {
+    pub(crate) fn place_of(&self, fact: usize) -> Option<usize> {
         option_at(self.said.as_slice(), fact)
     }
 
     /// The place of a claim that has been said; one that hasn't makes the certificate wrong.
-    fn claim_of(&self, fact: usize) -> usize {
+    pub(crate) fn claim_of(&self, fact: usize) -> usize {
         match self.place_of(fact) {
             Some(place) => place,
             None => usize::MAX,
@@ -113,7 +113,7 @@ impl<'a, 'b> Writing<'a, 'b> {
     }
 
     /// The place of the claim that a transaction takes place.
-    fn claim_of_taken(&self, taken: Option<usize>) -> Option<usize> {
+    pub(crate) fn claim_of_taken(&self, taken: Option<usize>) -> Option<usize> {
         match taken {
             Some(fact) => self.place_of(fact),
             None => None,
@@ -121,7 +121,7 @@ impl<'a, 'b> Writing<'a, 'b> {
     }
 
     /// The moment of a node.
-    fn moment(&self, node: usize) -> Moment {
+    pub(crate) fn moment(&self, node: usize) -> Moment {
         match self.known.nodes.moment(node) {
             Some(moment) => moment,
             None => Moment::Opening,
@@ -129,18 +129,18 @@ impl<'a, 'b> Writing<'a, 'b> {
     }
 
     /// The transaction of a node; the opening has none.
-    fn transaction(&self, node: usize) -> usize {
+    pub(crate) fn transaction(&self, node: usize) -> usize {
         match self.known.nodes.transaction(node) {
             Some(t) => t,
             None => usize::MAX,
         }
     }
 
-    fn key_name(&self, key: usize) -> u64 {
+    pub(crate) fn key_name(&self, key: usize) -> u64 {
         self.known.problem.keys.key_at(key)
     }
 
-    fn writer(&self, source: Source) -> Writer {
+    pub(crate) fn writer(&self, source: Source) -> Writer {
         match self.known.problem.transaction_of(source) {
             Some(t) => Writer::Transaction(t),
             None => Writer::Opening,
@@ -251,36 +251,6 @@ impl<'a, 'b> Writing<'a, 'b> {
         self.remember(decision, place)
     }
 
-    /// The assumption of a source.
-    fn assumed_source(&self, place: usize, source: Source) -> Step {
-        let reading = self.reading(place);
-        let key = self.key_name(reading.key);
-        match source {
-            Source::Opening => Step::AssumeOpening {
-                reader: reading.reader,
-                key,
-            },
-            Source::Row(row) => Step::AssumeSource {
-                reader: reading.reader,
-                key,
-                row,
-            },
-        }
-    }
-
-    fn reading(&self, place: usize) -> Reading {
-        match self.known.problem.reading(place) {
-            Some(reading) => reading,
-            None => Reading {
-                reader: usize::MAX,
-                key: 0,
-                operation: 0,
-                need: Need::Anything,
-                scanned: false,
-            },
-        }
-    }
-
     /// Ends the innermost case by a conflict: its contrary is what the fact says.
     fn close(&mut self, fact: usize, conflict: usize) -> Result<(), NoMemory> {
         let known = self.known;
@@ -303,325 +273,6 @@ impl<'a, 'b> Writing<'a, 'b> {
         }
         self.height = place.saturating_add(1);
         self.remember(fact, place)
-    }
-
-    /// Adds the step of a fact.
-    fn build(&mut self, place: usize) -> Result<(), NoMemory> {
-        if self.place_of(place).is_some() {
-            return Ok(());
-        }
-        let fact = self.fact(place);
-        let claim = match fact.says {
-            Says::Before { first, second } => self.build_before(first, second, fact.reason)?,
-            Says::Source { reading, source } => { self.build_source(reading, source, fact.reason)? }
-            Says::Not { reading, source } => self.build_not(reading, source, fact.reason)?,
-            Says::Taken(_) => self.build_taken(fact.reason)?,
-        };
-        self.remember(place, claim)
-    }
-
-    /// Adds the step by which a transaction takes place.
-    fn build_taken(&mut self, reason: Reason) -> Result<usize, NoMemory> {
-        let Reason::Taken { by, taken } = reason else {
-            return Ok(usize::MAX);
-        };
-        let premise = self.claim_of(by);
-        let claim = self.claim_of_taken(taken);
-        self.put(Step::In {
-            premise,
-            taken: claim,
-        })
-    }
-
-    /// Adds the step by which one moment is before another.
-    fn build_before(
-        &mut self,
-        first: usize,
-        second: usize,
-        reason: Reason,
-    ) -> Result<usize, NoMemory> {
-        let step = match reason {
-            Reason::First => Step::First {
-                second: self.moment(second),
-            },
-            Reason::Own => Step::Own {
-                transaction: self.transaction(first),
-            },
-            Reason::Version { key, taken } => Step::Version {
-                first: self.transaction(first),
-                second: self.transaction(second),
-                key: self.key_name(key),
-                taken: self.claim_of_taken(taken),
-            },
-            Reason::Time { taken } => Step::Time {
-                first: point_of(self.moment(first)),
-                second: point_of(self.moment(second)),
-                taken: self.claim_of_taken(taken),
-            },
-            Reason::Read { reading, source } => {
-                let among = self.among(reading, source)?;
-                Step::Read { among }
-            }
-            Reason::Follows { ground, path } => {
-                return self.build_follows(first, second, ground, path);
-            }
-            _ => return Ok(usize::MAX),
-        };
-        self.put(step)
-    }
-
-    /// Adds the steps by which one moment is before another by a path.
-    fn build_follows(
-        &mut self,
-        first: usize,
-        second: usize,
-        ground: Ground,
-        path: Path,
-    ) -> Result<usize, NoMemory> {
-        let known = self.known;
-        let premise = self.chain(known.facts.path(path))?;
-        let step = match ground {
-            Ground::After { reading, source } => Step::After {
-                among: self.among(reading, source)?,
-                other: self.transaction(second),
-                premise,
-            },
-            Ground::Before { reading, source } => Step::Before {
-                among: self.among(reading, source)?,
-                other: self.transaction(first),
-                premise,
-            },
-            Ground::Winner {
-                first: t,
-                second: x,
-                key,
-            } => Step::Winner {
-                first: t,
-                second: x,
-                key: self.key_name(key),
-                premise,
-            },
-        };
-        self.put(step)
-    }
-
-    /// Adds the steps that leave one source of a reading.
-    fn build_source(
-        &mut self,
-        reading: usize,
-        source: Source,
-        reason: Reason,
-    ) -> Result<usize, NoMemory> {
-        let known = self.known;
-        match reason {
-            Reason::OnlySource { taken } => self.narrow(reading, Some(source), &[], taken),
-            Reason::LastSource { taken, nots } => {
-                self.narrow(reading, Some(source), known.facts.path(nots), taken)
-            }
-            _ => Ok(usize::MAX),
-        }
-    }
-
-    /// Adds the steps that exclude a source.
-    fn build_not(
-        &mut self,
-        place: usize,
-        source: Source,
-        reason: Reason,
-    ) -> Result<usize, NoMemory> {
-        let known = self.known;
-        let reading = self.reading(place);
-        let key = self.key_name(reading.key);
-        let writer = self.writer(source);
-        let step = match reason {
-            Reason::NotLater { path } => Step::NotLater {
-                reader: reading.reader,
-                key,
-                writer,
-                premise: self.chain(known.facts.path(path))?,
-            },
-            Reason::NotCovered { later, earlier } => {
-                let first = self.chain(known.facts.path(later))?;
-                let second = self.chain(known.facts.path(earlier))?;
-                Step::NotCover {
-                    reader: reading.reader,
-                    key,
-                    writer,
-                    other: self.end_of(known.facts.path(later)),
-                    later: first,
-                    earlier: second,
-                }
-            }
-            _ => return Ok(usize::MAX),
-        };
-        self.put(step)
-    }
-
-    /// The transaction at the end of a path.
-    fn end_of(&self, path: &[usize]) -> usize {
-        match path.last() {
-            Some(fact) => match self.fact(*fact).says {
-                Says::Before { second, .. } => self.transaction(second),
-                _ => usize::MAX,
-            },
-            None => usize::MAX,
-        }
-    }
-
-    /// The claim of the source of a reading.
-    fn among(&mut self, reading: usize, source: Option<usize>) -> Result<usize, NoMemory> {
-        if let Some(fact) = source {
-            return Ok(self.claim_of(fact));
-        }
-        if let Some(place) = option_at(self.only_said.as_slice(), reading) {
-            return Ok(place);
-        }
-        let only = self.known.only_source(reading);
-        let place = self.narrow(reading, only, &[], None)?;
-        put_option(&mut self.only_said, reading, Some(place));
-        self.note(Noted::Reading(reading))?;
-        Ok(place)
-    }
-
-    /// Adds the claim that excludes a source: the reader's own, or by one of the facts.
-    fn exclusion(
-        &mut self,
-        reading: Reading,
-        source: Source,
-        nots: &[usize],
-    ) -> Result<usize, NoMemory> {
-        if self.known.problem.transaction_of(source) == Some(reading.reader) {
-            let key = self.key_name(reading.key);
-            return self.put(Step::NotSelf {
-                reader: reading.reader,
-                key,
-            });
-        }
-        for fact in nots {
-            if let Says::Not { source: other, .. } = self.fact(*fact).says {
-                if other == source {
-                    return Ok(self.claim_of(*fact));
-                }
-            }
-        }
-        Ok(usize::MAX)
-    }
-
-    /// Adds the steps that leave one candidate of a reading, or none.
-    fn narrow(
-        &mut self,
-        place: usize,
-        kept: Option<Source>,
-        nots: &[usize],
-        taken: Option<usize>,
-    ) -> Result<usize, NoMemory> {
-        let reading = self.reading(place);
-        let candidates = self.known.problem.candidates(reading);
-        let key = self.key_name(reading.key);
-        let claim = self.claim_of_taken(taken);
-        let mut among = self.put(Step::Start {
-            reader: reading.reader,
-            operation: reading.operation,
-            key,
-            from: candidates.from,
-            to: candidates.to,
-            taken: claim,
-        })?;
-        if candidates.opening && kept != Some(Source::Opening) {
-            let not = self.exclusion(reading, Source::Opening, nots)?;
-            among = self.put(Step::DropOpening { among, not })?;
-        }
-        let cut = match kept {
-            Some(Source::Row(row)) => row,
-            _ => candidates.to,
-        };
-        among = self.drop_lowest(reading, among, candidates.from, cut, nots)?;
-        self.drop_highest(reading, among, cut.saturating_add(1), candidates.to, nots)
-    }
-
-    /// Drops the rows from a place on, and below another.
-    fn drop_lowest(
-        &mut self,
-        reading: Reading,
-        start: usize,
-        from: usize,
-        to: usize,
-        nots: &[usize],
-    ) -> Result<usize, NoMemory> {
-        let mut among = start;
-        for row in from..to {
-            let not = self.exclusion(reading, Source::Row(row), nots)?;
-            among = self.put(Step::DropLowest { among, not })?;
-        }
-        Ok(among)
-    }
-
-    /// Drops the rows from a place on, and below another, the last first.
-    fn drop_highest(
-        &mut self,
-        reading: Reading,
-        start: usize,
-        from: usize,
-        to: usize,
-        nots: &[usize],
-    ) -> Result<usize, NoMemory> {
-        let mut among = start;
-        for row in (from..to).rev() {
-            let not = self.exclusion(reading, Source::Row(row), nots)?;
-            among = self.put(Step::DropHighest { among, not })?;
-        }
-        Ok(among)
-    }
-
-    /// Adds the claim that the first moment of a path is before the last.
-    fn chain(&mut self, path: &[usize]) -> Result<usize, NoMemory> {
-        let mut joined = None;
-        let mut answered = None;
-        for place in path {
-            let fact = self.fact(*place);
-            let next = match fact.reason {
-                Reason::Answered { .. } => {
-                    answered = Some(fact);
-                    continue;
-                }
-                Reason::Later => continue,
-                Reason::Invoked => self.real(answered, fact)?,
-                _ => self.claim_of(*place),
-            };
-            joined = match joined {
-                None => Some(next),
-                Some(first) => Some(self.put(Step::Chain {
-                    first,
-                    second: next,
-                })?),
-            };
-        }
-        match joined {
-            Some(place) => Ok(place),
-            None => Ok(usize::MAX),
-        }
-    }
-
-    /// Adds that one was answered before another was invoked.
-    fn real(&mut self, answered: Option<Fact>, invoked: Fact) -> Result<usize, NoMemory> {
-        let Some(fact) = answered else {
-            return Ok(usize::MAX);
-        };
-        let (Says::Before { first, .. }, Says::Before { second, .. }) = (fact.says, invoked.says)
-        else {
-            return Ok(usize::MAX);
-        };
-        let taken = match fact.reason {
-            Reason::Answered { taken } => self.claim_of_taken(taken),
-            _ => None,
-        };
-        let t = self.transaction(first);
-        let x = self.transaction(second);
-        self.put(Step::Real {
-            first: t,
-            second: x,
-            taken,
-        })
     }
 
     /// Adds the steps of a conflict, the last of which is a contradiction.
@@ -711,15 +362,6 @@ impl<'a, 'b> Writing<'a, 'b> {
             }
         }
         Ok(())
-    }
-}
-
-/// The point of a moment.
-fn point_of(moment: Moment) -> Point {
-    match moment {
-        Moment::Opening => Point::Begin(usize::MAX),
-        Moment::Begin(t) => Point::Begin(t),
-        Moment::Commit(t) => Point::Commit(t),
     }
 }
 
