@@ -78,8 +78,9 @@ pub struct CycleEdge {
     pub written: Option<Option<u64>>,
 }
 
-/// What keeps a history from having an explanation, with its cycle. It has none where a single transaction is at fault: then that
-/// is the second of an edge.
+/// What keeps a history from having an explanation, with its cycle. Where a reading has no source there is none: then the first
+/// edge is the reading, and the others are writers of its value with those who wrote over it before the reader. Where a single
+/// transaction is at fault it is both ends of the only edge.
 #[derive(Drop)]
 pub struct Cause {
     pub anomaly: Anomaly,
@@ -432,8 +433,50 @@ fn hidden_writer(known: &Known, reading: Reading) -> Option<(usize, Anomaly)> {
     None
 }
 
-/// A reading without a source.
-fn of_reading(known: &Known, place: usize, is_excluded: bool) -> Result<Cause, NoMemory> {
+/// The node at the end of a path.
+fn end_of(known: &Known, path: &[usize]) -> Option<usize> {
+    let last = path.last()?;
+    match known.facts.get(*last).says {
+        Says::Before { second, .. } => Some(second),
+        Says::Source { .. } | Says::Not { .. } | Says::Taken(_) => None,
+    }
+}
+
+/// The edge by which a candidate is excluded, if another wrote the key between it and the reader.
+fn exclusion(known: &Known, fact: usize) -> Option<CycleEdge> {
+    let found = known.facts.get(fact);
+    let Says::Not { reading, source } = found.says else {
+        return None;
+    };
+    let Reason::NotCovered { later, .. } = found.reason else {
+        return None;
+    };
+    let key = known.problem.reading(reading)?.key;
+    let writer = match known.problem.transaction_of(source) {
+        Some(t) => Writer::Transaction(t),
+        None => Writer::Opening,
+    };
+    let other = writer_at(known, end_of(known, known.facts.path(later))?);
+    Some(by_key(known, EdgeKind::Version, writer, other, Some(key)))
+}
+
+/// Adds the edges of candidates that another wrote over before the reader.
+fn add_exclusions(
+    cycle: &mut Vec<CycleEdge>,
+    known: &Known,
+    nots: &[usize],
+) -> Result<(), NoMemory> {
+    for fact in nots {
+        if let Some(edge) = exclusion(known, *fact) {
+            cycle.push(edge)?;
+        }
+    }
+    Ok(())
+}
+
+/// A reading without a source: the reading first, and then the candidates that another wrote over before it.
+fn of_reading(known: &Known, place: usize, nots: &[usize]) -> Result<Cause, NoMemory> {
+    let is_excluded = !nots.is_empty();
     let mut cycle = Vec::new(known.alloc);
     let Some(reading) = known.problem.reading(place) else {
         return Ok(Cause {
@@ -465,6 +508,7 @@ fn of_reading(known: &Known, place: usize, is_excluded: bool) -> Result<Cause, N
         read: Some(reading.need),
         written: None,
     })?;
+    add_exclusions(&mut cycle, known, nots)?;
     Ok(Cause { anomaly, cycle })
 }
 
@@ -484,7 +528,7 @@ fn of_fault(known: &Known, transaction: usize) -> Result<Cause, NoMemory> {
 pub(crate) fn cause_of(known: &Known, conflict: &Conflict) -> Result<Cause, NoMemory> {
     match conflict {
         Conflict::Cycle(facts) => of_cycle(known, facts.as_slice()),
-        Conflict::NoSource { reading, nots, .. } => of_reading(known, *reading, !nots.is_empty()),
+        Conflict::NoSource { reading, nots, .. } => of_reading(known, *reading, nots.as_slice()),
         Conflict::OwnFault { transaction, .. } => of_fault(known, *transaction),
     }
 }
