@@ -9,6 +9,11 @@ use hek_commands::{
     release_command, report, run_command, state_command, word_command,
 };
 use hek_debug_command::{debug_command, debug_session};
+use hek_history::{Level as LogLevel, Order};
+use hek_history_command::{
+    Choice as LogChoice, history_command, level_named as log_level_named, order_named,
+    run_log_command,
+};
 use hek_page_command::{Part, page_command};
 use hek_permute::Form;
 use hek_permute_command::{Choice, part_of, permute_command};
@@ -141,6 +146,7 @@ fn run<'a, D: Disk, I: Read + IsTerminal + Drop, W: Write, E: Write>(
         Some(("drive", found)) => drive(alloc, found, disk, input, out),
         Some(("debug", found)) => debug(alloc, found, disk, input, out, faults),
         Some(("check", found)) => check(alloc, found, disk, input, out),
+        Some(("history", found)) => history(alloc, found, disk, input, out, faults),
         Some(("permute", found)) => permute(alloc, found, disk, input, out, faults),
         Some(("page", found)) => page(alloc, found, disk, input, out, faults),
         Some(("threads", _)) => Err(HekFault::NoWorker),
@@ -185,6 +191,9 @@ fn run_schedule<'a, D: Disk, I: Read + Drop, W: Write>(
     let extras = extras_of(found);
     let state = limit.is_some() || found.get_flag("state");
     let file = schedule_file(alloc, found, disk, &mut input)?;
+    if found.get_flag("history") {
+        return run_log_command(alloc, file, out);
+    }
     if extras.why.is_some() || extras.changes {
         return explain_command(alloc, file, extras, limit, state, out);
     }
@@ -294,6 +303,52 @@ fn check<'a, D: Disk, I: Read + Drop, W: Write>(
     let trace = read_text(alloc, open(disk, &mut input, name)?, name)?;
     let why = found.get_flag("why");
     check_command(alloc, file, trace.as_slice(), level, why, out)
+}
+
+fn history<'a, D: Disk, I: Read + Drop, W: Write, E: Write>(
+    alloc: Global,
+    found: &ArgMatches<'a>,
+    disk: &D,
+    input: I,
+    out: &mut W,
+    faults: &mut E,
+) -> Result<u8, HekFault<'a>> {
+    let mut input = Some(input);
+    let choice = LogChoice {
+        level: log_level_of(found)?,
+        order: order_of(found)?,
+        all: found.get_flag("all"),
+        json: found.get_flag("json"),
+    };
+    let name = text(found, "FILE")?;
+    let mut order_out = match found.get_str("order-out") {
+        Some(name) => Some(LateFile::new(disk, name)),
+        None => None,
+    };
+    let file = open(disk, &mut input, name)?;
+    history_command(alloc, file, name, choice, &mut order_out, out, faults)
+}
+
+/// The level of a log's transactions that the words give with `--level`.
+fn log_level_of<'a>(found: &ArgMatches<'a>) -> Result<Option<LogLevel>, HekFault<'a>> {
+    match found.get_str("level") {
+        None => Ok(None),
+        Some(word) => match log_level_named(word) {
+            Some(level) => Ok(Some(level)),
+            None => Err(HekFault::BadArgument),
+        },
+    }
+}
+
+/// The order that the words ask for with `--order`.
+fn order_of<'a>(found: &ArgMatches<'a>) -> Result<Option<Order>, HekFault<'a>> {
+    match found.get_str("order") {
+        None => Ok(None),
+        Some(word) => match order_named(word) {
+            Some(order) => Ok(Some(order)),
+            None => Err(HekFault::BadArgument),
+        },
+    }
 }
 
 /// How many orders are played at most, if the words give no limit.

@@ -1,0 +1,246 @@
+//! The operations of a transaction.
+use crate::fault::{LogFault, Wanted};
+use crate::log_line::{LogLine, Misfit};
+use crate::numbering::Labels;
+use crate::spot::Spot;
+use crate::symbols::Symbols;
+use hek_history::{Operation, Scope};
+use serde_json::Value;
+use std::alloc::Global;
+
+/// What an operation does, by its first word.
+#[derive(Clone, Copy, PartialEq, Eq)]
+enum Kind {
+    Read,
+    Write,
+    Insert,
+    Update,
+    Delete,
+    Scan,
+    Range,
+}
+
+const KINDS: [(&str, Kind); 7] = [
+    ("read", Kind::Read),
+    ("write", Kind::Write),
+    ("insert", Kind::Insert),
+    ("update", Kind::Update),
+    ("delete", Kind::Delete),
+    ("scan", Kind::Scan),
+    ("range", Kind::Range),
+];
+
+/// The operations of a transaction that were read so far, and the keys and values of the log.
+#[derive(Drop)]
+struct Gathered<'a> {
+    symbols: &'a mut Symbols,
+    operations: Vec<Operation>,
+}
+
+/// The operations of a transaction, in order. `unanswered`: the last one may have no answer.
+pub(crate) fn read_operations(
+    alloc: Global,
+    line: LogLine<'_>,
+    object: &Value,
+    unanswered: bool,
+    symbols: &mut Symbols,
+) -> Result<Vec<Operation>, LogFault> {
+    let Some(Value::Array(items)) = object.get("ops") else {
+        return Err(line.wants(Spot::Field("ops"), Wanted::Operations));
+    };
+    let mut gathered = Gathered {
+        symbols,
+        operations: Vec::with_capacity(alloc, items.len())?,
+    };
+    for place in 0..items.len() {
+        let may_lack = unanswered && place + 1 == items.len();
+        match add_operation(alloc, line.number, &items[place], may_lack, &mut gathered) {
+            Ok(()) => {}
+            Err(misfit) => return Err(line.fault(Spot::Item("ops", place), misfit)),
+        }
+    }
+    let Gathered { operations, .. } = gathered;
+    Ok(operations)
+}
+
+/// Adds an operation; a read or scan without an answer says nothing.
+fn add_operation(
+    alloc: Global,
+    line: u64,
+    item: &Value,
+    may_lack: bool,
+    gathered: &mut Gathered<'_>,
+) -> Result<(), Misfit> {
+    let parts = item.as_array().ok_or(Wanted::Operation)?;
+    let parts = parts.as_slice();
+    let kind = kind_of(parts).ok_or(Wanted::Operation)?;
+    let operation = match kind {
+        Kind::Read => read_of(alloc, parts, gathered.symbols)?,
+        Kind::Write => write_of(alloc, parts, gathered.symbols)?,
+        Kind::Insert => insert_of(alloc, parts, may_lack, gathered.symbols)?,
+        Kind::Update => update_of(alloc, parts, may_lack, gathered.symbols)?,
+        Kind::Delete => return add_delete(alloc, parts, may_lack, gathered),
+        Kind::Scan | Kind::Range => return add_scan(alloc, line, kind, parts, may_lack, gathered),
+    };
+    gathered.operations.push(operation)?;
+    Ok(())
+}
+
+fn kind_of(parts: &[Value]) -> Option<Kind> {
+    let word = parts.first()?.as_str()?;
+    for (name, kind) in KINDS {
+        if name == word {
+            return Some(kind);
+        }
+    }
+    None
+}
+
+fn read_of(alloc: Global, parts: &[Value], symbols: &mut Symbols) -> Result<Operation, Misfit> {
+    let [_, key, value] = parts else {
+        return Err(Misfit::Wanted(Wanted::Read));
+    };
+    let key = symbols.key(alloc, key, Wanted::Read)?;
+    let found = symbols.found(alloc, value, Wanted::Read)?;
+    Ok(Operation::Read(key, found))
+}
+
+fn write_of(alloc: Global, parts: &[Value], symbols: &mut Symbols) -> Result<Operation, Misfit> {
+    let [_, key, value] = parts else {
+        return Err(Misfit::Wanted(Wanted::Write));
+    };
+    let key = symbols.key(alloc, key, Wanted::Write)?;
+    let value = symbols.value(alloc, value, Wanted::Write)?;
+    Ok(Operation::Put(key, value))
+}
+
+/// An insert; one without an answer counts as a write whose answer isn't judged.
+fn insert_of(
+    alloc: Global,
+    parts: &[Value],
+    may_lack: bool,
+    symbols: &mut Symbols,
+) -> Result<Operation, Misfit> {
+    let [_, key, value, done] = parts else {
+        return Err(Misfit::Wanted(Wanted::Insert));
+    };
+    let key = symbols.key(alloc, key, Wanted::Insert)?;
+    let value = symbols.value(alloc, value, Wanted::Insert)?;
+    Ok(match answer_of(done, may_lack, Wanted::Insert)? {
+        Some(done) => Operation::Insert(key, value, done),
+        None => Operation::Put(key, value),
+    })
+}
+
+/// An update; one without an answer counts as a write whose answer isn't judged.
+fn update_of(
+    alloc: Global,
+    parts: &[Value],
+    may_lack: bool,
+    symbols: &mut Symbols,
+) -> Result<Operation, Misfit> {
+    let [_, key, value, done] = parts else {
+        return Err(Misfit::Wanted(Wanted::Update));
+    };
+    let key = symbols.key(alloc, key, Wanted::Update)?;
+    let value = symbols.value(alloc, value, Wanted::Update)?;
+    Ok(match answer_of(done, may_lack, Wanted::Update)? {
+        Some(done) => Operation::Update(key, value, done),
+        None => Operation::Put(key, value),
+    })
+}
+
+/// Adds a delete. One without an answer counts as a write and a delete of what it wrote: the key goes, whether or not it
+/// was there.
+fn add_delete(
+    alloc: Global,
+    parts: &[Value],
+    may_lack: bool,
+    gathered: &mut Gathered<'_>,
+) -> Result<(), Misfit> {
+    let [_, key, done] = parts else {
+        return Err(Misfit::Wanted(Wanted::Delete));
+    };
+    let key = gathered.symbols.key(alloc, key, Wanted::Delete)?;
+    match answer_of(done, may_lack, Wanted::Delete)? {
+        Some(done) => gathered.operations.push(Operation::Delete(key, done))?,
+        None => {
+            gathered.operations.reserve(2)?;
+            gathered.operations.push(Operation::Put(key, 0))?;
+            gathered.operations.push(Operation::Delete(key, true))?;
+        }
+    }
+    Ok(())
+}
+
+/// The answer of a write: true or false, or null where it may lack.
+fn answer_of(value: &Value, may_lack: bool, wanted: Wanted) -> Result<Option<bool>, Misfit> {
+    match value.as_bool() {
+        Some(done) => Ok(Some(done)),
+        None => {
+            if may_lack && value.is_null() {
+                Ok(None)
+            } else {
+                Err(Misfit::Wanted(wanted))
+            }
+        }
+    }
+}
+
+/// Adds a scan, if it has an answer.
+fn add_scan(
+    alloc: Global,
+    line: u64,
+    kind: Kind,
+    parts: &[Value],
+    may_lack: bool,
+    gathered: &mut Gathered<'_>,
+) -> Result<(), Misfit> {
+    let wanted = if kind == Kind::Scan {
+        Wanted::Scan
+    } else {
+        Wanted::Range
+    };
+    let (scope, answer) = match (kind, parts) {
+        (Kind::Scan, [_, bucket, answer]) => {
+            (bucket_of(line, bucket, gathered.symbols)?, answer)
+        }
+        (Kind::Range, [_, low, high, answer]) => {
+            (range_of(alloc, low, high, gathered.symbols)?, answer)
+        }
+        _ => return Err(Misfit::Wanted(wanted)),
+    };
+    if may_lack && answer.is_null() {
+        return Ok(());
+    }
+    let pairs = gathered.symbols.pairs(alloc, answer, wanted)?;
+    gathered.operations.push(Operation::Scan(scope, pairs))?;
+    Ok(())
+}
+
+/// The keys of a bucket.
+fn bucket_of(line: u64, bucket: &Value, symbols: &mut Symbols) -> Result<Scope, Misfit> {
+    let bucket = bucket.as_u64().ok_or(Wanted::Scan)?;
+    let buckets = symbols.buckets.ok_or(Wanted::BucketCount)?;
+    if bucket >= buckets {
+        return Err(Misfit::Wanted(Wanted::Bucket));
+    }
+    symbols.bucket_line = symbols.bucket_line.or(Some(line));
+    Ok(Scope::Bucket(buckets, bucket))
+}
+
+/// The keys from one on and below another, both numbers or both texts.
+fn range_of(
+    alloc: Global,
+    low: &Value,
+    high: &Value,
+    symbols: &mut Symbols,
+) -> Result<Scope, Misfit> {
+    let low = symbols.key(alloc, low, Wanted::Range)?;
+    let high = symbols.key(alloc, high, Wanted::Range)?;
+    if Labels::is_text(low) == Labels::is_text(high) {
+        Ok(Scope::Range(low, high))
+    } else {
+        Err(Misfit::Wanted(Wanted::Ends))
+    }
+}

@@ -1,0 +1,159 @@
+//! Reading a log.
+use crate::fault::{LogFault, Wanted};
+use crate::fields::{buckets_of, interval_of, level_of, name_of, rows_of, status_of, time_of};
+use crate::finish::finish;
+use crate::log_line::LogLine;
+use crate::logged::Log;
+use crate::numbering::Labels;
+use crate::operations::read_operations;
+use crate::shown::Label;
+use crate::spot::{Spot, column_of};
+use crate::symbols::Symbols;
+use hek_history::{History, Status, Transaction};
+use indexmap::IndexSet;
+use serde_json::Value;
+use std::alloc::Global;
+use std::io::{BufRead, ErrorKind};
+
+/// What was read so far. `seen` has the numbers of the transactions' names, by place, and `lines` where each was read.
+#[derive(Drop)]
+pub(crate) struct Draft {
+    pub history: History,
+    pub names: Labels,
+    pub seen: IndexSet<u64>,
+    pub lines: Vec<u64>,
+    pub symbols: Symbols,
+    pub rows_line: u64,
+}
+
+/// Reads a log to its end, one line at a time. No line is kept.
+pub fn read_log<B: BufRead>(alloc: Global, input: &mut B) -> Result<Log, LogFault> {
+    let mut draft = Draft {
+        history: History {
+            rows: Vec::new(alloc),
+            transactions: Vec::new(alloc),
+        },
+        names: Labels::new(alloc),
+        seen: IndexSet::new(alloc),
+        lines: Vec::new(alloc),
+        symbols: Symbols::new(alloc),
+        rows_line: 0,
+    };
+    let mut bytes = Vec::new(alloc);
+    for number in 1..u64::MAX {
+        bytes.clear();
+        match input.read_until(b'\n', &mut bytes) {
+            Ok(_) => {}
+            Err(error) => return Err(read_fault(error.kind())),
+        }
+        if bytes.is_empty() {
+            break;
+        }
+        let text = bytes.as_slice();
+        let line = LogLine {
+            number,
+            bytes: text.strip_suffix(b"\n").unwrap_or(text),
+        };
+        add_line(alloc, line, &mut draft)?;
+    }
+    finish(alloc, draft)
+}
+
+fn read_fault(kind: ErrorKind) -> LogFault {
+    match kind {
+        ErrorKind::OutOfMemory => LogFault::NoMemory,
+        _ => LogFault::CannotRead,
+    }
+}
+
+/// Adds what a line says; a blank line says nothing.
+fn add_line(alloc: Global, line: LogLine<'_>, draft: &mut Draft) -> Result<(), LogFault> {
+    if line.bytes.iter().all(|byte| byte.is_ascii_whitespace()) {
+        return Ok(());
+    }
+    let object = object_in(alloc, line)?;
+    let is_first = draft.rows_line == 0 && draft.history.transactions.is_empty();
+    if is_first && object.get("txn").is_none() {
+        return add_opening(alloc, line, &object, draft);
+    }
+    let name = name_of(line, &object)?;
+    add_name(alloc, line, name, draft)?;
+    let transaction = transaction_in(alloc, line, &object, &mut draft.symbols)?;
+    draft.history.transactions.push(transaction)?;
+    Ok(())
+}
+
+/// The object that a line is.
+fn object_in(alloc: Global, line: LogLine<'_>) -> Result<Value, LogFault> {
+    match Value::from_slice(alloc, line.bytes) {
+        Ok(object) => {
+            if object.is_object() {
+                Ok(object)
+            } else {
+                Err(line.wants(Spot::Line, Wanted::Object))
+            }
+        }
+        Err(error) => {
+            if error.is_memory() {
+                return Err(LogFault::NoMemory);
+            }
+            Err(LogFault::Json {
+                line: line.number,
+                column: error.column() as u64,
+            })
+        }
+    }
+}
+
+fn add_opening(
+    alloc: Global,
+    line: LogLine<'_>,
+    object: &Value,
+    draft: &mut Draft,
+) -> Result<(), LogFault> {
+    draft.symbols.buckets = buckets_of(line, object)?;
+    draft.history.rows = rows_of(alloc, line, object, &mut draft.symbols)?;
+    draft.rows_line = line.number;
+    Ok(())
+}
+
+/// Keeps the name of a transaction that is not in the log yet.
+fn add_name(
+    alloc: Global,
+    line: LogLine<'_>,
+    name: Label<'_>,
+    draft: &mut Draft,
+) -> Result<(), LogFault> {
+    let number = draft.names.number_of(alloc, name)?;
+    let (place, is_new) = draft.seen.insert_full(number)?;
+    if is_new {
+        draft.lines.push(line.number)?;
+        return Ok(());
+    }
+    Err(LogFault::Duplicate {
+        line: line.number,
+        column: column_of(line.bytes, Spot::Field("txn")),
+        name: format!(in alloc; "{name}")?,
+        before: draft.lines.get(place).copied().unwrap_or(0),
+    })
+}
+
+fn transaction_in(
+    alloc: Global,
+    line: LogLine<'_>,
+    object: &Value,
+    symbols: &mut Symbols,
+) -> Result<Transaction, LogFault> {
+    let status = status_of(line, object)?;
+    let (invoked, answered) = interval_of(line, object)?;
+    let unanswered = status == Status::Unknown;
+    Ok(Transaction {
+        level: level_of(line, object)?,
+        status,
+        begin: time_of(line, object, "begin")?,
+        end: time_of(line, object, "end")?,
+        invoked,
+        answered,
+        operations: read_operations(alloc, line, object, unanswered, symbols)?,
+    })
+}

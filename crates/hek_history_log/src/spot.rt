@@ -1,0 +1,106 @@
+//! Where a value is in a line of JSON.
+
+/// A value in a line: the whole, a field of it, or an item of a field that is an array, by its place from 0.
+#[derive(Clone, Copy, Debug, PartialEq, Eq)]
+pub(crate) enum Spot {
+    Line,
+    Field(&'static str),
+    Item(&'static str, usize),
+}
+
+/// The column, from 1, at which a value begins in a line that is JSON; of the whole line if there is no such value.
+pub(crate) fn column_of(line: &[u8], spot: Spot) -> u64 {
+    let start = skip_blanks(line, 0);
+    let found = match spot {
+        Spot::Line => None,
+        Spot::Field(name) => field_at(line, start, name.as_bytes()),
+        Spot::Item(name, place) => match field_at(line, start, name.as_bytes()) {
+            Some(list) => Some(item_at(line, list, place)),
+            None => None,
+        },
+    };
+    (found.unwrap_or(start) as u64).saturating_add(1)
+}
+
+/// Where the value of a field begins, in the object that begins at a place.
+fn field_at(line: &[u8], object: usize, name: &[u8]) -> Option<usize> {
+    let mut at = skip_byte(line, object);
+    for _ in 0..line.len() {
+        let key = skip_blanks(line, at);
+        let colon = value_end(line, key, b':');
+        let value = skip_blanks(line, skip_byte(line, colon));
+        if is_key(line, key, name) {
+            return Some(value);
+        }
+        let end = value_end(line, value, b',');
+        if line.get(end) != Some(&b',') {
+            return None;
+        }
+        at = skip_byte(line, end);
+    }
+    None
+}
+
+/// Whether the string at a place is this key.
+fn is_key(line: &[u8], at: usize, name: &[u8]) -> bool {
+    let Some(rest) = line.get(at..) else {
+        return false;
+    };
+    let Some(rest) = rest.strip_prefix(b"\"") else {
+        return false;
+    };
+    match rest.strip_prefix(name) {
+        Some(rest) => rest.first() == Some(&b'"'),
+        None => false,
+    }
+}
+
+/// Where an item begins, in the array that begins at a place.
+fn item_at(line: &[u8], list: usize, place: usize) -> usize {
+    let mut at = skip_blanks(line, skip_byte(line, list));
+    for _ in 0..place {
+        let end = value_end(line, at, b',');
+        at = skip_blanks(line, skip_byte(line, end));
+    }
+    at
+}
+
+/// The place after one byte.
+fn skip_byte(line: &[u8], at: usize) -> usize {
+    if at < line.len() { at + 1 } else { line.len() }
+}
+
+/// The first place from one on that has no blank.
+fn skip_blanks(line: &[u8], from: usize) -> usize {
+    let mut at = from;
+    while at < line.len() && line[at].is_ascii_whitespace() {
+        at += 1;
+    }
+    at
+}
+
+/// Where the value at a place ends: at the byte that parts it from the next, or at the bracket round it.
+fn value_end(line: &[u8], from: usize, parting: u8) -> usize {
+    let mut depth: usize = 0;
+    let mut quoted = false;
+    let mut at = from;
+    while at < line.len() {
+        let byte = line[at];
+        if quoted {
+            if byte == b'\\' {
+                at = skip_byte(line, at);
+            }
+            quoted = byte != b'"';
+        } else if byte == b'"' {
+            quoted = true;
+        } else if byte == b'[' || byte == b'{' {
+            depth = depth.saturating_add(1);
+        } else if depth == 0 && (byte == parting || byte == b']' || byte == b'}') {
+            return at;
+        } else if byte == b']' || byte == b'}' {
+            depth = depth.saturating_sub(1);
+        }
+        at = skip_byte(line, at);
+    }
+    line.len()
+}
