@@ -4,13 +4,13 @@ use Rattle.hek_history.specs.declared.history.History.{History}
 use Rattle.hek_history.specs.declared.history.Order.{Order}
 use Rattle.hek_history.specs.declared.history.Point.{Point}
 use Rattle.hek_history.specs.Explanation.{IsExplanationIn, HasNoExplanation}
-use Rattle.hek_history_search.specs.declared.judge.Verdict.{Verdict}
-use Rattle.hek_history_search.specs.declared.judge.Verdict.TheVariants.{Serial, NotSerial, Unknown}
+use Rattle.hek_history_search.specs.declared.judging.Verdict.{Verdict}
+use Rattle.hek_history_search.specs.declared.judging.Verdict.TheVariants.{Serial, NotSerial, Unknown}
 
 abbrev pub status_of : Verdict → ℕ
 status_of (Serial points) = 0
-status_of (NotSerial steps anomaly) = 1
-status_of Unknown = 3
+status_of (NotSerial steps cause) = 1
+status_of (Unknown progress) = 3
 
 -- there is an explanation of the order that is asked for
 abbrev pub HasExplanation : History → Order → Type 0

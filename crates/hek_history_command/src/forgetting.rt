@@ -6,10 +6,7 @@ use std::mem;
 
 /// Forgets what a transaction was answered: it becomes serializable, without times, and only writes. A history that has an
 /// explanation has one after this too.
-pub(crate) fn forget_answers(
-    alloc: Global,
-    transaction: &mut Transaction,
-) -> Result<(), NoMemory> {
+pub(crate) fn forget_answers(alloc: Global, transaction: &mut Transaction) -> Result<(), NoMemory> {
     let mut operations = Vec::new(alloc);
     for operation in transaction.operations.iter() {
         add_write(&mut operations, operation)?;

@@ -6,18 +6,17 @@ use crate::choice::{Choice, order_of, set_level};
 use crate::counts::counts_of;
 use crate::forgetting::forget_answers;
 use crate::order_lines::write_order;
-use crate::verdict_json;
-use crate::verdict_text;
+use crate::{verdict_json, verdict_text};
 use hek_commands::{HekFault, buffered, send};
-use hek_history::{History, Order, Point};
+use hek_history::{History, Order, Point, Writer};
 use hek_history_log::{Log, LogFault, read_log};
-use hek_history_search::{Anomaly, Verdict, judge};
+use hek_history_search::{Cause, Verdict, judge};
 use hek_rules::NoMemory;
 use std::alloc::Global;
 use std::io::{Read, Write};
 
 /// How much the search tries before it gives up.
-const EFFORT: u64 = 100_000;
+const EFFORT: usize = 100_000;
 
 /// What the command asks of a log.
 #[derive(Clone, Copy)]
@@ -86,8 +85,8 @@ fn write_verdict<'a, W: Write, O: Write>(
         Verdict::Serial(points) => {
             write_serial(alloc, log, points.as_slice(), question, order_out, out)?;
         }
-        Verdict::NotSerial(_, anomaly) => write_anomalies(alloc, log, anomaly, question, out)?,
-        Verdict::Unknown => write_unknown(alloc, question, out)?,
+        Verdict::NotSerial(_, cause) => write_causes(alloc, log, cause, question, out)?,
+        Verdict::Unknown(_) => write_unknown(alloc, question, out)?,
     }
     Ok(status)
 }
@@ -108,7 +107,7 @@ fn status_of(verdict: &Verdict) -> u8
     match verdict {
         Verdict::Serial(_) => 0,
         Verdict::NotSerial(_, _) => 1,
-        Verdict::Unknown => 3,
+        Verdict::Unknown(_) => 3,
     }
 }
 
@@ -150,45 +149,45 @@ fn write_unknown<'a, W: Write>(
 fn write_not_serial<'a, W: Write>(
     alloc: Global,
     log: &Log,
-    anomaly: &Anomaly,
+    cause: &Cause,
     question: Question,
     out: &mut W,
 ) -> Result<(), HekFault<'a>> {
     let mut lines = Vec::new(alloc);
     if question.json {
-        verdict_json::put_not_serial(alloc, question.order, log, anomaly, &mut lines)?;
+        verdict_json::put_not_serial(alloc, question.order, log, cause, &mut lines)?;
     } else {
-        verdict_text::put_not_serial(alloc, log, anomaly, &mut lines)?;
+        verdict_text::put_not_serial(alloc, log, cause, &mut lines)?;
     }
     send(&mut lines, out)
 }
 
 /// Writes an anomaly, and with `all` those of what is left, each time without the answers of the last one's
 /// transactions.
-fn write_anomalies<'a, W: Write>(
+fn write_causes<'a, W: Write>(
     alloc: Global,
     log: &mut Log,
-    anomaly: Anomaly,
+    cause: Cause,
     question: Question,
     out: &mut W,
 ) -> Result<(), HekFault<'a>> {
-    let mut anomaly = anomaly;
+    let mut cause = cause;
     for _ in 0..log.history.transactions.len() {
-        write_not_serial(alloc, log, &anomaly, question, out)?;
-        if !question.all || anomaly.edges.is_empty() {
+        write_not_serial(alloc, log, &cause, question, out)?;
+        if !question.all || cause.cycle.is_empty() {
             break;
         }
-        forget_anomaly(alloc, log, &anomaly)?;
+        forget_cause(alloc, log, &cause)?;
         match judge(alloc, &log.history, question.order, EFFORT)? {
-            Verdict::NotSerial(_, next) => anomaly = next,
-            Verdict::Serial(_) | Verdict::Unknown => break,
+            Verdict::NotSerial(_, next) => cause = next,
+            Verdict::Serial(_) | Verdict::Unknown(_) => break,
         }
     }
-    write_orders(alloc, question, out)
+    write_order_asked(alloc, question, out)
 }
 
 /// Writes of which orders a history is not serial.
-fn write_orders<'a, W: Write>(
+fn write_order_asked<'a, W: Write>(
     alloc: Global,
     question: Question,
     out: &mut W,
@@ -200,15 +199,21 @@ fn write_orders<'a, W: Write>(
     send(&mut lines, out)
 }
 
-/// Forgets the answers of an anomaly's transactions.
-fn forget_anomaly(alloc: Global, log: &mut Log, anomaly: &Anomaly) -> Result<(), NoMemory> {
-    for edge in anomaly.edges.iter() {
-        if let Some(transaction) = log.history.transactions.get_mut(edge.from) {
-            forget_answers(alloc, transaction)?;
-        }
-        if let Some(transaction) = log.history.transactions.get_mut(edge.to) {
-            forget_answers(alloc, transaction)?;
-        }
+/// Forgets the answers of the transactions of a cycle.
+fn forget_cause(alloc: Global, log: &mut Log, cause: &Cause) -> Result<(), NoMemory> {
+    for edge in cause.cycle.iter() {
+        forget_writer(alloc, log, edge.first)?;
+        forget_writer(alloc, log, edge.second)?;
     }
     Ok(())
+}
+
+fn forget_writer(alloc: Global, log: &mut Log, writer: Writer) -> Result<(), NoMemory> {
+    let Writer::Transaction(place) = writer else {
+        return Ok(());
+    };
+    match log.history.transactions.get_mut(place) {
+        Some(transaction) => forget_answers(alloc, transaction),
+        None => Ok(()),
+    }
 }

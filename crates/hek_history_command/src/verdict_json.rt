@@ -1,10 +1,10 @@
 //! A verdict as JSON, one object on each line.
-use crate::anomaly_words::{edge_words, kind_word, name_words};
+use crate::anomaly_words::{anomaly_name, edge_words, kind_word};
 use crate::choice::order_word;
 use crate::counts::Counts;
-use hek_history::Order;
+use hek_history::{Need, Order, Writer};
 use hek_history_log::{Label, Log};
-use hek_history_search::{Anomaly, Edge};
+use hek_history_search::{Anomaly, Cause, CycleEdge};
 use hek_rules::NoMemory;
 use serde_json::{Value, json};
 use std::alloc::{AllocError, Global};
@@ -23,7 +23,8 @@ pub(crate) fn put_serial(
         Some(elsewhere) => Value::from(elsewhere),
         None => Value::Null,
     };
-    let value = json!(in alloc; {"verdict": "serial", "order": order, "transactions": transactions, "reads": reads, "elsewhere": elsewhere})?;
+    let value =
+        json!(in alloc; {"verdict": "serial", "order": order, "transactions": transactions, "reads": reads, "elsewhere": elsewhere})?;
     put_value(alloc, &value, lines)
 }
 
@@ -32,17 +33,18 @@ pub(crate) fn put_not_serial(
     alloc: Global,
     order: Order,
     log: &Log,
-    anomaly: &Anomaly,
+    cause: &Cause,
     lines: &mut Vec<u8>,
 ) -> Result<(), NoMemory> {
     let order = order_word(order);
-    let name = name_words(anomaly.name);
-    let mut edges = Vec::with_capacity(alloc, anomaly.edges.len())?;
-    for edge in anomaly.edges.iter() {
-        edges.push(edge_value(alloc, log, *edge)?)?;
+    let name = anomaly_name(cause.anomaly);
+    let mut edges = Vec::with_capacity(alloc, cause.cycle.len())?;
+    for edge in cause.cycle.iter() {
+        edges.push(edge_value(alloc, log, cause.anomaly, *edge)?)?;
     }
     let edges = Value::Array(edges);
-    let value = json!(in alloc; {"verdict": "not serial", "order": order, "anomaly": name, "cycle": edges})?;
+    let value =
+        json!(in alloc; {"verdict": "not serial", "order": order, "anomaly": name, "cycle": edges})?;
     put_value(alloc, &value, lines)
 }
 
@@ -57,33 +59,43 @@ pub(crate) fn put_unknown(
     put_value(alloc, &value, lines)
 }
 
-fn edge_value(alloc: Global, log: &Log, edge: Edge) -> Result<Value, AllocError> {
+fn edge_value(
+    alloc: Global,
+    log: &Log,
+    anomaly: Anomaly,
+    edge: CycleEdge,
+) -> Result<Value, AllocError> {
     let kind = kind_word(edge.kind);
-    let from = label_value(alloc, Some(log.name(edge.from)))?;
-    let to = label_value(alloc, Some(log.name(edge.to)))?;
+    let from = writer_value(alloc, log, edge.first)?;
+    let to = writer_value(alloc, log, edge.second)?;
     let key = match edge.key {
-        Some(key) => label_value(alloc, Some(log.key(key)))?,
+        Some(key) => label_value(alloc, log.key(key))?,
         None => Value::Null,
     };
-    let read = found_value(alloc, log, edge.read)?;
-    let written = found_value(alloc, log, edge.written)?;
-    let words = edge_words(alloc, log, edge)?;
+    let read = match edge.read {
+        Some(Need::Value(value)) => label_value(alloc, log.value(value))?,
+        _ => Value::Null,
+    };
+    let written = match edge.written {
+        Some(Some(value)) => label_value(alloc, log.value(value))?,
+        _ => Value::Null,
+    };
+    let words = edge_words(alloc, log, anomaly, edge)?;
     json!(in alloc; {"kind": kind, "from": from, "to": to, "key": key, "read": read, "written": written, "words": words})
 }
 
-/// The value with a number of the log, or null.
-fn found_value(alloc: Global, log: &Log, number: Option<u64>) -> Result<Value, AllocError> {
-    match number {
-        Some(number) => label_value(alloc, Some(log.value(number))),
-        None => Ok(Value::Null),
+/// The name of a transaction, or null for the opening.
+fn writer_value(alloc: Global, log: &Log, writer: Writer) -> Result<Value, AllocError> {
+    match writer {
+        Writer::Opening => Ok(Value::Null),
+        Writer::Transaction(place) => label_value(alloc, log.name(place)),
     }
 }
 
-fn label_value(alloc: Global, label: Option<Label<'_>>) -> Result<Value, AllocError> {
+fn label_value(alloc: Global, label: Label<'_>) -> Result<Value, AllocError> {
     match label {
-        Some(Label::Number(number)) => Ok(Value::from(number)),
-        Some(Label::Text(text)) => Value::try_from_str(alloc, text),
-        None => Ok(Value::Null),
+        Label::Number(number) => Ok(Value::from(number)),
+        Label::Text(text) => Value::try_from_str(alloc, text),
     }
 }
 

@@ -1,22 +1,27 @@
 //! A verdict as text.
-use crate::anomaly_words::{cycle_lines, name_words};
+use crate::anomaly_words::{anomaly_name, cycle_lines};
 use crate::choice::order_word;
 use crate::counts::Counts;
 use hek_history::Order;
 use hek_history_log::Log;
-use hek_history_search::Anomaly;
+use hek_history_search::Cause;
 use hek_rules::NoMemory;
 use std::alloc::Global;
+use std::fmt;
 use std::io::{self, Write};
 
 /// The line of a serial history.
 pub(crate) fn put_serial(counts: Counts, lines: &mut Vec<u8>) -> Result<(), NoMemory> {
-    let transactions = counts.transactions;
-    let reads = counts.reads;
-    put(write!(lines, "serial: {transactions} transactions, {reads} reads"))?;
+    let transactions = number_of(counts.transactions, "transaction");
+    let reads = number_of(counts.reads, "read");
+    put(write!(lines, "serial: {transactions}, {reads}"))?;
     match counts.elsewhere {
         None => put(writeln!(lines)),
         Some(0) => put(writeln!(lines, ", in the order of their ends")),
+        Some(1) => put(writeln!(
+            lines,
+            ", in an order in which 1 is elsewhere than by end time"
+        )),
         Some(elsewhere) => put(writeln!(
             lines,
             ", in an order in which {elsewhere} are elsewhere than by end time"
@@ -24,16 +29,35 @@ pub(crate) fn put_serial(counts: Counts, lines: &mut Vec<u8>) -> Result<(), NoMe
     }
 }
 
+/// A number of things.
+#[derive(Clone, Copy)]
+struct Counted {
+    count: u64,
+    noun: &'static str,
+}
+
+fn number_of(count: u64, noun: &'static str) -> Counted {
+    Counted { count, noun }
+}
+
+impl fmt::Display for Counted {
+    fn fmt<W: fmt::Write>(&self, f: &mut fmt::Formatter<W>) -> fmt::Result {
+        let Counted { count, noun } = *self;
+        let ending = if count == 1 { "" } else { "s" };
+        write!(f, "{count} {noun}{ending}")
+    }
+}
+
 /// The lines of a history that is not serial: the anomaly's name, and its cycle.
 pub(crate) fn put_not_serial(
     alloc: Global,
     log: &Log,
-    anomaly: &Anomaly,
+    cause: &Cause,
     lines: &mut Vec<u8>,
 ) -> Result<(), NoMemory> {
-    let name = name_words(anomaly.name);
+    let name = anomaly_name(cause.anomaly);
     put(writeln!(lines, "not serial: {name}"))?;
-    for line in cycle_lines(alloc, log, anomaly.edges.as_slice())?.iter() {
+    for line in cycle_lines(alloc, log, cause)?.iter() {
         put(writeln!(lines, "{line}"))?;
     }
     Ok(())
@@ -42,7 +66,10 @@ pub(crate) fn put_not_serial(
 /// The line of a history of which nothing is known.
 pub(crate) fn put_unknown(order: Order, lines: &mut Vec<u8>) -> Result<(), NoMemory> {
     let word = order_word(order);
-    put(writeln!(lines, "unknown: the search found no order (--order {word}), and no proof that there is none"))
+    put(writeln!(
+        lines,
+        "unknown: the search found no order (--order {word}), and no proof that there is none"
+    ))
 }
 
 /// The line that says of which orders a history is not serial, if not of all.

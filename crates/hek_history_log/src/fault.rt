@@ -9,7 +9,10 @@ use thiserror::Error;
 pub enum LogFault {
     /// The line is no JSON text, or has another one after it.
     #[error("line {line}, column {column}: wanted a JSON object on one line")]
-    Json { line: u64, column: u64 },
+    Json {
+        line: u64,
+        column: u64,
+    },
     /// The value at the place is not what is wanted there.
     #[error("line {line}, column {column}: wanted {wanted}")]
     Wanted {
@@ -27,10 +30,16 @@ pub enum LogFault {
     },
     /// The key, as it prints, is twice among the opening rows.
     #[error("line {line}: wanted each key once, and {key} has two rows")]
-    RowTwice { line: u64, key: String },
+    RowTwice {
+        line: u64,
+        key: String,
+    },
     /// A bucket is scanned on this line, and the log has keys that are texts, which are in no bucket.
     #[error("line {line}: wanted number keys alone in a log with scans of buckets, and {key} is a text")]
-    TextKey { line: u64, key: String },
+    TextKey {
+        line: u64,
+        key: String,
+    },
     /// The texts among the keys have no numbers above the number keys, unless those are at most this.
     #[error("wanted no number key above {0}: text keys are numbered above them")]
     NoRoom(u64),

@@ -1,9 +1,9 @@
 //! The fields of a line.
 use crate::fault::{LogFault, Wanted};
 use crate::log_line::LogLine;
+use crate::shown::Label;
 use crate::spot::Spot;
 use crate::symbols::{Symbols, label_of};
-use crate::shown::Label;
 use hek_history::{Level, Status};
 use serde_json::Value;
 use std::alloc::Global;

@@ -169,12 +169,8 @@ fn put_operation(event: Event, reply: &Reply, lines: &mut Vec<u8>) -> Result<(),
     match event {
         Event::Read(_, key) => put_read(key, reply, lines),
         Event::Scan(_, bucket) => put_scan(bucket, reply, lines),
-        Event::Insert(_, key, value) => {
-            put(write!(lines, r#"["insert",{key},{value},{done}]"#))
-        }
-        Event::Update(_, key, value) => {
-            put(write!(lines, r#"["update",{key},{value},{done}]"#))
-        }
+        Event::Insert(_, key, value) => { put(write!(lines, r#"["insert",{key},{value},{done}]"#)) }
+        Event::Update(_, key, value) => { put(write!(lines, r#"["update",{key},{value},{done}]"#)) }
         Event::Delete(_, key) => put(write!(lines, r#"["delete",{key},{done}]"#)),
         _ => Ok(()),
     }
