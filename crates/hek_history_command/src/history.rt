@@ -10,7 +10,7 @@ use crate::{verdict_json, verdict_text};
 use hek_commands::{HekFault, buffered, send};
 use hek_history::{History, Order, Point, Writer};
 use hek_history_log::{Log, LogFault, read_log};
-use hek_history_search::{Cause, Verdict, judge};
+use hek_history_search::{Cause, Progress, Verdict, judge};
 use hek_rules::NoMemory;
 use std::alloc::Global;
 use std::io::{Read, Write};
@@ -86,7 +86,7 @@ fn write_verdict<'a, W: Write, O: Write>(
             write_serial(alloc, log, points.as_slice(), question, order_out, out)?;
         }
         Verdict::NotSerial(_, cause) => write_causes(alloc, log, cause, question, out)?,
-        Verdict::Unknown(_) => write_unknown(alloc, question, out)?,
+        Verdict::Unknown(progress) => write_unknown(alloc, progress, question, out)?,
     }
     Ok(status)
 }
@@ -134,14 +134,15 @@ fn write_serial<'a, W: Write, O: Write>(
 
 fn write_unknown<'a, W: Write>(
     alloc: Global,
+    progress: Progress,
     question: Question,
     out: &mut W,
 ) -> Result<(), HekFault<'a>> {
     let mut lines = Vec::new(alloc);
     if question.json {
-        verdict_json::put_unknown(alloc, question.order, &mut lines)?;
+        verdict_json::put_unknown(alloc, question.order, progress, &mut lines)?;
     } else {
-        verdict_text::put_unknown(question.order, &mut lines)?;
+        verdict_text::put_unknown(progress, &mut lines)?;
     }
     send(&mut lines, out)
 }

@@ -4,7 +4,7 @@ use crate::choice::order_word;
 use crate::counts::Counts;
 use hek_history::{Need, Order, Writer};
 use hek_history_log::{Label, Log};
-use hek_history_search::{Anomaly, Cause, CycleEdge};
+use hek_history_search::{Anomaly, Cause, CycleEdge, Progress};
 use hek_rules::NoMemory;
 use serde_json::{Value, json};
 use std::alloc::{AllocError, Global};
@@ -52,10 +52,12 @@ pub(crate) fn put_not_serial(
 pub(crate) fn put_unknown(
     alloc: Global,
     order: Order,
+    progress: Progress,
     lines: &mut Vec<u8>,
 ) -> Result<(), NoMemory> {
     let order = order_word(order);
-    let value = json!(in alloc; {"verdict": "unknown", "order": order})?;
+    let conflicts = progress.conflicts as u64;
+    let value = json!(in alloc; {"verdict": "unknown", "order": order, "conflicts": conflicts})?;
     put_value(alloc, &value, lines)
 }
 

@@ -1,10 +1,9 @@
 //! A verdict as text.
 use crate::anomaly_words::{anomaly_name, cycle_lines};
-use crate::choice::order_word;
 use crate::counts::Counts;
 use hek_history::Order;
 use hek_history_log::Log;
-use hek_history_search::Cause;
+use hek_history_search::{Cause, Progress};
 use hek_rules::NoMemory;
 use std::alloc::Global;
 use std::fmt;
@@ -64,11 +63,11 @@ pub(crate) fn put_not_serial(
 }
 
 /// The line of a history of which nothing is known.
-pub(crate) fn put_unknown(order: Order, lines: &mut Vec<u8>) -> Result<(), NoMemory> {
-    let word = order_word(order);
+pub(crate) fn put_unknown(progress: Progress, lines: &mut Vec<u8>) -> Result<(), NoMemory> {
+    let conflicts = number_of(progress.conflicts as u64, "conflict");
     put(writeln!(
         lines,
-        "unknown: the search found no order (--order {word}), and no proof that there is none"
+        "unknown: after {conflicts} the search has no order, and no proof that there is none"
     ))
 }
 
