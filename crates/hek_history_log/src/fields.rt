@@ -5,7 +5,7 @@ use crate::shown::Label;
 use crate::spot::Spot;
 use crate::symbols::{Symbols, label_of};
 use hek_history::{Level, Status};
-use serde_json::Value;
+use json::Value;
 use std::alloc::Global;
 
 const LEVELS: [(&str, Level); 3] = [
@@ -21,7 +21,7 @@ const STATUSES: [(&str, Status); 3] = [
 ];
 
 /// The name of a transaction.
-pub(crate) fn name_of<'a>(line: LogLine<'_>, object: &'a Value) -> Result<Label<'a>, LogFault> {
+pub(crate) fn name_of<'a>(line: LogLine<'_>, object: &Value<'a>) -> Result<Label<'a>, LogFault> {
     match object.get("txn") {
         Some(value) => match label_of(value) {
             Some(label) => Ok(label),
@@ -32,7 +32,7 @@ pub(crate) fn name_of<'a>(line: LogLine<'_>, object: &'a Value) -> Result<Label<
 }
 
 /// The level of a transaction: serializable, if it is not given.
-pub(crate) fn level_of(line: LogLine<'_>, object: &Value) -> Result<Level, LogFault> {
+pub(crate) fn level_of(line: LogLine<'_>, object: &Value<'_>) -> Result<Level, LogFault> {
     let Some(value) = object.get("level") else {
         return Ok(Level::Serializable);
     };
@@ -46,7 +46,7 @@ pub(crate) fn level_of(line: LogLine<'_>, object: &Value) -> Result<Level, LogFa
 }
 
 /// The status of a transaction: committed, if it is not given.
-pub(crate) fn status_of(line: LogLine<'_>, object: &Value) -> Result<Status, LogFault> {
+pub(crate) fn status_of(line: LogLine<'_>, object: &Value<'_>) -> Result<Status, LogFault> {
     let Some(value) = object.get("status") else {
         return Ok(Status::Committed);
     };
@@ -62,7 +62,7 @@ pub(crate) fn status_of(line: LogLine<'_>, object: &Value) -> Result<Status, Log
 /// A time, if it is given and not null.
 pub(crate) fn time_of(
     line: LogLine<'_>,
-    object: &Value,
+    object: &Value<'_>,
     name: &'static str,
 ) -> Result<Option<u64>, LogFault> {
     match object.get(name) {
@@ -75,7 +75,7 @@ pub(crate) fn time_of(
 }
 
 /// A number, or nothing for null.
-fn time_in(value: &Value) -> Option<Option<u64>> {
+fn time_in(value: &Value<'_>) -> Option<Option<u64>> {
     if value.is_null() {
         return Some(None);
     }
@@ -88,7 +88,7 @@ fn time_in(value: &Value) -> Option<Option<u64>> {
 /// When a transaction was invoked, and when it was answered.
 pub(crate) fn interval_of(
     line: LogLine<'_>,
-    object: &Value,
+    object: &Value<'_>,
 ) -> Result<(Option<u64>, Option<u64>), LogFault> {
     let Some(value) = object.get("at") else {
         return Ok((None, None));
@@ -104,7 +104,7 @@ pub(crate) fn interval_of(
 }
 
 /// The number of buckets, if it is given.
-pub(crate) fn buckets_of(line: LogLine<'_>, object: &Value) -> Result<Option<u64>, LogFault> {
+pub(crate) fn buckets_of(line: LogLine<'_>, object: &Value<'_>) -> Result<Option<u64>, LogFault> {
     match object.get("buckets") {
         None => Ok(None),
         Some(value) => match value.as_u64() {
@@ -118,7 +118,7 @@ pub(crate) fn buckets_of(line: LogLine<'_>, object: &Value) -> Result<Option<u64
 pub(crate) fn rows_of(
     alloc: Global,
     line: LogLine<'_>,
-    object: &Value,
+    object: &Value<'_>,
     symbols: &mut Symbols,
 ) -> Result<Vec<(u64, u64)>, LogFault> {
     let Some(value) = object.get("rows") else {

@@ -3,9 +3,9 @@ use crate::fault::{LogFault, Wanted};
 use crate::log_line::{LogLine, Misfit};
 use crate::numbering::Labels;
 use crate::spot::Spot;
-use crate::symbols::Symbols;
+use crate::symbols::{Symbols, items_of};
 use hek_history::{Operation, Scope};
-use serde_json::Value;
+use json::Value;
 use std::alloc::Global;
 
 /// What an operation does, by its first word.
@@ -41,7 +41,7 @@ struct Gathered<'a> {
 pub(crate) fn read_operations(
     alloc: Global,
     line: LogLine<'_>,
-    object: &Value,
+    object: &Value<'_>,
     unanswered: bool,
     symbols: &mut Symbols,
 ) -> Result<Vec<Operation>, LogFault> {
@@ -67,12 +67,11 @@ pub(crate) fn read_operations(
 fn add_operation(
     alloc: Global,
     line: u64,
-    item: &Value,
+    item: &Value<'_>,
     may_lack: bool,
     gathered: &mut Gathered<'_>,
 ) -> Result<(), Misfit> {
-    let parts = item.as_array().ok_or(Wanted::Operation)?;
-    let parts = parts.as_slice();
+    let parts = items_of(item).ok_or(Wanted::Operation)?;
     let kind = kind_of(parts).ok_or(Wanted::Operation)?;
     let operation = match kind {
         Kind::Read => read_of(alloc, parts, gathered.symbols)?,
@@ -86,7 +85,7 @@ fn add_operation(
     Ok(())
 }
 
-fn kind_of(parts: &[Value]) -> Option<Kind> {
+fn kind_of(parts: &[Value<'_>]) -> Option<Kind> {
     let word = parts.first()?.as_str()?;
     for (name, kind) in KINDS {
         if name == word {
@@ -96,7 +95,7 @@ fn kind_of(parts: &[Value]) -> Option<Kind> {
     None
 }
 
-fn read_of(alloc: Global, parts: &[Value], symbols: &mut Symbols) -> Result<Operation, Misfit> {
+fn read_of(alloc: Global, parts: &[Value<'_>], symbols: &mut Symbols) -> Result<Operation, Misfit> {
     let [_, key, value] = parts else {
         return Err(Misfit::Wanted(Wanted::Read));
     };
@@ -105,7 +104,11 @@ fn read_of(alloc: Global, parts: &[Value], symbols: &mut Symbols) -> Result<Oper
     Ok(Operation::Read(key, found))
 }
 
-fn write_of(alloc: Global, parts: &[Value], symbols: &mut Symbols) -> Result<Operation, Misfit> {
+fn write_of(
+    alloc: Global,
+    parts: &[Value<'_>],
+    symbols: &mut Symbols,
+) -> Result<Operation, Misfit> {
     let [_, key, value] = parts else {
         return Err(Misfit::Wanted(Wanted::Write));
     };
@@ -117,7 +120,7 @@ fn write_of(alloc: Global, parts: &[Value], symbols: &mut Symbols) -> Result<Ope
 /// An insert; one without an answer counts as a write whose answer isn't judged.
 fn insert_of(
     alloc: Global,
-    parts: &[Value],
+    parts: &[Value<'_>],
     may_lack: bool,
     symbols: &mut Symbols,
 ) -> Result<Operation, Misfit> {
@@ -135,7 +138,7 @@ fn insert_of(
 /// An update; one without an answer counts as a write whose answer isn't judged.
 fn update_of(
     alloc: Global,
-    parts: &[Value],
+    parts: &[Value<'_>],
     may_lack: bool,
     symbols: &mut Symbols,
 ) -> Result<Operation, Misfit> {
@@ -154,7 +157,7 @@ fn update_of(
 /// was there.
 fn add_delete(
     alloc: Global,
-    parts: &[Value],
+    parts: &[Value<'_>],
     may_lack: bool,
     gathered: &mut Gathered<'_>,
 ) -> Result<(), Misfit> {
@@ -174,7 +177,7 @@ fn add_delete(
 }
 
 /// The answer of a write: true or false, or null where it may lack.
-fn answer_of(value: &Value, may_lack: bool, wanted: Wanted) -> Result<Option<bool>, Misfit> {
+fn answer_of(value: &Value<'_>, may_lack: bool, wanted: Wanted) -> Result<Option<bool>, Misfit> {
     match value.as_bool() {
         Some(done) => Ok(Some(done)),
         None => {
@@ -192,7 +195,7 @@ fn add_scan(
     alloc: Global,
     line: u64,
     kind: Kind,
-    parts: &[Value],
+    parts: &[Value<'_>],
     may_lack: bool,
     gathered: &mut Gathered<'_>,
 ) -> Result<(), Misfit> {
@@ -219,7 +222,7 @@ fn add_scan(
 }
 
 /// The keys of a bucket.
-fn bucket_of(line: u64, bucket: &Value, symbols: &mut Symbols) -> Result<Scope, Misfit> {
+fn bucket_of(line: u64, bucket: &Value<'_>, symbols: &mut Symbols) -> Result<Scope, Misfit> {
     let bucket = bucket.as_u64().ok_or(Wanted::Scan)?;
     let buckets = symbols.buckets.ok_or(Wanted::BucketCount)?;
     if bucket >= buckets {
@@ -232,8 +235,8 @@ fn bucket_of(line: u64, bucket: &Value, symbols: &mut Symbols) -> Result<Scope, 
 /// The keys from one on and below another, both numbers or both texts.
 fn range_of(
     alloc: Global,
-    low: &Value,
-    high: &Value,
+    low: &Value<'_>,
+    high: &Value<'_>,
     symbols: &mut Symbols,
 ) -> Result<Scope, Misfit> {
     let low = symbols.key(alloc, low, Wanted::Range)?;

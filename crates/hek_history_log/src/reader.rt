@@ -11,7 +11,7 @@ use crate::spot::{Spot, column_of};
 use crate::symbols::Symbols;
 use hek_history::{History, Status, Transaction};
 use indexmap::IndexSet;
-use serde_json::Value;
+use json::{Scratch, Value};
 use std::alloc::Global;
 use std::io::{BufRead, ErrorKind};
 
@@ -39,6 +39,7 @@ pub fn read_log<B: BufRead>(alloc: Global, input: &mut B) -> Result<Log, LogFaul
         symbols: Symbols::new(alloc),
         rows_line: 0,
     };
+    let mut scratch = Scratch::new(alloc);
     let mut bytes = Vec::new(alloc);
     for number in 1..u64::MAX {
         bytes.clear();
@@ -54,7 +55,7 @@ pub fn read_log<B: BufRead>(alloc: Global, input: &mut B) -> Result<Log, LogFaul
             number,
             bytes: text.strip_suffix(b"\n").unwrap_or(text),
         };
-        add_line(alloc, line, &mut draft)?;
+        add_line(alloc, line, &mut scratch, &mut draft)?;
     }
     finish(alloc, draft)
 }
@@ -67,11 +68,16 @@ fn read_fault(kind: ErrorKind) -> LogFault {
 }
 
 /// Adds what a line says; a blank line says nothing.
-fn add_line(alloc: Global, line: LogLine<'_>, draft: &mut Draft) -> Result<(), LogFault> {
+fn add_line(
+    alloc: Global,
+    line: LogLine<'_>,
+    scratch: &mut Scratch,
+    draft: &mut Draft,
+) -> Result<(), LogFault> {
     if line.bytes.iter().all(|byte| byte.is_ascii_whitespace()) {
         return Ok(());
     }
-    let object = object_in(alloc, line)?;
+    let object = object_in(alloc, line, scratch)?;
     let is_first = draft.rows_line == 0 && draft.history.transactions.is_empty();
     if is_first && object.get("txn").is_none() {
         return add_opening(alloc, line, &object, draft);
@@ -84,31 +90,40 @@ fn add_line(alloc: Global, line: LogLine<'_>, draft: &mut Draft) -> Result<(), L
 }
 
 /// The object that a line is.
-fn object_in(alloc: Global, line: LogLine<'_>) -> Result<Value, LogFault> {
-    match Value::from_slice(alloc, line.bytes) {
-        Ok(object) => {
-            if object.is_object() {
-                Ok(object)
-            } else {
-                Err(line.wants(Spot::Line, Wanted::Object))
-            }
-        }
+fn object_in<'a>(
+    alloc: Global,
+    line: LogLine<'a>,
+    scratch: &'a mut Scratch,
+) -> Result<Value<'a>, LogFault> {
+    match Value::from_slice(alloc, line.bytes, scratch) {
+        Ok(Value::Object(members)) => Ok(Value::Object(members)),
+        Ok(_) => Err(line.wants(Spot::Line, Wanted::Object)),
+        Err(json::Error::OutOfMemory) => Err(LogFault::NoMemory),
+        Err(_) => Err(broken(alloc, line)),
+    }
+}
+
+/// The fault of a line that is not JSON. Its column is where serde_json stops.
+fn broken(alloc: Global, line: LogLine<'_>) -> LogFault {
+    let column = match serde_json::Value::from_slice(alloc, line.bytes) {
+        Ok(_) => 1,
         Err(error) => {
             if error.is_memory() {
-                return Err(LogFault::NoMemory);
+                return LogFault::NoMemory;
             }
-            Err(LogFault::Json {
-                line: line.number,
-                column: error.column() as u64,
-            })
+            error.column() as u64
         }
+    };
+    LogFault::Json {
+        line: line.number,
+        column,
     }
 }
 
 fn add_opening(
     alloc: Global,
     line: LogLine<'_>,
-    object: &Value,
+    object: &Value<'_>,
     draft: &mut Draft,
 ) -> Result<(), LogFault> {
     draft.symbols.buckets = buckets_of(line, object)?;
@@ -141,7 +156,7 @@ fn add_name(
 fn transaction_in(
     alloc: Global,
     line: LogLine<'_>,
-    object: &Value,
+    object: &Value<'_>,
     symbols: &mut Symbols,
 ) -> Result<Transaction, LogFault> {
     let status = status_of(line, object)?;

@@ -4,7 +4,7 @@ use crate::log_line::Misfit;
 use crate::numbering::Labels;
 use crate::shown::Label;
 use hek_rules::NoMemory;
-use serde_json::Value;
+use json::Value;
 use std::alloc::Global;
 
 /// The keys and values that were read so far, each by a number; the greatest number among the keys and the ends of
@@ -33,7 +33,7 @@ impl Symbols {
     pub(crate) fn key(
         &mut self,
         alloc: Global,
-        value: &Value,
+        value: &Value<'_>,
         wanted: Wanted,
     ) -> Result<u64, Misfit> {
         let label = label_of(value).ok_or(wanted)?;
@@ -47,7 +47,7 @@ impl Symbols {
     pub(crate) fn value(
         &mut self,
         alloc: Global,
-        value: &Value,
+        value: &Value<'_>,
         wanted: Wanted,
     ) -> Result<u64, Misfit> {
         let label = label_of(value).ok_or(wanted)?;
@@ -58,7 +58,7 @@ impl Symbols {
     pub(crate) fn found(
         &mut self,
         alloc: Global,
-        value: &Value,
+        value: &Value<'_>,
         wanted: Wanted,
     ) -> Result<Option<u64>, Misfit> {
         if value.is_null() {
@@ -71,10 +71,10 @@ impl Symbols {
     pub(crate) fn pairs(
         &mut self,
         alloc: Global,
-        value: &Value,
+        value: &Value<'_>,
         wanted: Wanted,
     ) -> Result<Vec<(u64, u64)>, Misfit> {
-        let items = value.as_array().ok_or(wanted)?;
+        let items = items_of(value).ok_or(wanted)?;
         let mut pairs = Vec::with_capacity(alloc, items.len())?;
         for item in items {
             pairs.push(self.pair(alloc, item, wanted)?)?;
@@ -86,11 +86,10 @@ impl Symbols {
     pub(crate) fn pair(
         &mut self,
         alloc: Global,
-        value: &Value,
+        value: &Value<'_>,
         wanted: Wanted,
     ) -> Result<(u64, u64), Misfit> {
-        let parts = value.as_array().ok_or(wanted)?;
-        let [key, value] = parts.as_slice() else {
+        let Some([key, value]) = items_of(value) else {
             return Err(Misfit::Wanted(wanted));
         };
         Ok((
@@ -101,13 +100,20 @@ impl Symbols {
 }
 
 /// A text, or a number below 2^64.
-pub(crate) fn label_of(value: &Value) -> Option<Label<'_>> {
-    match value {
-        Value::String(text) => Some(Label::Text(text.as_str())),
-        Value::Number(number) => match number.as_u64() {
+pub(crate) fn label_of<'a>(value: &Value<'a>) -> Option<Label<'a>> {
+    match value.as_str() {
+        Some(text) => Some(Label::Text(text)),
+        None => match value.as_u64() {
             Some(number) => Some(Label::Number(number)),
             None => None,
         },
+    }
+}
+
+/// The items of an array.
+pub(crate) fn items_of<'v, 'a>(value: &'v Value<'a>) -> Option<&'v [Value<'a>]> {
+    match value {
+        Value::Array(items) => Some(items.as_slice()),
         _ => None,
     }
 }
