@@ -72,35 +72,60 @@ fn skip_byte(line: &[u8], at: usize) -> usize {
 
 /// The first place from one on that has no blank.
 fn skip_blanks(line: &[u8], from: usize) -> usize {
-    let mut at = from;
-    while at < line.len() && line[at].is_ascii_whitespace() {
-        at += 1;
+    for place in from..line.len() {
+        if !line[place].is_ascii_whitespace() {
+            return place;
+        }
     }
-    at
+    line.len()
 }
 
 /// Where the value at a place ends: at the byte that parts it from the next, or at the bracket round it.
 fn value_end(line: &[u8], from: usize, parting: u8) -> usize {
-    let mut depth: usize = 0;
-    let mut quoted = false;
-    let mut at = from;
-    while at < line.len() {
-        let byte = line[at];
-        if quoted {
-            if byte == b'\\' {
-                at = skip_byte(line, at);
-            }
-            quoted = byte != b'"';
-        } else if byte == b'"' {
-            quoted = true;
-        } else if byte == b'[' || byte == b'{' {
-            depth = depth.saturating_add(1);
-        } else if depth == 0 && (byte == parting || byte == b']' || byte == b'}') {
-            return at;
-        } else if byte == b']' || byte == b'}' {
-            depth = depth.saturating_sub(1);
+    let mut within = Within {
+        depth: 0,
+        quoted: false,
+        escaped: false,
+    };
+    for place in from..line.len() {
+        if within.ends_before(line[place], parting) {
+            return place;
         }
-        at = skip_byte(line, at);
     }
     line.len()
+}
+
+/// How far a place is inside a value: in how many brackets, in a string or not, and after a backslash in it or not.
+#[derive(Clone, Copy)]
+struct Within {
+    depth: usize,
+    quoted: bool,
+    escaped: bool,
+}
+
+impl Within {
+    /// Whether the value ends before a byte; if not, goes over it.
+    fn ends_before(&mut self, byte: u8, parting: u8) -> bool {
+        if self.escaped {
+            self.escaped = false;
+            return false;
+        }
+        if self.quoted {
+            self.escaped = byte == b'\\';
+            self.quoted = byte != b'"';
+            return false;
+        }
+        match byte {
+            b'"' => self.quoted = true,
+            b'[' | b'{' => self.depth = self.depth.saturating_add(1),
+            b']' | b'}' => {
+                if self.depth == 0 {
+                    return true;
+                }
+                self.depth = self.depth.saturating_sub(1);
+            }
+            _ => return self.depth == 0 && byte == parting,
+        }
+        false
+    }
 }
