@@ -1,11 +1,13 @@
 //! The command `history`.
 ghost use Rattle.std.specs.Prelude.{◌≡◌, IfOk};
+ghost use Rattle.hek_history_search.specs.Verdicts.{IsVerdict};
 ghost use Rattle.hek_history_command.specs.Answers.{IsStatus};
 
 use crate::choice::{Choice, order_of, set_level};
 use crate::counts::counts_of;
 use crate::forgetting::forget_answers;
 use crate::order_lines::write_order;
+use crate::twins::have_both;
 use crate::{verdict_json, verdict_text};
 use hek_commands::{HekFault, buffered, send};
 use hek_history::{History, Order, Point, Writer};
@@ -80,7 +82,7 @@ fn write_verdict<'a, W: Write, O: Write>(
 ) -> Result<u8, HekFault<'a>>
     ensures right { IfOk result (λ status. IsStatus log.old.history question.order status) }
 {
-    let (verdict, status) = judged(alloc, &log.history, question.order)?;
+    let (verdict, status) = judged(alloc, &log.history, log.twins(), question.order)?;
     match verdict {
         Verdict::Serial(points) => {
             write_serial(alloc, log, points.as_slice(), question, order_out, out)?;
@@ -92,12 +94,42 @@ fn write_verdict<'a, W: Write, O: Write>(
 }
 
 /// The verdict on a history, with its exit status.
-fn judged(alloc: Global, history: &History, order: Order) -> Result<(Verdict, u8), NoMemory>
+fn judged(
+    alloc: Global,
+    history: &History,
+    twins: &[(usize, usize)],
+    order: Order,
+) -> Result<(Verdict, u8), NoMemory>
     ensures right { IfOk result (λ found. IsStatus history.now order found.1) }
 {
     let verdict = judge(alloc, history, order, EFFORT)?;
+    let verdict = without_twins(alloc, history, twins, order, verdict)?;
     let status = status_of(&verdict);
     Ok((verdict, status))
+}
+
+/// A verdict on a history; unknown, if two that are one transaction take place both.
+fn without_twins(
+    alloc: Global,
+    history: &History,
+    twins: &[(usize, usize)],
+    order: Order,
+    verdict: Verdict,
+) -> Result<Verdict, NoMemory>
+    requires right { IsVerdict history.now order verdict }
+    ensures right { IfOk result (λ kept. IsVerdict history.now order kept) }
+{
+    let doubled = match &verdict {
+        Verdict::Serial(points) => have_both(alloc, history, twins, points.as_slice())?,
+        Verdict::NotSerial(_, _) | Verdict::Unknown(_) => false,
+    };
+    if doubled {
+        return Ok(Verdict::Unknown(Progress {
+            conflicts: 0,
+            violations: 0,
+        }));
+    }
+    Ok(verdict)
 }
 
 /// The exit status of a verdict.

@@ -2,14 +2,14 @@
 use crate::numbering::Labels;
 use crate::shown::Label;
 use hek_history::History;
-use indexmap::IndexSet;
 
 /// A history, with the names, keys and values that its numbers stand for.
 #[derive(Drop)]
 pub struct Log {
     pub history: History,
     pub(crate) names: Labels,
-    pub(crate) seen: IndexSet<u64>,
+    pub(crate) named: Vec<u64>,
+    pub(crate) twins: Vec<(usize, usize)>,
     pub(crate) keys: KeyLabels,
     pub(crate) values: Labels,
 }
@@ -26,10 +26,16 @@ pub(crate) struct KeyLabels {
 impl Log {
     /// The name of the transaction at a place of the history, from 0.
     pub fn name(&self, transaction: usize) -> Label<'_> {
-        match self.seen.get_index(transaction) {
+        match self.named.get(transaction) {
             Some(number) => self.names.label(*number),
             None => Label::Number(transaction as u64),
         }
+    }
+
+    /// The pairs of transactions, by their places, that are one in the log: its last write has no answer, and each of the
+    /// two has one of the answers. At most one of them takes place.
+    pub fn twins(&self) -> &[(usize, usize)] {
+        self.twins.as_slice()
     }
 
     /// The key with a number of the history.

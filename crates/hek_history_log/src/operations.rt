@@ -37,12 +37,31 @@ struct Gathered<'a> {
     operations: Vec<Operation>,
 }
 
-/// The operations of a transaction, in order. `unanswered`: the last one may have no answer.
+/// Whether the last operation of a transaction is a write without an answer.
+pub(crate) fn lacks_answer(object: &Value<'_>) -> bool {
+    let Some(Value::Array(items)) = object.get("ops") else {
+        return false;
+    };
+    let Some(Value::Array(parts)) = items.last() else {
+        return false;
+    };
+    let is_null = match parts.last() {
+        Some(answer) => answer.is_null(),
+        None => false,
+    };
+    match kind_of(parts.as_slice()) {
+        Some(Kind::Insert | Kind::Update | Kind::Delete) => is_null,
+        _ => false,
+    }
+}
+
+/// The operations of a transaction, in order. With `lacking` the last one may have no answer: then a scan is left out, and
+/// a write has this answer.
 pub(crate) fn read_operations(
     alloc: Global,
     line: LogLine<'_>,
     object: &Value<'_>,
-    unanswered: bool,
+    lacking: Option<bool>,
     symbols: &mut Symbols,
 ) -> Result<Vec<Operation>, LogFault> {
     let Some(Value::Array(items)) = object.get("ops") else {
@@ -53,8 +72,9 @@ pub(crate) fn read_operations(
         operations: Vec::with_capacity(alloc, items.len())?,
     };
     for place in 0..items.len() {
-        let may_lack = unanswered && place + 1 == items.len();
-        match add_operation(alloc, line.number, &items[place], may_lack, &mut gathered) {
+        let is_last = place + 1 == items.len();
+        let lacking = if is_last { lacking } else { None };
+        match add_operation(alloc, line.number, &items[place], lacking, &mut gathered) {
             Ok(()) => {}
             Err(misfit) => return Err(line.fault(Spot::Item("ops", place), misfit)),
         }
@@ -63,12 +83,12 @@ pub(crate) fn read_operations(
     Ok(operations)
 }
 
-/// Adds an operation; a read or scan without an answer says nothing.
+/// Adds an operation; a scan without an answer says nothing.
 fn add_operation(
     alloc: Global,
     line: u64,
     item: &Value<'_>,
-    may_lack: bool,
+    lacking: Option<bool>,
     gathered: &mut Gathered<'_>,
 ) -> Result<(), Misfit> {
     let parts = items_of(item).ok_or(Wanted::Operation)?;
@@ -76,10 +96,12 @@ fn add_operation(
     let operation = match kind {
         Kind::Read => read_of(alloc, parts, gathered.symbols)?,
         Kind::Write => write_of(alloc, parts, gathered.symbols)?,
-        Kind::Insert => insert_of(alloc, parts, may_lack, gathered.symbols)?,
-        Kind::Update => update_of(alloc, parts, may_lack, gathered.symbols)?,
-        Kind::Delete => return add_delete(alloc, parts, may_lack, gathered),
-        Kind::Scan | Kind::Range => return add_scan(alloc, line, kind, parts, may_lack, gathered),
+        Kind::Insert => insert_of(alloc, parts, lacking, gathered.symbols)?,
+        Kind::Update => update_of(alloc, parts, lacking, gathered.symbols)?,
+        Kind::Delete => delete_of(alloc, parts, lacking, gathered.symbols)?,
+        Kind::Scan | Kind::Range => {
+            return add_scan(alloc, line, kind, parts, lacking.is_some(), gathered);
+        }
     };
     gathered.operations.push(operation)?;
     Ok(())
@@ -117,11 +139,10 @@ fn write_of(
     Ok(Operation::Put(key, value))
 }
 
-/// An insert; one without an answer counts as a write whose answer isn't judged.
 fn insert_of(
     alloc: Global,
     parts: &[Value<'_>],
-    may_lack: bool,
+    lacking: Option<bool>,
     symbols: &mut Symbols,
 ) -> Result<Operation, Misfit> {
     let [_, key, value, done] = parts else {
@@ -129,17 +150,14 @@ fn insert_of(
     };
     let key = symbols.key(alloc, key, Wanted::Insert)?;
     let value = symbols.value(alloc, value, Wanted::Insert)?;
-    Ok(match answer_of(done, may_lack, Wanted::Insert)? {
-        Some(done) => Operation::Insert(key, value, done),
-        None => Operation::Put(key, value),
-    })
+    let done = answer_of(done, lacking, Wanted::Insert)?;
+    Ok(Operation::Insert(key, value, done))
 }
 
-/// An update; one without an answer counts as a write whose answer isn't judged.
 fn update_of(
     alloc: Global,
     parts: &[Value<'_>],
-    may_lack: bool,
+    lacking: Option<bool>,
     symbols: &mut Symbols,
 ) -> Result<Operation, Misfit> {
     let [_, key, value, done] = parts else {
@@ -147,46 +165,34 @@ fn update_of(
     };
     let key = symbols.key(alloc, key, Wanted::Update)?;
     let value = symbols.value(alloc, value, Wanted::Update)?;
-    Ok(match answer_of(done, may_lack, Wanted::Update)? {
-        Some(done) => Operation::Update(key, value, done),
-        None => Operation::Put(key, value),
-    })
+    let done = answer_of(done, lacking, Wanted::Update)?;
+    Ok(Operation::Update(key, value, done))
 }
 
-/// Adds a delete. One without an answer counts as a write and a delete of what it wrote: the key goes, whether or not it
-/// was there.
-fn add_delete(
+fn delete_of(
     alloc: Global,
     parts: &[Value<'_>],
-    may_lack: bool,
-    gathered: &mut Gathered<'_>,
-) -> Result<(), Misfit> {
+    lacking: Option<bool>,
+    symbols: &mut Symbols,
+) -> Result<Operation, Misfit> {
     let [_, key, done] = parts else {
         return Err(Misfit::Wanted(Wanted::Delete));
     };
-    let key = gathered.symbols.key(alloc, key, Wanted::Delete)?;
-    match answer_of(done, may_lack, Wanted::Delete)? {
-        Some(done) => gathered.operations.push(Operation::Delete(key, done))?,
-        None => {
-            gathered.operations.reserve(2)?;
-            gathered.operations.push(Operation::Put(key, 0))?;
-            gathered.operations.push(Operation::Delete(key, true))?;
-        }
-    }
-    Ok(())
+    let key = symbols.key(alloc, key, Wanted::Delete)?;
+    let done = answer_of(done, lacking, Wanted::Delete)?;
+    Ok(Operation::Delete(key, done))
 }
 
-/// The answer of a write: true or false, or null where it may lack.
-fn answer_of(value: &Value<'_>, may_lack: bool, wanted: Wanted) -> Result<Option<bool>, Misfit> {
-    match value.as_bool() {
-        Some(done) => Ok(Some(done)),
-        None => {
-            if may_lack && value.is_null() {
-                Ok(None)
-            } else {
-                Err(Misfit::Wanted(wanted))
-            }
-        }
+/// The answer of a write: true or false, or for null the one of `lacking`.
+fn answer_of(value: &Value<'_>, lacking: Option<bool>, wanted: Wanted) -> Result<bool, Misfit> {
+    let answer = if value.is_null() {
+        lacking
+    } else {
+        value.as_bool()
+    };
+    match answer {
+        Some(done) => Ok(done),
+        None => Err(Misfit::Wanted(wanted)),
     }
 }
 

@@ -5,7 +5,7 @@ use crate::finish::finish;
 use crate::log_line::LogLine;
 use crate::logged::Log;
 use crate::numbering::Labels;
-use crate::operations::read_operations;
+use crate::operations::{lacks_answer, read_operations};
 use crate::shown::Label;
 use crate::spot::{Spot, column_of};
 use crate::symbols::Symbols;
@@ -15,13 +15,16 @@ use json::{Scratch, Value};
 use std::alloc::Global;
 use std::io::{BufRead, ErrorKind};
 
-/// What was read so far. `seen` has the numbers of the transactions' names, by place, and `lines` where each was read.
+/// What was read so far. `seen` has the numbers of the names, and `lines` where each was read; `named` has the number of
+/// each transaction's name, and `twins` the pairs of transactions that are one.
 #[derive(Drop)]
 pub(crate) struct Draft {
     pub history: History,
     pub names: Labels,
     pub seen: IndexSet<u64>,
     pub lines: Vec<u64>,
+    pub named: Vec<u64>,
+    pub twins: Vec<(usize, usize)>,
     pub symbols: Symbols,
     pub rows_line: u64,
 }
@@ -36,6 +39,8 @@ pub fn read_log<B: BufRead>(alloc: Global, input: &mut B) -> Result<Log, LogFaul
         names: Labels::new(alloc),
         seen: IndexSet::new(alloc),
         lines: Vec::new(alloc),
+        named: Vec::new(alloc),
+        twins: Vec::new(alloc),
         symbols: Symbols::new(alloc),
         rows_line: 0,
     };
@@ -83,10 +88,8 @@ fn add_line(
         return add_opening(alloc, line, &object, draft);
     }
     let name = name_of(line, &object)?;
-    add_name(alloc, line, name, draft)?;
-    let transaction = transaction_in(alloc, line, &object, &mut draft.symbols)?;
-    draft.history.transactions.push(transaction)?;
-    Ok(())
+    let number = add_name(alloc, line, name, draft)?;
+    add_transaction(alloc, line, &object, number, draft)
 }
 
 /// The object that a line is.
@@ -132,18 +135,18 @@ fn add_opening(
     Ok(())
 }
 
-/// Keeps the name of a transaction that is not in the log yet.
+/// Keeps the name of a transaction that is not in the log yet, and answers its number.
 fn add_name(
     alloc: Global,
     line: LogLine<'_>,
     name: Label<'_>,
     draft: &mut Draft,
-) -> Result<(), LogFault> {
+) -> Result<u64, LogFault> {
     let number = draft.names.number_of(alloc, name)?;
     let (place, is_new) = draft.seen.insert_full(number)?;
     if is_new {
         draft.lines.push(line.number)?;
-        return Ok(());
+        return Ok(number);
     }
     Err(LogFault::Duplicate {
         line: line.number,
@@ -153,22 +156,56 @@ fn add_name(
     })
 }
 
+/// Adds a transaction. One of unknown status whose last write has no answer becomes two, one for each answer, of which at
+/// most one takes place.
+fn add_transaction(
+    alloc: Global,
+    line: LogLine<'_>,
+    object: &Value<'_>,
+    name: u64,
+    draft: &mut Draft,
+) -> Result<(), LogFault> {
+    let status = status_of(line, object)?;
+    let is_unknown = status == Status::Unknown;
+    let lacking = if is_unknown { Some(true) } else { None };
+    add_one(alloc, line, object, lacking, name, draft)?;
+    if is_unknown && lacks_answer(object) {
+        let place = draft.history.transactions.len();
+        add_one(alloc, line, object, Some(false), name, draft)?;
+        draft.twins.push((place.saturating_sub(1), place))?;
+    }
+    Ok(())
+}
+
+fn add_one(
+    alloc: Global,
+    line: LogLine<'_>,
+    object: &Value<'_>,
+    lacking: Option<bool>,
+    name: u64,
+    draft: &mut Draft,
+) -> Result<(), LogFault> {
+    let transaction = transaction_in(alloc, line, object, lacking, &mut draft.symbols)?;
+    draft.history.transactions.push(transaction)?;
+    draft.named.push(name)?;
+    Ok(())
+}
+
 fn transaction_in(
     alloc: Global,
     line: LogLine<'_>,
     object: &Value<'_>,
+    lacking: Option<bool>,
     symbols: &mut Symbols,
 ) -> Result<Transaction, LogFault> {
-    let status = status_of(line, object)?;
     let (invoked, answered) = interval_of(line, object)?;
-    let unanswered = status == Status::Unknown;
     Ok(Transaction {
         level: level_of(line, object)?,
-        status,
+        status: status_of(line, object)?,
         begin: time_of(line, object, "begin")?,
         end: time_of(line, object, "end")?,
         invoked,
         answered,
-        operations: read_operations(alloc, line, object, unanswered, symbols)?,
+        operations: read_operations(alloc, line, object, lacking, symbols)?,
     })
 }
