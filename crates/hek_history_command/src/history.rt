@@ -87,7 +87,7 @@ fn write_verdict<'a, W: Write, O: Write>(
         Verdict::Serial(points) => {
             write_serial(alloc, log, points.as_slice(), question, order_out, out)?;
         }
-        Verdict::NotSerial(_, cause) => write_causes(alloc, log, cause, question, out)?,
+        Verdict::NotSerial(_steps, cause) => write_causes(alloc, log, cause, question, out)?,
         Verdict::Unknown(progress) => write_unknown(alloc, progress, question, out)?,
     }
     Ok(status)
@@ -212,7 +212,7 @@ fn write_causes<'a, W: Write>(
         }
         forget_cause(alloc, log, &cause)?;
         match judge(alloc, &log.history, question.order, EFFORT)? {
-            Verdict::NotSerial(_, next) => cause = next,
+            Verdict::NotSerial(_steps, next) => cause = next,
             Verdict::Serial(_) | Verdict::Unknown(_) => break,
         }
     }
