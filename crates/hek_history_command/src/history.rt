@@ -94,6 +94,7 @@ fn write_verdict<'a, W: Write, O: Write>(
 }
 
 /// The verdict on a history, with its exit status.
+#[tactic(auto, using(hek_history_command::proofs::Statuses::is_status))]
 fn judged(
     alloc: Global,
     history: &History,
@@ -102,8 +103,8 @@ fn judged(
 ) -> Result<(Verdict, u8), NoMemory>
     ensures right { IfOk result (λ found. IsStatus history.now order found.1) }
 {
-    let verdict = judge(alloc, history, order, EFFORT)?;
-    let verdict = without_twins(alloc, history, twins, order, verdict)?;
+    let found = judge(alloc, history, order, EFFORT)?;
+    let verdict = without_twins(alloc, history, twins, order, found)?;
     let status = status_of(&verdict);
     Ok((verdict, status))
 }
