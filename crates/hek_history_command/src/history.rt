@@ -158,7 +158,7 @@ fn write_serial<'a, W: Write, O: Write>(
     let counts = counts_of(alloc, &log.history, points)?;
     let mut lines = Vec::new(alloc);
     if question.json {
-        verdict_json::put_serial(alloc, question.order, counts, &mut lines)?;
+        verdict_json::put_serial(question.order, counts, &mut lines)?;
     } else {
         verdict_text::put_serial(counts, &mut lines)?;
     }
@@ -173,7 +173,7 @@ fn write_unknown<'a, W: Write>(
 ) -> Result<(), HekFault<'a>> {
     let mut lines = Vec::new(alloc);
     if question.json {
-        verdict_json::put_unknown(alloc, question.order, progress, &mut lines)?;
+        verdict_json::put_unknown(question.order, progress, &mut lines)?;
     } else {
         verdict_text::put_unknown(progress, &mut lines)?;
     }

@@ -128,11 +128,22 @@ pub(crate) fn rows_of(
         return Err(line.wants(Spot::Field("rows"), Wanted::Rows));
     };
     let mut rows = Vec::with_capacity(alloc, items.len())?;
+    add_rows(alloc, line, items.as_slice(), symbols, &mut rows)?;
+    Ok(rows)
+}
+
+fn add_rows(
+    alloc: Global,
+    line: LogLine<'_>,
+    items: &[Value<'_>],
+    symbols: &mut Symbols,
+    rows: &mut Vec<(u64, u64)>,
+) -> Result<(), LogFault> {
     for place in 0..items.len() {
         match symbols.pair(alloc, &items[place], Wanted::Row) {
             Ok(row) => rows.push(row)?,
             Err(misfit) => return Err(line.fault(Spot::Item("rows", place), misfit)),
         }
     }
-    Ok(rows)
+    Ok(())
 }

@@ -11,6 +11,16 @@ pub(crate) struct LogLine<'a> {
     pub bytes: &'a [u8],
 }
 
+impl<'a> LogLine<'a> {
+    /// The line with a number, of these bytes without the line feed at their end.
+    pub(crate) fn new(number: u64, bytes: &'a [u8]) -> LogLine<'a> {
+        LogLine {
+            number,
+            bytes: bytes.strip_suffix(b"\n").unwrap_or(bytes),
+        }
+    }
+}
+
 impl LogLine<'_> {
     /// The fault that a value is not what is wanted there.
     pub(crate) fn wants(self, spot: Spot, wanted: Wanted) -> LogFault {

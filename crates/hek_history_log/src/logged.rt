@@ -2,16 +2,35 @@
 use crate::numbering::Labels;
 use crate::shown::Label;
 use hek_history::History;
+use std::alloc::Global;
 
 /// A history, with the names, keys and values that its numbers stand for.
 #[derive(Drop)]
 pub struct Log {
     pub history: History,
-    pub(crate) names: Labels,
-    pub(crate) named: Vec<u64>,
-    pub(crate) twins: Vec<(usize, usize)>,
+    pub(crate) names: Names,
     pub(crate) keys: KeyLabels,
     pub(crate) values: Labels,
+}
+
+/// The names of transactions. `named` has the number of each one's name, and `twins` the pairs of transactions that are
+/// one in the log.
+#[derive(Drop)]
+pub(crate) struct Names {
+    pub labels: Labels,
+    pub named: Vec<u64>,
+    pub twins: Vec<(usize, usize)>,
+}
+
+impl Names {
+    /// No name.
+    pub(crate) fn new(alloc: Global) -> Names {
+        Names {
+            labels: Labels::new(alloc),
+            named: Vec::new(alloc),
+            twins: Vec::new(alloc),
+        }
+    }
 }
 
 /// Which numbers stand for the texts among the keys: those from `first` on, in the order of the texts. `order` has the
@@ -26,8 +45,8 @@ pub(crate) struct KeyLabels {
 impl Log {
     /// The name of the transaction at a place of the history, from 0.
     pub fn name(&self, transaction: usize) -> Label<'_> {
-        match self.named.get(transaction) {
-            Some(number) => self.names.label(*number),
+        match self.names.named.get(transaction) {
+            Some(number) => self.names.labels.label(*number),
             None => Label::Number(transaction as u64),
         }
     }
@@ -35,7 +54,7 @@ impl Log {
     /// The pairs of transactions, by their places, that are one in the log: its last write has no answer, and each of the
     /// two has one of the answers. At most one of them takes place.
     pub fn twins(&self) -> &[(usize, usize)] {
-        self.twins.as_slice()
+        self.names.twins.as_slice()
     }
 
     /// The key with a number of the history.

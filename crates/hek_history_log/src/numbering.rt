@@ -66,12 +66,12 @@ impl Labels {
 
     /// Whether a number stands for a text.
     pub(crate) fn is_text(number: u64) -> bool {
-        number >= ENTRIES && number % 2 == 1
+        Labels::text_place(number).is_some()
     }
 
     /// The place among the texts of the text that a number stands for.
     pub(crate) fn text_place(number: u64) -> Option<usize> {
-        if Labels::is_text(number) {
+        if number >= ENTRIES && number % 2 == 1 {
             Some(((number - ENTRIES) / 2) as usize)
         } else {
             None

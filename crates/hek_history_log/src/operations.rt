@@ -30,13 +30,6 @@ const KINDS: [(&str, Kind); 7] = [
     ("range", Kind::Range),
 ];
 
-/// The operations of a transaction that were read so far, and the keys and values of the log.
-#[derive(Drop)]
-struct Gathered<'a> {
-    symbols: &'a mut Symbols,
-    operations: Vec<Operation>,
-}
-
 /// Whether the last operation of a transaction is a write without an answer.
 pub(crate) fn lacks_answer(object: &Value<'_>) -> bool {
     let Some(Value::Array(items)) = object.get("ops") else {
@@ -67,20 +60,30 @@ pub(crate) fn read_operations(
     let Some(Value::Array(items)) = object.get("ops") else {
         return Err(line.wants(Spot::Field("ops"), Wanted::Operations));
     };
-    let mut gathered = Gathered {
-        symbols,
-        operations: Vec::with_capacity(alloc, items.len())?,
-    };
+    let mut operations = Vec::with_capacity(alloc, items.len())?;
+    let items = items.as_slice();
+    add_operations(alloc, line, items, lacking, symbols, &mut operations)?;
+    Ok(operations)
+}
+
+fn add_operations(
+    alloc: Global,
+    line: LogLine<'_>,
+    items: &[Value<'_>],
+    lacking: Option<bool>,
+    symbols: &mut Symbols,
+    operations: &mut Vec<Operation>,
+) -> Result<(), LogFault> {
     for place in 0..items.len() {
         let is_last = place + 1 == items.len();
         let lacking = if is_last { lacking } else { None };
-        match add_operation(alloc, line.number, &items[place], lacking, &mut gathered) {
+        let item = &items[place];
+        match add_operation(alloc, line.number, item, lacking, symbols, operations) {
             Ok(()) => {}
             Err(misfit) => return Err(line.fault(Spot::Item("ops", place), misfit)),
         }
     }
-    let Gathered { operations, .. } = gathered;
-    Ok(operations)
+    Ok(())
 }
 
 /// Adds an operation; a scan without an answer says nothing.
@@ -89,22 +92,35 @@ fn add_operation(
     line: u64,
     item: &Value<'_>,
     lacking: Option<bool>,
-    gathered: &mut Gathered<'_>,
+    symbols: &mut Symbols,
+    operations: &mut Vec<Operation>,
 ) -> Result<(), Misfit> {
     let parts = items_of(item).ok_or(Wanted::Operation)?;
     let kind = kind_of(parts).ok_or(Wanted::Operation)?;
-    let operation = match kind {
-        Kind::Read => read_of(alloc, parts, gathered.symbols)?,
-        Kind::Write => write_of(alloc, parts, gathered.symbols)?,
-        Kind::Insert => insert_of(alloc, parts, lacking, gathered.symbols)?,
-        Kind::Update => update_of(alloc, parts, lacking, gathered.symbols)?,
-        Kind::Delete => delete_of(alloc, parts, lacking, gathered.symbols)?,
-        Kind::Scan | Kind::Range => {
-            return add_scan(alloc, line, kind, parts, lacking.is_some(), gathered);
-        }
-    };
-    gathered.operations.push(operation)?;
+    if let Kind::Scan | Kind::Range = kind {
+        let may_lack = lacking.is_some();
+        return add_scan(alloc, line, kind, parts, may_lack, symbols, operations);
+    }
+    operations.push(operation_of(alloc, kind, parts, lacking, symbols)?)?;
     Ok(())
+}
+
+/// An operation that is no scan.
+fn operation_of(
+    alloc: Global,
+    kind: Kind,
+    parts: &[Value<'_>],
+    lacking: Option<bool>,
+    symbols: &mut Symbols,
+) -> Result<Operation, Misfit> {
+    match kind {
+        Kind::Read => read_of(alloc, parts, symbols),
+        Kind::Write => write_of(alloc, parts, symbols),
+        Kind::Insert => insert_of(alloc, parts, lacking, symbols),
+        Kind::Update => update_of(alloc, parts, lacking, symbols),
+        Kind::Delete => delete_of(alloc, parts, lacking, symbols),
+        Kind::Scan | Kind::Range => Err(Misfit::Wanted(Wanted::Operation)),
+    }
 }
 
 fn kind_of(parts: &[Value<'_>]) -> Option<Kind> {
@@ -203,7 +219,8 @@ fn add_scan(
     kind: Kind,
     parts: &[Value<'_>],
     may_lack: bool,
-    gathered: &mut Gathered<'_>,
+    symbols: &mut Symbols,
+    operations: &mut Vec<Operation>,
 ) -> Result<(), Misfit> {
     let wanted = if kind == Kind::Scan {
         Wanted::Scan
@@ -211,19 +228,15 @@ fn add_scan(
         Wanted::Range
     };
     let (scope, answer) = match (kind, parts) {
-        (Kind::Scan, [_, bucket, answer]) => {
-            (bucket_of(line, bucket, gathered.symbols)?, answer)
-        }
-        (Kind::Range, [_, low, high, answer]) => {
-            (range_of(alloc, low, high, gathered.symbols)?, answer)
-        }
+        (Kind::Scan, [_, bucket, answer]) => (bucket_of(line, bucket, symbols)?, answer),
+        (Kind::Range, [_, low, high, answer]) => (range_of(alloc, low, high, symbols)?, answer),
         _ => return Err(Misfit::Wanted(wanted)),
     };
     if may_lack && answer.is_null() {
         return Ok(());
     }
-    let pairs = gathered.symbols.pairs(alloc, answer, wanted)?;
-    gathered.operations.push(Operation::Scan(scope, pairs))?;
+    let pairs = symbols.pairs(alloc, answer, wanted)?;
+    operations.push(Operation::Scan(scope, pairs))?;
     Ok(())
 }
 

@@ -3,8 +3,7 @@ use crate::fault::{LogFault, Wanted};
 use crate::fields::{buckets_of, interval_of, level_of, name_of, rows_of, status_of, time_of};
 use crate::finish::finish;
 use crate::log_line::LogLine;
-use crate::logged::Log;
-use crate::numbering::Labels;
+use crate::logged::{Log, Names};
 use crate::operations::{lacks_answer, read_operations};
 use crate::shown::Label;
 use crate::spot::{Spot, column_of};
@@ -15,54 +14,67 @@ use json::{Scratch, Value};
 use std::alloc::Global;
 use std::io::{BufRead, ErrorKind};
 
-/// What was read so far. `seen` has the numbers of the names, and `lines` where each was read; `named` has the number of
-/// each transaction's name, and `twins` the pairs of transactions that are one.
+/// What was read so far: the log, whose keys and values have the numbers of `symbols` until its end. `seen` has the
+/// numbers of the names, and `lines` where each was read; `rows_line` is the number of the opening line, or 0.
 #[derive(Drop)]
 pub(crate) struct Draft {
     pub history: History,
-    pub names: Labels,
+    pub names: Names,
     pub seen: IndexSet<u64>,
     pub lines: Vec<u64>,
-    pub named: Vec<u64>,
-    pub twins: Vec<(usize, usize)>,
     pub symbols: Symbols,
     pub rows_line: u64,
 }
 
+impl Draft {
+    fn new(alloc: Global) -> Draft {
+        Draft {
+            history: History {
+                rows: Vec::new(alloc),
+                transactions: Vec::new(alloc),
+            },
+            names: Names::new(alloc),
+            seen: IndexSet::new(alloc),
+            lines: Vec::new(alloc),
+            symbols: Symbols::new(alloc),
+            rows_line: 0,
+        }
+    }
+
+    /// Whether nothing was read yet.
+    pub(crate) fn is_empty(&self) -> bool {
+        self.rows_line == 0 && self.history.transactions.is_empty()
+    }
+}
+
 /// Reads a log to its end, one line at a time. No line is kept.
 pub fn read_log<B: BufRead>(alloc: Global, input: &mut B) -> Result<Log, LogFault> {
-    let mut draft = Draft {
-        history: History {
-            rows: Vec::new(alloc),
-            transactions: Vec::new(alloc),
-        },
-        names: Labels::new(alloc),
-        seen: IndexSet::new(alloc),
-        lines: Vec::new(alloc),
-        named: Vec::new(alloc),
-        twins: Vec::new(alloc),
-        symbols: Symbols::new(alloc),
-        rows_line: 0,
-    };
+    let mut draft = Draft::new(alloc);
+    read_lines(alloc, input, &mut draft)?;
+    finish(alloc, draft)
+}
+
+fn read_lines<B: BufRead>(alloc: Global, input: &mut B, draft: &mut Draft) -> Result<(), LogFault> {
     let mut scratch = Scratch::new(alloc);
     let mut bytes = Vec::new(alloc);
     for number in 1..u64::MAX {
-        bytes.clear();
-        match input.read_until(b'\n', &mut bytes) {
-            Ok(_) => {}
-            Err(error) => return Err(read_fault(error.kind())),
-        }
+        read_line(input, &mut bytes)?;
         if bytes.is_empty() {
             break;
         }
-        let text = bytes.as_slice();
-        let line = LogLine {
-            number,
-            bytes: text.strip_suffix(b"\n").unwrap_or(text),
-        };
-        add_line(alloc, line, &mut scratch, &mut draft)?;
+        let line = LogLine::new(number, bytes.as_slice());
+        add_line(alloc, line, &mut scratch, draft)?;
     }
-    finish(alloc, draft)
+    Ok(())
+}
+
+/// Reads the next line in place of the last one; nothing at the end.
+fn read_line<B: BufRead>(input: &mut B, bytes: &mut Vec<u8>) -> Result<(), LogFault> {
+    bytes.clear();
+    match input.read_until(b'\n', bytes) {
+        Ok(_) => Ok(()),
+        Err(error) => Err(read_fault(error.kind())),
+    }
 }
 
 fn read_fault(kind: ErrorKind) -> LogFault {
@@ -83,8 +95,7 @@ fn add_line(
         return Ok(());
     }
     let object = object_in(alloc, line, scratch)?;
-    let is_first = draft.rows_line == 0 && draft.history.transactions.is_empty();
-    if is_first && object.get("txn").is_none() {
+    if draft.is_empty() && object.get("txn").is_none() {
         return add_opening(alloc, line, &object, draft);
     }
     let name = name_of(line, &object)?;
@@ -142,7 +153,7 @@ fn add_name(
     name: Label<'_>,
     draft: &mut Draft,
 ) -> Result<u64, LogFault> {
-    let number = draft.names.number_of(alloc, name)?;
+    let number = draft.names.labels.number_of(alloc, name)?;
     let (place, is_new) = draft.seen.insert_full(number)?;
     if is_new {
         draft.lines.push(line.number)?;
@@ -172,7 +183,7 @@ fn add_transaction(
     if is_unknown && lacks_answer(object) {
         let place = draft.history.transactions.len();
         add_one(alloc, line, object, Some(false), name, draft)?;
-        draft.twins.push((place.saturating_sub(1), place))?;
+        draft.names.twins.push((place.saturating_sub(1), place))?;
     }
     Ok(())
 }
@@ -187,7 +198,7 @@ fn add_one(
 ) -> Result<(), LogFault> {
     let transaction = transaction_in(alloc, line, object, lacking, &mut draft.symbols)?;
     draft.history.transactions.push(transaction)?;
-    draft.named.push(name)?;
+    draft.names.named.push(name)?;
     Ok(())
 }
 

@@ -24,6 +24,16 @@ impl fmt::Display for Label<'_> {
     }
 }
 
+impl Label<'_> {
+    /// Writes a number, or a text as a JSON string.
+    pub fn write_json<W: fmt::Write>(&self, f: &mut fmt::Formatter<W>) -> fmt::Result {
+        match *self {
+            Label::Number(number) => write!(f, "{number}"),
+            Label::Text(text) => write_quoted(f, text),
+        }
+    }
+}
+
 /// Whether a text can be printed without quotes: it is no number and not `absent`, and has no blank, quote, comma,
 /// backslash or control character.
 fn is_plain(text: &str) -> bool {
@@ -37,7 +47,7 @@ fn is_plain(text: &str) -> bool {
 }
 
 /// Writes a text as a JSON string.
-pub(crate) fn write_quoted<W: fmt::Write>(f: &mut fmt::Formatter<W>, text: &str) -> fmt::Result {
+fn write_quoted<W: fmt::Write>(f: &mut fmt::Formatter<W>, text: &str) -> fmt::Result {
     f.write_char('"')?;
     for letter in text.chars() {
         match letter {
