@@ -85,6 +85,9 @@ const COUNTS: &[Count] = &[
 
 const LEVELS: &[&str] = &["serializable", "repeatable", "snapshot"];
 
+/// The orders that `hek history` can be asked for.
+const KINDS: &[&str] = &["any", "versions", "commit", "real"];
+
 /// What is wrong with the value of an option.
 #[derive(Clone, Copy)]
 enum Wrong<'a> {
@@ -95,6 +98,8 @@ enum Wrong<'a> {
     NoLevel(Option<&'a str>),
     NoPart,
     NoOrder,
+    /// No order of a history has this name, but maybe one that is near.
+    NoKind(Option<&'a str>),
 }
 
 /// An option with a value that is at fault. Its text is a line each: the option with its value, what is wrong
@@ -106,8 +111,8 @@ pub struct Advice<'a> {
     wrong: Wrong<'a>,
 }
 
-/// The first option at fault of a command line, if there is one.
-pub fn advice_of<'a>(alloc: Global, found: &ArgMatches<'a>) -> Option<Advice<'a>> {
+/// The first option at fault of a command with these words, if there is one.
+pub fn advice_of<'a>(alloc: Global, command: &str, found: &ArgMatches<'a>) -> Option<Advice<'a>> {
     for count in COUNTS {
         if let Some(advice) = on_count(found, count) {
             return Some(advice);
@@ -126,10 +131,13 @@ pub fn advice_of<'a>(alloc: Global, found: &ArgMatches<'a>) -> Option<Advice<'a>
         }
         _ => {}
     }
-    match found.get_str("order") {
-        Some(value) => Some(Advice::new("order", value, Wrong::NoOrder)),
-        None => None,
-    }
+    let value = found.get_str("order")?;
+    let wrong = if command == "history" {
+        Wrong::NoKind(nearest(alloc, value, KINDS))
+    } else {
+        Wrong::NoOrder
+    };
+    Some(Advice::new("order", value, wrong))
 }
 
 /// What is wrong with the number of an option, if the command line has the option.
@@ -176,6 +184,7 @@ impl<'a> Advice<'a> {
             Wrong::NoLevel(_) => write!(f, "no level is called `{value}`"),
             Wrong::NoPart => write!(f, "`{value}` is not a part"),
             Wrong::NoOrder => write!(f, "`{value}` is not an order of the moves"),
+            Wrong::NoKind(_) => write!(f, "no order is called `{value}`"),
         }
     }
 
@@ -187,6 +196,7 @@ impl<'a> Advice<'a> {
             Wrong::NoLevel(_) => f.write_str("serializable repeatable snapshot"),
             Wrong::NoPart => f.write_str("K/N, as in `1/3`, K from 1 to N"),
             Wrong::NoOrder => f.write_str("the name of its transaction for each move"),
+            Wrong::NoKind(_) => f.write_str("any versions commit real"),
         }
     }
 }
@@ -202,7 +212,9 @@ impl Display for Advice<'_> {
         f.write_str("\n  | wanted: ")?;
         self.write_wanted(f)?;
         match self.wrong {
-            Wrong::NoLevel(Some(level)) => write!(f, "\n  | did you mean `{level}`?\n"),
+            Wrong::NoLevel(Some(meant)) | Wrong::NoKind(Some(meant)) => {
+                write!(f, "\n  | did you mean `{meant}`?\n")
+            }
             _ => f.write_str("\n"),
         }
     }

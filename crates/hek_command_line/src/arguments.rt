@@ -182,6 +182,11 @@ it prints
         },
         WHY,
         CHANGES,
+        ArgumentText {
+            name: "history",
+            help: "prints the run as a log for hek history, in place of its trace",
+            form: Form::Flag,
+        },
     ],
 };
 
@@ -443,6 +448,52 @@ The page shows each step with its reply, and the versions, waits and lock words 
     ],
 };
 
+const HISTORY: CommandText = CommandText {
+    name: "history",
+    about: "Says whether a log of transactions has a serial order, and if not, why not",
+    example: r#"A log has a line of JSON for each transaction, and a first line for the rows that were there. Its keys and values are numbers or texts.
+
+Example:
+  hek history skew.jsonl
+Where skew.jsonl has the lines
+  {"rows":[["x",1],["y",1]]}
+  {"txn":"a","ops":[["read","x",1],["update","y",0,true]]}
+  {"txn":"b","ops":[["read","y",1],["update","x",0,true]]}
+it prints
+  not serial: write skew (G2-item)
+    a read x = 1, which b overwrote with 0    a before b
+    b read y = 1, which a overwrote with 0    b before a
+The status is 0 if there is an order, 1 if there is none, and 3 if the search ended without an answer."#,
+    arguments: &[
+        ArgumentText {
+            name: "FILE",
+            help: "a log, or - for standard input",
+            form: Form::Word,
+        },
+        LEVEL,
+        ArgumentText {
+            name: "order",
+            help: "asks for an order of a kind: any, versions, commit or real",
+            form: Form::Value("KIND"),
+        },
+        ArgumentText {
+            name: "all",
+            help: "goes on after an anomaly, without the answers of its transactions",
+            form: Form::Flag,
+        },
+        ArgumentText {
+            name: "order-out",
+            help: "writes the order that was found, a line for each transaction",
+            form: Form::Value("OUT"),
+        },
+        ArgumentText {
+            name: "json",
+            help: "writes the verdict as JSON, one object on each line",
+            form: Form::Flag,
+        },
+    ],
+};
+
 /// What `hek --version` prints after the name.
 const VERSION: &str = "0.2.0";
 
@@ -450,7 +501,7 @@ const VERSION: &str = "0.2.0";
 /// in three tables, each of which has a function, since a proof takes a table as one term.
 const SCHEDULE_COMMANDS: &[CommandText] = &[RUN, DEBUG, PAGE];
 
-const ENGINE_COMMANDS: &[CommandText] = &[PERMUTE, CHECK, DRIVE, THREADS];
+const ENGINE_COMMANDS: &[CommandText] = &[PERMUTE, CHECK, HISTORY, DRIVE, THREADS];
 
 const WORD_COMMANDS: &[CommandText] = &[WORD, RELEASE, ASM, DIS];
 
@@ -528,7 +579,7 @@ fn push_commands<'a>(
 fn command<'a>(alloc: Global, text: &CommandText) -> Result<Command<'a>, AllocError> {
     let mut arguments = Vec::new(alloc);
     for argument in text.arguments {
-        let rivals = rivals_of(argument.name);
+        let rivals = rivals_of(text.name, argument.name);
         arguments.push(argument_of(alloc, argument).conflicts_with_all(rivals)?)?;
     }
     Command::new(alloc, text.name)
@@ -537,14 +588,15 @@ fn command<'a>(alloc: Global, text: &CommandText) -> Result<Command<'a>, AllocEr
         .args(arguments)
 }
 
-/// The arguments that cannot be given together with this one.
-fn rivals_of(name: &str) -> &'static [&'static str] {
-    match name {
-        "order" => &["each", "levels", "part"],
-        "levels" => &["each", "level"],
-        "image" => &["text"],
-        "orders" => &["from", "to"],
-        "clock" | "txns" | "readers" => &["changes"],
+/// The arguments of a command that cannot be given together with this one.
+fn rivals_of(command: &str, name: &str) -> &'static [&'static str] {
+    match (command, name) {
+        ("permute", "order") => &["each", "levels", "part"],
+        ("permute", "levels") => &["each", "level"],
+        ("run", "history") => &["state", "state-at", "why", "changes"],
+        ("page", "orders") => &["from", "to"],
+        ("word", "clock" | "txns" | "readers") => &["changes"],
+        (_, "image") => &["text"],
         _ => &[],
     }
 }

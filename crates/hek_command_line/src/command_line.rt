@@ -2,6 +2,7 @@
 use crate::advice::advice_of;
 use crate::arguments::{RULES, meant_command, read_words};
 use crate::disk::{Disk, LateFile, open};
+use crate::log::history;
 use crate::output::NotedOutput;
 use crate::schedule::{schedule_file, schedule_text};
 use crate::summary::{note_nothing, summary_command};
@@ -13,6 +14,7 @@ use hek_commands::{
     run_command, state_command,
 };
 use hek_debug_command::{debug_command, debug_session};
+use hek_history_command::run_log_command;
 use hek_page_command::{Extent, Heading, MOST_NODES, Part, explorer_command, page_command};
 use hek_permute::Form;
 use hek_permute_command::{Choice, part_of, permute_command};
@@ -132,8 +134,8 @@ fn advised<'a, E: Write + IsTerminal>(
     match ran {
         Err(HekFault::BadArgument) if faults.is_terminal() => {
             let status = report(HekFault::BadArgument, faults);
-            if let Some((_, found)) = matches.subcommand() {
-                if let Some(advice) = advice_of(alloc, found) {
+            if let Some((command, found)) = matches.subcommand() {
+                if let Some(advice) = advice_of(alloc, command, found) {
                     let _ = write!(faults, "{advice}");
                 }
             }
@@ -213,6 +215,7 @@ fn run<'a, D: Disk, I: Read + IsTerminal + Drop, W: Write, E: Write + IsTerminal
         Some(("drive", found)) => drive(alloc, found, disk, input, out),
         Some(("debug", found)) => debug(alloc, found, disk, input, out, faults),
         Some(("check", found)) => check(alloc, found, disk, input, out, faults),
+        Some(("history", found)) => history(alloc, found, disk, input, out, faults),
         Some(("permute", found)) => permute(alloc, found, disk, input, out, faults),
         Some(("page", found)) => page(alloc, found, disk, input, out, faults),
         Some(("threads", _)) => Err(HekFault::NoWorker),
@@ -279,6 +282,9 @@ fn run_schedule<'a, D: Disk, I: Read + Drop, W: Write>(
     let extras = extras_of(found);
     let state = limit.is_some() || found.get_flag("state");
     let file = schedule_file(alloc, found, disk, &mut input)?;
+    if found.get_flag("history") {
+        return run_log_command(alloc, file, out);
+    }
     if extras.why.is_some() || extras.changes {
         return explain_command(alloc, file, extras, limit, state, out);
     }

@@ -1,0 +1,55 @@
+//! The words of `hek history`, and the files that it reads and writes.
+use crate::disk::{Disk, LateFile, open};
+use clap::ArgMatches;
+use hek_commands::HekFault;
+use hek_history::{Level, Order};
+use hek_history_command::{Choice, history_command, level_named, order_named};
+use std::alloc::Global;
+use std::io::{Read, Write};
+
+/// Answers `history`.
+pub fn history<'a, D: Disk, I: Read + Drop, W: Write, E: Write>(
+    alloc: Global,
+    found: &ArgMatches<'a>,
+    disk: &D,
+    input: I,
+    out: &mut W,
+    faults: &mut E,
+) -> Result<u8, HekFault<'a>> {
+    let mut input = Some(input);
+    let choice = Choice {
+        level: level_of(found)?,
+        order: order_of(found)?,
+        all: found.get_flag("all"),
+        json: found.get_flag("json"),
+    };
+    let name = found.get_str("FILE").ok_or(HekFault::BadArgument)?;
+    let mut order_out = match found.get_str("order-out") {
+        Some(name) => Some(LateFile::new(disk, name)),
+        None => None,
+    };
+    let file = open(disk, &mut input, name)?;
+    history_command(alloc, file, name, choice, &mut order_out, out, faults)
+}
+
+/// The level of a log's transactions that the words give with `--level`.
+fn level_of<'a>(found: &ArgMatches<'a>) -> Result<Option<Level>, HekFault<'a>> {
+    match found.get_str("level") {
+        None => Ok(None),
+        Some(word) => match level_named(word) {
+            Some(level) => Ok(Some(level)),
+            None => Err(HekFault::BadArgument),
+        },
+    }
+}
+
+/// The order that the words ask for with `--order`.
+fn order_of<'a>(found: &ArgMatches<'a>) -> Result<Option<Order>, HekFault<'a>> {
+    match found.get_str("order") {
+        None => Ok(None),
+        Some(word) => match order_named(word) {
+            Some(order) => Ok(Some(order)),
+            None => Err(HekFault::BadArgument),
+        },
+    }
+}

@@ -1,0 +1,253 @@
+//! The command `history`.
+ghost use Rattle.std.specs.Prelude.{◌≡◌, IfOk};
+ghost use Rattle.hek_history_search.specs.Verdicts.{IsVerdict};
+ghost use Rattle.hek_history_command.specs.Answers.{IsStatus};
+
+use crate::choice::{Choice, order_of, set_level};
+use crate::counts::counts_of;
+use crate::forgetting::forget_answers;
+use crate::order_lines::write_order;
+use crate::twins::have_both;
+use crate::{verdict_json, verdict_text};
+use hek_commands::{HekFault, buffered, send};
+use hek_history::{History, Order, Point, Writer};
+use hek_history_log::{Log, LogFault, read_log};
+use hek_history_search::{Cause, Progress, Verdict, judge};
+use hek_rules::NoMemory;
+use std::alloc::Global;
+use std::io::{Read, Write};
+
+/// How much the search tries before it gives up.
+const EFFORT: usize = 100_000;
+
+/// What the command asks of a log.
+#[derive(Clone, Copy)]
+struct Question {
+    order: Order,
+    all: bool,
+    json: bool,
+}
+
+/// Reads the log in a file, and writes whether it has a serial order, with the order to `order_out` if there is one.
+/// Answers the exit status: 0 if it has one, 1 if it has none or after a fault of the log, 3 if neither is known. The
+/// line of a fault of the log goes to `faults`.
+pub fn history_command<'a, R: Read + Drop, W: Write, O: Write, E: Write>(
+    alloc: Global,
+    file: R,
+    name: &'a str,
+    choice: Choice,
+    order_out: &mut Option<O>,
+    out: &mut W,
+    faults: &mut E,
+) -> Result<u8, HekFault<'a>> {
+    let mut input = buffered(alloc, file)?;
+    match read_log(alloc, &mut input) {
+        Ok(log) => answer(alloc, log, choice, order_out, out),
+        Err(LogFault::NoMemory) => Err(HekFault::NoMemory),
+        Err(LogFault::CannotRead) => Err(HekFault::CannotRead(name)),
+        Err(fault) => {
+            let _ = writeln!(faults, "hek: history: {fault}");
+            Ok(1)
+        }
+    }
+}
+
+/// Judges a log, and writes the verdict.
+fn answer<'a, W: Write, O: Write>(
+    alloc: Global,
+    log: Log,
+    choice: Choice,
+    order_out: &mut Option<O>,
+    out: &mut W,
+) -> Result<u8, HekFault<'a>> {
+    let mut log = log;
+    if let Some(level) = choice.level {
+        set_level(&mut log.history, level);
+    }
+    let question = Question {
+        order: order_of(choice, &log.history),
+        all: choice.all,
+        json: choice.json,
+    };
+    write_verdict(alloc, &mut log, question, order_out, out)
+}
+
+/// Writes the verdict on a history. The status is that of the verdict.
+fn write_verdict<'a, W: Write, O: Write>(
+    alloc: Global,
+    log: &mut Log,
+    question: Question,
+    order_out: &mut Option<O>,
+    out: &mut W,
+) -> Result<u8, HekFault<'a>>
+    ensures right { IfOk result (λ status. IsStatus log.old.history question.order status) }
+{
+    let (verdict, status) = judged(alloc, &log.history, log.twins(), question.order)?;
+    match verdict {
+        Verdict::Serial(points) => {
+            write_serial(alloc, log, points.as_slice(), question, order_out, out)?;
+        }
+        Verdict::NotSerial(_steps, cause) => write_causes(alloc, log, cause, question, out)?,
+        Verdict::Unknown(progress) => write_unknown(alloc, progress, question, out)?,
+    }
+    Ok(status)
+}
+
+/// The verdict on a history, with its exit status.
+#[tactic(auto, using(hek_history_command::proofs::Statuses::is_status))]
+fn judged(
+    alloc: Global,
+    history: &History,
+    twins: &[(usize, usize)],
+    order: Order,
+) -> Result<(Verdict, u8), NoMemory>
+    ensures right { IfOk result (λ found. IsStatus history.now order found.1) }
+{
+    let found = judge(alloc, history, order, EFFORT)?;
+    let verdict = without_twins(alloc, history, twins, order, found)?;
+    let status = status_of(&verdict);
+    Ok((verdict, status))
+}
+
+/// A verdict on a history; unknown, if two that are one transaction take place both.
+fn without_twins(
+    alloc: Global,
+    history: &History,
+    twins: &[(usize, usize)],
+    order: Order,
+    verdict: Verdict,
+) -> Result<Verdict, NoMemory>
+    requires right { IsVerdict history.now order verdict }
+    ensures right { IfOk result (λ kept. IsVerdict history.now order kept) }
+{
+    let doubled = match &verdict {
+        Verdict::Serial(points) => have_both(alloc, history, twins, points.as_slice())?,
+        Verdict::NotSerial(_, _) | Verdict::Unknown(_) => false,
+    };
+    if doubled {
+        return Ok(Verdict::Unknown(Progress {
+            conflicts: 0,
+            violations: 0,
+        }));
+    }
+    Ok(verdict)
+}
+
+/// The exit status of a verdict.
+fn status_of(verdict: &Verdict) -> u8
+    ensures { result ≡ Rattle.hek_history_command.specs.Answers.status_of verdict.now }
+{
+    match verdict {
+        Verdict::Serial(_) => 0,
+        Verdict::NotSerial(_, _) => 1,
+        Verdict::Unknown(_) => 3,
+    }
+}
+
+fn write_serial<'a, W: Write, O: Write>(
+    alloc: Global,
+    log: &Log,
+    points: &[Point],
+    question: Question,
+    order_out: &mut Option<O>,
+    out: &mut W,
+) -> Result<(), HekFault<'a>> {
+    if let Some(file) = order_out {
+        write_order(alloc, log, points, file)?;
+    }
+    let counts = counts_of(alloc, &log.history, points)?;
+    let mut lines = Vec::new(alloc);
+    if question.json {
+        verdict_json::put_serial(question.order, counts, &mut lines)?;
+    } else {
+        verdict_text::put_serial(counts, &mut lines)?;
+    }
+    send(&mut lines, out)
+}
+
+fn write_unknown<'a, W: Write>(
+    alloc: Global,
+    progress: Progress,
+    question: Question,
+    out: &mut W,
+) -> Result<(), HekFault<'a>> {
+    let mut lines = Vec::new(alloc);
+    if question.json {
+        verdict_json::put_unknown(question.order, progress, &mut lines)?;
+    } else {
+        verdict_text::put_unknown(progress, &mut lines)?;
+    }
+    send(&mut lines, out)
+}
+
+fn write_not_serial<'a, W: Write>(
+    alloc: Global,
+    log: &Log,
+    cause: &Cause,
+    question: Question,
+    out: &mut W,
+) -> Result<(), HekFault<'a>> {
+    let mut lines = Vec::new(alloc);
+    if question.json {
+        verdict_json::put_not_serial(alloc, question.order, log, cause, &mut lines)?;
+    } else {
+        verdict_text::put_not_serial(alloc, log, cause, &mut lines)?;
+    }
+    send(&mut lines, out)
+}
+
+/// Writes an anomaly, and with `all` those of what is left, each time without the answers of the last one's
+/// transactions.
+fn write_causes<'a, W: Write>(
+    alloc: Global,
+    log: &mut Log,
+    cause: Cause,
+    question: Question,
+    out: &mut W,
+) -> Result<(), HekFault<'a>> {
+    let mut cause = cause;
+    for _ in 0..log.history.transactions.len() {
+        write_not_serial(alloc, log, &cause, question, out)?;
+        if !question.all || cause.cycle.is_empty() {
+            break;
+        }
+        forget_cause(alloc, log, &cause)?;
+        match judge(alloc, &log.history, question.order, EFFORT)? {
+            Verdict::NotSerial(_steps, next) => cause = next,
+            Verdict::Serial(_) | Verdict::Unknown(_) => break,
+        }
+    }
+    write_order_asked(alloc, question, out)
+}
+
+/// Writes of which orders a history is not serial.
+fn write_order_asked<'a, W: Write>(
+    alloc: Global,
+    question: Question,
+    out: &mut W,
+) -> Result<(), HekFault<'a>> {
+    let mut lines = Vec::new(alloc);
+    if !question.json {
+        verdict_text::put_order(question.order, &mut lines)?;
+    }
+    send(&mut lines, out)
+}
+
+/// Forgets the answers of the transactions of a cycle.
+fn forget_cause(alloc: Global, log: &mut Log, cause: &Cause) -> Result<(), NoMemory> {
+    for edge in cause.cycle.iter() {
+        forget_writer(alloc, log, edge.first)?;
+        forget_writer(alloc, log, edge.second)?;
+    }
+    Ok(())
+}
+
+fn forget_writer(alloc: Global, log: &mut Log, writer: Writer) -> Result<(), NoMemory> {
+    let Writer::Transaction(place) = writer else {
+        return Ok(());
+    };
+    match log.history.transactions.get_mut(place) {
+        Some(transaction) => forget_answers(alloc, transaction),
+        None => Ok(()),
+    }
+}

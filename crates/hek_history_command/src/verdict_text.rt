@@ -1,0 +1,99 @@
+//! A verdict as text.
+use crate::anomaly_words::{anomaly_name, cycle_lines};
+use crate::counts::Counts;
+use hek_history::Order;
+use hek_history_log::Log;
+use hek_history_search::{Cause, Progress};
+use hek_rules::NoMemory;
+use std::alloc::Global;
+use std::fmt;
+use std::io::{self, Write};
+
+/// The line of a serial history.
+pub(crate) fn put_serial(counts: Counts, lines: &mut Vec<u8>) -> Result<(), NoMemory> {
+    let transactions = number_of(counts.transactions, "transaction");
+    let reads = number_of(counts.reads, "read");
+    put(write!(lines, "serial: {transactions}, {reads}"))?;
+    match counts.elsewhere {
+        None => put(writeln!(lines)),
+        Some(0) => put(writeln!(lines, ", in the order of their ends")),
+        Some(1) => put(writeln!(
+            lines,
+            ", in an order in which 1 is elsewhere than by end time"
+        )),
+        Some(elsewhere) => put(writeln!(
+            lines,
+            ", in an order in which {elsewhere} are elsewhere than by end time"
+        )),
+    }
+}
+
+/// A number of things.
+#[derive(Clone, Copy)]
+struct Counted {
+    count: u64,
+    noun: &'static str,
+}
+
+fn number_of(count: u64, noun: &'static str) -> Counted {
+    Counted { count, noun }
+}
+
+impl fmt::Display for Counted {
+    fn fmt<W: fmt::Write>(&self, f: &mut fmt::Formatter<W>) -> fmt::Result {
+        let Counted { count, noun } = *self;
+        let ending = if count == 1 { "" } else { "s" };
+        write!(f, "{count} {noun}{ending}")
+    }
+}
+
+/// The lines of a history that is not serial: the anomaly's name, and its cycle.
+pub(crate) fn put_not_serial(
+    alloc: Global,
+    log: &Log,
+    cause: &Cause,
+    lines: &mut Vec<u8>,
+) -> Result<(), NoMemory> {
+    let name = anomaly_name(cause.anomaly);
+    put(writeln!(lines, "not serial: {name}"))?;
+    for line in cycle_lines(alloc, log, cause)?.iter() {
+        put(writeln!(lines, "{line}"))?;
+    }
+    Ok(())
+}
+
+/// The line of a history of which nothing is known.
+pub(crate) fn put_unknown(progress: Progress, lines: &mut Vec<u8>) -> Result<(), NoMemory> {
+    let conflicts = number_of(progress.conflicts as u64, "conflict");
+    put(writeln!(
+        lines,
+        "unknown: after {conflicts} the search has no order, and no proof that there is none"
+    ))
+}
+
+/// The line that says of which orders a history is not serial, if not of all.
+pub(crate) fn put_order(order: Order, lines: &mut Vec<u8>) -> Result<(), NoMemory> {
+    match order {
+        Order::Any => Ok(()),
+        Order::Versions => put(writeln!(
+            lines,
+            "  in the orders in which the writers of a key commit by end time; --order any asks for any"
+        )),
+        Order::Times => put(writeln!(
+            lines,
+            "  in the orders by begin and end time; --order any asks for any"
+        )),
+        Order::Real => put(writeln!(
+            lines,
+            "  in the orders of real time; --order any asks for any"
+        )),
+    }
+}
+
+/// NoMemory if a text could not be written.
+pub(crate) fn put(written: io::Result<()>) -> Result<(), NoMemory> {
+    match written {
+        Ok(()) => Ok(()),
+        Err(_) => Err(NoMemory),
+    }
+}

@@ -1,0 +1,139 @@
+//! What can be wrong with a log.
+use hek_rules::NoMemory;
+use std::alloc::{AllocError, AllocFailed};
+use std::fmt;
+use thiserror::Error;
+
+/// A fault of a log. Lines and columns are counted from 1, a column in bytes.
+#[derive(Debug, Drop, Error)]
+pub enum LogFault {
+    /// The line is no JSON text, or has another one after it.
+    #[error("line {line}, column {column}: wanted a JSON object on one line")]
+    Json {
+        line: u64,
+        column: u64,
+    },
+    /// The value at the place is not what is wanted there.
+    #[error("line {line}, column {column}: wanted {wanted}")]
+    Wanted {
+        line: u64,
+        column: u64,
+        wanted: Wanted,
+    },
+    /// The transaction, as it prints, is in the log before this line.
+    #[error("line {line}, column {column}: wanted each transaction once, and {name} is on line {before} too")]
+    Duplicate {
+        line: u64,
+        column: u64,
+        name: String,
+        before: u64,
+    },
+    /// The key, as it prints, is twice among the opening rows.
+    #[error("line {line}: wanted each key once, and {key} has two rows")]
+    RowTwice {
+        line: u64,
+        key: String,
+    },
+    /// A bucket is scanned on this line, and the log has keys that are texts, which are in no bucket.
+    #[error("line {line}: wanted number keys alone in a log with scans of buckets, and {key} is a text")]
+    TextKey {
+        line: u64,
+        key: String,
+    },
+    /// The texts among the keys have no numbers above the number keys, unless those are at most this.
+    #[error("wanted no number key above {0}: text keys are numbered above them")]
+    NoRoom(u64),
+    #[error("wanted a line for each transaction, and the log is empty")]
+    Empty,
+    #[error("cannot read")]
+    CannotRead,
+    #[error("no memory")]
+    NoMemory,
+}
+
+impl From<NoMemory> for LogFault {
+    fn from(_fault: NoMemory) -> LogFault {
+        LogFault::NoMemory
+    }
+}
+
+impl From<AllocError> for LogFault {
+    fn from(_fault: AllocError) -> LogFault {
+        LogFault::NoMemory
+    }
+}
+
+impl<T: Drop> From<AllocFailed<T>> for LogFault {
+    fn from(_fault: AllocFailed<T>) -> LogFault {
+        LogFault::NoMemory
+    }
+}
+
+/// What a place of a log has to have.
+#[derive(Clone, Copy, Debug, PartialEq, Eq)]
+pub enum Wanted {
+    /// The line is an object.
+    Object,
+    /// Only the first line has no transaction.
+    Transaction,
+    Rows,
+    Buckets,
+    Row,
+    Name,
+    Level,
+    Status,
+    Time,
+    Interval,
+    Operations,
+    Operation,
+    Read,
+    Write,
+    Insert,
+    Update,
+    Delete,
+    Scan,
+    Range,
+    /// The two ends of a range are both numbers or both texts.
+    Ends,
+    /// The opening line has the number of buckets.
+    BucketCount,
+    /// The scanned bucket is below the number of buckets.
+    Bucket,
+}
+
+impl Wanted {
+    fn text(self) -> &'static str {
+        match self {
+            Wanted::Object => r#"an object, as {"txn":NAME,"ops":[..]}"#,
+            Wanted::Transaction => r#""txn" on each line but the first"#,
+            Wanted::Rows => r#""rows", an array of [KEY, VALUE]"#,
+            Wanted::Buckets => r#""buckets", a number from 1 on"#,
+            Wanted::Row => "an array [KEY, VALUE]",
+            Wanted::Name => r#""txn", a text or a number below 2^64"#,
+            Wanted::Level => r#""level", one of "serializable", "snapshot", "repeatable""#,
+            Wanted::Status => r#""status", one of "committed", "aborted", "unknown""#,
+            Wanted::Time => r#""begin" and "end", numbers below 2^64"#,
+            Wanted::Interval => r#""at", an array [INVOKED, ANSWERED] of numbers"#,
+            Wanted::Operations => r#""ops", an array of operations"#,
+            Wanted::Operation => {
+                r#"an array that begins with "read", "write", "insert", "update", "delete", "scan" or "range""#
+            }
+            Wanted::Read => r#"an array ["read", KEY, VALUE]"#,
+            Wanted::Write => r#"an array ["write", KEY, VALUE]"#,
+            Wanted::Insert => r#"an array ["insert", KEY, VALUE, DONE]"#,
+            Wanted::Update => r#"an array ["update", KEY, VALUE, DONE]"#,
+            Wanted::Delete => r#"an array ["delete", KEY, DONE]"#,
+            Wanted::Scan => r#"an array ["scan", BUCKET, [[KEY, VALUE], ..]]"#,
+            Wanted::Range => r#"an array ["range", LOW, HIGH, [[KEY, VALUE], ..]]"#,
+            Wanted::Ends => "a range between two numbers or two texts",
+            Wanted::BucketCount => r#""buckets" on the first line, for a scan of a bucket"#,
+            Wanted::Bucket => r#"a bucket below "buckets""#,
+        }
+    }
+}
+
+impl fmt::Display for Wanted {
+    fn fmt<W: fmt::Write>(&self, f: &mut fmt::Formatter<W>) -> fmt::Result {
+        f.write_str(self.text())
+    }
+}

@@ -1,0 +1,149 @@
+//! The fields of a line.
+use crate::fault::{LogFault, Wanted};
+use crate::log_line::LogLine;
+use crate::shown::Label;
+use crate::spot::Spot;
+use crate::symbols::{Symbols, label_of};
+use hek_history::{Level, Status};
+use json::Value;
+use std::alloc::Global;
+
+const LEVELS: [(&str, Level); 3] = [
+    ("serializable", Level::Serializable),
+    ("snapshot", Level::Snapshot),
+    ("repeatable", Level::Repeatable),
+];
+
+const STATUSES: [(&str, Status); 3] = [
+    ("committed", Status::Committed),
+    ("aborted", Status::Aborted),
+    ("unknown", Status::Unknown),
+];
+
+/// The name of a transaction.
+pub(crate) fn name_of<'a>(line: LogLine<'_>, object: &Value<'a>) -> Result<Label<'a>, LogFault> {
+    match object.get("txn") {
+        Some(value) => match label_of(value) {
+            Some(label) => Ok(label),
+            None => Err(line.wants(Spot::Field("txn"), Wanted::Name)),
+        },
+        None => Err(line.wants(Spot::Line, Wanted::Transaction)),
+    }
+}
+
+/// The level of a transaction: serializable, if it is not given.
+pub(crate) fn level_of(line: LogLine<'_>, object: &Value<'_>) -> Result<Level, LogFault> {
+    let Some(value) = object.get("level") else {
+        return Ok(Level::Serializable);
+    };
+    let word = value.as_str().unwrap_or("");
+    for (name, level) in LEVELS {
+        if name == word {
+            return Ok(level);
+        }
+    }
+    Err(line.wants(Spot::Field("level"), Wanted::Level))
+}
+
+/// The status of a transaction: committed, if it is not given.
+pub(crate) fn status_of(line: LogLine<'_>, object: &Value<'_>) -> Result<Status, LogFault> {
+    let Some(value) = object.get("status") else {
+        return Ok(Status::Committed);
+    };
+    let word = value.as_str().unwrap_or("");
+    for (name, status) in STATUSES {
+        if name == word {
+            return Ok(status);
+        }
+    }
+    Err(line.wants(Spot::Field("status"), Wanted::Status))
+}
+
+/// A time, if it is given and not null.
+pub(crate) fn time_of(
+    line: LogLine<'_>,
+    object: &Value<'_>,
+    name: &'static str,
+) -> Result<Option<u64>, LogFault> {
+    match object.get(name) {
+        None => Ok(None),
+        Some(value) => match time_in(value) {
+            Some(time) => Ok(time),
+            None => Err(line.wants(Spot::Field(name), Wanted::Time)),
+        },
+    }
+}
+
+/// A number, or nothing for null.
+fn time_in(value: &Value<'_>) -> Option<Option<u64>> {
+    if value.is_null() {
+        return Some(None);
+    }
+    match value.as_u64() {
+        Some(time) => Some(Some(time)),
+        None => None,
+    }
+}
+
+/// When a transaction was invoked, and when it was answered.
+pub(crate) fn interval_of(
+    line: LogLine<'_>,
+    object: &Value<'_>,
+) -> Result<(Option<u64>, Option<u64>), LogFault> {
+    let Some(value) = object.get("at") else {
+        return Ok((None, None));
+    };
+    if let Value::Array(items) = value {
+        if let [invoked, answered] = items.as_slice() {
+            if let (Some(invoked), Some(answered)) = (time_in(invoked), time_in(answered)) {
+                return Ok((invoked, answered));
+            }
+        }
+    }
+    Err(line.wants(Spot::Field("at"), Wanted::Interval))
+}
+
+/// The number of buckets, if it is given.
+pub(crate) fn buckets_of(line: LogLine<'_>, object: &Value<'_>) -> Result<Option<u64>, LogFault> {
+    match object.get("buckets") {
+        None => Ok(None),
+        Some(value) => match value.as_u64() {
+            Some(0) | None => Err(line.wants(Spot::Field("buckets"), Wanted::Buckets)),
+            buckets => Ok(buckets),
+        },
+    }
+}
+
+/// The opening rows: none, if they are not given.
+pub(crate) fn rows_of(
+    alloc: Global,
+    line: LogLine<'_>,
+    object: &Value<'_>,
+    symbols: &mut Symbols,
+) -> Result<Vec<(u64, u64)>, LogFault> {
+    let Some(value) = object.get("rows") else {
+        return Ok(Vec::new(alloc));
+    };
+    let Value::Array(items) = value else {
+        return Err(line.wants(Spot::Field("rows"), Wanted::Rows));
+    };
+    let mut rows = Vec::with_capacity(alloc, items.len())?;
+    add_rows(alloc, line, items.as_slice(), symbols, &mut rows)?;
+    Ok(rows)
+}
+
+fn add_rows(
+    alloc: Global,
+    line: LogLine<'_>,
+    items: &[Value<'_>],
+    symbols: &mut Symbols,
+    rows: &mut Vec<(u64, u64)>,
+) -> Result<(), LogFault> {
+    for place in 0..items.len() {
+        match symbols.pair(alloc, &items[place], Wanted::Row) {
+            Ok(row) => rows.push(row)?,
+            Err(misfit) => return Err(line.fault(Spot::Item("rows", place), misfit)),
+        }
+    }
+    Ok(())
+}

@@ -1,0 +1,22 @@
+//! Logs of histories: JSON Lines, one transaction on each line. `read_log` reads a log as a history with its names,
+//! keys and values; `write_run` writes a run of the machine as a log.
+#![tactic(auto)]
+
+mod fault;
+mod fields;
+mod finish;
+mod log_line;
+mod logged;
+mod numbering;
+mod operations;
+mod reader;
+mod run;
+mod shown;
+mod spot;
+mod symbols;
+
+pub use fault::{LogFault, Wanted};
+pub use logged::Log;
+pub use reader::read_log;
+pub use run::write_run;
+pub use shown::Label;

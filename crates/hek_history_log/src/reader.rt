@@ -1,0 +1,222 @@
+//! Reading a log.
+use crate::fault::{LogFault, Wanted};
+use crate::fields::{buckets_of, interval_of, level_of, name_of, rows_of, status_of, time_of};
+use crate::finish::finish;
+use crate::log_line::LogLine;
+use crate::logged::{Log, Names};
+use crate::operations::{lacks_answer, read_operations};
+use crate::shown::Label;
+use crate::spot::{Spot, column_of};
+use crate::symbols::Symbols;
+use hek_history::{History, Status, Transaction};
+use indexmap::IndexSet;
+use json::{Scratch, Value};
+use std::alloc::Global;
+use std::io::{BufRead, ErrorKind};
+
+/// What was read so far: the log, whose keys and values have the numbers of `symbols` until its end. `seen` has the
+/// numbers of the names, and `lines` where each was read; `rows_line` is the number of the opening line, or 0.
+#[derive(Drop)]
+pub(crate) struct Draft {
+    pub history: History,
+    pub names: Names,
+    pub seen: IndexSet<u64>,
+    pub lines: Vec<u64>,
+    pub symbols: Symbols,
+    pub rows_line: u64,
+}
+
+impl Draft {
+    fn new(alloc: Global) -> Draft {
+        Draft {
+            history: History {
+                rows: Vec::new(alloc),
+                transactions: Vec::new(alloc),
+            },
+            names: Names::new(alloc),
+            seen: IndexSet::new(alloc),
+            lines: Vec::new(alloc),
+            symbols: Symbols::new(alloc),
+            rows_line: 0,
+        }
+    }
+
+    /// Whether nothing was read yet.
+    pub(crate) fn is_empty(&self) -> bool {
+        self.rows_line == 0 && self.history.transactions.is_empty()
+    }
+}
+
+/// Reads a log to its end, one line at a time. No line is kept.
+pub fn read_log<B: BufRead>(alloc: Global, input: &mut B) -> Result<Log, LogFault> {
+    let mut draft = Draft::new(alloc);
+    read_lines(alloc, input, &mut draft)?;
+    finish(alloc, draft)
+}
+
+fn read_lines<B: BufRead>(alloc: Global, input: &mut B, draft: &mut Draft) -> Result<(), LogFault> {
+    let mut scratch = Scratch::new(alloc);
+    let mut bytes = Vec::new(alloc);
+    for number in 1..u64::MAX {
+        read_line(input, &mut bytes)?;
+        if bytes.is_empty() {
+            break;
+        }
+        let line = LogLine::new(number, bytes.as_slice());
+        add_line(alloc, line, &mut scratch, draft)?;
+    }
+    Ok(())
+}
+
+/// Reads the next line in place of the last one; nothing at the end.
+fn read_line<B: BufRead>(input: &mut B, bytes: &mut Vec<u8>) -> Result<(), LogFault> {
+    bytes.clear();
+    match input.read_until(b'\n', bytes) {
+        Ok(_) => Ok(()),
+        Err(error) => Err(read_fault(error.kind())),
+    }
+}
+
+fn read_fault(kind: ErrorKind) -> LogFault {
+    match kind {
+        ErrorKind::OutOfMemory => LogFault::NoMemory,
+        _ => LogFault::CannotRead,
+    }
+}
+
+/// Adds what a line says; a blank line says nothing.
+fn add_line(
+    alloc: Global,
+    line: LogLine<'_>,
+    scratch: &mut Scratch,
+    draft: &mut Draft,
+) -> Result<(), LogFault> {
+    if line.bytes.iter().all(|byte| byte.is_ascii_whitespace()) {
+        return Ok(());
+    }
+    let object = object_in(alloc, line, scratch)?;
+    if draft.is_empty() && object.get("txn").is_none() {
+        return add_opening(alloc, line, &object, draft);
+    }
+    let name = name_of(line, &object)?;
+    let number = add_name(alloc, line, name, draft)?;
+    add_transaction(alloc, line, &object, number, draft)
+}
+
+/// The object that a line is.
+fn object_in<'a>(
+    alloc: Global,
+    line: LogLine<'a>,
+    scratch: &'a mut Scratch,
+) -> Result<Value<'a>, LogFault> {
+    match Value::from_slice(alloc, line.bytes, scratch) {
+        Ok(Value::Object(members)) => Ok(Value::Object(members)),
+        Ok(_) => Err(line.wants(Spot::Line, Wanted::Object)),
+        Err(json::Error::OutOfMemory) => Err(LogFault::NoMemory),
+        Err(_) => Err(broken(alloc, line)),
+    }
+}
+
+/// The fault of a line that is not JSON. Its column is where serde_json stops.
+fn broken(alloc: Global, line: LogLine<'_>) -> LogFault {
+    let column = match serde_json::Value::from_slice(alloc, line.bytes) {
+        Ok(_) => 1,
+        Err(error) => {
+            if error.is_memory() {
+                return LogFault::NoMemory;
+            }
+            error.column() as u64
+        }
+    };
+    LogFault::Json {
+        line: line.number,
+        column,
+    }
+}
+
+fn add_opening(
+    alloc: Global,
+    line: LogLine<'_>,
+    object: &Value<'_>,
+    draft: &mut Draft,
+) -> Result<(), LogFault> {
+    draft.symbols.buckets = buckets_of(line, object)?;
+    draft.history.rows = rows_of(alloc, line, object, &mut draft.symbols)?;
+    draft.rows_line = line.number;
+    Ok(())
+}
+
+/// Keeps the name of a transaction that is not in the log yet, and answers its number.
+fn add_name(
+    alloc: Global,
+    line: LogLine<'_>,
+    name: Label<'_>,
+    draft: &mut Draft,
+) -> Result<u64, LogFault> {
+    let number = draft.names.labels.number_of(alloc, name)?;
+    let (place, is_new) = draft.seen.insert_full(number)?;
+    if is_new {
+        draft.lines.push(line.number)?;
+        return Ok(number);
+    }
+    Err(LogFault::Duplicate {
+        line: line.number,
+        column: column_of(line.bytes, Spot::Field("txn")),
+        name: format!(in alloc; "{name}")?,
+        before: draft.lines.get(place).copied().unwrap_or(0),
+    })
+}
+
+/// Adds a transaction. One of unknown status whose last write has no answer becomes two, one for each answer, of which at
+/// most one takes place.
+fn add_transaction(
+    alloc: Global,
+    line: LogLine<'_>,
+    object: &Value<'_>,
+    name: u64,
+    draft: &mut Draft,
+) -> Result<(), LogFault> {
+    let status = status_of(line, object)?;
+    let is_unknown = status == Status::Unknown;
+    let lacking = if is_unknown { Some(true) } else { None };
+    add_one(alloc, line, object, lacking, name, draft)?;
+    if is_unknown && lacks_answer(object) {
+        let place = draft.history.transactions.len();
+        add_one(alloc, line, object, Some(false), name, draft)?;
+        draft.names.twins.push((place.saturating_sub(1), place))?;
+    }
+    Ok(())
+}
+
+fn add_one(
+    alloc: Global,
+    line: LogLine<'_>,
+    object: &Value<'_>,
+    lacking: Option<bool>,
+    name: u64,
+    draft: &mut Draft,
+) -> Result<(), LogFault> {
+    let transaction = transaction_in(alloc, line, object, lacking, &mut draft.symbols)?;
+    draft.history.transactions.push(transaction)?;
+    draft.names.named.push(name)?;
+    Ok(())
+}
+
+fn transaction_in(
+    alloc: Global,
+    line: LogLine<'_>,
+    object: &Value<'_>,
+    lacking: Option<bool>,
+    symbols: &mut Symbols,
+) -> Result<Transaction, LogFault> {
+    let (invoked, answered) = interval_of(line, object)?;
+    Ok(Transaction {
+        level: level_of(line, object)?,
+        status: status_of(line, object)?,
+        begin: time_of(line, object, "begin")?,
+        end: time_of(line, object, "end")?,
+        invoked,
+        answered,
+        operations: read_operations(alloc, line, object, lacking, symbols)?,
+    })
+}

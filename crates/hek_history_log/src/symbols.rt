@@ -1,0 +1,119 @@
+//! The keys and values of a log while it is read.
+use crate::fault::Wanted;
+use crate::log_line::Misfit;
+use crate::numbering::Labels;
+use crate::shown::Label;
+use hek_rules::NoMemory;
+use json::Value;
+use std::alloc::Global;
+
+/// The keys and values that were read so far, each by a number; the greatest number among the keys and the ends of
+/// ranges; the number of buckets; and the line of the first scan of a bucket.
+#[derive(Drop)]
+pub(crate) struct Symbols {
+    pub keys: Labels,
+    pub values: Labels,
+    pub highest: Option<u64>,
+    pub buckets: Option<u64>,
+    pub bucket_line: Option<u64>,
+}
+
+impl Symbols {
+    pub(crate) fn new(alloc: Global) -> Symbols {
+        Symbols {
+            keys: Labels::new(alloc),
+            values: Labels::new(alloc),
+            highest: None,
+            buckets: None,
+            bucket_line: None,
+        }
+    }
+
+    /// The number of a key.
+    pub(crate) fn key(
+        &mut self,
+        alloc: Global,
+        value: &Value<'_>,
+        wanted: Wanted,
+    ) -> Result<u64, Misfit> {
+        let label = label_of(value).ok_or(wanted)?;
+        if let Label::Number(number) = label {
+            self.highest = self.highest.max(Some(number));
+        }
+        Ok(self.keys.number_of(alloc, label)?)
+    }
+
+    /// The number of a value.
+    pub(crate) fn value(
+        &mut self,
+        alloc: Global,
+        value: &Value<'_>,
+        wanted: Wanted,
+    ) -> Result<u64, Misfit> {
+        let label = label_of(value).ok_or(wanted)?;
+        Ok(self.values.number_of(alloc, label)?)
+    }
+
+    /// The number of a value, or `None` for null: the key is absent.
+    pub(crate) fn found(
+        &mut self,
+        alloc: Global,
+        value: &Value<'_>,
+        wanted: Wanted,
+    ) -> Result<Option<u64>, Misfit> {
+        if value.is_null() {
+            return Ok(None);
+        }
+        Ok(Some(self.value(alloc, value, wanted)?))
+    }
+
+    /// The numbers of pairs of keys and values.
+    pub(crate) fn pairs(
+        &mut self,
+        alloc: Global,
+        value: &Value<'_>,
+        wanted: Wanted,
+    ) -> Result<Vec<(u64, u64)>, Misfit> {
+        let items = items_of(value).ok_or(wanted)?;
+        let mut pairs = Vec::with_capacity(alloc, items.len())?;
+        for item in items {
+            pairs.push(self.pair(alloc, item, wanted)?)?;
+        }
+        Ok(pairs)
+    }
+
+    /// The numbers of a key and a value.
+    pub(crate) fn pair(
+        &mut self,
+        alloc: Global,
+        value: &Value<'_>,
+        wanted: Wanted,
+    ) -> Result<(u64, u64), Misfit> {
+        let Some([key, value]) = items_of(value) else {
+            return Err(Misfit::Wanted(wanted));
+        };
+        Ok((
+            self.key(alloc, key, wanted)?,
+            self.value(alloc, value, wanted)?,
+        ))
+    }
+}
+
+/// A text, or a number below 2^64.
+pub(crate) fn label_of<'a>(value: &Value<'a>) -> Option<Label<'a>> {
+    match value.as_str() {
+        Some(text) => Some(Label::Text(text)),
+        None => match value.as_u64() {
+            Some(number) => Some(Label::Number(number)),
+            None => None,
+        },
+    }
+}
+
+/// The items of an array.
+pub(crate) fn items_of<'v, 'a>(value: &'v Value<'a>) -> Option<&'v [Value<'a>]> {
+    match value {
+        Value::Array(items) => Some(items.as_slice()),
+        _ => None,
+    }
+}
