@@ -1,0 +1,154 @@
+//! Whether a history has an explanation: what the search found is judged, and only then is it the verdict.
+ghost use Rattle.std.specs.Prelude.{IfOk};
+ghost use Rattle.hek_history_search.specs.Verdicts.{IsVerdict};
+
+use crate::anomalies::{Cause, cause_of};
+use crate::hints::points_by_hints;
+use crate::reduce::reduced;
+use crate::seek::{Outcome, prepared, seek};
+use crate::steps::steps_of;
+use hek_history::{History, Order, Point, Step, is_explanation, refutes};
+use hek_rules::NoMemory;
+use std::alloc::Global;
+
+/// How far a search came that found nothing.
+#[derive(Clone, Copy, Debug, PartialEq, Eq)]
+pub struct Progress {
+    /// How many conflicts it met.
+    pub conflicts: usize,
+    /// How many moments fail in the last order, as far as they are known.
+    pub violations: usize,
+}
+
+/// What a search found.
+#[derive(Drop)]
+pub enum Found {
+    /// Points that are meant as an explanation.
+    Points(Vec<Point>),
+    /// Steps that are meant as a certificate that there is none, with what they show.
+    Steps(Vec<Step>, Cause),
+    Unknown(Progress),
+}
+
+/// Whether a history has an explanation.
+#[derive(Drop)]
+pub enum Verdict {
+    /// It has this one.
+    Serial(Vec<Point>),
+    /// It has none, as the steps show.
+    NotSerial(Vec<Step>, Cause),
+    Unknown(Progress),
+}
+
+/// Nothing was found, and nothing is known of how far it is.
+const NOWHERE: Progress = Progress {
+    conflicts: 0,
+    violations: 0,
+};
+
+/// Searches by facts and decisions, with so much effort.
+fn search_further(
+    alloc: Global,
+    history: &History,
+    order: Order,
+    effort: usize,
+) -> Result<Found, NoMemory> {
+    let problem = reduced(alloc, history, order)?;
+    let (mut known, lost) = prepared(alloc, &problem)?;
+    match seek(&mut known, lost, effort)? {
+        Outcome::Points(points) => Ok(Found::Points(points)),
+        Outcome::Refuted(conflict) => {
+            let cause = cause_of(&known, &conflict)?;
+            Ok(Found::Steps(steps_of(&known, &conflict)?, cause))
+        }
+        Outcome::Unknown {
+            conflicts,
+            violations,
+        } => Ok(Found::Unknown(Progress {
+            conflicts,
+            violations,
+        })),
+    }
+}
+
+/// Searches for an explanation of this order, or for a certificate that there is none. First it tries the points by the times
+/// of the log, and then makes up to `effort` repairs of an order, one for which many nodes are looked at counting as several.
+pub fn search(
+    alloc: Global,
+    history: &History,
+    order: Order,
+    effort: usize,
+) -> Result<Found, NoMemory> {
+    let points = points_by_hints(alloc, history)?;
+    if is_explanation(alloc, history, order, points.as_slice())? {
+        return Ok(Found::Points(points));
+    }
+    search_further(alloc, history, order, effort)
+}
+
+/// Points as a verdict, if they are an explanation.
+fn judge_points(
+    alloc: Global,
+    history: &History,
+    order: Order,
+    found: Vec<Point>,
+) -> Result<Verdict, NoMemory>
+    ensures { IfOk result (λ verdict. IsVerdict history.now order verdict) }
+{
+    if is_explanation(alloc, history, order, found.as_slice())? {
+        Ok(Verdict::Serial(found))
+    } else {
+        Ok(Verdict::Unknown(NOWHERE))
+    }
+}
+
+/// Steps as a verdict, if they show that there is no explanation.
+fn judge_steps(
+    alloc: Global,
+    history: &History,
+    order: Order,
+    steps: Vec<Step>,
+    cause: Cause,
+) -> Result<Verdict, NoMemory>
+    ensures { IfOk result (λ verdict. IsVerdict history.now order verdict) }
+{
+    if refutes(alloc, history, order, steps.as_slice())? {
+        Ok(Verdict::NotSerial(steps, cause))
+    } else {
+        Ok(Verdict::Unknown(NOWHERE))
+    }
+}
+
+/// What a search found as a verdict, if it is one.
+fn judge_found(
+    alloc: Global,
+    history: &History,
+    order: Order,
+    found: Found,
+) -> Result<Verdict, NoMemory>
+    ensures { IfOk result (λ verdict. IsVerdict history.now order verdict) }
+{
+    match found {
+        Found::Points(points) => judge_points(alloc, history, order, points),
+        Found::Steps(steps, cause) => judge_steps(alloc, history, order, steps, cause),
+        Found::Unknown(progress) => Ok(Verdict::Unknown(progress)),
+    }
+}
+
+/// Judges whether a history has an explanation of this order: first by the points by the times of the log, and then with up
+/// to `effort` repairs of an order.
+pub fn judge(
+    alloc: Global,
+    history: &History,
+    order: Order,
+    effort: usize,
+) -> Result<Verdict, NoMemory>
+    ensures { IfOk result (λ verdict. IsVerdict history.now order verdict) }
+{
+    let points = points_by_hints(alloc, history)?;
+    if is_explanation(alloc, history, order, points.as_slice())? {
+        return Ok(Verdict::Serial(points));
+    }
+    let found = search_further(alloc, history, order, effort)?;
+    judge_found(alloc, history, order, found)
+}
