@@ -2,10 +2,11 @@
 ghost use Rattle.std.specs.Prelude.{IfOk};
 ghost use Rattle.hek_history_search.specs.Verdicts.{IsVerdict};
 
-use crate::anomalies::{Cause, cause_of};
+use crate::anomalies::Cause;
 use crate::hints::points_by_hints;
 use crate::reduce::reduced;
-use crate::seek::{Outcome, prepared, seek};
+use crate::seek::Outcome;
+use crate::start::prepared;
 use crate::steps::steps_of;
 use hek_history::{History, Order, Point, Step, is_explanation, refutes};
 use hek_rules::NoMemory;
@@ -54,18 +55,15 @@ fn search_further(
     effort: usize,
 ) -> Result<Found, NoMemory> {
     let problem = reduced(alloc, history, order)?;
-    let (mut known, lost) = prepared(alloc, &problem)?;
-    match seek(&mut known, lost, effort)? {
+    let mut known = prepared(alloc, &problem)?;
+    match known.seek(effort)? {
         Outcome::Points(points) => Ok(Found::Points(points)),
         Outcome::Refuted(conflict) => {
-            let cause = cause_of(&known, &conflict)?;
-            Ok(Found::Steps(steps_of(&known, &conflict)?, cause))
+            let cause = known.cause_of(conflict)?;
+            Ok(Found::Steps(steps_of(&known, conflict)?, cause))
         }
-        Outcome::Unknown {
-            conflicts,
-            violations,
-        } => Ok(Found::Unknown(Progress {
-            conflicts,
+        Outcome::Unknown(violations) => Ok(Found::Unknown(Progress {
+            conflicts: known.conflicts,
             violations,
         })),
     }
