@@ -3,7 +3,7 @@ use crate::problem::OwnFault;
 use hek_history::{Need, Writer};
 
 /// What keeps a history from having an explanation.
-#[derive(Clone, Copy, Debug, PartialEq, Eq)]
+#[derive(Clone, Copy)]
 pub enum Anomaly {
     /// G0: two transactions wrote over each other.
     DirtyWrite,
@@ -42,7 +42,7 @@ pub enum Anomaly {
 }
 
 /// Why one transaction is before another.
-#[derive(Clone, Copy, Debug, PartialEq, Eq)]
+#[derive(Clone, Copy)]
 pub enum EdgeKind {
     /// The second read what the first wrote.
     Read,

@@ -28,13 +28,15 @@ fn is_same(first: Writer, second: Writer) -> bool {
 
 /// Whether an operation writes the value of a need at a key.
 fn writes_value(operation: &Operation, key: u64, need: Need) -> bool {
-    match (operation, need) {
-        (
-            Operation::Put(name, value)
-            | Operation::Insert(name, value, true)
-            | Operation::Update(name, value, true),
-            Need::Value(wanted),
-        ) => *name == key && *value == wanted,
+    let (name, value, done) = match operation {
+        Operation::Put(name, value) => (*name, *value, true),
+        Operation::Insert(name, value, done) | Operation::Update(name, value, done) => {
+            (*name, *value, *done)
+        }
+        _ => return false,
+    };
+    match need {
+        Need::Value(wanted) => done && name == key && value == wanted,
         _ => false,
     }
 }
@@ -155,6 +157,16 @@ impl Known<'_> {
         Some(self.key_edge(EdgeKind::Version, writer, self.writer_at(second), key))
     }
 
+    /// Whether a conflict rests on a fact that excludes a source.
+    fn is_excluded_from(&self, conflict: usize) -> bool {
+        for premise in self.facts.premises(conflict) {
+            if let Says::Not { .. } = self.facts.get(*premise).says {
+                return true;
+            }
+        }
+        false
+    }
+
     /// A reading without a source: the reading first, and then the candidates that another wrote over before it.
     fn cause_of_reading(&self, conflict: usize, place: usize) -> Result<Cause, NoMemory> {
         let reading = self.problem.reading(place);
@@ -162,13 +174,9 @@ impl Known<'_> {
         let mut edge = self.plain_edge(EdgeKind::Read, Writer::Opening, Writer::Transaction(reading.reader));
         edge.key = Some(self.problem.keys.name(reading.key));
         edge.read = Some(reading.need);
-        let mut anomaly = Anomaly::UnwrittenRead;
-        for premise in self.facts.premises(conflict) {
-            if let Says::Not { .. } = self.facts.get(*premise).says {
-                anomaly = Anomaly::NoSource;
-            }
-        }
-        if anomaly == Anomaly::UnwrittenRead {
+        let mut anomaly = Anomaly::NoSource;
+        if !self.is_excluded_from(conflict) {
+            anomaly = Anomaly::UnwrittenRead;
             if let Some((t, name)) = self.hidden_writer(reading) {
                 anomaly = name;
                 edge.first = Writer::Transaction(t);

@@ -26,23 +26,32 @@ struct Timed {
     node: usize,
 }
 
-/// Adds a point with its tick, if it has a time.
-fn add_timed(
-    list: &mut Vec<Timed>,
-    lane: usize,
-    given: Option<u64>,
-    node: usize,
-) -> Result<(), NoMemory> {
-    if let Some(time) = given {
-        list.push(Timed {
-            tick: (lane, time),
-            node,
-        })?;
+/// The times of a transaction's points, with their nodes: of those that others are before, or of those that are before others.
+fn times_of(problem: &Problem, nodes: &Nodes, t: usize, enters: bool) -> [(Option<u64>, usize); 2] {
+    let outline = problem.outline(t);
+    let begin = nodes.begin(t);
+    let commit = nodes.commit(t);
+    match problem.order {
+        Order::Any => [(None, begin), (None, commit)],
+        Order::Versions => [(None, begin), (outline.end, commit)],
+        Order::Times => {
+            if begin == commit {
+                [(None, begin), (outline.end, commit)]
+            } else {
+                [(outline.begin, begin), (outline.end, commit)]
+            }
+        }
+        Order::Real => {
+            if enters {
+                [(None, begin), (outline.answered, commit)]
+            } else {
+                [(outline.invoked, begin), (None, commit)]
+            }
+        }
     }
-    Ok(())
 }
 
-/// The points of a transaction that go by times: those before which others are, or those that are before others.
+/// The points of a transaction that go by times: those that others are before, or those that are before others.
 fn timed_of(
     alloc: Global,
     problem: &Problem,
@@ -51,28 +60,22 @@ fn timed_of(
     enters: bool,
 ) -> Result<Vec<Timed>, NoMemory> {
     let mut list = Vec::new(alloc);
-    let outline = problem.outline(t);
-    let begin = nodes.begin(t);
-    let commit = nodes.commit(t);
-    match problem.order {
-        Order::Any => {}
-        Order::Versions => {
-            for left in problem.left_by(t) {
-                add_timed(&mut list, left.key, outline.end, commit)?;
-            }
+    for (given, node) in times_of(problem, nodes, t, enters) {
+        let Some(time) = given else {
+            continue;
+        };
+        if problem.order != Order::Versions {
+            list.push(Timed {
+                tick: (0, time),
+                node,
+            })?;
+            continue;
         }
-        Order::Times => {
-            add_timed(&mut list, 0, outline.end, commit)?;
-            if begin != commit {
-                add_timed(&mut list, 0, outline.begin, begin)?;
-            }
-        }
-        Order::Real => {
-            if enters {
-                add_timed(&mut list, 0, outline.answered, commit)?;
-            } else {
-                add_timed(&mut list, 0, outline.invoked, begin)?;
-            }
+        for left in problem.left_by(t) {
+            list.push(Timed {
+                tick: (left.key, time),
+                node,
+            })?;
         }
     }
     Ok(list)
@@ -159,9 +162,8 @@ impl Known<'_> {
         for timed in &timed_of(self.alloc, self.problem, &self.nodes, t, true)? {
             let place = self.clock.place_of(timed.tick);
             let node = self.clock.node(place);
-            let taken = self.taken_by(t);
-            if taken.is_some() {
-                self.facts.cite_option(taken)?;
+            if self.taken_by(t).is_some() {
+                self.cite_taken(t)?;
                 let _fact = self.force(timed.node, node, Rule::Enter, 0)?;
             } else {
                 let _fact = self.begin_with(timed.node, node, Rule::Enter)?;

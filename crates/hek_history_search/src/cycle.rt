@@ -139,7 +139,8 @@ impl Shortest<'_> {
             }
             if at(self.is_out.as_slice(), node, false) {
                 if self.best.is_empty() {
-                    self.look_for(self.on_a_cycle(node))?;
+                    let start = self.on_a_cycle(node);
+                    self.look_for(start)?;
                 }
                 self.look_for(node)?;
             }
@@ -149,10 +150,10 @@ impl Shortest<'_> {
 }
 
 /// A shortest cycle among the nodes that an order left out, as far as it is looked for.
-pub(crate) fn shortest_cycle(
+pub(crate) fn shortest_cycle<'a>(
     alloc: Global,
-    graph: &Graph,
-    facts: &Facts,
+    graph: &'a Graph,
+    facts: &'a Facts,
     order: &[usize],
 ) -> Result<Vec<usize>, NoMemory> {
     let mut shortest = Shortest {

@@ -6,7 +6,7 @@ use hek_rules::NoMemory;
 use std::alloc::{AllocError, AllocFailed, Global};
 
 /// What a fact says.
-#[derive(Clone, Copy, Debug)]
+#[derive(Clone, Copy)]
 pub(crate) enum Says {
     /// The moment of a node is before that of another.
     Before { first: usize, second: usize },
@@ -22,7 +22,7 @@ pub(crate) enum Says {
 
 /// By which rule a fact follows from those on which it rests. Where a transaction isn't known to have committed, the fact that
 /// it takes place is one of them.
-#[derive(Clone, Copy, Debug)]
+#[derive(Clone, Copy)]
 pub(crate) enum Rule {
     /// The opening is before all else.
     First,
@@ -70,7 +70,7 @@ pub(crate) enum Rule {
 }
 
 /// What is known, since when, and why.
-#[derive(Clone, Copy, Debug)]
+#[derive(Clone, Copy)]
 pub(crate) struct Fact {
     pub says: Says,
     pub rule: Rule,
@@ -228,7 +228,7 @@ impl Facts {
 }
 
 /// A step of the search goes no further: facts contradict each other, as this one says, or the memory is full.
-#[derive(Clone, Copy, Debug)]
+#[derive(Clone, Copy)]
 pub(crate) enum Stop {
     Conflict(usize),
     NoMemory,

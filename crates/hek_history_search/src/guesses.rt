@@ -35,7 +35,7 @@ fn earlier_of(best: Hinted, hint: u64, source: Source) -> Hinted {
 impl Known<'_> {
     /// The key, the hint and the writer of a row.
     fn rank_of(&self, row: usize) -> (usize, u64, usize, usize) {
-        match self.problem.table.get(row) {
+        match self.problem.row(row) {
             Some(left) => (left.key, self.hint(left.writer).commit, left.writer, row),
             None => (usize::MAX, 0, 0, row),
         }
@@ -77,7 +77,7 @@ impl Known<'_> {
     /// The writer of the version at a place, if it is of the key.
     fn version_at(&self, versions: &Versions, key: usize, place: usize) -> Option<usize> {
         let row = versions.rows.get(place)?;
-        let left = self.problem.table.get(*row)?;
+        let left = self.problem.row(*row)?;
         if left.key == key {
             Some(left.writer)
         } else {
@@ -97,7 +97,7 @@ impl Known<'_> {
     /// The version at a place before the next of its key.
     fn guess_version(&mut self, versions: &Versions, place: usize) -> Result<(), NoMemory> {
         let row = at(versions.rows.as_slice(), place, usize::MAX);
-        let Some(left) = self.problem.table.get(row) else {
+        let Some(left) = self.problem.row(row) else {
             return Ok(());
         };
         let next = place.saturating_add(1);
@@ -105,9 +105,11 @@ impl Known<'_> {
             return Ok(());
         };
         let commit = self.nodes.commit(left.writer);
-        self.guess(commit, self.nodes.commit(later))?;
+        let its = self.nodes.commit(later);
+        self.guess(commit, its)?;
         if self.problem.is_snapshot(left.writer) || self.problem.is_snapshot(later) {
-            self.guess(commit, self.nodes.begin(later))?;
+            let begin = self.nodes.begin(later);
+            self.guess(commit, begin)?;
         }
         Ok(())
     }
@@ -154,7 +156,8 @@ impl Known<'_> {
             return Ok(());
         };
         let begin = self.nodes.begin(reading.reader);
-        self.guess(self.nodes.of_source(self.problem, source), begin)?;
+        let commit = self.nodes.of_source(self.problem, source);
+        self.guess(commit, begin)?;
         let next = match source {
             Source::Opening => self.first_version(versions, reading.key),
             Source::Row(row) => at(versions.places.as_slice(), row, 0).saturating_add(1),
@@ -163,10 +166,11 @@ impl Known<'_> {
         if writer == Some(reading.reader) {
             writer = self.version_at(versions, reading.key, next.saturating_add(1));
         }
-        match writer {
-            Some(t) => self.guess(begin, self.nodes.commit(t)),
-            None => Ok(()),
-        }
+        let Some(t) = writer else {
+            return Ok(());
+        };
+        let later = self.nodes.commit(t);
+        self.guess(begin, later)
     }
 
     /// Makes the guesses.

@@ -13,7 +13,7 @@ use hek_rules::NoMemory;
 use std::alloc::Global;
 
 /// How far a search came that found nothing.
-#[derive(Clone, Copy, Debug, PartialEq, Eq)]
+#[derive(Clone, Copy)]
 pub struct Progress {
     /// How many conflicts it met.
     pub conflicts: usize,

@@ -172,6 +172,12 @@ impl Known<'_> {
         self.facts.cite_all(self.graph.path.as_slice())
     }
 
+    /// Cites the fact by which a transaction takes place, if it isn't known to have committed.
+    pub(crate) fn cite_taken(&mut self, t: usize) -> Result<(), NoMemory> {
+        let taken = self.taken_by(t);
+        self.facts.cite_option(taken)
+    }
+
     /// Makes room for an edge. Answers whether a path from the second to the first forbids it.
     pub(crate) fn is_forbidden(&mut self, first: usize, second: usize) -> Result<bool, NoMemory> {
         if first == second {
@@ -254,7 +260,7 @@ impl Known<'_> {
         least: usize,
     ) -> Result<(), Stop> {
         let reader = self.problem.reading(reading).reader;
-        self.facts.cite_option(self.taken_by(reader))?;
+        self.cite_taken(reader)?;
         let fact = self.facts.add(Says::Source { reading, source }, rule, least)?;
         self.note(fact)?;
         put(&mut self.sources, reading, Some(fact));
@@ -274,7 +280,7 @@ impl Known<'_> {
             return Ok(());
         }
         self.facts.cite(read)?;
-        self.facts.cite_option(self.taken_by(reader))?;
+        self.cite_taken(reader)?;
         let fact = self.facts.add(Says::Taken(t), Rule::Inside, 0)?;
         self.note(fact)?;
         put(&mut self.taken, t, Some(fact));

@@ -31,7 +31,7 @@ pub(crate) struct Left {
 }
 
 /// Where the value that a reading tells of comes from: the opening, or the transaction of a row of the table.
-#[derive(Clone, Copy, Debug, PartialEq, Eq)]
+#[derive(Clone, Copy, PartialEq, Eq)]
 pub(crate) enum Source {
     Opening,
     Row(usize),
@@ -67,7 +67,7 @@ const NO_TRANSACTION: Outline = Outline {
 };
 
 /// How a transaction's answers contradict each other, whatever the others did.
-#[derive(Clone, Copy, Debug, PartialEq, Eq)]
+#[derive(Clone, Copy)]
 pub enum OwnFault {
     /// The operation contradicts what the transaction itself did to the key before.
     Contradicted {
@@ -184,9 +184,17 @@ impl Problem<'_> {
         at(self.row_from.as_slice(), key, 0)
     }
 
+    /// A row of the table.
+    pub(crate) fn row(&self, row: usize) -> Option<Left> {
+        match self.table.get(row) {
+            Some(left) => Some(*left),
+            None => None,
+        }
+    }
+
     /// The transaction of a row.
     pub(crate) fn writer_of(&self, row: usize) -> Option<usize> {
-        match self.table.get(row) {
+        match self.row(row) {
             Some(left) => Some(left.writer),
             None => None,
         }

@@ -46,11 +46,16 @@ fn need_of(operation: &Operation) -> Need {
 /// What an operation does to its key.
 fn change_of(operation: &Operation) -> Change {
     match operation {
-        Operation::Put(_, value)
-        | Operation::Insert(_, value, true)
-        | Operation::Update(_, value, true) => Change::Set(*value),
-        Operation::Delete(_, true) => Change::Remove,
-        _ => Change::Keep,
+        Operation::Read(_, _) | Operation::Scan(_, _) => Change::Keep,
+        Operation::Put(_, value) => Change::Set(*value),
+        Operation::Insert(_, value, done) | Operation::Update(_, value, done) => {
+            if *done {
+                Change::Set(*value)
+            } else {
+                Change::Keep
+            }
+        }
+        Operation::Delete(_, done) => { if *done { Change::Remove } else { Change::Keep } }
     }
 }
 
@@ -242,8 +247,9 @@ impl Gathering<'_> {
             put(&mut self.problem.left, place, left);
             return Ok(());
         }
+        let place = self.problem.left.len();
         let found = AtKey {
-            left: Some(self.problem.left.len()),
+            left: Some(place),
             ..so_far
         };
         put(&mut self.at_keys, key, found);
@@ -253,8 +259,10 @@ impl Gathering<'_> {
 
     /// Takes the operations of a transaction, if it may have committed.
     fn take_all(&mut self, alloc: Global, t: usize) -> Result<(), NoMemory> {
-        self.problem.reading_from.push(self.problem.readings.len())?;
-        self.problem.left_from.push(self.problem.left.len())?;
+        let first_reading = self.problem.readings.len();
+        let first_left = self.problem.left.len();
+        self.problem.reading_from.push(first_reading)?;
+        self.problem.left_from.push(first_left)?;
         let history = self.problem.history;
         let Some(transaction) = history.transactions.get(t) else {
             return Ok(());
@@ -344,8 +352,9 @@ pub(crate) fn reduced(
         problem: mut found,
         at_keys: _,
     } = gathering;
-    found.table.extend_from_slice(found.left.as_slice())?;
-    found.table.sort_unstable_by_key(|row| (row.key, row.value, row.writer));
-    found.row_from = row_places(alloc, found.table.as_slice(), found.keys.len())?;
+    let mut table = Vec::from_slice(alloc, found.left.as_slice())?;
+    table.sort_unstable_by_key(|row| (row.key, row.value, row.writer));
+    found.row_from = row_places(alloc, table.as_slice(), found.keys.len())?;
+    found.table = table;
     Ok(found)
 }

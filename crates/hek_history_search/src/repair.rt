@@ -248,7 +248,7 @@ impl Known<'_> {
             }
         }
         self.cite_exclusions(place)?;
-        self.facts.cite_option(self.taken_by(reading.reader))?;
+        self.cite_taken(reading.reader)?;
         self.contradict(Rule::NoSource(place))
     }
 

@@ -6,7 +6,7 @@ use hek_history::Point;
 use hek_rules::NoMemory;
 
 /// Where a replay of the order fails.
-#[derive(Clone, Copy, Debug, PartialEq, Eq)]
+#[derive(Clone, Copy)]
 pub(crate) enum Violation {
     /// What the reader finds isn't what the reading tells of: the last writer of the key, `None` for the opening, left it.
     Found {

@@ -288,7 +288,7 @@ impl Known<'_> {
     /// What follows where a transaction takes place by a fact.
     fn activate(&mut self, t: usize) -> Result<(), Stop> {
         if self.problem.fault_of(t).is_some() {
-            self.facts.cite_option(self.taken_by(t))?;
+            self.cite_taken(t)?;
             self.contradict(Rule::OwnAnswers(t))?;
         }
         self.enter(t)?;
@@ -298,7 +298,7 @@ impl Known<'_> {
                     Choice::One(source) => self.settle(place, source, Rule::LastSource, 0)?,
                     Choice::Several => {}
                     Choice::None => {
-                        self.facts.cite_option(self.taken_by(t))?;
+                        self.cite_taken(t)?;
                         self.contradict(Rule::NoSource(place))?;
                     }
                 }
