@@ -171,7 +171,11 @@ impl Known<'_> {
     fn cause_of_reading(&self, conflict: usize, place: usize) -> Result<Cause, NoMemory> {
         let reading = self.problem.reading(place);
         let mut cycle = Vec::new(self.alloc);
-        let mut edge = self.plain_edge(EdgeKind::Read, Writer::Opening, Writer::Transaction(reading.reader));
+        let mut edge = self.plain_edge(
+            EdgeKind::Read,
+            Writer::Opening,
+            Writer::Transaction(reading.reader),
+        );
         edge.key = Some(self.problem.keys.name(reading.key));
         edge.read = Some(reading.need);
         let mut anomaly = Anomaly::NoSource;

@@ -277,9 +277,10 @@ impl Writing<'_, '_> {
     /// Adds the step from a point to another along the clock.
     fn by_clock(&mut self, entered: usize, left: usize, key: usize) -> Result<usize, NoMemory> {
         let facts = &self.known.facts;
-        let (Says::Before { first, .. }, Says::Before { second, .. }) =
-            (facts.get(entered).says, facts.get(left).says)
-        else {
+        let (Says::Before { first, .. }, Says::Before { second, .. }) = (
+            facts.get(entered).says,
+            facts.get(left).says,
+        ) else {
             return Ok(NOWHERE);
         };
         let taken = self.taken(entered);

@@ -83,7 +83,11 @@ fn timed_of(
 
 impl Clock {
     /// The clock of a problem, with its nodes.
-    pub(crate) fn of(alloc: Global, problem: &Problem, nodes: &mut Nodes) -> Result<Clock, NoMemory> {
+    pub(crate) fn of(
+        alloc: Global,
+        problem: &Problem,
+        nodes: &mut Nodes,
+    ) -> Result<Clock, NoMemory> {
         let mut ticks = Vec::new(alloc);
         for t in 0..problem.transactions() {
             if problem.is_possible(t) {
@@ -127,7 +131,12 @@ impl Clock {
 
     /// The time of a node of the clock.
     pub(crate) fn time_of(&self, node: usize) -> u64 {
-        at(self.ticks.as_slice(), node.saturating_sub(self.first), (0, 0)).1
+        at(
+            self.ticks.as_slice(),
+            node.saturating_sub(self.first),
+            (0, 0),
+        )
+        .1
     }
 }
 

@@ -93,7 +93,12 @@ impl Graph {
     }
 
     /// Adds an edge, whether or not the order agrees with it.
-    pub(crate) fn link(&mut self, first: usize, second: usize, fact: usize) -> Result<(), NoMemory> {
+    pub(crate) fn link(
+        &mut self,
+        first: usize,
+        second: usize,
+        fact: usize,
+    ) -> Result<(), NoMemory> {
         if let Some(list) = self.out.get_mut(first) {
             list.push(Edge { fact, node: second })?;
         }

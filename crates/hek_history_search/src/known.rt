@@ -96,7 +96,9 @@ impl Known<'_> {
     }
 
     pub(crate) fn is_excluded(&self, reading: usize, source: Source) -> bool {
-        self.excluded(reading).iter().any(|one| one.source == source)
+        self.excluded(reading)
+            .iter()
+            .any(|one| one.source == source)
     }
 
     /// The source of a reading, if it is settled.
@@ -110,7 +112,10 @@ impl Known<'_> {
             }
         }
         let source = at(self.only.as_slice(), reading, None)?;
-        if self.problem.is_committed(self.problem.reading(reading).reader) {
+        if self
+            .problem
+            .is_committed(self.problem.reading(reading).reader)
+        {
             Some(Settled { source, fact: None })
         } else {
             None
@@ -118,7 +123,12 @@ impl Known<'_> {
     }
 
     /// Adds a fact of the start, with its edge.
-    pub(crate) fn begin_with(&mut self, first: usize, second: usize, rule: Rule) -> Result<usize, NoMemory> {
+    pub(crate) fn begin_with(
+        &mut self,
+        first: usize,
+        second: usize,
+        rule: Rule,
+    ) -> Result<usize, NoMemory> {
         let fact = self.facts.add(Says::Before { first, second }, rule, 0)?;
         if first != OPENING {
             self.graph.link(first, second, fact)?;
@@ -261,7 +271,9 @@ impl Known<'_> {
     ) -> Result<(), Stop> {
         let reader = self.problem.reading(reading).reader;
         self.cite_taken(reader)?;
-        let fact = self.facts.add(Says::Source { reading, source }, rule, least)?;
+        let fact = self
+            .facts
+            .add(Says::Source { reading, source }, rule, least)?;
         self.note(fact)?;
         put(&mut self.sources, reading, Some(fact));
         let commit = self.nodes.of_source(self.problem, source);
@@ -272,7 +284,12 @@ impl Known<'_> {
     }
 
     /// Adds that the transaction of a source takes place, since it is before a reader that does.
-    pub(crate) fn take(&mut self, source: Source, read: usize, reader: usize) -> Result<(), NoMemory> {
+    pub(crate) fn take(
+        &mut self,
+        source: Source,
+        read: usize,
+        reader: usize,
+    ) -> Result<(), NoMemory> {
         let Some(t) = self.problem.transaction_of(source) else {
             return Ok(());
         };

@@ -63,7 +63,13 @@ fn change_of(operation: &Operation) -> Change {
 fn need_by_scan(pairs: &[(u64, u64)], key: u64) -> Need {
     let place = pairs.partition_point(|pair| pair.0 < key);
     match pairs.get(place) {
-        Some(pair) => { if pair.0 == key { Need::Value(pair.1) } else { Need::Absent } }
+        Some(pair) => {
+            if pair.0 == key {
+                Need::Value(pair.1)
+            } else {
+                Need::Absent
+            }
+        }
         None => Need::Absent,
     }
 }
