@@ -1,5 +1,5 @@
 //! A graph whose nodes are kept in an order that agrees with its edges.
-use crate::lists::{at, empty_lists, list_at, put};
+use crate::lists::{at, list_at, put};
 use hek_rules::NoMemory;
 use std::alloc::Global;
 
@@ -44,24 +44,32 @@ pub(crate) struct Graph {
 }
 
 impl Graph {
-    /// So many nodes in the order of their numbers, without an edge.
-    pub(crate) fn new(alloc: Global, nodes: usize) -> Result<Graph, NoMemory> {
-        let mut order = Vec::new(alloc);
-        for node in 0..nodes {
-            order.push(node)?;
-        }
-        Ok(Graph {
-            out: empty_lists(alloc, nodes)?,
-            into: empty_lists(alloc, nodes)?,
-            place: Vec::from_slice(alloc, order.as_slice())?,
-            order,
-            seen: Vec::from_elem(alloc, 0, nodes)?,
-            reached_by: Vec::from_elem(alloc, NO_EDGE, nodes)?,
+    /// A graph without a node.
+    pub(crate) fn new(alloc: Global) -> Graph {
+        Graph {
+            out: Vec::new(alloc),
+            into: Vec::new(alloc),
+            place: Vec::new(alloc),
+            order: Vec::new(alloc),
+            seen: Vec::new(alloc),
+            reached_by: Vec::new(alloc),
             turn: 0,
             queue: Vec::new(alloc),
             path: Vec::new(alloc),
             looked_at: 0,
-        })
+        }
+    }
+
+    /// Adds a node without an edge, after all others.
+    pub(crate) fn add_node(&mut self, alloc: Global) -> Result<(), NoMemory> {
+        let node = self.out.len();
+        self.out.push(Vec::new(alloc))?;
+        self.into.push(Vec::new(alloc))?;
+        self.place.push(node)?;
+        self.order.push(node)?;
+        self.seen.push(0)?;
+        self.reached_by.push(NO_EDGE)?;
+        Ok(())
     }
 
     pub(crate) fn len(&self) -> usize {

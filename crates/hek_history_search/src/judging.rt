@@ -4,6 +4,8 @@ ghost use Rattle.hek_history_search.specs.Verdicts.{IsVerdict};
 
 use crate::anomalies::Cause;
 use crate::hints::points_by_hints;
+use crate::known::Known;
+use crate::problem::Problem;
 use crate::reduce::reduced;
 use crate::seek::Outcome;
 use crate::start::prepared;
@@ -47,6 +49,27 @@ const NOWHERE: Progress = Progress {
     violations: 0,
 };
 
+/// What a search comes to that is prepared.
+fn sought(known: &mut Known, effort: usize) -> Result<Found, NoMemory> {
+    match known.seek(effort)? {
+        Outcome::Points(points) => Ok(Found::Points(points)),
+        Outcome::Refuted(conflict) => {
+            let cause = known.cause_of(conflict)?;
+            Ok(Found::Steps(steps_of(known, conflict)?, cause))
+        }
+        Outcome::Unknown(violations) => Ok(Found::Unknown(Progress {
+            conflicts: known.conflicts,
+            violations,
+        })),
+    }
+}
+
+/// What a search of a problem comes to.
+fn sought_in(alloc: Global, problem: &Problem, effort: usize) -> Result<Found, NoMemory> {
+    let mut known = prepared(alloc, problem)?;
+    sought(&mut known, effort)
+}
+
 /// Searches by facts and decisions, with so much effort.
 fn search_further(
     alloc: Global,
@@ -55,18 +78,7 @@ fn search_further(
     effort: usize,
 ) -> Result<Found, NoMemory> {
     let problem = reduced(alloc, history, order)?;
-    let mut known = prepared(alloc, &problem)?;
-    match known.seek(effort)? {
-        Outcome::Points(points) => Ok(Found::Points(points)),
-        Outcome::Refuted(conflict) => {
-            let cause = known.cause_of(conflict)?;
-            Ok(Found::Steps(steps_of(&known, conflict)?, cause))
-        }
-        Outcome::Unknown(violations) => Ok(Found::Unknown(Progress {
-            conflicts: known.conflicts,
-            violations,
-        })),
-    }
+    sought_in(alloc, &problem, effort)
 }
 
 /// Searches for an explanation of this order, or for a certificate that there is none. First it tries the points by the times

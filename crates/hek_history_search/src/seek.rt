@@ -2,7 +2,6 @@
 use crate::cycle::shortest_cycle;
 use crate::facts::{Rule, Stop};
 use crate::known::Known;
-use crate::lists::empty_lists;
 use crate::order::sorted_nodes;
 use crate::replay::Violation;
 use hek_history::Point;
@@ -49,13 +48,12 @@ impl Work {
 impl Known<'_> {
     /// The facts that need no decision, and an order that agrees with them and the guesses.
     fn start(&mut self) -> Result<(), Stop> {
-        self.guesses = empty_lists(self.alloc, self.graph.len())?;
         self.begin()?;
         self.guess_all()?;
         if self.anchor()? {
             return Ok(());
         }
-        let guesses = empty_lists(self.alloc, 0)?;
+        let guesses = Vec::new(self.alloc);
         let hints = self.node_hints.as_slice();
         let order = sorted_nodes(self.alloc, &self.graph, guesses.as_slice(), hints)?;
         let cycle = shortest_cycle(self.alloc, &self.graph, &self.facts, order.as_slice())?;

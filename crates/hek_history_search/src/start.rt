@@ -2,9 +2,9 @@
 use crate::clock::Clock;
 use crate::facts::{Facts, Rule, Says, Stop};
 use crate::graph::Graph;
-use crate::hints::{Hint, all_hints};
+use crate::hints::all_hints;
 use crate::known::Known;
-use crate::lists::{at, empty_lists, part};
+use crate::lists::part;
 use crate::nodes::{Nodes, OPENING};
 use crate::problem::{Problem, Source};
 use hek_history::Moment;
@@ -39,63 +39,24 @@ fn choice_of(problem: &Problem, place: usize) -> Choice {
     found
 }
 
-/// The only candidate of each reading that has one.
-fn only_sources(alloc: Global, problem: &Problem) -> Result<Vec<Option<Source>>, NoMemory> {
-    let mut only = Vec::new(alloc);
-    for place in 0..problem.readings.len() {
-        only.push(match choice_of(problem, place) {
-            Choice::One(source) => Some(source),
-            Choice::None | Choice::Several => None,
-        })?;
-    }
-    Ok(only)
-}
-
-/// The hint of each node; of a tick its time.
-fn node_hints(
-    alloc: Global,
-    nodes: &Nodes,
-    clock: &Clock,
-    hints: &[Hint],
-) -> Result<Vec<u64>, NoMemory> {
-    let none = Hint {
-        begin: 0,
-        commit: 0,
-    };
-    let mut found = Vec::new(alloc);
-    for node in 0..nodes.len() {
-        found.push(match nodes.moment(node) {
-            Some(Moment::Opening) => 0,
-            Some(Moment::Begin(t)) => at(hints, t, none).begin,
-            Some(Moment::Commit(t)) => at(hints, t, none).commit,
-            None => clock.time_of(node),
-        })?;
-    }
-    Ok(found)
-}
-
 /// The state of a search before its first fact.
 pub(crate) fn prepared<'a>(alloc: Global, problem: &'a Problem<'a>) -> Result<Known<'a>, NoMemory> {
-    let readings = problem.readings.len();
     let mut nodes = Nodes::of(alloc, problem)?;
     let clock = Clock::of(alloc, problem, &mut nodes)?;
-    let hints = all_hints(alloc, problem.history)?;
-    let hints_of_nodes = node_hints(alloc, &nodes, &clock, hints.as_slice())?;
-    let graph = Graph::new(alloc, nodes.len())?;
     Ok(Known {
         alloc,
         problem,
-        hints,
-        node_hints: hints_of_nodes,
+        hints: Vec::new(alloc),
+        node_hints: Vec::new(alloc),
         nodes,
         clock,
-        graph,
+        graph: Graph::new(alloc),
         facts: Facts::new(alloc),
         guesses: Vec::new(alloc),
-        only: only_sources(alloc, problem)?,
-        sources: Vec::from_elem(alloc, None, readings)?,
-        nots: empty_lists(alloc, readings)?,
-        taken: Vec::from_elem(alloc, None, problem.transactions())?,
+        only: Vec::new(alloc),
+        sources: Vec::new(alloc),
+        nots: Vec::new(alloc),
+        taken: Vec::new(alloc),
         pending: Vec::new(alloc),
         decisions: Vec::new(alloc),
         trail: Vec::new(alloc),
@@ -135,6 +96,45 @@ fn is_last_of_version(all: &[OfVersion], place: usize) -> bool {
 }
 
 impl Known<'_> {
+    /// The hint of a node; of a tick its time.
+    fn node_hint(&self, node: usize) -> u64 {
+        match self.nodes.moment(node) {
+            Some(Moment::Opening) => 0,
+            Some(Moment::Begin(t)) => self.hint(t).begin,
+            Some(Moment::Commit(t)) => self.hint(t).commit,
+            None => self.clock.time_of(node),
+        }
+    }
+
+    /// The only candidate of a reading, if it has one.
+    fn only_source(&self, place: usize) -> Option<Source> {
+        match choice_of(self.problem, place) {
+            Choice::One(source) => Some(source),
+            Choice::None | Choice::Several => None,
+        }
+    }
+
+    /// Makes room for what will be known of each transaction, node and reading.
+    fn fill(&mut self) -> Result<(), NoMemory> {
+        self.hints = all_hints(self.alloc, self.problem.history)?;
+        for _ in 0..self.problem.transactions() {
+            self.taken.push(None)?;
+        }
+        for node in 0..self.nodes.len() {
+            self.graph.add_node(self.alloc)?;
+            self.guesses.push(Vec::new(self.alloc))?;
+            let hint = self.node_hint(node);
+            self.node_hints.push(hint)?;
+        }
+        for place in 0..self.problem.readings.len() {
+            let only = self.only_source(place);
+            self.only.push(only)?;
+            self.sources.push(None)?;
+            self.nots.push(Vec::new(self.alloc))?;
+        }
+        Ok(())
+    }
+
     /// Adds a contradiction that rests on what was cited.
     pub(crate) fn contradict(&mut self, rule: Rule) -> Result<(), Stop> {
         let conflict = self.facts.add(Says::Contradiction, rule, 0)?;
@@ -259,6 +259,7 @@ impl Known<'_> {
 
     /// Adds the facts that need no decision.
     pub(crate) fn begin(&mut self) -> Result<(), Stop> {
+        self.fill()?;
         for t in 0..self.problem.transactions() {
             if self.problem.is_committed(t) && self.problem.fault_of(t).is_some() {
                 self.contradict(Rule::OwnAnswers(t))?;
