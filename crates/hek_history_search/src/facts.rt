@@ -1,20 +1,12 @@
-//! What the search has found or assumed, each fact with its reason.
-use crate::lists::part;
+//! What the search has found or assumed, each fact with its rule and the facts on which it rests.
+use crate::lists::{at, part};
 use crate::nodes::OPENING;
 use crate::problem::Source;
-use crate::stop::Conflict;
 use hek_rules::NoMemory;
-use std::alloc::Global;
-
-/// Facts in a row: a part of the list of paths.
-#[derive(Clone, Copy, Debug)]
-pub(crate) struct Path {
-    from: usize,
-    to: usize,
-}
+use std::alloc::{AllocError, AllocFailed, Global};
 
 /// What a fact says.
-#[derive(Clone, Copy, Debug)]
+#[derive(Clone, Copy)]
 pub(crate) enum Says {
     /// The moment of a node is before that of another.
     Before { first: usize, second: usize },
@@ -24,62 +16,35 @@ pub(crate) enum Says {
     Not { reading: usize, source: Source },
     /// A transaction takes place.
     Taken(usize),
+    /// The facts on which it rests contradict each other.
+    Contradiction,
 }
 
-/// Why one moment is before another, where a path is.
-#[derive(Clone, Copy, Debug)]
-pub(crate) enum Ground {
-    /// The path goes from the source of a reading to another writer of its key: the reader begins before that.
-    After {
-        reading: usize,
-        source: Option<usize>,
-    },
-    /// The path goes from another writer of its key to the reader: that writer is before the source.
-    Before {
-        reading: usize,
-        source: Option<usize>,
-    },
-    /// Both write the key, and the path goes from the begin of the first to the commit of the second.
-    Winner {
-        first: usize,
-        second: usize,
-        key: usize,
-    },
-}
-
-/// Why a fact is so. A fact in it has an earlier place.
-#[derive(Clone, Copy, Debug)]
-pub(crate) enum Reason {
+/// By which rule a fact follows from those on which it rests. Where a transaction isn't known to have committed, the fact that
+/// it takes place is one of them.
+#[derive(Clone, Copy)]
+pub(crate) enum Rule {
     /// The opening is before all else.
     First,
     /// A transaction begins before it commits.
     Own,
-    /// Both write the key, and the first ends before the second.
-    Version {
-        key: usize,
-        taken: Option<usize>,
-    },
-    /// The time of the first is less.
-    Time {
-        taken: Option<usize>,
-    },
-    /// From the commit of a transaction to the time of its answer.
-    Answered {
-        taken: Option<usize>,
-    },
-    /// From a time of the clock to the next.
+    /// From a point to the tick of its time.
+    Enter,
+    /// From a tick to the next.
     Later,
-    /// From a time of the clock to the begin of a transaction that was invoked after it.
-    Invoked,
+    /// From a tick to a point after it; of this key, in the order of versions.
+    Leave(usize),
     /// The source of a reading is before the reader.
-    Read {
-        reading: usize,
-        source: Option<usize>,
-    },
-    /// By a path.
-    Follows {
-        ground: Ground,
-        path: Path,
+    Read(usize),
+    /// A path goes from the source of a reading to another writer of its key: the reader begins before that.
+    After(usize),
+    /// A path goes from another writer of a reading's key to the reader: that writer is before the source.
+    Precedes(usize),
+    /// Both write the key, and a path goes from the begin of the first to the commit of the second.
+    Winner {
+        first: usize,
+        second: usize,
+        key: usize,
     },
     /// A decision.
     Assumed,
@@ -87,52 +52,33 @@ pub(crate) enum Reason {
     Case {
         decision: usize,
         conflict: usize,
-        others: Path,
-    },
-    /// No other source meets the need.
-    OnlySource {
-        taken: Option<usize>,
-    },
-    /// A decision on a source.
-    AssumedSource {
-        taken: Option<usize>,
     },
     /// All other sources are excluded.
-    LastSource {
-        taken: Option<usize>,
-        nots: Path,
-    },
-    /// The path goes from the reader to the writer.
-    NotLater {
-        path: Path,
-    },
-    /// The first path goes from the writer to another one of the key, the second from that to the reader.
-    NotCovered {
-        later: Path,
-        earlier: Path,
-    },
+    LastSource,
+    /// A path goes from the reader to the writer.
+    NotLater,
+    /// A path of so many facts goes from the writer to another one of the key, and one from that to the reader.
+    NotCovered(usize),
     /// The transaction is before one that takes place.
-    Taken {
-        by: usize,
-        taken: Option<usize>,
-    },
+    Inside,
+    /// Each fact says that a moment is before that of the next, and the last one's before that of the first.
+    Cycle,
+    /// No candidate of a reading is left.
+    NoSource(usize),
+    /// A transaction takes place whose own answers contradict each other.
+    OwnAnswers(usize),
 }
 
 /// What is known, since when, and why.
-#[derive(Clone, Copy, Debug)]
+#[derive(Clone, Copy)]
 pub(crate) struct Fact {
     pub says: Says,
+    pub rule: Rule,
     /// How many decisions were open: those below 1 rest on none.
     pub level: usize,
-    pub reason: Reason,
-}
-
-/// All facts, each named by its place.
-#[derive(Drop)]
-pub(crate) struct Facts {
-    facts: Vec<Fact>,
-    paths: Vec<usize>,
-    pub conflicts: Vec<Conflict>,
+    /// The part of the list of premises.
+    from: usize,
+    to: usize,
 }
 
 /// What is said past the end of the list.
@@ -141,16 +87,26 @@ const NOTHING: Fact = Fact {
         first: OPENING,
         second: OPENING,
     },
+    rule: Rule::First,
     level: 0,
-    reason: Reason::First,
+    from: 0,
+    to: 0,
 };
+
+/// All facts, each named by its place, and those that are cited for the next one.
+#[derive(Drop)]
+pub(crate) struct Facts {
+    facts: Vec<Fact>,
+    premises: Vec<usize>,
+    cited: usize,
+}
 
 impl Facts {
     pub(crate) fn new(alloc: Global) -> Facts {
         Facts {
             facts: Vec::new(alloc),
-            paths: Vec::new(alloc),
-            conflicts: Vec::new(alloc),
+            premises: Vec::new(alloc),
+            cited: 0,
         }
     }
 
@@ -159,146 +115,139 @@ impl Facts {
     }
 
     pub(crate) fn get(&self, place: usize) -> Fact {
-        match self.facts.get(place) {
-            Some(fact) => *fact,
-            None => NOTHING,
+        at(self.facts.as_slice(), place, NOTHING)
+    }
+
+    /// The facts on which a fact rests.
+    pub(crate) fn premises(&self, place: usize) -> &[usize] {
+        let fact = self.get(place);
+        part(self.premises.as_slice(), fact.from, fact.to)
+    }
+
+    /// Cites a fact for the next one.
+    pub(crate) fn cite(&mut self, fact: usize) -> Result<(), NoMemory> {
+        self.premises.push(fact)?;
+        Ok(())
+    }
+
+    /// Cites a fact for the next one, if there is one.
+    pub(crate) fn cite_option(&mut self, fact: Option<usize>) -> Result<(), NoMemory> {
+        match fact {
+            Some(place) => self.cite(place),
+            None => Ok(()),
         }
     }
 
-    /// Adds a fact. Answers its place.
-    pub(crate) fn add(
-        &mut self,
-        says: Says,
-        level: usize,
-        reason: Reason,
-    ) -> Result<usize, NoMemory> {
+    /// Cites facts for the next one.
+    pub(crate) fn cite_all(&mut self, facts: &[usize]) -> Result<(), NoMemory> {
+        self.premises.extend_from_slice(facts)?;
+        Ok(())
+    }
+
+    /// Cites nothing any more.
+    pub(crate) fn cite_nothing(&mut self) {
+        self.premises.truncate(self.cited);
+    }
+
+    /// Adds a fact that rests on those that were cited, and needs so many open decisions at least. Answers its place.
+    pub(crate) fn add(&mut self, says: Says, rule: Rule, least: usize) -> Result<usize, NoMemory> {
+        let from = self.cited;
+        let to = self.premises.len();
+        let mut level = least;
+        for premise in part(self.premises.as_slice(), from, to) {
+            level = level.max(self.get(*premise).level);
+        }
         let place = self.facts.len();
         self.facts.push(Fact {
             says,
+            rule,
             level,
-            reason,
+            from,
+            to,
+        })?;
+        self.cited = to;
+        Ok(place)
+    }
+
+    /// Adds a fact that rests on no other, while others are cited for the next one.
+    pub(crate) fn add_apart(&mut self, says: Says, rule: Rule) -> Result<usize, NoMemory> {
+        let place = self.facts.len();
+        self.facts.push(Fact {
+            says,
+            rule,
+            ..NOTHING
         })?;
         Ok(place)
     }
 
-    /// Adds that one moment is before another.
-    pub(crate) fn add_before(
-        &mut self,
-        first: usize,
-        second: usize,
-        level: usize,
-        reason: Reason,
-    ) -> Result<usize, NoMemory> {
-        self.add(Says::Before { first, second }, level, reason)
-    }
-
-    /// Keeps a path.
-    pub(crate) fn keep(&mut self, path: &[usize]) -> Result<Path, NoMemory> {
-        let from = self.paths.len();
-        self.paths.extend_from_slice(path)?;
-        Ok(Path {
-            from,
-            to: self.paths.len(),
-        })
-    }
-
-    pub(crate) fn path(&self, path: Path) -> &[usize] {
-        part(self.paths.as_slice(), path.from, path.to)
-    }
-
-    /// The level of what rests on these facts.
-    pub(crate) fn level_of(&self, facts: &[usize]) -> usize {
-        let mut level = 0;
-        for fact in facts {
-            level = self.get(*fact).level.max(level);
+    /// The first of the premises that says that a transaction takes place.
+    pub(crate) fn taken(&self, place: usize) -> Option<usize> {
+        for premise in self.premises(place) {
+            if let Says::Taken(_) = self.get(*premise).says {
+                return Some(*premise);
+            }
         }
-        level
+        None
     }
 
-    /// The level of what rests on a fact, if there is one.
-    pub(crate) fn level_of_one(&self, fact: Option<usize>) -> usize {
-        match fact {
-            Some(place) => self.get(place).level,
-            None => 0,
+    /// The first of the premises that says what the source of a reading is.
+    pub(crate) fn source(&self, place: usize) -> Option<usize> {
+        for premise in self.premises(place) {
+            if let Says::Source { .. } = self.get(*premise).says {
+                return Some(*premise);
+            }
         }
+        None
     }
 
-    /// Adds the facts of a path to a list.
-    fn add_path(&self, list: &mut Vec<usize>, path: Path) -> Result<(), NoMemory> {
-        list.extend_from_slice(self.path(path))?;
-        Ok(())
-    }
-
-    /// Adds the facts on which a fact rests by its ground.
-    fn add_ground(
-        &self,
-        list: &mut Vec<usize>,
-        ground: Ground,
-        path: Path,
-    ) -> Result<(), NoMemory> {
-        match ground {
-            Ground::After { source, .. } | Ground::Before { source, .. } => {
-                add_option(list, source)?;
+    /// The facts of a cycle, from one on whose first node is no tick of the clock.
+    pub(crate) fn turned_cycle(&self, alloc: Global, cycle: usize) -> Result<Vec<usize>, NoMemory> {
+        let all = self.premises(cycle);
+        let mut start = 0;
+        for (place, fact) in all.iter().enumerate() {
+            match self.get(*fact).rule {
+                Rule::Later | Rule::Leave(_) => {}
+                _ => {
+                    start = place;
+                    break;
+                }
             }
-            Ground::Winner { .. } => {}
         }
-        self.add_path(list, path)
+        let mut turned = Vec::from_slice(alloc, part(all, start, all.len()))?;
+        turned.extend_from_slice(part(all, 0, start))?;
+        Ok(turned)
     }
 
-    /// Adds the facts on which another rests to a list.
-    pub(crate) fn add_premises(
-        &self,
-        list: &mut Vec<usize>,
-        reason: Reason,
-    ) -> Result<(), NoMemory> {
-        match reason {
-            Reason::First | Reason::Own | Reason::Later | Reason::Invoked | Reason::Assumed => Ok(
-                (),
-            ),
-            Reason::Version { taken, .. }
-            | Reason::Time { taken }
-            | Reason::Answered { taken }
-            | Reason::OnlySource { taken }
-            | Reason::AssumedSource { taken } => add_option(list, taken),
-            Reason::Read { source, .. } => add_option(list, source),
-            Reason::Follows { ground, path } => self.add_ground(list, ground, path),
-            Reason::Case { others, .. } => self.add_path(list, others),
-            Reason::LastSource { taken, nots } => {
-                add_option(list, taken)?;
-                self.add_path(list, nots)
-            }
-            Reason::NotLater { path } => self.add_path(list, path),
-            Reason::NotCovered { later, earlier } => {
-                self.add_path(list, later)?;
-                self.add_path(list, earlier)
-            }
-            Reason::Taken { by, taken } => {
-                list.push(by)?;
-                add_option(list, taken)
-            }
+    /// Whether a fact leads to a tick of the clock.
+    pub(crate) fn leads_to_tick(&self, place: usize) -> bool {
+        match self.get(place).rule {
+            Rule::Enter | Rule::Later => true,
+            _ => false,
         }
     }
 }
 
-/// Adds a fact to a list, if there is one.
-pub(crate) fn add_option(list: &mut Vec<usize>, fact: Option<usize>) -> Result<(), NoMemory> {
-    if let Some(place) = fact {
-        list.push(place)?;
-    }
-    Ok(())
+/// A step of the search goes no further: facts contradict each other, as this one says, or the memory is full.
+#[derive(Clone, Copy)]
+pub(crate) enum Stop {
+    Conflict(usize),
+    NoMemory,
 }
 
-/// Adds the facts that contradict each other to a list.
-pub(crate) fn add_conflict(list: &mut Vec<usize>, conflict: &Conflict) -> Result<(), NoMemory> {
-    match conflict {
-        Conflict::Cycle(facts) => {
-            list.extend_from_slice(facts.as_slice())?;
-            Ok(())
-        }
-        Conflict::NoSource { nots, taken, .. } => {
-            list.extend_from_slice(nots.as_slice())?;
-            add_option(list, *taken)
-        }
-        Conflict::OwnFault { taken, .. } => add_option(list, *taken),
+impl From<NoMemory> for Stop {
+    fn from(_error: NoMemory) -> Stop {
+        Stop::NoMemory
+    }
+}
+
+impl From<AllocError> for Stop {
+    fn from(_error: AllocError) -> Stop {
+        Stop::NoMemory
+    }
+}
+
+impl<T: Drop> From<AllocFailed<T>> for Stop {
+    fn from(_error: AllocFailed<T>) -> Stop {
+        Stop::NoMemory
     }
 }

@@ -1,5 +1,5 @@
 //! A graph whose nodes are kept in an order that agrees with its edges.
-use crate::lists::{empty_lists, list_at, number_at, put_number};
+use crate::lists::{at, list_at, put};
 use hek_rules::NoMemory;
 use std::alloc::Global;
 
@@ -10,11 +10,14 @@ pub(crate) struct Edge {
     pub node: usize,
 }
 
+/// No edge.
+pub(crate) const NO_EDGE: Edge = Edge { fact: 0, node: 0 };
+
 /// Whether a node is reached by a path.
-#[derive(Drop)]
-pub(crate) enum Reach {
-    /// By these facts.
-    Path(Vec<usize>),
+#[derive(Clone, Copy, PartialEq, Eq)]
+pub(crate) enum Reached {
+    /// By the facts of the path that the graph has found.
+    Yes,
     No,
     /// The search gave up.
     Unknown,
@@ -23,7 +26,6 @@ pub(crate) enum Reach {
 /// Edges in both directions, and an order of the nodes.
 #[derive(Drop)]
 pub(crate) struct Graph {
-    alloc: Global,
     out: Vec<Vec<Edge>>,
     into: Vec<Vec<Edge>>,
     /// The place of each node in the order, and the nodes in order.
@@ -33,24 +35,41 @@ pub(crate) struct Graph {
     seen: Vec<usize>,
     reached_by: Vec<Edge>,
     turn: usize,
+    /// The nodes that were seen, in the order in which they were.
+    queue: Vec<usize>,
+    /// The facts of the path that was found last.
+    pub path: Vec<usize>,
     /// How many nodes paths were looked for from.
-    looked_at: usize,
+    pub looked_at: usize,
 }
 
 impl Graph {
-    /// So many nodes in the order of their numbers, without an edge.
-    pub(crate) fn new(alloc: Global, nodes: usize) -> Result<Graph, NoMemory> {
-        Ok(Graph {
-            alloc,
-            out: empty_lists(alloc, nodes)?,
-            into: empty_lists(alloc, nodes)?,
-            place: (0..nodes).collect(alloc)?,
-            order: (0..nodes).collect(alloc)?,
-            seen: Vec::from_elem(alloc, 0, nodes)?,
-            reached_by: Vec::from_elem(alloc, Edge { fact: 0, node: 0 }, nodes)?,
+    /// A graph without a node.
+    pub(crate) fn new(alloc: Global) -> Graph {
+        Graph {
+            out: Vec::new(alloc),
+            into: Vec::new(alloc),
+            place: Vec::new(alloc),
+            order: Vec::new(alloc),
+            seen: Vec::new(alloc),
+            reached_by: Vec::new(alloc),
             turn: 0,
+            queue: Vec::new(alloc),
+            path: Vec::new(alloc),
             looked_at: 0,
-        })
+        }
+    }
+
+    /// Adds a node without an edge, after all others.
+    pub(crate) fn add_node(&mut self, alloc: Global) -> Result<(), NoMemory> {
+        let node = self.out.len();
+        self.out.push(Vec::new(alloc))?;
+        self.into.push(Vec::new(alloc))?;
+        self.place.push(node)?;
+        self.order.push(node)?;
+        self.seen.push(0)?;
+        self.reached_by.push(NO_EDGE)?;
+        Ok(())
     }
 
     pub(crate) fn len(&self) -> usize {
@@ -66,11 +85,7 @@ impl Graph {
     }
 
     pub(crate) fn place_of(&self, node: usize) -> usize {
-        number_at(self.place.as_slice(), node)
-    }
-
-    pub(crate) fn looked_at(&self) -> usize {
-        self.looked_at
+        at(self.place.as_slice(), node, 0)
     }
 
     pub(crate) fn order(&self) -> &[usize] {
@@ -80,22 +95,9 @@ impl Graph {
     /// Takes another order of all nodes.
     pub(crate) fn set_order(&mut self, order: Vec<usize>) {
         for (place, node) in order.iter().enumerate() {
-            put_number(&mut self.place, *node, place);
+            put(&mut self.place, *node, place);
         }
         self.order = order;
-    }
-
-    /// Whether each edge leads from a node to a later one.
-    pub(crate) fn is_in_order(&self) -> bool {
-        for node in 0..self.len() {
-            let place = self.place_of(node);
-            for edge in self.out_of(node) {
-                if self.place_of(edge.node) <= place {
-                    return false;
-                }
-            }
-        }
-        true
     }
 
     /// Adds an edge, whether or not the order agrees with it.
@@ -116,214 +118,166 @@ impl Graph {
 
     /// Takes an edge away.
     pub(crate) fn unlink(&mut self, first: usize, second: usize, fact: usize) {
-        if let Some(list) = self.out.get_mut(first) {
-            take_out(list, fact);
-        }
-        if let Some(list) = self.into.get_mut(second) {
-            take_out(list, fact);
-        }
+        take_out(&mut self.out, first, fact);
+        take_out(&mut self.into, second, fact);
     }
 
-    /// Begins a turn, in which no node is seen yet.
-    fn begin_turn(&mut self) {
+    /// Begins a turn, in which only this node is seen yet.
+    fn begin_turn(&mut self, node: usize) -> Result<(), NoMemory> {
         self.turn = self.turn.saturating_add(1);
-    }
-
-    fn is_seen(&self, node: usize) -> bool {
-        number_at(self.seen.as_slice(), node) == self.turn
-    }
-
-    fn see(&mut self, node: usize) {
+        self.queue.clear();
         let turn = self.turn;
-        put_number(&mut self.seen, node, turn);
+        put(&mut self.seen, node, turn);
+        self.queue.push(node)?;
+        Ok(())
     }
 
-    /// Sees the nodes after one, up to a place of the order, and adds them to the queue. Answers whether one is the wanted.
-    fn see_after(
-        &mut self,
-        node: usize,
-        end: usize,
-        wanted: usize,
-        queue: &mut Vec<usize>,
-    ) -> Result<bool, NoMemory> {
+    /// Sees the nodes after one, up to a place of the order.
+    fn see_after(&mut self, node: usize, end: usize) -> Result<(), NoMemory> {
         self.looked_at = self.looked_at.saturating_add(1);
         for edge in list_at(self.out.as_slice(), node) {
             let next = edge.node;
-            let is_new = number_at(self.seen.as_slice(), next) != self.turn;
-            if is_new && number_at(self.place.as_slice(), next) <= end {
-                put_number(&mut self.seen, next, self.turn);
-                if let Some(there) = self.reached_by.get_mut(next) {
-                    *there = Edge {
-                        fact: edge.fact,
-                        node,
-                    };
-                }
-                if next == wanted {
-                    return Ok(true);
-                }
-                queue.push(next)?;
-            }
-        }
-        Ok(false)
-    }
-
-    /// Sees the nodes before one, down to a place of the order, and adds them to the queue.
-    fn see_before(
-        &mut self,
-        node: usize,
-        end: usize,
-        queue: &mut Vec<usize>,
-    ) -> Result<(), NoMemory> {
-        for edge in list_at(self.into.as_slice(), node) {
-            let next = edge.node;
-            let is_new = number_at(self.seen.as_slice(), next) != self.turn;
-            if is_new && number_at(self.place.as_slice(), next) >= end {
-                put_number(&mut self.seen, next, self.turn);
-                queue.push(next)?;
+            let is_new = at(self.seen.as_slice(), next, 0) != self.turn;
+            if is_new && at(self.place.as_slice(), next, 0) <= end {
+                put(&mut self.seen, next, self.turn);
+                let by = Edge {
+                    fact: edge.fact,
+                    node,
+                };
+                put(&mut self.reached_by, next, by);
+                self.queue.push(next)?;
             }
         }
         Ok(())
     }
 
-    /// The facts of the path by which a node was reached from another.
-    fn path_back(&self, from: usize, to: usize) -> Result<Vec<usize>, NoMemory> {
-        let mut path = Vec::new(self.alloc);
+    /// Sees the nodes before one, down to a place of the order.
+    fn see_before(&mut self, node: usize, end: usize) -> Result<(), NoMemory> {
+        for edge in list_at(self.into.as_slice(), node) {
+            let next = edge.node;
+            let is_new = at(self.seen.as_slice(), next, 0) != self.turn;
+            if is_new && at(self.place.as_slice(), next, 0) >= end {
+                put(&mut self.seen, next, self.turn);
+                self.queue.push(next)?;
+            }
+        }
+        Ok(())
+    }
+
+    /// Takes the facts of the path by which a node was reached from another.
+    fn trace(&mut self, from: usize, to: usize) -> Result<(), NoMemory> {
+        self.path.clear();
         let mut node = to;
-        for _ in 0..self.len() {
+        for _ in 0..self.out.len() {
             if node == from {
                 break;
             }
-            let Some(edge) = self.reached_by.get(node) else {
-                break;
-            };
-            path.push(edge.fact)?;
+            let edge = at(self.reached_by.as_slice(), node, NO_EDGE);
+            self.path.push(edge.fact)?;
             node = edge.node;
         }
-        path.reverse();
-        Ok(path)
+        self.path.reverse();
+        Ok(())
     }
 
-    /// A shortest path from a node to another, if one is found within so many nodes.
-    pub(crate) fn reach(
+    /// Finds a shortest path from a node to another, if there is one within so many nodes.
+    pub(crate) fn find_path(
         &mut self,
         from: usize,
         to: usize,
         limit: usize,
-    ) -> Result<Reach, NoMemory> {
-        if self.place_of(from) >= self.place_of(to) {
-            return Ok(Reach::No);
-        }
-        self.begin_turn();
-        self.see(from);
+    ) -> Result<Reached, NoMemory> {
         let end = self.place_of(to);
-        let mut queue = Vec::new(self.alloc);
-        queue.push(from)?;
-        for turn in 0..self.len() {
-            let Some(node) = queue.get(turn) else {
-                return Ok(Reach::No);
-            };
+        if self.place_of(from) >= end {
+            return Ok(Reached::No);
+        }
+        self.begin_turn(from)?;
+        for turn in 0..self.out.len() {
+            if turn >= self.queue.len() {
+                return Ok(Reached::No);
+            }
             if turn > limit {
-                return Ok(Reach::Unknown);
+                return Ok(Reached::Unknown);
             }
-            let next = *node;
-            if self.see_after(next, end, to, &mut queue)? {
-                return Ok(Reach::Path(self.path_back(from, to)?));
+            let node = at(self.queue.as_slice(), turn, to);
+            self.see_after(node, end)?;
+            if at(self.seen.as_slice(), to, 0) == self.turn {
+                self.trace(from, to)?;
+                return Ok(Reached::Yes);
             }
         }
-        Ok(Reach::No)
+        Ok(Reached::No)
     }
 
-    /// A path from a node to another, however long.
-    pub(crate) fn path(&mut self, from: usize, to: usize) -> Result<Option<Vec<usize>>, NoMemory> {
-        let limit = self.len();
-        match self.reach(from, to, limit)? {
-            Reach::Path(path) => Ok(Some(path)),
-            Reach::No | Reach::Unknown => Ok(None),
-        }
-    }
-
-    /// The node and those after it, up to a place of the order.
-    fn nodes_after(&mut self, node: usize, end: usize) -> Result<Vec<usize>, NoMemory> {
-        self.begin_turn();
-        self.see(node);
-        let wanted = self.len();
-        let mut queue = Vec::new(self.alloc);
-        queue.push(node)?;
-        for turn in 0..self.len() {
-            let Some(there) = queue.get(turn) else {
+    /// Sees all nodes that lead to a node, down to a place of the order.
+    fn look_back(&mut self, node: usize, end: usize) -> Result<(), NoMemory> {
+        self.begin_turn(node)?;
+        for turn in 0..self.out.len() {
+            if turn >= self.queue.len() {
                 break;
-            };
-            let next = *there;
-            let _found = self.see_after(next, end, wanted, &mut queue)?;
+            }
+            let next = at(self.queue.as_slice(), turn, node);
+            self.see_before(next, end)?;
         }
-        Ok(queue)
+        Ok(())
     }
 
-    /// The node and those before it, down to a place of the order.
-    fn nodes_before(&mut self, node: usize, end: usize) -> Result<Vec<usize>, NoMemory> {
-        self.begin_turn();
-        self.see(node);
-        let mut queue = Vec::new(self.alloc);
-        queue.push(node)?;
-        for turn in 0..self.len() {
-            let Some(there) = queue.get(turn) else {
-                break;
-            };
-            let next = *there;
-            self.see_before(next, end, &mut queue)?;
-        }
-        Ok(queue)
-    }
-
-    /// Moves nodes so that the first is before the second. Answers the path from the second to the first, if there is one:
-    /// then nothing is moved.
+    /// Moves nodes so that the first is before the second. Answers whether a path from the second to the first forbids that: then
+    /// nothing is moved.
     pub(crate) fn make_room(
         &mut self,
+        alloc: Global,
         first: usize,
         second: usize,
-    ) -> Result<Option<Vec<usize>>, NoMemory> {
-        if self.place_of(first) < self.place_of(second) {
-            return Ok(None);
-        }
-        if let Some(path) = self.path(second, first)? {
-            return Ok(Some(path));
-        }
+    ) -> Result<bool, NoMemory> {
         let low = self.place_of(second);
-        let high = self.place_of(first);
-        let mut after = self.nodes_after(second, high)?;
-        let mut before = self.nodes_before(first, low)?;
-        self.sort_by_place(&mut after);
-        self.sort_by_place(&mut before);
-        before.extend_from_slice(after.as_slice())?;
-        self.move_to(before.as_slice())?;
-        Ok(None)
+        if self.place_of(first) < low {
+            return Ok(false);
+        }
+        if self.find_path(second, first, usize::MAX)? == Reached::Yes {
+            return Ok(true);
+        }
+        let after = self.places_seen(alloc)?;
+        self.look_back(first, low)?;
+        let mut moved = self.places_seen(alloc)?;
+        moved.extend_from_slice(after.as_slice())?;
+        self.move_all(alloc, moved.as_slice())?;
+        Ok(false)
     }
 
-    fn sort_by_place(&self, nodes: &mut Vec<usize>) {
-        let place = self.place.as_slice();
-        nodes.sort_unstable_by_key(|node| number_at(place, *node));
-    }
-
-    /// Gives these nodes, in order, the places that they have together.
-    fn move_to(&mut self, nodes: &[usize]) -> Result<(), NoMemory> {
-        let mut places = Vec::with_capacity(self.alloc, nodes.len())?;
-        for node in nodes {
+    /// The places of the nodes that were seen, in order.
+    fn places_seen(&self, alloc: Global) -> Result<Vec<usize>, NoMemory> {
+        let mut places = Vec::new(alloc);
+        for node in &self.queue {
             places.push(self.place_of(*node))?;
         }
         places.sort_unstable();
+        Ok(places)
+    }
+
+    /// Gives the nodes at these places, one after another, the same places in order.
+    fn move_all(&mut self, alloc: Global, from: &[usize]) -> Result<(), NoMemory> {
+        let mut nodes = Vec::new(alloc);
+        for place in from {
+            nodes.push(at(self.order.as_slice(), *place, 0))?;
+        }
+        let mut places = Vec::from_slice(alloc, from)?;
+        places.sort_unstable();
         for (place, node) in places.iter().zip(nodes.iter()) {
-            put_number(&mut self.place, *node, *place);
-            put_number(&mut self.order, *place, *node);
+            put(&mut self.place, *node, *place);
+            put(&mut self.order, *place, *node);
         }
         Ok(())
     }
 }
 
-/// Takes the edge of a fact out of a list.
-fn take_out(list: &mut Vec<Edge>, fact: usize) {
-    if let Some(place) = list.iter().position(|edge| edge.fact == fact) {
-        if place < list.len() {
-            let _edge = list.swap_remove(place);
+/// Takes the edge of a fact out of the list of a node.
+fn take_out(lists: &mut Vec<Vec<Edge>>, node: usize, fact: usize) {
+    if let Some(list) = lists.get_mut(node) {
+        if let Some(place) = list.iter().position(|edge| edge.fact == fact) {
+            if place < list.len() {
+                let _edge = list.swap_remove(place);
+            }
         }
     }
 }

@@ -2,17 +2,20 @@
 ghost use Rattle.std.specs.Prelude.{IfOk};
 ghost use Rattle.hek_history_search.specs.Verdicts.{IsVerdict};
 
-use crate::anomalies::{Cause, cause_of};
+use crate::anomalies::Cause;
 use crate::hints::points_by_hints;
+use crate::known::Known;
+use crate::problem::Problem;
 use crate::reduce::reduced;
-use crate::seek::{Outcome, prepared, seek};
+use crate::seek::Outcome;
+use crate::start::prepared;
 use crate::steps::steps_of;
 use hek_history::{History, Order, Point, Step, is_explanation, refutes};
 use hek_rules::NoMemory;
 use std::alloc::Global;
 
 /// How far a search came that found nothing.
-#[derive(Clone, Copy, Debug, PartialEq, Eq)]
+#[derive(Clone, Copy)]
 pub struct Progress {
     /// How many conflicts it met.
     pub conflicts: usize,
@@ -46,6 +49,27 @@ const NOWHERE: Progress = Progress {
     violations: 0,
 };
 
+/// What a search comes to that is prepared.
+fn sought(known: &mut Known, effort: usize) -> Result<Found, NoMemory> {
+    match known.seek(effort)? {
+        Outcome::Points(points) => Ok(Found::Points(points)),
+        Outcome::Refuted(conflict) => {
+            let cause = known.cause_of(conflict)?;
+            Ok(Found::Steps(steps_of(known, conflict)?, cause))
+        }
+        Outcome::Unknown(violations) => Ok(Found::Unknown(Progress {
+            conflicts: known.conflicts,
+            violations,
+        })),
+    }
+}
+
+/// What a search of a problem comes to.
+fn sought_in(alloc: Global, problem: &Problem, effort: usize) -> Result<Found, NoMemory> {
+    let mut known = prepared(alloc, problem)?;
+    sought(&mut known, effort)
+}
+
 /// Searches by facts and decisions, with so much effort.
 fn search_further(
     alloc: Global,
@@ -54,21 +78,7 @@ fn search_further(
     effort: usize,
 ) -> Result<Found, NoMemory> {
     let problem = reduced(alloc, history, order)?;
-    let (mut known, lost) = prepared(alloc, &problem)?;
-    match seek(&mut known, lost, effort)? {
-        Outcome::Points(points) => Ok(Found::Points(points)),
-        Outcome::Refuted(conflict) => {
-            let cause = cause_of(&known, &conflict)?;
-            Ok(Found::Steps(steps_of(&known, &conflict)?, cause))
-        }
-        Outcome::Unknown {
-            conflicts,
-            violations,
-        } => Ok(Found::Unknown(Progress {
-            conflicts,
-            violations,
-        })),
-    }
+    sought_in(alloc, &problem, effort)
 }
 
 /// Searches for an explanation of this order, or for a certificate that there is none. First it tries the points by the times

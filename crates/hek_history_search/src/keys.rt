@@ -1,22 +1,15 @@
 //! The keys that a history names, in rising order, and those of a scan among them.
-use crate::lists::part;
+use crate::lists::{at, part};
 use hek_history::{History, Operation, Scope};
 use hek_rules::NoMemory;
 use std::alloc::Global;
 
-/// A key in a bucket, where keys are divided into so many.
-#[derive(Clone, Copy)]
-struct Bucketed {
-    buckets: u64,
-    bucket: u64,
-    key: usize,
-}
-
 /// Each key once, in rising order, and each key again in the buckets that scans are of.
 #[derive(Drop)]
 pub(crate) struct Keys {
-    keys: Vec<u64>,
-    bucketed: Vec<Bucketed>,
+    names: Vec<u64>,
+    /// Into how many buckets keys are divided, the bucket, and the place of the key.
+    bucketed: Vec<(u64, u64, usize)>,
 }
 
 /// The key of an operation that isn't a scan.
@@ -39,22 +32,22 @@ pub(crate) fn covers(scope: Scope, key: u64) -> bool {
     }
 }
 
-/// Adds the keys of an operation, and the number of buckets that it divides keys into.
-fn add_named(
-    keys: &mut Vec<u64>,
-    divisions: &mut Vec<u64>,
-    operation: &Operation,
-) -> Result<(), NoMemory> {
-    let Operation::Scan(scope, pairs) = operation else {
-        if let Some(key) = key_of(operation) {
-            keys.push(key)?;
-        }
-        return Ok(());
-    };
-    for pair in pairs {
-        keys.push(pair.0)?;
+/// Adds the keys of an operation.
+fn add_names(names: &mut Vec<u64>, operation: &Operation) -> Result<(), NoMemory> {
+    if let Some(key) = key_of(operation) {
+        names.push(key)?;
     }
-    if let Scope::Bucket(buckets, _) = scope {
+    if let Operation::Scan(_, pairs) = operation {
+        for pair in pairs {
+            names.push(pair.0)?;
+        }
+    }
+    Ok(())
+}
+
+/// Adds the number of buckets into which an operation divides keys, if it is new.
+fn add_division(divisions: &mut Vec<u64>, operation: &Operation) -> Result<(), NoMemory> {
+    if let Operation::Scan(Scope::Bucket(buckets, _), _) = operation {
         if *buckets != 0 && !divisions.contains(buckets) {
             divisions.push(*buckets)?;
         }
@@ -62,96 +55,80 @@ fn add_named(
     Ok(())
 }
 
-/// Adds the keys of operations, and the numbers of buckets that they divide keys into.
-fn add_all_named(
-    keys: &mut Vec<u64>,
-    divisions: &mut Vec<u64>,
-    operations: &[Operation],
-) -> Result<(), NoMemory> {
-    for operation in operations {
-        add_named(keys, divisions, operation)?;
-    }
-    Ok(())
-}
-
-/// Each key in its bucket.
-fn divide(bucketed: &mut Vec<Bucketed>, keys: &[u64], buckets: u64) -> Result<(), NoMemory> {
-    if buckets == 0 {
-        return Ok(());
-    }
-    for (place, key) in keys.iter().enumerate() {
-        bucketed.push(Bucketed {
-            buckets,
-            bucket: *key % buckets,
-            key: place,
-        })?;
-    }
-    Ok(())
-}
-
 impl Keys {
     /// The keys that a history names.
     pub(crate) fn of(alloc: Global, history: &History) -> Result<Keys, NoMemory> {
-        let mut keys = Vec::new(alloc);
+        let mut keys = Keys {
+            names: Vec::new(alloc),
+            bucketed: Vec::new(alloc),
+        };
         let mut divisions = Vec::new(alloc);
         for row in &history.rows {
-            keys.push(row.0)?;
+            keys.names.push(row.0)?;
         }
         for transaction in &history.transactions {
-            add_all_named(&mut keys, &mut divisions, transaction.operations.as_slice())?;
+            for operation in &transaction.operations {
+                add_names(&mut keys.names, operation)?;
+                add_division(&mut divisions, operation)?;
+            }
         }
-        keys.sort_unstable();
-        keys.dedup();
-        let mut bucketed = Vec::new(alloc);
+        keys.names.sort_unstable();
+        keys.names.dedup();
         for buckets in &divisions {
-            divide(&mut bucketed, keys.as_slice(), *buckets)?;
+            keys.divide(*buckets)?;
         }
-        bucketed.sort_unstable_by_key(|one| (one.buckets, one.bucket, one.key));
-        Ok(Keys { keys, bucketed })
+        keys.bucketed.sort_unstable();
+        Ok(keys)
+    }
+
+    /// Adds each key in its bucket.
+    fn divide(&mut self, buckets: u64) -> Result<(), NoMemory> {
+        if buckets == 0 {
+            return Ok(());
+        }
+        for (place, key) in self.names.iter().enumerate() {
+            self.bucketed.push((buckets, *key % buckets, place))?;
+        }
+        Ok(())
     }
 
     pub(crate) fn len(&self) -> usize {
-        self.keys.len()
+        self.names.len()
     }
 
     /// The place of a key.
     pub(crate) fn place_of(&self, key: u64) -> Option<usize> {
-        let place = self.keys.as_slice().partition_point(|one| *one < key);
-        match self.keys.get(place) {
+        let place = self.names.as_slice().partition_point(|one| *one < key);
+        match self.names.get(place) {
             Some(there) => { if *there == key { Some(place) } else { None } }
             None => None,
         }
     }
 
     /// The key at a place.
-    pub(crate) fn key_at(&self, place: usize) -> u64 {
-        match self.keys.get(place) {
-            Some(key) => *key,
-            None => 0,
-        }
+    pub(crate) fn name(&self, place: usize) -> u64 {
+        at(self.names.as_slice(), place, 0)
     }
 
     /// The places of the keys that a scan is of.
     pub(crate) fn of_scope(&self, alloc: Global, scope: Scope) -> Result<Vec<usize>, NoMemory> {
+        let mut places = Vec::new(alloc);
         match scope {
             Scope::Range(from, to) => {
-                let first = self.keys.as_slice().partition_point(|key| *key < from);
-                let end = self.keys.as_slice().partition_point(|key| *key < to);
-                let places = (first..end).collect(alloc)?;
-                Ok(places)
+                let first = self.names.as_slice().partition_point(|key| *key < from);
+                let end = self.names.as_slice().partition_point(|key| *key < to);
+                for place in first..end {
+                    places.push(place)?;
+                }
             }
-            Scope::Bucket(buckets, bucket) => self.of_bucket(alloc, buckets, bucket),
-        }
-    }
-
-    /// The places of the keys of a bucket.
-    fn of_bucket(&self, alloc: Global, buckets: u64, bucket: u64) -> Result<Vec<usize>, NoMemory> {
-        let all = self.bucketed.as_slice();
-        let from = all.partition_point(|one| (one.buckets, one.bucket) < (buckets, bucket));
-        let to = all.partition_point(|one| (one.buckets, one.bucket) <= (buckets, bucket));
-        let mut places = Vec::new(alloc);
-        for one in part(all, from, to) {
-            places.push(one.key)?;
+            Scope::Bucket(buckets, bucket) => {
+                let all = self.bucketed.as_slice();
+                let from = all.partition_point(|one| (one.0, one.1) < (buckets, bucket));
+                let to = all.partition_point(|one| (one.0, one.1) <= (buckets, bucket));
+                for one in part(all, from, to) {
+                    places.push(one.2)?;
+                }
+            }
         }
         Ok(places)
     }

@@ -1,11 +1,13 @@
 //! What the search knows and assumes: facts, the graph of those that order moments, sources, and who takes place.
-use crate::facts::{Facts, Ground, Reason, Says};
-use crate::graph::{Graph, Reach};
-use crate::lists::{empty_lists, is_marked, list_at, option_at, put_mark, put_option};
+use crate::clock::Clock;
+use crate::facts::{Facts, Rule, Says, Stop};
+use crate::graph::{Graph, Reached};
+use crate::hints::Hint;
+use crate::lists::{at, list_at, put};
 use crate::nodes::{Nodes, OPENING};
+use crate::order::sorted_nodes;
 use crate::problem::{Problem, Source};
-use crate::stop::{Conflict, Stop};
-use crate::violation::Violation;
+use crate::replay::Violation;
 use hek_rules::NoMemory;
 use std::alloc::Global;
 
@@ -23,11 +25,11 @@ pub(crate) struct Settled {
     pub fact: Option<usize>,
 }
 
-/// A decision that is open: what it was made for, and the facts since then.
-#[derive(Drop)]
-struct Decision {
-    violation: Violation,
-    facts: Vec<usize>,
+/// A decision that is open: what it was made for, and how many facts were to be taken back before it.
+#[derive(Clone, Copy)]
+pub(crate) struct Decision {
+    pub violation: Violation,
+    pub mark: usize,
 }
 
 /// The state of the search.
@@ -35,70 +37,50 @@ struct Decision {
 pub(crate) struct Known<'a> {
     pub alloc: Global,
     pub problem: &'a Problem<'a>,
+    pub hints: Vec<Hint>,
+    pub node_hints: Vec<u64>,
     pub nodes: Nodes,
+    pub clock: Clock,
     pub graph: Graph,
     pub facts: Facts,
+    /// The nodes that are guessed to come after each.
+    pub guesses: Vec<Vec<usize>>,
     /// The only candidate of each reading, its own transaction left out.
     pub only: Vec<Option<Source>>,
     /// The fact that settles the source of each reading.
-    sources: Vec<Option<usize>>,
+    pub sources: Vec<Option<usize>>,
     /// The sources that are excluded for each reading.
-    nots: Vec<Vec<Excluded>>,
+    pub nots: Vec<Vec<Excluded>>,
     /// The fact by which a transaction takes place that isn't known to have committed.
-    taken: Vec<Option<usize>>,
-    /// Whether a transaction takes place.
-    present: Vec<bool>,
+    pub taken: Vec<Option<usize>>,
     /// Those that take place by a fact, and of which not all that follows is known.
     pub pending: Vec<usize>,
-    /// All of unknown status that took place at some time.
-    pub doubtful: Vec<usize>,
-    decisions: Vec<Decision>,
+    pub decisions: Vec<Decision>,
+    /// The facts that rest on decisions, in order.
+    pub trail: Vec<usize>,
     /// What decisions were made for that were taken back.
     pub again: Vec<Violation>,
     pub conflicts: usize,
+    /// Within how many nodes paths are looked for.
+    pub sight: usize,
 }
 
-impl<'a> Known<'a> {
-    /// Nothing but who is known to have committed.
-    pub(crate) fn new(
-        alloc: Global,
-        problem: &'a Problem<'a>,
-        nodes: Nodes,
-        only: Vec<Option<Source>>,
-    ) -> Result<Known<'a>, NoMemory> {
-        let count = problem.transactions();
-        let mut present = Vec::with_capacity(alloc, count)?;
-        for t in 0..count {
-            present.push(problem.is_committed(t))?;
-        }
-        let graph = Graph::new(alloc, nodes.len())?;
-        let readings = problem.readings.len();
-        Ok(Known {
-            alloc,
-            problem,
-            nodes,
-            graph,
-            facts: Facts::new(alloc),
-            only,
-            sources: Vec::from_elem(alloc, None, readings)?,
-            nots: empty_lists(alloc, readings)?,
-            taken: Vec::from_elem(alloc, None, count)?,
-            present,
-            pending: Vec::new(alloc),
-            doubtful: Vec::new(alloc),
-            decisions: Vec::new(alloc),
-            again: Vec::new(alloc),
-            conflicts: 0,
-        })
+impl Known<'_> {
+    pub(crate) fn hint(&self, t: usize) -> Hint {
+        let none = Hint {
+            begin: 0,
+            commit: 0,
+        };
+        at(self.hints.as_slice(), t, none)
     }
 
-    /// How many decisions are open.
-    pub(crate) fn level(&self) -> usize {
-        self.decisions.len()
+    /// The fact by which a transaction takes place, if it isn't known to have committed.
+    pub(crate) fn taken_by(&self, t: usize) -> Option<usize> {
+        at(self.taken.as_slice(), t, None)
     }
 
     pub(crate) fn is_present(&self, t: usize) -> bool {
-        is_marked(self.present.as_slice(), t)
+        self.problem.is_committed(t) || self.taken_by(t).is_some()
     }
 
     /// Whether the writer takes place; the opening does.
@@ -109,39 +91,19 @@ impl<'a> Known<'a> {
         }
     }
 
-    /// The fact by which a transaction takes place, if it isn't known to have committed.
-    pub(crate) fn taken_by(&self, t: usize) -> Option<usize> {
-        option_at(self.taken.as_slice(), t)
-    }
-
     pub(crate) fn excluded(&self, reading: usize) -> &[Excluded] {
         list_at(self.nots.as_slice(), reading)
     }
 
-    /// The fact that excludes a source.
-    pub(crate) fn exclusion(&self, reading: usize, source: Source) -> Option<usize> {
-        for one in self.excluded(reading) {
-            if one.source == source {
-                return Some(one.fact);
-            }
-        }
-        None
-    }
-
     pub(crate) fn is_excluded(&self, reading: usize, source: Source) -> bool {
-        self.exclusion(reading, source).is_some()
-    }
-
-    pub(crate) fn only_source(&self, reading: usize) -> Option<Source> {
-        match self.only.get(reading) {
-            Some(source) => *source,
-            None => None,
-        }
+        self.excluded(reading)
+            .iter()
+            .any(|one| one.source == source)
     }
 
     /// The source of a reading, if it is settled.
     pub(crate) fn source(&self, reading: usize) -> Option<Settled> {
-        if let Some(fact) = option_at(self.sources.as_slice(), reading) {
+        if let Some(fact) = at(self.sources.as_slice(), reading, None) {
             if let Says::Source { source, .. } = self.facts.get(fact).says {
                 return Some(Settled {
                     source,
@@ -149,119 +111,143 @@ impl<'a> Known<'a> {
                 });
             }
         }
-        let source = self.only_source(reading)?;
-        let reader = self.problem.reading(reading)?.reader;
-        if self.problem.is_committed(reader) {
+        let source = at(self.only.as_slice(), reading, None)?;
+        if self
+            .problem
+            .is_committed(self.problem.reading(reading).reader)
+        {
             Some(Settled { source, fact: None })
         } else {
             None
         }
     }
 
-    /// Notes that a fact goes with the decision of its level.
+    /// Adds a fact of the start, with its edge.
+    pub(crate) fn begin_with(
+        &mut self,
+        first: usize,
+        second: usize,
+        rule: Rule,
+    ) -> Result<usize, NoMemory> {
+        let fact = self.facts.add(Says::Before { first, second }, rule, 0)?;
+        if first != OPENING {
+            self.graph.link(first, second, fact)?;
+        }
+        Ok(fact)
+    }
+
+    /// Makes the order of the nodes anew by the facts of now and the guesses. Answers whether the facts have an order.
+    pub(crate) fn anchor(&mut self) -> Result<bool, NoMemory> {
+        let guesses = self.guesses.as_slice();
+        let order = sorted_nodes(self.alloc, &self.graph, guesses, self.node_hints.as_slice())?;
+        let is_whole = order.len() == self.graph.len();
+        if is_whole {
+            self.graph.set_order(order);
+        }
+        Ok(is_whole)
+    }
+
+    /// Notes that a fact is to be taken back with the decision of its level.
     fn note(&mut self, fact: usize) -> Result<(), NoMemory> {
-        let level = self.facts.get(fact).level;
-        if level > 0 {
-            if let Some(decision) = self.decisions.get_mut(level - 1) {
-                decision.facts.push(fact)?;
-            }
+        if self.facts.get(fact).level > 0 {
+            self.trail.push(fact)?;
         }
         Ok(())
     }
 
-    /// Adds the edge of a fact to the graph.
-    pub(crate) fn link(&mut self, fact: usize) -> Result<(), NoMemory> {
-        let Says::Before { first, second } = self.facts.get(fact).says else {
-            return Ok(());
+    /// The only fact of a path from the opening.
+    fn path_from_opening(&mut self, node: usize) -> Result<(), NoMemory> {
+        let says = Says::Before {
+            first: OPENING,
+            second: node,
         };
-        self.graph.link(first, second, fact)?;
-        self.note(fact)
+        let fact = self.facts.add_apart(says, Rule::First)?;
+        self.graph.path.clear();
+        self.graph.path.push(fact)?;
+        Ok(())
     }
 
-    /// A path from a node to another; from the opening there is one to each.
-    pub(crate) fn reach(
-        &mut self,
-        from: usize,
-        to: usize,
-        limit: usize,
-    ) -> Result<Reach, NoMemory> {
+    /// Whether a path from a node to another was found; from the opening there is one to each.
+    pub(crate) fn has_path(&mut self, from: usize, to: usize) -> Result<bool, NoMemory> {
         if from == OPENING && to != OPENING {
-            let mut path = Vec::new(self.alloc);
-            path.push(self.facts.add_before(OPENING, to, 0, Reason::First)?)?;
-            return Ok(Reach::Path(path));
+            self.path_from_opening(to)?;
+            return Ok(true);
         }
-        self.graph.reach(from, to, limit)
+        let reached = self.graph.find_path(from, to, self.sight)?;
+        Ok(reached == Reached::Yes)
     }
 
-    /// Makes room for an edge. Answers the path that forbids it, if there is one.
-    pub(crate) fn make_room(
-        &mut self,
-        first: usize,
-        second: usize,
-    ) -> Result<Option<Vec<usize>>, NoMemory> {
+    /// Cites the path that was found last.
+    pub(crate) fn cite_path(&mut self) -> Result<(), NoMemory> {
+        self.facts.cite_all(self.graph.path.as_slice())
+    }
+
+    /// Cites the fact by which a transaction takes place, if it isn't known to have committed.
+    pub(crate) fn cite_taken(&mut self, t: usize) -> Result<(), NoMemory> {
+        let taken = self.taken_by(t);
+        self.facts.cite_option(taken)
+    }
+
+    /// Makes room for an edge. Answers whether a path from the second to the first forbids it.
+    pub(crate) fn is_forbidden(&mut self, first: usize, second: usize) -> Result<bool, NoMemory> {
+        if first == second {
+            self.graph.path.clear();
+            return Ok(true);
+        }
         if second == OPENING {
-            let mut path = Vec::new(self.alloc);
-            path.push(self.facts.add_before(OPENING, first, 0, Reason::First)?)?;
-            return Ok(Some(path));
+            self.path_from_opening(first)?;
+            return Ok(true);
         }
         if first == OPENING {
-            return Ok(None);
+            return Ok(false);
         }
-        self.graph.make_room(first, second)
+        self.graph.make_room(self.alloc, first, second)
     }
 
-    /// Adds that a moment is before another, which follows from what is known. Answers the fact.
+    /// Adds that a moment is before another, which follows from what was cited. Answers the fact.
     pub(crate) fn force(
         &mut self,
         first: usize,
         second: usize,
-        level: usize,
-        reason: Reason,
+        rule: Rule,
+        least: usize,
     ) -> Result<usize, Stop> {
-        let fact = self.facts.add_before(first, second, level, reason)?;
-        if first == OPENING && second != OPENING {
-            return Ok(fact);
+        let fact = self.facts.add(Says::Before { first, second }, rule, least)?;
+        if self.is_forbidden(first, second)? {
+            self.cite_path()?;
+            self.facts.cite(fact)?;
+            let conflict = self.facts.add(Says::Contradiction, Rule::Cycle, 0)?;
+            return Err(Stop::Conflict(conflict));
         }
-        let path = if first == second {
-            Some(Vec::new(self.alloc))
-        } else {
-            self.make_room(first, second)?
-        };
-        if let Some(cycle) = path {
-            let mut facts = cycle;
-            facts.push(fact)?;
-            return Err(Stop::Conflict(Conflict::Cycle(facts)));
+        if first != OPENING {
+            self.graph.link(first, second, fact)?;
+            self.note(fact)?;
         }
-        self.link(fact)?;
         Ok(fact)
     }
 
-    /// Opens a decision.
-    fn open_decision(&mut self, violation: Violation) -> Result<(), NoMemory> {
+    /// Opens a decision. Answers its level.
+    fn open_decision(&mut self, violation: Violation) -> Result<usize, NoMemory> {
         self.decisions.push(Decision {
             violation,
-            facts: Vec::new(self.alloc),
+            mark: self.trail.len(),
         })?;
-        Ok(())
+        Ok(self.decisions.len())
     }
 
-    /// Decides that a moment is before another. Answers the path that forbids it, if there is one.
+    /// Decides that a moment is before another. Answers whether a path forbids it.
     pub(crate) fn decide(
         &mut self,
         first: usize,
         second: usize,
         violation: Violation,
-    ) -> Result<Option<Vec<usize>>, NoMemory> {
-        if let Some(path) = self.make_room(first, second)? {
-            return Ok(Some(path));
+    ) -> Result<bool, Stop> {
+        if self.is_forbidden(first, second)? {
+            return Ok(true);
         }
-        self.open_decision(violation)?;
-        let level = self.level();
-        let fact = self
-            .facts
-            .add_before(first, second, level, Reason::Assumed)?;
-        self.link(fact)?;
-        Ok(None)
+        let level = self.open_decision(violation)?;
+        let _fact = self.force(first, second, Rule::Assumed, level)?;
+        Ok(false)
     }
 
     /// Decides on the source of a reading.
@@ -269,12 +255,10 @@ impl<'a> Known<'a> {
         &mut self,
         reading: usize,
         source: Source,
-        taken: Option<usize>,
         violation: Violation,
     ) -> Result<(), Stop> {
-        self.open_decision(violation)?;
-        let level = self.level();
-        self.settle(reading, source, level, Reason::AssumedSource { taken })
+        let level = self.open_decision(violation)?;
+        self.settle(reading, source, Rule::Assumed, level)
     }
 
     /// Adds the source of a reading, and that it is before the reader.
@@ -282,74 +266,54 @@ impl<'a> Known<'a> {
         &mut self,
         reading: usize,
         source: Source,
-        level: usize,
-        reason: Reason,
+        rule: Rule,
+        least: usize,
     ) -> Result<(), Stop> {
+        let reader = self.problem.reading(reading).reader;
+        self.cite_taken(reader)?;
         let fact = self
             .facts
-            .add(Says::Source { reading, source }, level, reason)?;
+            .add(Says::Source { reading, source }, rule, least)?;
         self.note(fact)?;
-        put_option(&mut self.sources, reading, Some(fact));
-        self.read_from(reading, source, Some(fact))
+        put(&mut self.sources, reading, Some(fact));
+        let commit = self.nodes.of_source(self.problem, source);
+        let begin = self.nodes.begin(reader);
+        self.facts.cite(fact)?;
+        let read = self.force(commit, begin, Rule::Read(reading), 0)?;
+        Ok(self.take(source, read, reader)?)
     }
 
-    /// Adds that the source of a reading is before the reader, and so takes place.
-    pub(crate) fn read_from(
+    /// Adds that the transaction of a source takes place, since it is before a reader that does.
+    pub(crate) fn take(
         &mut self,
-        reading: usize,
         source: Source,
-        settled: Option<usize>,
-    ) -> Result<(), Stop> {
-        let Some(read) = self.problem.reading(reading) else {
+        read: usize,
+        reader: usize,
+    ) -> Result<(), NoMemory> {
+        let Some(t) = self.problem.transaction_of(source) else {
             return Ok(());
         };
-        let writer = self.problem.transaction_of(source);
-        let level = self.facts.level_of_one(settled);
-        let commit = self.nodes.commit_of(writer);
-        let begin = self.nodes.begin(read.reader);
-        let reason = Reason::Read {
-            reading,
-            source: settled,
-        };
-        let fact = self.force(commit, begin, level, reason)?;
-        match writer {
-            Some(t) => Ok(self.take(t, fact, read.reader)?),
-            None => Ok(()),
-        }
-    }
-
-    /// Adds that a transaction takes place, since it is before one that does.
-    pub(crate) fn take(&mut self, t: usize, by: usize, reader: usize) -> Result<(), NoMemory> {
         if self.is_present(t) {
             return Ok(());
         }
-        let taken = self.taken_by(reader);
-        let level = self
-            .facts
-            .level_of_one(Some(by))
-            .max(self.facts.level_of_one(taken));
-        let fact = self
-            .facts
-            .add(Says::Taken(t), level, Reason::Taken { by, taken })?;
+        self.facts.cite(read)?;
+        self.cite_taken(reader)?;
+        let fact = self.facts.add(Says::Taken(t), Rule::Inside, 0)?;
         self.note(fact)?;
-        put_option(&mut self.taken, t, Some(fact));
-        put_mark(&mut self.present, t, true);
+        put(&mut self.taken, t, Some(fact));
         self.pending.push(t)?;
-        self.doubtful.push(t)?;
         Ok(())
     }
 
-    /// Adds that a source is not that of a reading.
+    /// Adds that a source is not that of a reading, which follows from what was cited.
     pub(crate) fn exclude(
         &mut self,
         reading: usize,
         source: Source,
-        level: usize,
-        reason: Reason,
+        rule: Rule,
+        least: usize,
     ) -> Result<(), NoMemory> {
-        let fact = self
-            .facts
-            .add(Says::Not { reading, source }, level, reason)?;
+        let fact = self.facts.add(Says::Not { reading, source }, rule, least)?;
         self.note(fact)?;
         if let Some(list) = self.nots.get_mut(reading) {
             list.push(Excluded { source, fact })?;
@@ -361,52 +325,37 @@ impl<'a> Known<'a> {
     fn forget(&mut self, fact: usize) {
         match self.facts.get(fact).says {
             Says::Before { first, second } => self.graph.unlink(first, second, fact),
-            Says::Source { reading, .. } => put_option(&mut self.sources, reading, None),
+            Says::Source { reading, .. } => put(&mut self.sources, reading, None),
             Says::Not { reading, .. } => {
                 if let Some(list) = self.nots.get_mut(reading) {
                     list.retain(|one| one.fact != fact);
                 }
             }
-            Says::Taken(t) => {
-                put_option(&mut self.taken, t, None);
-                put_mark(&mut self.present, t, false);
+            Says::Taken(t) => put(&mut self.taken, t, None),
+            Says::Contradiction => {}
+        }
+    }
+
+    /// Takes all decisions above a level back, and the facts that rest on them.
+    pub(crate) fn undo(&mut self, level: usize) -> Result<(), NoMemory> {
+        let mut mark = self.trail.len();
+        for _ in level..self.decisions.len() {
+            if let Some(decision) = self.decisions.pop() {
+                mark = decision.mark;
+                self.again.push(decision.violation)?;
             }
         }
-    }
-
-    /// Takes the last decision back, with all that came after it.
-    fn undo_last(&mut self) -> Result<(), NoMemory> {
-        let Some(decision) = self.decisions.pop() else {
-            return Ok(());
-        };
-        let Decision { violation, facts } = decision;
-        self.again.push(violation)?;
-        for fact in &facts {
-            self.forget(*fact);
+        let mut end = mark;
+        for place in mark..self.trail.len() {
+            let fact = at(self.trail.as_slice(), place, 0);
+            if self.facts.get(fact).level > level {
+                self.forget(fact);
+            } else {
+                put(&mut self.trail, end, fact);
+                end = end.saturating_add(1);
+            }
         }
-        Ok(())
-    }
-
-    /// Takes all decisions above a level back.
-    pub(crate) fn undo(&mut self, level: usize) -> Result<(), NoMemory> {
-        for _ in level..self.level() {
-            self.undo_last()?;
-        }
-        Ok(())
-    }
-
-    /// Adds what follows by a path on a ground.
-    pub(crate) fn follow(
-        &mut self,
-        first: usize,
-        second: usize,
-        ground: Ground,
-        path: &[usize],
-        least: usize,
-    ) -> Result<(), Stop> {
-        let level = self.facts.level_of(path).max(least);
-        let kept = self.facts.keep(path)?;
-        let _fact = self.force(first, second, level, Reason::Follows { ground, path: kept })?;
+        self.trail.truncate(end);
         Ok(())
     }
 }

@@ -2,20 +2,19 @@
 //! judged by hek_history.
 #![tactic(auto)]
 
-mod activate;
-mod anchor;
 mod anomalies;
-mod asked;
+mod causes;
 mod claims;
+mod clock;
 mod cycle;
 mod facts;
 mod graph;
+mod guesses;
 mod hints;
 mod judging;
 mod keys;
 mod known;
 mod lists;
-mod narrowing;
 mod nodes;
 mod order;
 mod problem;
@@ -23,14 +22,9 @@ mod reduce;
 mod repair;
 mod replay;
 mod resolve;
-mod rests;
-mod rounds;
-mod seeds;
 mod seek;
 mod start;
 mod steps;
-mod stop;
-mod violation;
 
 pub use anomalies::{Anomaly, Cause, CycleEdge, EdgeKind};
 pub use judging::{Found, Progress, Verdict, judge, search};

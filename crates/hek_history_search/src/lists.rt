@@ -11,48 +11,18 @@ pub(crate) fn part<T>(list: &[T], from: usize, to: usize) -> &[T] {
     }
 }
 
-/// The number at a place, or 0 past the end.
-pub(crate) fn number_at(list: &[usize], place: usize) -> usize {
-    match list.get(place) {
-        Some(number) => *number,
-        None => 0,
-    }
-}
-
-/// Puts a number at a place that the list has.
-pub(crate) fn put_number(list: &mut Vec<usize>, place: usize, number: usize) {
-    if let Some(there) = list.get_mut(place) {
-        *there = number;
-    }
-}
-
-/// The fact at a place, if the list has one there.
-pub(crate) fn option_at(list: &[Option<usize>], place: usize) -> Option<usize> {
+/// What stands at a place, or the other past the end.
+pub(crate) fn at<T: Copy>(list: &[T], place: usize, other: T) -> T {
     match list.get(place) {
         Some(there) => *there,
-        None => None,
+        None => other,
     }
 }
 
-/// Puts an option at a place that the list has.
-pub(crate) fn put_option(list: &mut Vec<Option<usize>>, place: usize, option: Option<usize>) {
+/// Puts something at a place, if the list has that place.
+pub(crate) fn put<T: Copy>(list: &mut Vec<T>, place: usize, value: T) {
     if let Some(there) = list.get_mut(place) {
-        *there = option;
-    }
-}
-
-/// Whether a place is marked.
-pub(crate) fn is_marked(list: &[bool], place: usize) -> bool {
-    match list.get(place) {
-        Some(marked) => *marked,
-        None => false,
-    }
-}
-
-/// Marks a place that the list has, or takes its mark away.
-pub(crate) fn put_mark(list: &mut Vec<bool>, place: usize, marked: bool) {
-    if let Some(there) = list.get_mut(place) {
-        *there = marked;
+        *there = value;
     }
 }
 

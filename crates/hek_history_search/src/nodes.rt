@@ -1,5 +1,5 @@
-//! The nodes of the graph: the moments of the transactions, and times of a clock.
-use crate::lists::{number_at, option_at};
+//! The nodes of the graph: the moments of the transactions, and ticks of a clock.
+use crate::lists::at;
 use crate::problem::{Problem, Source};
 use hek_history::{Moment, Order};
 use hek_rules::NoMemory;
@@ -13,68 +13,53 @@ pub(crate) const OPENING: usize = 0;
 pub(crate) struct Nodes {
     begin: Vec<usize>,
     commit: Vec<usize>,
-    /// The moment of each node; a time of the clock has none.
+    /// The moment of each node; a tick of the clock has none.
     moments: Vec<Option<Moment>>,
-    /// The node of the clock at which a transaction was answered.
-    answered: Vec<Option<usize>>,
-}
-
-/// Adds a node.
-fn add(moments: &mut Vec<Option<Moment>>, moment: Option<Moment>) -> Result<usize, NoMemory> {
-    let node = moments.len();
-    moments.push(moment)?;
-    Ok(node)
 }
 
 impl Nodes {
     /// The nodes of all transactions that may have committed.
     pub(crate) fn of(alloc: Global, problem: &Problem) -> Result<Nodes, NoMemory> {
-        let count = problem.transactions();
         let mut nodes = Nodes {
-            begin: Vec::with_capacity(alloc, count)?,
-            commit: Vec::with_capacity(alloc, count)?,
+            begin: Vec::new(alloc),
+            commit: Vec::new(alloc),
             moments: Vec::new(alloc),
-            answered: Vec::from_elem(alloc, None, count)?,
         };
-        nodes.moments.push(Some(Moment::Opening))?;
-        for t in 0..count {
+        let _opening = nodes.add(Some(Moment::Opening))?;
+        for t in 0..problem.transactions() {
             nodes.add_transaction(problem, t)?;
         }
         Ok(nodes)
     }
 
-    /// Adds the nodes of a transaction. A snapshot transaction that writes nothing has one node, unless its commit is asked for.
-    fn add_transaction(&mut self, problem: &Problem, t: usize) -> Result<(), NoMemory> {
-        if !problem.is_possible(t) {
-            self.begin.push(OPENING)?;
-            self.commit.push(OPENING)?;
-            return Ok(());
-        }
-        if !problem.is_snapshot(t) {
-            let node = add(&mut self.moments, Some(Moment::Commit(t)))?;
-            self.begin.push(node)?;
-            self.commit.push(node)?;
-            return Ok(());
-        }
-        let begin = add(&mut self.moments, Some(Moment::Begin(t)))?;
-        self.begin.push(begin)?;
-        let is_one = problem.left_by(t).is_empty() && problem.order == Order::Any;
-        let commit = if is_one {
-            begin
-        } else {
-            add(&mut self.moments, Some(Moment::Commit(t)))?
-        };
-        self.commit.push(commit)?;
-        Ok(())
+    /// Adds a node.
+    pub(crate) fn add(&mut self, moment: Option<Moment>) -> Result<usize, NoMemory> {
+        let node = self.moments.len();
+        self.moments.push(moment)?;
+        Ok(node)
     }
 
-    /// Adds the time of the clock at which a transaction was answered.
-    pub(crate) fn add_answer(&mut self, t: usize) -> Result<usize, NoMemory> {
-        let node = add(&mut self.moments, None)?;
-        if let Some(there) = self.answered.get_mut(t) {
-            *there = Some(node);
+    /// Adds the nodes of a transaction. A snapshot transaction that writes nothing has one node, unless its commit is asked for.
+    fn add_transaction(&mut self, problem: &Problem, t: usize) -> Result<(), NoMemory> {
+        let mut begin = OPENING;
+        let mut commit = OPENING;
+        if problem.is_possible(t) {
+            let is_snapshot = problem.is_snapshot(t);
+            if is_snapshot {
+                begin = self.add(Some(Moment::Begin(t)))?;
+            }
+            if is_snapshot && problem.left_by(t).is_empty() && problem.order == Order::Any {
+                commit = begin;
+            } else {
+                commit = self.add(Some(Moment::Commit(t)))?;
+            }
+            if !is_snapshot {
+                begin = commit;
+            }
         }
-        Ok(node)
+        self.begin.push(begin)?;
+        self.commit.push(commit)?;
+        Ok(())
     }
 
     pub(crate) fn len(&self) -> usize {
@@ -82,15 +67,11 @@ impl Nodes {
     }
 
     pub(crate) fn begin(&self, t: usize) -> usize {
-        number_at(self.begin.as_slice(), t)
+        at(self.begin.as_slice(), t, OPENING)
     }
 
     pub(crate) fn commit(&self, t: usize) -> usize {
-        number_at(self.commit.as_slice(), t)
-    }
-
-    pub(crate) fn answer(&self, t: usize) -> Option<usize> {
-        option_at(self.answered.as_slice(), t)
+        at(self.commit.as_slice(), t, OPENING)
     }
 
     /// The commit of a transaction, or the opening.
@@ -107,10 +88,7 @@ impl Nodes {
     }
 
     pub(crate) fn moment(&self, node: usize) -> Option<Moment> {
-        match self.moments.get(node) {
-            Some(moment) => *moment,
-            None => None,
-        }
+        at(self.moments.as_slice(), node, None)
     }
 
     /// The transaction of a node.

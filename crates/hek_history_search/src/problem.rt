@@ -1,6 +1,6 @@
 //! A history as the search sees it: what each transaction must have found at which keys, and what it left there.
 use crate::keys::Keys;
-use crate::lists::{number_at, part};
+use crate::lists::{at, part};
 use hek_history::{History, Level, Need, Order, Status};
 
 /// What an operation tells of the value that its transaction found at a key.
@@ -13,6 +13,15 @@ pub(crate) struct Reading {
     pub scanned: bool,
 }
 
+/// The reading past the end.
+const NO_READING: Reading = Reading {
+    reader: usize::MAX,
+    key: usize::MAX,
+    operation: 0,
+    need: Need::Anything,
+    scanned: false,
+};
+
 /// What a transaction leaves at a key: a value, or absence.
 #[derive(Clone, Copy)]
 pub(crate) struct Left {
@@ -22,7 +31,7 @@ pub(crate) struct Left {
 }
 
 /// Where the value that a reading tells of comes from: the opening, or the transaction of a row of the table.
-#[derive(Clone, Copy, Debug, PartialEq, Eq)]
+#[derive(Clone, Copy, PartialEq, Eq)]
 pub(crate) enum Source {
     Opening,
     Row(usize),
@@ -36,8 +45,29 @@ pub(crate) struct Candidates {
     pub to: usize,
 }
 
+/// A transaction without its operations.
+#[derive(Clone, Copy)]
+pub(crate) struct Outline {
+    pub level: Level,
+    pub status: Status,
+    pub begin: Option<u64>,
+    pub end: Option<u64>,
+    pub invoked: Option<u64>,
+    pub answered: Option<u64>,
+}
+
+/// The transaction past the end.
+const NO_TRANSACTION: Outline = Outline {
+    level: Level::Serializable,
+    status: Status::Aborted,
+    begin: None,
+    end: None,
+    invoked: None,
+    answered: None,
+};
+
 /// How a transaction's answers contradict each other, whatever the others did.
-#[derive(Clone, Copy, Debug, PartialEq, Eq)]
+#[derive(Clone, Copy)]
 pub enum OwnFault {
     /// The operation contradicts what the transaction itself did to the key before.
     Contradicted {
@@ -69,13 +99,13 @@ pub(crate) struct Problem<'a> {
     pub keys: Keys,
     /// The value of each key in the opening rows.
     pub opening: Vec<Option<u64>>,
-    /// The readings by transaction.
+    /// The readings by transaction, and where those of each begin.
     pub readings: Vec<Reading>,
     pub reading_from: Vec<usize>,
-    /// What each transaction leaves, by transaction.
+    /// What each transaction leaves, by transaction, and where that of each begins.
     pub left: Vec<Left>,
     pub left_from: Vec<usize>,
-    /// What all transactions leave, by key, then value, absence first, then writer.
+    /// What all transactions leave, by key, then value, absence first, then writer; and where the rows of each key begin.
     pub table: Vec<Left>,
     pub row_from: Vec<usize>,
     pub faults: Vec<Option<OwnFault>>,
@@ -110,50 +140,61 @@ fn is_within(need: Need, value: Option<u64>) -> bool {
     }
 }
 
+/// The part of a list from the start at a place to the next start.
+fn between<'a, T>(list: &'a [T], starts: &[usize], place: usize) -> &'a [T] {
+    let end = at(starts, place.saturating_add(1), 0);
+    part(list, at(starts, place, 0), end)
+}
+
 impl Problem<'_> {
     pub(crate) fn transactions(&self) -> usize {
         self.history.transactions.len()
     }
 
-    pub(crate) fn readings_of(&self, t: usize) -> &[Reading] {
-        part(
-            self.readings.as_slice(),
-            number_at(self.reading_from.as_slice(), t),
-            number_at(self.reading_from.as_slice(), t.saturating_add(1)),
-        )
-    }
-
     /// The place of a transaction's first reading.
     pub(crate) fn first_reading(&self, t: usize) -> usize {
-        number_at(self.reading_from.as_slice(), t)
+        at(self.reading_from.as_slice(), t, 0)
+    }
+
+    /// The place after a transaction's last reading.
+    pub(crate) fn end_reading(&self, t: usize) -> usize {
+        self.first_reading(t.saturating_add(1))
+    }
+
+    pub(crate) fn reading(&self, place: usize) -> Reading {
+        at(self.readings.as_slice(), place, NO_READING)
     }
 
     pub(crate) fn left_by(&self, t: usize) -> &[Left] {
-        part(
-            self.left.as_slice(),
-            number_at(self.left_from.as_slice(), t),
-            number_at(self.left_from.as_slice(), t.saturating_add(1)),
-        )
+        between(self.left.as_slice(), self.left_from.as_slice(), t)
     }
 
-    /// Whether the transaction leaves something at the key.
-    pub(crate) fn writes(&self, t: usize, key: usize) -> bool {
-        self.left_by(t).iter().any(|left| left.key == key)
+    /// What a transaction leaves at a key.
+    pub(crate) fn left_at(&self, t: usize, key: usize) -> Option<Left> {
+        for left in self.left_by(t) {
+            if left.key == key {
+                return Some(*left);
+            }
+        }
+        None
     }
 
     /// The place of the first row of a key in the table.
     pub(crate) fn first_row(&self, key: usize) -> usize {
-        number_at(self.row_from.as_slice(), key)
+        at(self.row_from.as_slice(), key, 0)
     }
 
-    /// The place after the last row of a key in the table.
-    pub(crate) fn end_row(&self, key: usize) -> usize {
-        number_at(self.row_from.as_slice(), key.saturating_add(1))
+    /// A row of the table.
+    pub(crate) fn row(&self, row: usize) -> Option<Left> {
+        match self.table.get(row) {
+            Some(left) => Some(*left),
+            None => None,
+        }
     }
 
     /// The transaction of a row.
     pub(crate) fn writer_of(&self, row: usize) -> Option<usize> {
-        match self.table.get(row) {
+        match self.row(row) {
             Some(left) => Some(left.writer),
             None => None,
         }
@@ -168,23 +209,13 @@ impl Problem<'_> {
     }
 
     pub(crate) fn opening_at(&self, key: usize) -> Option<u64> {
-        match self.opening.get(key) {
-            Some(value) => *value,
-            None => None,
-        }
-    }
-
-    pub(crate) fn reading(&self, place: usize) -> Option<Reading> {
-        match self.readings.get(place) {
-            Some(reading) => Some(*reading),
-            None => None,
-        }
+        at(self.opening.as_slice(), key, None)
     }
 
     /// The sources that meet the need of a reading.
     pub(crate) fn candidates(&self, reading: Reading) -> Candidates {
         let first = self.first_row(reading.key);
-        let rows = part(self.table.as_slice(), first, self.end_row(reading.key));
+        let rows = between(self.table.as_slice(), self.row_from.as_slice(), reading.key);
         let from = rows.partition_point(|row| is_below(reading.need, row.value));
         let to = rows.partition_point(|row| is_within(reading.need, row.value));
         Candidates {
@@ -194,60 +225,34 @@ impl Problem<'_> {
         }
     }
 
-    pub(crate) fn is_committed(&self, t: usize) -> bool {
+    pub(crate) fn outline(&self, t: usize) -> Outline {
         match self.history.transactions.get(t) {
-            Some(transaction) => transaction.status == Status::Committed,
-            None => false,
+            Some(one) => Outline {
+                level: one.level,
+                status: one.status,
+                begin: one.begin,
+                end: one.end,
+                invoked: one.invoked,
+                answered: one.answered,
+            },
+            None => NO_TRANSACTION,
         }
+    }
+
+    pub(crate) fn is_committed(&self, t: usize) -> bool {
+        self.outline(t).status == Status::Committed
     }
 
     /// Whether the transaction may have committed.
     pub(crate) fn is_possible(&self, t: usize) -> bool {
-        match self.history.transactions.get(t) {
-            Some(transaction) => transaction.status != Status::Aborted,
-            None => false,
-        }
+        self.outline(t).status != Status::Aborted
     }
 
     pub(crate) fn is_snapshot(&self, t: usize) -> bool {
-        match self.history.transactions.get(t) {
-            Some(transaction) => transaction.level == Level::Snapshot,
-            None => false,
-        }
-    }
-
-    pub(crate) fn end_of(&self, t: usize) -> Option<u64> {
-        match self.history.transactions.get(t) {
-            Some(transaction) => transaction.end,
-            None => None,
-        }
-    }
-
-    pub(crate) fn begin_of(&self, t: usize) -> Option<u64> {
-        match self.history.transactions.get(t) {
-            Some(transaction) => transaction.begin,
-            None => None,
-        }
-    }
-
-    pub(crate) fn invoked_of(&self, t: usize) -> Option<u64> {
-        match self.history.transactions.get(t) {
-            Some(transaction) => transaction.invoked,
-            None => None,
-        }
-    }
-
-    pub(crate) fn answered_of(&self, t: usize) -> Option<u64> {
-        match self.history.transactions.get(t) {
-            Some(transaction) => transaction.answered,
-            None => None,
-        }
+        self.outline(t).level == Level::Snapshot
     }
 
     pub(crate) fn fault_of(&self, t: usize) -> Option<OwnFault> {
-        match self.faults.get(t) {
-            Some(fault) => *fault,
-            None => None,
-        }
+        at(self.faults.as_slice(), t, None)
     }
 }

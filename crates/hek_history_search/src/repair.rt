@@ -1,97 +1,74 @@
 //! A violation is repaired: by what follows from known facts, or else by a decision.
-use crate::facts::{Ground, Reason};
-use crate::graph::Reach;
-use crate::hints::Hint;
+use crate::facts::{Rule, Stop};
 use crate::known::{Known, Settled};
+use crate::lists::list_at;
 use crate::problem::{Reading, Source};
-use crate::start::hint_at;
-use crate::stop::{Conflict, Stop};
-use crate::violation::Violation;
+use crate::replay::Violation;
 use hek_rules::NoMemory;
 
-/// How far paths are looked for.
-#[derive(Clone, Copy)]
-pub(crate) struct Sight<'a> {
-    pub hints: &'a [Hint],
-    pub nodes: usize,
-}
-
-/// One moment before another: one of two ways to repair a violation, and its ground where a path forbids the other way.
+/// One moment before another: one of two ways to repair a violation, by a rule where a path forbids the other way, and by the fact
+/// that settles a source.
 #[derive(Clone, Copy)]
 struct Way {
     first: usize,
     second: usize,
-    ground: Ground,
+    rule: Rule,
+    source: Option<usize>,
 }
 
-/// Where a candidate is in the order: before its reader, after it, or nowhere yet, with how far that is.
+/// Where a candidate is in the order: before its reader, after it, or nowhere yet.
+#[derive(Clone, Copy, PartialEq, Eq, PartialOrd, Ord)]
+enum Standing {
+    Before,
+    After,
+    Doubtful,
+}
+
+/// A candidate, where it is, and how far from its reader.
 #[derive(Clone, Copy)]
 struct Chance {
     source: Source,
     node: usize,
-    standing: usize,
+    standing: Standing,
     distance: usize,
 }
 
-/// Before its reader, after it, or of a transaction that may not take place.
-const BEFORE: usize = 0;
-
-const AFTER: usize = 1;
-
-const DOUBTFUL: usize = 2;
-
-/// The path, if one was found.
-fn found(reach: Reach) -> Option<Vec<usize>> {
-    match reach {
-        Reach::Path(path) => Some(path),
-        Reach::No | Reach::Unknown => None,
-    }
-}
-
 impl Known<'_> {
+    /// A way holds, since the path that was found last forbids the other.
+    fn follow(&mut self, way: Way) -> Result<(), Stop> {
+        self.facts.cite_option(way.source)?;
+        self.cite_path()?;
+        let _fact = self.force(way.first, way.second, way.rule, 0)?;
+        Ok(())
+    }
+
     /// One of two ways holds: the other, if a path forbids one, or else the one to try first.
-    fn choose(
-        &mut self,
-        one: Way,
-        other: Way,
-        level: usize,
-        violation: Violation,
-        sight: Sight,
-    ) -> Result<(), Stop> {
-        if let Some(path) = found(self.reach(other.second, other.first, sight.nodes)?) {
-            return self.follow(one.first, one.second, one.ground, path.as_slice(), level);
+    fn choose(&mut self, one: Way, other: Way, violation: Violation) -> Result<(), Stop> {
+        if self.has_path(other.second, other.first)? {
+            return self.follow(one);
         }
-        if let Some(path) = found(self.reach(one.second, one.first, sight.nodes)?) {
-            return self.follow(
-                other.first,
-                other.second,
-                other.ground,
-                path.as_slice(),
-                level,
-            );
+        if self.has_path(one.second, one.first)? {
+            return self.follow(other);
         }
-        match self.decide(one.first, one.second, violation)? {
-            Some(path) => self.follow(
-                other.first,
-                other.second,
-                other.ground,
-                path.as_slice(),
-                level,
-            ),
-            None => Ok(()),
+        if self.decide(one.first, one.second, violation)? {
+            return self.follow(other);
         }
+        Ok(())
     }
 
     /// Repairs a violation, if it is still one.
-    pub(crate) fn repair(&mut self, violation: Violation, sight: Sight) -> Result<(), Stop> {
+    pub(crate) fn repair(&mut self, violation: Violation) -> Result<(), Stop> {
         match violation {
-            Violation::Found { reading, writer } => {
-                self.repair_found(reading, writer, violation, sight)
-            }
+            Violation::Found { reading, writer } => self.repair_found(reading, writer, violation),
             Violation::Both { first, second, key } => {
-                self.repair_both(first, second, key, violation, sight)
+                self.repair_both(first, second, key, violation)
             }
         }
+    }
+
+    /// Whether a moment is before another in the order.
+    fn is_in_order(&self, first: usize, second: usize) -> bool {
+        self.graph.place_of(first) < self.graph.place_of(second)
     }
 
     /// A reader finds what another than its source wrote.
@@ -100,21 +77,16 @@ impl Known<'_> {
         place: usize,
         writer: Option<usize>,
         violation: Violation,
-        sight: Sight,
     ) -> Result<(), Stop> {
-        let Some(reading) = self.problem.reading(place) else {
-            return Ok(());
-        };
-        if !self.is_present(reading.reader) || !self.is_present_writer(writer) {
-            return Ok(());
-        }
-        let begin = self.graph.place_of(self.nodes.begin(reading.reader));
-        if self.graph.place_of(self.nodes.commit_of(writer)) > begin {
+        let reading = self.problem.reading(place);
+        let begin = self.nodes.begin(reading.reader);
+        let is_late = self.is_in_order(begin, self.nodes.commit_of(writer));
+        if is_late || !self.is_present(reading.reader) || !self.is_present_writer(writer) {
             return Ok(());
         }
         match self.source(place) {
-            Some(settled) => self.repair_settled(place, settled, writer, violation, sight),
-            None => self.find_source(place, reading, writer, violation, sight),
+            Some(settled) => self.repair_settled(place, settled, writer, violation),
+            None => self.find_source(place, reading, writer, violation),
         }
     }
 
@@ -125,38 +97,48 @@ impl Known<'_> {
         settled: Settled,
         writer: Option<usize>,
         violation: Violation,
-        sight: Sight,
     ) -> Result<(), Stop> {
-        let Some(reading) = self.problem.reading(place) else {
-            return Ok(());
-        };
         let source = self.problem.transaction_of(settled.source);
         let its = self.nodes.commit_of(source);
         let others = self.nodes.commit_of(writer);
-        if source == writer || self.graph.place_of(others) < self.graph.place_of(its) {
+        if source == writer || self.is_in_order(others, its) {
             return Ok(());
         }
         let after = Way {
-            first: self.nodes.begin(reading.reader),
+            first: self.nodes.begin(self.problem.reading(place).reader),
             second: others,
-            ground: Ground::After {
-                reading: place,
-                source: settled.fact,
-            },
+            rule: Rule::After(place),
+            source: settled.fact,
         };
         let before = Way {
             first: others,
             second: its,
-            ground: Ground::Before {
-                reading: place,
-                source: settled.fact,
-            },
+            rule: Rule::Precedes(place),
+            source: settled.fact,
         };
-        let level = self.facts.level_of_one(settled.fact);
-        if is_expected_first(sight.hints, source, writer) {
-            self.choose(after, before, level, violation, sight)
+        if self.is_expected_first(source, writer) {
+            self.choose(after, before, violation)
         } else {
-            self.choose(before, after, level, violation, sight)
+            self.choose(before, after, violation)
+        }
+    }
+
+    /// Whether a writer is expected before another, or with it.
+    fn is_expected_first(&self, source: Option<usize>, writer: Option<usize>) -> bool {
+        match (source, writer) {
+            (None, _) => true,
+            (Some(_), None) => false,
+            (Some(x), Some(y)) => self.hint(x).commit <= self.hint(y).commit,
+        }
+    }
+
+    /// A way by which the first of two that write a key commits before the second begins.
+    fn winner(&self, first: usize, second: usize, key: usize) -> Way {
+        Way {
+            first: self.nodes.commit(first),
+            second: self.nodes.begin(second),
+            rule: Rule::Winner { first, second, key },
+            source: None,
         }
     }
 
@@ -167,94 +149,40 @@ impl Known<'_> {
         x: usize,
         key: usize,
         violation: Violation,
-        sight: Sight,
     ) -> Result<(), Stop> {
-        if !self.is_present(t) || !self.is_present(x) {
+        let one = self.winner(t, x, key);
+        let other = self.winner(x, t, key);
+        let is_right = self.is_in_order(one.first, one.second)
+            || self.is_in_order(other.first, other.second);
+        if is_right || !self.is_present(t) || !self.is_present(x) {
             return Ok(());
         }
-        let other_first = Way {
-            first: self.nodes.commit(x),
-            second: self.nodes.begin(t),
-            ground: Ground::Winner {
-                first: x,
-                second: t,
-                key,
-            },
-        };
-        let first_first = Way {
-            first: self.nodes.commit(t),
-            second: self.nodes.begin(x),
-            ground: Ground::Winner {
-                first: t,
-                second: x,
-                key,
-            },
-        };
-        if self.is_in_order(other_first) || self.is_in_order(first_first) {
-            return Ok(());
-        }
-        if self.expects_other(t, x, key, sight.hints) {
-            self.choose(other_first, first_first, 0, violation, sight)
+        if self.expects_other(t, x, key) {
+            self.choose(other, one, violation)
         } else {
-            self.choose(first_first, other_first, 0, violation, sight)
+            self.choose(one, other, violation)
         }
-    }
-
-    /// Whether the order has it so.
-    fn is_in_order(&self, way: Way) -> bool {
-        self.graph.place_of(way.first) < self.graph.place_of(way.second)
     }
 
     /// Whether x is expected before t: unless t read a version from before x, or by their hints.
-    fn expects_other(&self, t: usize, x: usize, key: usize, hints: &[Hint]) -> bool {
-        if self.read_before(t, x, key, hints) {
+    fn expects_other(&self, t: usize, x: usize, key: usize) -> bool {
+        if self.read_before(t, x, key) {
             return false;
         }
-        if self.read_before(x, t, key, hints) {
-            return true;
-        }
-        hint_at(hints, x).commit <= hint_at(hints, t).commit
+        self.read_before(x, t, key) || self.is_expected_first(Some(x), Some(t))
     }
 
     /// Whether a transaction read the key from a writer that is expected before another.
-    fn read_before(&self, t: usize, other: usize, key: usize, hints: &[Hint]) -> bool {
-        let problem = self.problem;
-        let mut place = problem.first_reading(t);
-        for reading in problem.readings_of(t) {
-            if reading.key == key {
+    fn read_before(&self, t: usize, other: usize, key: usize) -> bool {
+        for place in self.problem.first_reading(t)..self.problem.end_reading(t) {
+            if self.problem.reading(place).key == key {
                 if let Some(settled) = self.source(place) {
-                    let source = problem.transaction_of(settled.source);
-                    return source != Some(other) && is_expected_before(hints, source, other);
+                    let source = self.problem.transaction_of(settled.source);
+                    return source != Some(other) && !self.is_expected_first(Some(other), source);
                 }
             }
-            place = place.saturating_add(1);
         }
         false
-    }
-
-    /// The candidates of a reading that are left, the nearest first; nothing if one of them is what the reader finds.
-    fn chances(
-        &self,
-        place: usize,
-        reading: Reading,
-        writer: Option<usize>,
-    ) -> Result<Option<Vec<Chance>>, NoMemory> {
-        let candidates = self.problem.candidates(reading);
-        let mut chances = Vec::new(self.alloc);
-        if candidates.opening {
-            self.add_chance(&mut chances, place, reading, Source::Opening)?;
-        }
-        for row in candidates.from..candidates.to {
-            self.add_chance(&mut chances, place, reading, Source::Row(row))?;
-        }
-        let last = self.graph.place_of(self.nodes.commit_of(writer));
-        for chance in &chances {
-            if chance.standing == BEFORE && self.graph.place_of(chance.node) > last {
-                return Ok(None);
-            }
-        }
-        chances.sort_unstable_by_key(|chance| (chance.standing, chance.distance));
-        Ok(Some(chances))
     }
 
     /// Adds a candidate, unless it is excluded or the reader's own.
@@ -262,30 +190,44 @@ impl Known<'_> {
         &self,
         chances: &mut Vec<Chance>,
         place: usize,
-        reading: Reading,
         source: Source,
     ) -> Result<(), NoMemory> {
+        let reader = self.problem.reading(place).reader;
         let writer = self.problem.transaction_of(source);
-        if writer == Some(reading.reader) || self.is_excluded(place, source) {
+        if writer == Some(reader) || self.is_excluded(place, source) {
             return Ok(());
         }
         let node = self.nodes.commit_of(writer);
         let its = self.graph.place_of(node);
-        let begin = self.graph.place_of(self.nodes.begin(reading.reader));
-        let (standing, distance) = if !self.is_present_writer(writer) {
-            (DOUBTFUL, 0)
+        let begin = self.graph.place_of(self.nodes.begin(reader));
+        let standing = if !self.is_present_writer(writer) {
+            Standing::Doubtful
         } else if its < begin {
-            (BEFORE, begin - its)
+            Standing::Before
         } else {
-            (AFTER, its.saturating_sub(begin))
+            Standing::After
         };
         chances.push(Chance {
             source,
             node,
             standing,
-            distance,
+            distance: begin.abs_diff(its),
         })?;
         Ok(())
+    }
+
+    /// The candidates of a reading that are left, the nearest first.
+    fn chances(&self, place: usize, reading: Reading) -> Result<Vec<Chance>, NoMemory> {
+        let candidates = self.problem.candidates(reading);
+        let mut chances = Vec::new(self.alloc);
+        if candidates.opening {
+            self.add_chance(&mut chances, place, Source::Opening)?;
+        }
+        for row in candidates.from..candidates.to {
+            self.add_chance(&mut chances, place, Source::Row(row))?;
+        }
+        chances.sort_unstable_by_key(|chance| (chance.standing, chance.distance));
+        Ok(chances)
     }
 
     /// A reading with several candidates gets one of them as its source.
@@ -295,103 +237,49 @@ impl Known<'_> {
         reading: Reading,
         writer: Option<usize>,
         violation: Violation,
-        sight: Sight,
     ) -> Result<(), Stop> {
-        let Some(chances) = self.chances(place, reading, writer)? else {
-            return Ok(());
-        };
-        let begin = self.nodes.begin(reading.reader);
         let last = self.nodes.commit_of(writer);
-        let covered = found(self.reach(last, begin, sight.nodes)?);
-        for chance in &chances {
-            let by = match &covered {
-                Some(path) => Some(path.as_slice()),
-                None => None,
-            };
-            if !self.excludes(place, begin, last, *chance, by, sight)? {
-                return self.take_chance(place, reading, *chance, violation);
+        for chance in &self.chances(place, reading)? {
+            if chance.standing == Standing::Before && self.is_in_order(last, chance.node) {
+                return Ok(());
+            }
+            if !self.excludes(place, last, *chance)? {
+                return self.take_chance(place, reading, chance.source, violation);
             }
         }
-        Err(Stop::Conflict(self.no_source(place, reading)?))
+        self.cite_exclusions(place)?;
+        self.cite_taken(reading.reader)?;
+        self.contradict(Rule::NoSource(place))
     }
 
-    /// No candidate is left.
-    fn no_source(&self, place: usize, reading: Reading) -> Result<Conflict, NoMemory> {
-        Ok(Conflict::NoSource {
-            reading: place,
-            nots: self.exclusions(place)?,
-            taken: self.taken_by(reading.reader),
-        })
-    }
-
-    /// The facts that exclude sources of a reading.
-    fn exclusions(&self, place: usize) -> Result<Vec<usize>, NoMemory> {
-        let mut facts = Vec::new(self.alloc);
-        for one in self.excluded(place) {
-            facts.push(one.fact)?;
+    /// Cites the facts that exclude sources of a reading.
+    fn cite_exclusions(&mut self, place: usize) -> Result<(), NoMemory> {
+        for one in list_at(self.nots.as_slice(), place) {
+            self.facts.cite(one.fact)?;
         }
-        Ok(facts)
+        Ok(())
     }
 
-    /// Whether known facts exclude a candidate; then that is a fact too.
-    fn excludes(
-        &mut self,
-        place: usize,
-        begin: usize,
-        last: usize,
-        chance: Chance,
-        covered: Option<&[usize]>,
-        sight: Sight,
-    ) -> Result<bool, Stop> {
-        if chance.standing == BEFORE {
-            if let Some(earlier) = covered {
-                if let Some(later) = found(self.reach(chance.node, last, sight.nodes)?) {
-                    self.exclude_covered(place, chance.source, later.as_slice(), earlier)?;
-                    return Ok(true);
-                }
-            }
-        }
-        if chance.standing == AFTER {
-            if let Some(path) = found(self.reach(begin, chance.node, sight.nodes)?) {
-                self.exclude_later(place, chance.source, path.as_slice())?;
+    /// Whether known facts exclude a candidate, where another wrote the key last; then that is a fact too.
+    fn excludes(&mut self, place: usize, last: usize, chance: Chance) -> Result<bool, Stop> {
+        let begin = self.nodes.begin(self.problem.reading(place).reader);
+        if chance.standing == Standing::Before && self.has_path(chance.node, last)? {
+            let count = self.graph.path.len();
+            self.cite_path()?;
+            if self.has_path(last, begin)? {
+                self.cite_path()?;
+                self.exclude(place, chance.source, Rule::NotCovered(count), 0)?;
                 return Ok(true);
             }
+            self.facts.cite_nothing();
         }
-        if let Some(path) = self.make_room(chance.node, begin)? {
-            self.exclude_later(place, chance.source, path.as_slice())?;
+        let is_after = chance.standing == Standing::After && self.has_path(begin, chance.node)?;
+        if is_after || self.is_forbidden(chance.node, begin)? {
+            self.cite_path()?;
+            self.exclude(place, chance.source, Rule::NotLater, 0)?;
             return Ok(true);
         }
         Ok(false)
-    }
-
-    /// The writer is after the reader.
-    fn exclude_later(
-        &mut self,
-        place: usize,
-        source: Source,
-        path: &[usize],
-    ) -> Result<(), NoMemory> {
-        let level = self.facts.level_of(path);
-        let kept = self.facts.keep(path)?;
-        self.exclude(place, source, level, Reason::NotLater { path: kept })
-    }
-
-    /// Another wrote the key between the writer and the reader.
-    fn exclude_covered(
-        &mut self,
-        place: usize,
-        source: Source,
-        later: &[usize],
-        earlier: &[usize],
-    ) -> Result<(), NoMemory> {
-        let level = self.facts.level_of(later).max(self.facts.level_of(earlier));
-        let after = self.facts.keep(later)?;
-        let before = self.facts.keep(earlier)?;
-        let reason = Reason::NotCovered {
-            later: after,
-            earlier: before,
-        };
-        self.exclude(place, source, level, reason)
     }
 
     /// A candidate is the source: since all others are excluded, or by a decision.
@@ -399,25 +287,15 @@ impl Known<'_> {
         &mut self,
         place: usize,
         reading: Reading,
-        chance: Chance,
+        source: Source,
         violation: Violation,
     ) -> Result<(), Stop> {
-        let taken = self.taken_by(reading.reader);
-        if !self.is_last(place, reading, chance.source) {
-            return self.decide_source(place, chance.source, taken, violation);
+        if self.is_last(place, reading, source) {
+            self.cite_exclusions(place)?;
+            self.settle(place, source, Rule::LastSource, 0)
+        } else {
+            self.decide_source(place, source, violation)
         }
-        let facts = self.exclusions(place)?;
-        let level = self
-            .facts
-            .level_of(facts.as_slice())
-            .max(self.facts.level_of_one(taken));
-        let nots = self.facts.keep(facts.as_slice())?;
-        self.settle(
-            place,
-            chance.source,
-            level,
-            Reason::LastSource { taken, nots },
-        )
     }
 
     /// Whether all other candidates are excluded.
@@ -435,22 +313,5 @@ impl Known<'_> {
             }
         }
         true
-    }
-}
-
-/// Whether a source is expected before another writer.
-fn is_expected_first(hints: &[Hint], source: Option<usize>, writer: Option<usize>) -> bool {
-    match (source, writer) {
-        (None, _) => true,
-        (Some(_), None) => false,
-        (Some(x), Some(y)) => hint_at(hints, x).commit <= hint_at(hints, y).commit,
-    }
-}
-
-/// Whether a source is expected before a transaction.
-fn is_expected_before(hints: &[Hint], source: Option<usize>, t: usize) -> bool {
-    match source {
-        None => true,
-        Some(x) => hint_at(hints, x).commit < hint_at(hints, t).commit,
     }
 }

@@ -1,9 +1,25 @@
 //! The order of the moments is replayed, to see where it fails.
 use crate::known::Known;
+use crate::lists::{at, put};
 use crate::problem::meets;
-use crate::violation::Violation;
 use hek_history::Point;
 use hek_rules::NoMemory;
+
+/// Where a replay of the order fails.
+#[derive(Clone, Copy)]
+pub(crate) enum Violation {
+    /// What the reader finds isn't what the reading tells of: the last writer of the key, `None` for the opening, left it.
+    Found {
+        reading: usize,
+        writer: Option<usize>,
+    },
+    /// Another who writes the key committed between the begin and the commit of the first.
+    Both {
+        first: usize,
+        second: usize,
+        key: usize,
+    },
+}
 
 /// A key in a replay: its value, and who wrote it last.
 #[derive(Clone, Copy)]
@@ -11,6 +27,12 @@ struct Cell {
     value: Option<u64>,
     writer: Option<usize>,
 }
+
+/// What no key has.
+const NO_CELL: Cell = Cell {
+    value: None,
+    writer: None,
+};
 
 /// The rows while the order is replayed, and what failed so far.
 #[derive(Drop)]
@@ -21,65 +43,47 @@ struct Replay<'a, 'b> {
 }
 
 impl Replay<'_, '_> {
-    fn cell(&self, key: usize) -> Cell {
-        match self.cells.get(key) {
-            Some(cell) => *cell,
-            None => Cell {
-                value: None,
-                writer: None,
-            },
-        }
-    }
-
     /// A transaction reads.
     fn read(&mut self, t: usize) -> Result<(), NoMemory> {
         let problem = self.known.problem;
-        let mut place = problem.first_reading(t);
-        for reading in problem.readings_of(t) {
-            let cell = self.cell(reading.key);
+        for place in problem.first_reading(t)..problem.end_reading(t) {
+            let reading = problem.reading(place);
+            let cell = at(self.cells.as_slice(), reading.key, NO_CELL);
             if !meets(reading.need, cell.value) {
                 self.failed.push(Violation::Found {
                     reading: place,
                     writer: cell.writer,
                 })?;
             }
-            place = place.saturating_add(1);
         }
         Ok(())
     }
 
-    /// Notes that another wrote the key between the begin and the commit of a snapshot transaction.
-    fn check_first(&mut self, t: usize, key: usize, writer: Option<usize>) -> Result<(), NoMemory> {
-        let Some(other) = writer else {
-            return Ok(());
-        };
+    /// Whether a writer committed after a transaction began.
+    fn is_since(&self, t: usize, writer: usize) -> bool {
         let graph = &self.known.graph;
         let nodes = &self.known.nodes;
-        if graph.place_of(nodes.commit(other)) > graph.place_of(nodes.begin(t)) {
-            self.failed.push(Violation::Both {
-                first: t,
-                second: other,
-                key,
-            })?;
-        }
-        Ok(())
+        graph.place_of(nodes.commit(writer)) > graph.place_of(nodes.begin(t))
     }
 
     /// The writes of a transaction come to be.
     fn write(&mut self, t: usize) -> Result<(), NoMemory> {
-        let problem = self.known.problem;
-        let is_snapshot = problem.is_snapshot(t);
-        for left in problem.left_by(t) {
-            if is_snapshot {
-                let writer = self.cell(left.key).writer;
-                self.check_first(t, left.key, writer)?;
+        for left in self.known.problem.left_by(t) {
+            let before = at(self.cells.as_slice(), left.key, NO_CELL);
+            if let Some(other) = before.writer {
+                if self.is_since(t, other) {
+                    self.failed.push(Violation::Both {
+                        first: t,
+                        second: other,
+                        key: left.key,
+                    })?;
+                }
             }
-            if let Some(there) = self.cells.get_mut(left.key) {
-                *there = Cell {
-                    value: left.value,
-                    writer: Some(t),
-                };
-            }
+            let cell = Cell {
+                value: left.value,
+                writer: Some(t),
+            };
+            put(&mut self.cells, left.key, cell);
         }
         Ok(())
     }
@@ -102,54 +106,43 @@ impl Replay<'_, '_> {
     }
 }
 
-/// Where the order fails.
-pub(crate) fn violations(known: &Known) -> Result<Vec<Violation>, NoMemory> {
-    let mut cells = Vec::with_capacity(known.alloc, known.problem.opening.len())?;
-    for value in &known.problem.opening {
-        cells.push(Cell {
-            value: *value,
-            writer: None,
-        })?;
+impl Known<'_> {
+    /// Where the order fails.
+    pub(crate) fn violations(&self) -> Result<Vec<Violation>, NoMemory> {
+        let mut replay = Replay {
+            known: self,
+            cells: Vec::new(self.alloc),
+            failed: Vec::new(self.alloc),
+        };
+        for value in &self.problem.opening {
+            replay.cells.push(Cell {
+                value: *value,
+                writer: None,
+            })?;
+        }
+        for node in self.graph.order() {
+            replay.run(*node)?;
+        }
+        Ok(std::mem::replace(&mut replay.failed, Vec::new(self.alloc)))
     }
-    let mut replay = Replay {
-        known,
-        cells,
-        failed: Vec::new(known.alloc),
-    };
-    for node in known.graph.order() {
-        replay.run(*node)?;
-    }
-    let Replay {
-        known: _,
-        cells: rows,
-        failed,
-    } = replay;
-    drop(rows);
-    Ok(failed)
-}
 
-/// Adds the points of a node.
-fn add_points(points: &mut Vec<Point>, known: &Known, node: usize) -> Result<(), NoMemory> {
-    let Some(t) = known.nodes.transaction(node) else {
-        return Ok(());
-    };
-    if !known.is_present(t) {
-        return Ok(());
+    /// The points of those who take place, in order.
+    pub(crate) fn points(&self) -> Result<Vec<Point>, NoMemory> {
+        let mut points = Vec::new(self.alloc);
+        for node in self.graph.order() {
+            let Some(t) = self.nodes.transaction(*node) else {
+                continue;
+            };
+            if !self.is_present(t) {
+                continue;
+            }
+            if self.nodes.begin(t) == *node {
+                points.push(Point::Begin(t))?;
+            }
+            if self.nodes.commit(t) == *node {
+                points.push(Point::Commit(t))?;
+            }
+        }
+        Ok(points)
     }
-    if known.nodes.begin(t) == node {
-        points.push(Point::Begin(t))?;
-    }
-    if known.nodes.commit(t) == node {
-        points.push(Point::Commit(t))?;
-    }
-    Ok(())
-}
-
-/// The points of those who take place, in order.
-pub(crate) fn points(known: &Known) -> Result<Vec<Point>, NoMemory> {
-    let mut found = Vec::new(known.alloc);
-    for node in known.graph.order() {
-        add_points(&mut found, known, *node)?;
-    }
-    Ok(found)
 }

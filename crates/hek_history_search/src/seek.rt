@@ -1,105 +1,153 @@
-//! The search: by the hints, by facts, and by repairs.
-use crate::anchor::guesses;
-use crate::asked::{Timed, answers, asked_times};
-use crate::cycle::{Tangle, shortest_cycle};
-use crate::hints::{Hint, all_hints};
+//! The search: by facts, and by repairs: the order is replayed, and what fails is repaired, one after another.
+use crate::cycle::shortest_cycle;
+use crate::facts::{Rule, Stop};
 use crate::known::Known;
-use crate::nodes::Nodes;
-use crate::order::{Assumed, Assumptions, Sorted, sort_nodes};
-use crate::problem::Problem;
-use crate::rounds::{anchor_again, repair_until};
-use crate::start::{node_hints, only_sources, start_conflict};
-use crate::stop::{Conflict, Stop};
-use hek_history::{Order, Point};
+use crate::order::sorted_nodes;
+use crate::replay::Violation;
+use hek_history::Point;
 use hek_rules::NoMemory;
-use std::alloc::Global;
+
+/// Within how many nodes paths are looked for at first.
+const NEAR: usize = 1000;
 
 /// What the search comes to.
 #[derive(Drop)]
 pub(crate) enum Outcome {
     Points(Vec<Point>),
-    Refuted(Conflict),
-    /// It gave up after so many conflicts, with so many violations left.
-    Unknown { conflicts: usize, violations: usize },
+    /// This fact says that there is a contradiction, and rests on no decision.
+    Refuted(usize),
+    /// It gave up, with so many violations left.
+    Unknown(usize),
 }
 
-/// What stays the same during a search.
+/// What a step comes to.
+#[derive(Clone, Copy)]
+enum Stepped {
+    Done,
+    /// A decision was turned to its contrary.
+    Turned,
+    Refuted(usize),
+}
+
+/// What is left to do: violations to repair, the last one first, and how many repairs may still be made, one for which many nodes
+/// are looked at counting as several.
 #[derive(Drop)]
-pub(crate) struct Plan {
-    pub hints: Vec<Hint>,
-    pub node_hints: Vec<u64>,
-    pub times: Vec<Timed>,
-    pub guesses: Vec<Assumed>,
-}
-
-/// The state of a search before its first fact, and what its start fails on.
-pub(crate) fn prepared<'a>(
-    alloc: Global,
-    problem: &'a Problem<'a>,
-) -> Result<(Known<'a>, Option<usize>), NoMemory> {
-    let (only, lost) = only_sources(alloc, problem)?;
-    let mut nodes = Nodes::of(alloc, problem)?;
-    if problem.order == Order::Real {
-        for answered in &answers(alloc, problem)? {
-            let _node = nodes.add_answer(answered.which)?;
-        }
-    }
-    let known = Known::new(alloc, problem, nodes, only)?;
-    Ok((known, lost))
-}
-
-/// What the search goes by.
-pub(crate) fn planned(known: &Known) -> Result<Plan, NoMemory> {
-    let alloc = known.alloc;
-    let found = all_hints(alloc, known.problem.history)?;
-    let times = asked_times(alloc, known)?;
-    let mut clock = Vec::new(alloc);
-    if known.problem.order == Order::Real {
-        for one in &times {
-            clock.push(one.time)?;
-        }
-    }
-    let of_nodes = node_hints(alloc, &known.nodes, found.as_slice(), clock.as_slice())?;
-    Ok(Plan {
-        hints: found,
-        node_hints: of_nodes,
-        times,
-        guesses: Vec::new(alloc),
-    })
-}
-
-/// The facts that need no decision, and an order that agrees with them.
-fn begin(known: &mut Known, plan: &Plan, lost: Option<usize>) -> Result<(), Stop> {
-    start_conflict(known.alloc, known.problem, lost)?;
-    known.add_own()?;
-    known.add_sources()?;
-    known.add_asked(plan.times.as_slice())?;
-    let alloc = known.alloc;
-    let none = Assumptions::of(alloc, Vec::new(alloc), known.graph.len())?;
-    let hints = plan.node_hints.as_slice();
-    let Sorted { order, left } = sort_nodes(alloc, &known.graph, &none, hints)?;
-    if order.len() < known.graph.len() {
-        let tangle = Tangle::of(alloc, &known.graph, none.all(), left.as_slice())?;
-        let cycle = shortest_cycle(alloc, &known.graph, &tangle)?;
-        return Err(Stop::Conflict(Conflict::Cycle(cycle)));
-    }
-    known.graph.set_order(order);
-    Ok(known.take_sources()?)
-}
-
-/// Searches from the start.
-pub(crate) fn seek(
-    known: &mut Known,
-    lost: Option<usize>,
+struct Work {
+    violations: Vec<Violation>,
     effort: usize,
-) -> Result<Outcome, NoMemory> {
-    let mut plan = planned(known)?;
-    match begin(known, &plan, lost) {
-        Ok(()) => {}
-        Err(Stop::NoMemory) => return Err(NoMemory),
-        Err(Stop::Conflict(conflict)) => return Ok(Outcome::Refuted(conflict)),
+}
+
+impl Work {
+    /// Something was done for which so many nodes were looked at.
+    fn spend(&mut self, nodes: usize) {
+        let cost = (nodes / NEAR).saturating_add(1);
+        self.effort = self.effort.saturating_sub(cost);
     }
-    plan.guesses = guesses(known, plan.hints.as_slice())?;
-    anchor_again(known, &plan)?;
-    repair_until(known, &plan, effort)
+}
+
+impl Known<'_> {
+    /// The facts that need no decision, and an order that agrees with them and the guesses.
+    fn start(&mut self) -> Result<(), Stop> {
+        self.begin()?;
+        self.guess_all()?;
+        if self.anchor()? {
+            return Ok(());
+        }
+        let guesses = Vec::new(self.alloc);
+        let hints = self.node_hints.as_slice();
+        let order = sorted_nodes(self.alloc, &self.graph, guesses.as_slice(), hints)?;
+        let cycle = shortest_cycle(self.alloc, &self.graph, &self.facts, order.as_slice())?;
+        self.facts.cite_all(cycle.as_slice())?;
+        self.contradict(Rule::Cycle)
+    }
+
+    /// What follows from the facts, and then a repair.
+    fn repair_one(&mut self, next: Option<Violation>) -> Result<(), Stop> {
+        self.activate_pending()?;
+        if let Some(violation) = next {
+            self.repair(violation)?;
+        }
+        self.activate_pending()
+    }
+
+    /// Repairs the last violation. After a conflict it is still to be repaired, and so are those whose repairs were taken back.
+    fn step(&mut self, work: &mut Work) -> Result<Stepped, NoMemory> {
+        let next = work.violations.pop();
+        let before = self.graph.looked_at;
+        let outcome = self.repair_one(next);
+        work.spend(self.graph.looked_at.saturating_sub(before));
+        let conflict = match outcome {
+            Ok(()) => return Ok(Stepped::Done),
+            Err(Stop::NoMemory) => return Err(NoMemory),
+            Err(Stop::Conflict(conflict)) => conflict,
+        };
+        if let Some(last) = self.resolve(conflict)? {
+            return Ok(Stepped::Refuted(last));
+        }
+        if let Some(violation) = next {
+            work.violations.push(violation)?;
+        }
+        work.violations.extend_from_slice(self.again.as_slice())?;
+        self.again.clear();
+        Ok(Stepped::Turned)
+    }
+
+    /// Repairs violations until none is left, or nothing is left of the effort. Answers a conflict that rests on no decision.
+    fn repair_all(&mut self, work: &mut Work) -> Result<Option<usize>, NoMemory> {
+        for _ in 0..work.effort {
+            let is_done = work.violations.is_empty() && self.pending.is_empty();
+            if is_done || work.effort == 0 {
+                break;
+            }
+            if let Stepped::Refuted(conflict) = self.step(work)? {
+                return Ok(Some(conflict));
+            }
+        }
+        Ok(None)
+    }
+
+    /// The violations of the order, the first one last. Where they hardly became fewer, the order is made anew before.
+    fn replayed(&mut self, before: usize) -> Result<Vec<Violation>, NoMemory> {
+        let mut found = self.violations()?;
+        if found.len().saturating_mul(2) > before {
+            let _is_whole = self.anchor()?;
+            found = self.violations()?;
+        }
+        found.reverse();
+        Ok(found)
+    }
+
+    /// Replays and repairs until nothing fails.
+    fn repair_until(&mut self, effort: usize) -> Result<Outcome, NoMemory> {
+        let mut work = Work {
+            violations: Vec::new(self.alloc),
+            effort,
+        };
+        let mut before = usize::MAX;
+        for _ in 0..effort {
+            work.violations = self.replayed(before)?;
+            work.spend(self.graph.len());
+            before = work.violations.len();
+            if work.violations.is_empty() && self.pending.is_empty() {
+                return Ok(Outcome::Points(self.points()?));
+            }
+            if let Some(conflict) = self.repair_all(&mut work)? {
+                return Ok(Outcome::Refuted(conflict));
+            }
+            if work.effort == 0 {
+                break;
+            }
+        }
+        Ok(Outcome::Unknown(before))
+    }
+
+    /// Searches from the start.
+    pub(crate) fn seek(&mut self, effort: usize) -> Result<Outcome, NoMemory> {
+        self.sight = NEAR;
+        match self.start() {
+            Ok(()) => self.repair_until(effort),
+            Err(Stop::NoMemory) => Err(NoMemory),
+            Err(Stop::Conflict(conflict)) => Ok(Outcome::Refuted(conflict)),
+        }
+    }
 }

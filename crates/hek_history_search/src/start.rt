@@ -1,32 +1,35 @@
-//! What is known before any decision: sources with one candidate, and what the order that is asked for says.
-use crate::facts::{Ground, Reason};
-use crate::hints::Hint;
+//! What is known before any decision, and what follows where one of unknown status takes place by a fact.
+use crate::clock::Clock;
+use crate::facts::{Facts, Rule, Says, Stop};
+use crate::graph::Graph;
+use crate::hints::all_hints;
 use crate::known::Known;
 use crate::lists::part;
 use crate::nodes::{Nodes, OPENING};
-use crate::problem::{Candidates, Problem, Source};
-use crate::stop::{Conflict, Stop};
+use crate::problem::{Problem, Source};
 use hek_history::Moment;
 use hek_rules::NoMemory;
 use std::alloc::Global;
 
 /// How many candidates a reading has, its own transaction left out.
 #[derive(Clone, Copy)]
-pub(crate) enum Choice {
+enum Choice {
     None,
     One(Source),
     Several,
 }
 
 /// The candidates of a reading, its own transaction left out.
-pub(crate) fn choice_of(problem: &Problem, candidates: Candidates, reader: usize) -> Choice {
+fn choice_of(problem: &Problem, place: usize) -> Choice {
+    let reading = problem.reading(place);
+    let candidates = problem.candidates(reading);
     let mut found = if candidates.opening {
         Choice::One(Source::Opening)
     } else {
         Choice::None
     };
     for row in candidates.from..candidates.to {
-        if problem.writer_of(row) != Some(reader) {
+        if problem.writer_of(row) != Some(reading.reader) {
             match found {
                 Choice::None => found = Choice::One(Source::Row(row)),
                 Choice::One(_) | Choice::Several => return Choice::Several,
@@ -36,36 +39,31 @@ pub(crate) fn choice_of(problem: &Problem, candidates: Candidates, reader: usize
     found
 }
 
-/// The only candidate of each reading that has one. Answers a reading that has none, though its reader takes place.
-pub(crate) fn only_sources(
-    alloc: Global,
-    problem: &Problem,
-) -> Result<(Vec<Option<Source>>, Option<usize>), NoMemory> {
-    let mut only = Vec::with_capacity(alloc, problem.readings.len())?;
-    let mut lost = None;
-    for (place, reading) in problem.readings.iter().enumerate() {
-        match choice_of(problem, problem.candidates(*reading), reading.reader) {
-            Choice::One(source) => only.push(Some(source))?,
-            Choice::Several => only.push(None)?,
-            Choice::None => {
-                only.push(None)?;
-                if lost.is_none() && problem.is_committed(reading.reader) {
-                    lost = Some(place);
-                }
-            }
-        }
-    }
-    Ok((only, lost))
-}
-
-/// A committed transaction whose own answers contradict each other.
-pub(crate) fn own_fault(problem: &Problem) -> Option<usize> {
-    for t in 0..problem.transactions() {
-        if problem.is_committed(t) && problem.fault_of(t).is_some() {
-            return Some(t);
-        }
-    }
-    None
+/// The state of a search before its first fact.
+pub(crate) fn prepared<'a>(alloc: Global, problem: &'a Problem<'a>) -> Result<Known<'a>, NoMemory> {
+    let mut nodes = Nodes::of(alloc, problem)?;
+    let clock = Clock::of(alloc, problem, &mut nodes)?;
+    Ok(Known {
+        alloc,
+        problem,
+        hints: Vec::new(alloc),
+        node_hints: Vec::new(alloc),
+        nodes,
+        clock,
+        graph: Graph::new(alloc),
+        facts: Facts::new(alloc),
+        guesses: Vec::new(alloc),
+        only: Vec::new(alloc),
+        sources: Vec::new(alloc),
+        nots: Vec::new(alloc),
+        taken: Vec::new(alloc),
+        pending: Vec::new(alloc),
+        decisions: Vec::new(alloc),
+        trail: Vec::new(alloc),
+        again: Vec::new(alloc),
+        conflicts: 0,
+        sight: 0,
+    })
 }
 
 /// A reading of a source.
@@ -74,183 +72,18 @@ struct OfVersion {
     source: Source,
     key: usize,
     reading: usize,
+    reader: usize,
     /// Whether the reader writes the key.
     overwrites: bool,
     /// The fact that the source is before the reader.
-    read: Option<usize>,
+    read: usize,
 }
 
 /// The place of a source among all: the opening first.
-fn rank_of(source: Source) -> (bool, usize) {
+fn rank_of(source: Source) -> usize {
     match source {
-        Source::Opening => (false, 0),
-        Source::Row(row) => (true, row),
-    }
-}
-
-impl Known<'_> {
-    /// Adds a fact that needs no other, and its edge.
-    pub(crate) fn begin_with(
-        &mut self,
-        first: usize,
-        second: usize,
-        reason: Reason,
-    ) -> Result<usize, NoMemory> {
-        let fact = self.facts.add_before(first, second, 0, reason)?;
-        if first != OPENING {
-            self.link(fact)?;
-        }
-        Ok(fact)
-    }
-
-    /// Each snapshot transaction begins before it commits.
-    pub(crate) fn add_own(&mut self) -> Result<(), NoMemory> {
-        for t in 0..self.problem.transactions() {
-            let begin = self.nodes.begin(t);
-            let commit = self.nodes.commit(t);
-            if begin != commit {
-                let _fact = self.begin_with(begin, commit, Reason::Own)?;
-            }
-        }
-        Ok(())
-    }
-
-    /// The only sources of the committed ones are before their readers. Answers the readings by their sources.
-    fn add_reads(&mut self) -> Result<Vec<OfVersion>, NoMemory> {
-        let problem = self.problem;
-        let mut found = Vec::new(self.alloc);
-        for (place, reading) in problem.readings.iter().enumerate() {
-            if !problem.is_committed(reading.reader) {
-                continue;
-            }
-            let Some(source) = self.only_source(place) else {
-                continue;
-            };
-            let read = self.add_read(place, source, reading.reader)?;
-            found.push(OfVersion {
-                source,
-                key: reading.key,
-                reading: place,
-                overwrites: problem.writes(reading.reader, reading.key),
-                read,
-            })?;
-        }
-        found.sort_unstable_by_key(|one| (rank_of(one.source), one.key, one.reading));
-        Ok(found)
-    }
-
-    /// The only source of a reading is before the reader; of the opening that needs no fact.
-    fn add_read(
-        &mut self,
-        reading: usize,
-        source: Source,
-        reader: usize,
-    ) -> Result<Option<usize>, NoMemory> {
-        if source == Source::Opening {
-            return Ok(None);
-        }
-        let reason = Reason::Read {
-            reading,
-            source: None,
-        };
-        let commit = self.nodes.of_source(self.problem, source);
-        let begin = self.nodes.begin(reader);
-        let fact = self.begin_with(commit, begin, reason)?;
-        Ok(Some(fact))
-    }
-
-    /// The path from the source of a reading to the commit of its reader.
-    fn path_to_commit(&mut self, one: OfVersion, reader: usize) -> Result<Vec<usize>, NoMemory> {
-        let begin = self.nodes.begin(reader);
-        let commit = self.nodes.commit(reader);
-        let mut path = Vec::new(self.alloc);
-        let Some(read) = one.read else {
-            path.push(self.facts.add_before(0, commit, 0, Reason::First)?)?;
-            return Ok(path);
-        };
-        path.push(read)?;
-        if begin != commit {
-            path.push(self.facts.add_before(begin, commit, 0, Reason::Own)?)?;
-        }
-        Ok(path)
-    }
-
-    /// The others who read a version are before one who read it and overwrote it.
-    fn add_after(&mut self, one: OfVersion, readers: &[OfVersion]) -> Result<(), NoMemory> {
-        let Some(over) = self.problem.reading(one.reading) else {
-            return Ok(());
-        };
-        for other in readers {
-            let Some(read) = self.problem.reading(other.reading) else {
-                continue;
-            };
-            if read.reader == over.reader {
-                continue;
-            }
-            let facts = self.path_to_commit(one, over.reader)?;
-            let path = self.facts.keep(facts.as_slice())?;
-            let ground = Ground::After {
-                reading: other.reading,
-                source: None,
-            };
-            let begin = self.nodes.begin(read.reader);
-            let commit = self.nodes.commit(over.reader);
-            let _fact = self.begin_with(begin, commit, Reason::Follows { ground, path })?;
-        }
-        Ok(())
-    }
-
-    /// The same for two of those who overwrote it, among the readers of a version.
-    fn add_overwritten(&mut self, readers: &[OfVersion]) -> Result<(), NoMemory> {
-        let mut count: usize = 0;
-        for one in readers {
-            if one.overwrites {
-                self.add_after(*one, readers)?;
-                count = count.saturating_add(1);
-            }
-            if count == 2 {
-                break;
-            }
-        }
-        Ok(())
-    }
-
-    /// What follows from the only sources.
-    pub(crate) fn add_sources(&mut self) -> Result<(), NoMemory> {
-        let found = self.add_reads()?;
-        let all = found.as_slice();
-        let mut from = 0;
-        for place in 0..all.len() {
-            if is_last_of_version(all, place) {
-                let end = place.saturating_add(1);
-                self.add_overwritten(part(all, from, end))?;
-                from = end;
-            }
-        }
-        Ok(())
-    }
-
-    /// Those from whom somebody read take place.
-    pub(crate) fn take_sources(&mut self) -> Result<(), NoMemory> {
-        for fact in 0..self.facts.len() {
-            if let Reason::Read { reading, .. } = self.facts.get(fact).reason {
-                self.take_source(fact, reading)?;
-            }
-        }
-        Ok(())
-    }
-
-    fn take_source(&mut self, fact: usize, reading: usize) -> Result<(), NoMemory> {
-        let Some(read) = self.problem.reading(reading) else {
-            return Ok(());
-        };
-        let Some(source) = self.only_source(reading) else {
-            return Ok(());
-        };
-        match self.problem.transaction_of(source) {
-            Some(writer) => self.take(writer, fact, read.reader),
-            None => Ok(()),
-        }
+        Source::Opening => 0,
+        Source::Row(row) => row.saturating_add(1),
     }
 }
 
@@ -262,59 +95,216 @@ fn is_last_of_version(all: &[OfVersion], place: usize) -> bool {
     }
 }
 
-/// The hint of each node; of the clock the time.
-pub(crate) fn node_hints(
-    alloc: Global,
-    nodes: &Nodes,
-    hints: &[Hint],
-    times: &[u64],
-) -> Result<Vec<u64>, NoMemory> {
-    let mut found = Vec::with_capacity(alloc, nodes.len())?;
-    let first_time = nodes.len().saturating_sub(times.len());
-    for node in 0..nodes.len() {
-        let hint = match nodes.moment(node) {
+impl Known<'_> {
+    /// The hint of a node; of a tick its time.
+    fn node_hint(&self, node: usize) -> u64 {
+        match self.nodes.moment(node) {
             Some(Moment::Opening) => 0,
-            Some(Moment::Begin(t)) => hint_at(hints, t).begin,
-            Some(Moment::Commit(t)) => hint_at(hints, t).commit,
-            None => match times.get(node.saturating_sub(first_time)) {
-                Some(time) => *time,
-                None => 0,
-            },
+            Some(Moment::Begin(t)) => self.hint(t).begin,
+            Some(Moment::Commit(t)) => self.hint(t).commit,
+            None => self.clock.time_of(node),
+        }
+    }
+
+    /// The only candidate of a reading, if it has one.
+    fn only_source(&self, place: usize) -> Option<Source> {
+        match choice_of(self.problem, place) {
+            Choice::One(source) => Some(source),
+            Choice::None | Choice::Several => None,
+        }
+    }
+
+    /// Makes room for what will be known of each transaction, node and reading.
+    fn fill(&mut self) -> Result<(), NoMemory> {
+        self.hints = all_hints(self.alloc, self.problem.history)?;
+        for _ in 0..self.problem.transactions() {
+            self.taken.push(None)?;
+        }
+        for node in 0..self.nodes.len() {
+            self.graph.add_node(self.alloc)?;
+            self.guesses.push(Vec::new(self.alloc))?;
+            let hint = self.node_hint(node);
+            self.node_hints.push(hint)?;
+        }
+        for place in 0..self.problem.readings.len() {
+            let only = self.only_source(place);
+            self.only.push(only)?;
+            self.sources.push(None)?;
+            self.nots.push(Vec::new(self.alloc))?;
+        }
+        Ok(())
+    }
+
+    /// Adds a contradiction that rests on what was cited.
+    pub(crate) fn contradict(&mut self, rule: Rule) -> Result<(), Stop> {
+        let conflict = self.facts.add(Says::Contradiction, rule, 0)?;
+        Err(Stop::Conflict(conflict))
+    }
+
+    /// Cites a fact that rests on no other.
+    fn cite_apart(&mut self, first: usize, second: usize, rule: Rule) -> Result<(), NoMemory> {
+        let fact = self.facts.add_apart(Says::Before { first, second }, rule)?;
+        self.facts.cite(fact)
+    }
+
+    /// Each snapshot transaction begins before it commits.
+    fn add_own(&mut self) -> Result<(), NoMemory> {
+        for t in 0..self.problem.transactions() {
+            let begin = self.nodes.begin(t);
+            let commit = self.nodes.commit(t);
+            if begin != commit {
+                let _fact = self.begin_with(begin, commit, Rule::Own)?;
+            }
+        }
+        Ok(())
+    }
+
+    /// What a reading of a committed transaction shows, if it has one candidate, and the conflict if it has none.
+    fn add_read(&mut self, place: usize) -> Result<Option<OfVersion>, Stop> {
+        let reading = self.problem.reading(place);
+        let reader = reading.reader;
+        if !self.problem.is_committed(reader) {
+            return Ok(None);
+        }
+        let source = match choice_of(self.problem, place) {
+            Choice::One(source) => source,
+            Choice::Several => return Ok(None),
+            Choice::None => {
+                self.contradict(Rule::NoSource(place))?;
+                return Ok(None);
+            }
         };
-        found.push(hint)?;
+        let commit = self.nodes.of_source(self.problem, source);
+        let begin = self.nodes.begin(reader);
+        let read = self.begin_with(commit, begin, Rule::Read(place))?;
+        Ok(Some(OfVersion {
+            source,
+            key: reading.key,
+            reading: place,
+            reader,
+            overwrites: self.problem.left_at(reader, reading.key).is_some(),
+            read,
+        }))
     }
-    Ok(found)
-}
 
-/// The hint of a transaction.
-pub(crate) fn hint_at(hints: &[Hint], t: usize) -> Hint {
-    match hints.get(t) {
-        Some(hint) => *hint,
-        None => Hint {
-            begin: 0,
-            commit: 0,
-        },
+    /// The only sources of the committed ones are before their readers. Answers the readings by their sources.
+    fn add_reads(&mut self) -> Result<Vec<OfVersion>, Stop> {
+        let mut found = Vec::new(self.alloc);
+        for place in 0..self.problem.readings.len() {
+            if let Some(one) = self.add_read(place)? {
+                found.push(one)?;
+            }
+        }
+        found.sort_unstable_by_key(|one| (rank_of(one.source), one.key, one.reading));
+        Ok(found)
     }
-}
 
-/// The start of the search fails: a transaction contradicts itself, or a reading has no source.
-pub(crate) fn start_conflict(
-    alloc: Global,
-    problem: &Problem,
-    lost: Option<usize>,
-) -> Result<(), Stop> {
-    if let Some(transaction) = own_fault(problem) {
-        return Err(Stop::Conflict(Conflict::OwnFault {
-            transaction,
-            taken: None,
-        }));
+    /// Cites the path from the source of a reading to the commit of its reader.
+    fn cite_overwriting(&mut self, one: OfVersion) -> Result<(), NoMemory> {
+        let begin = self.nodes.begin(one.reader);
+        let commit = self.nodes.commit(one.reader);
+        if one.source == Source::Opening {
+            return self.cite_apart(OPENING, commit, Rule::First);
+        }
+        self.facts.cite(one.read)?;
+        if begin == commit {
+            Ok(())
+        } else {
+            self.cite_apart(begin, commit, Rule::Own)
+        }
     }
-    match lost {
-        Some(reading) => Err(Stop::Conflict(Conflict::NoSource {
-            reading,
-            nots: Vec::new(alloc),
-            taken: None,
-        })),
-        None => Ok(()),
+
+    /// The others who read a version are before one who read it and overwrote it.
+    fn add_after(&mut self, one: OfVersion, readers: &[OfVersion]) -> Result<(), NoMemory> {
+        let commit = self.nodes.commit(one.reader);
+        for other in readers {
+            if other.reader != one.reader {
+                self.cite_overwriting(one)?;
+                let begin = self.nodes.begin(other.reader);
+                let _fact = self.begin_with(begin, commit, Rule::After(other.reading))?;
+            }
+        }
+        Ok(())
+    }
+
+    /// The same for two of those who overwrote it, among the readers of a version.
+    fn add_overwritten(&mut self, readers: &[OfVersion]) -> Result<(), NoMemory> {
+        let mut count: usize = 0;
+        for one in readers {
+            if one.overwrites && count < 2 {
+                self.add_after(*one, readers)?;
+                count = count.saturating_add(1);
+            }
+        }
+        Ok(())
+    }
+
+    /// What follows from the only sources.
+    fn add_sources(&mut self) -> Result<(), Stop> {
+        let found = self.add_reads()?;
+        let all = found.as_slice();
+        let mut from = 0;
+        for place in 0..all.len() {
+            if is_last_of_version(all, place) {
+                let end = place.saturating_add(1);
+                self.add_overwritten(part(all, from, end))?;
+                from = end;
+            }
+        }
+        for one in &found {
+            self.take(one.source, one.read, one.reader)?;
+        }
+        Ok(())
+    }
+
+    /// Adds the facts that need no decision.
+    pub(crate) fn begin(&mut self) -> Result<(), Stop> {
+        self.fill()?;
+        for t in 0..self.problem.transactions() {
+            if self.problem.is_committed(t) && self.problem.fault_of(t).is_some() {
+                self.contradict(Rule::OwnAnswers(t))?;
+            }
+        }
+        self.add_own()?;
+        self.add_sources()?;
+        self.add_clock()
+    }
+
+    /// What follows from all that take place by facts.
+    pub(crate) fn activate_pending(&mut self) -> Result<(), Stop> {
+        for _ in 0..usize::MAX {
+            let Some(t) = self.pending.pop() else {
+                break;
+            };
+            if self.taken_by(t).is_some() {
+                if let Err(stop) = self.activate(t) {
+                    self.pending.push(t)?;
+                    return Err(stop);
+                }
+            }
+        }
+        Ok(())
+    }
+
+    /// What follows where a transaction takes place by a fact.
+    fn activate(&mut self, t: usize) -> Result<(), Stop> {
+        if self.problem.fault_of(t).is_some() {
+            self.cite_taken(t)?;
+            self.contradict(Rule::OwnAnswers(t))?;
+        }
+        self.enter(t)?;
+        for place in self.problem.first_reading(t)..self.problem.end_reading(t) {
+            if self.source(place).is_none() {
+                match choice_of(self.problem, place) {
+                    Choice::One(source) => self.settle(place, source, Rule::LastSource, 0)?,
+                    Choice::Several => {}
+                    Choice::None => {
+                        self.cite_taken(t)?;
+                        self.contradict(Rule::NoSource(place))?;
+                    }
+                }
+            }
+        }
+        Ok(())
     }
 }

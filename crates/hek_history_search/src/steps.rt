@@ -1,15 +1,9 @@
 //! The certificate of a conflict: the facts on which it rests as steps, each once in the case that it belongs to.
-use crate::facts::{Fact, Reason, Says, add_conflict};
+use crate::facts::{Rule, Says};
 use crate::known::Known;
-use crate::lists::{list_at, number_at, option_at, part, put_number, put_option};
-use crate::problem::{OwnFault, Reading, Source};
-use crate::rests::{needed, rests_of};
-use crate::stop::Conflict;
-use hek_history::{Moment, Step, Writer};
+use crate::lists::{at, empty_lists, list_at, put};
+use hek_history::Step;
 use hek_rules::NoMemory;
-
-/// How many tasks are done before the certificate counts as too long.
-const TASKS: usize = 200_000_000;
 
 /// What is left to do, the next one last.
 #[derive(Clone, Copy)]
@@ -24,134 +18,83 @@ enum Task {
     Close { fact: usize, conflict: usize },
 }
 
-/// What was said within a case.
+/// A case that is open: the place of its assumption's claim, and how many facts were said before it.
 #[derive(Clone, Copy)]
-pub(crate) enum Noted {
-    Fact(usize),
-    /// The only source of a reading.
-    Reading(usize),
-}
-
-/// A case that is open: its decision, the place of its claim, and what was said in it.
-#[derive(Drop)]
 struct Case {
-    decision: usize,
     place: usize,
-    noted: Vec<Noted>,
+    mark: usize,
 }
 
 /// The steps so far, and where each claim is.
 #[derive(Drop)]
 pub(crate) struct Writing<'a, 'b> {
     pub known: &'a Known<'b>,
-    steps: Vec<Step>,
+    pub steps: Vec<Step>,
     /// How many claims there are.
-    height: usize,
+    pub height: usize,
+    /// The place of the claim of each fact that was said, and those facts in order.
     said: Vec<Option<usize>>,
-    pub only_said: Vec<Option<usize>>,
+    said_last: Vec<usize>,
     cases: Vec<Case>,
     tasks: Vec<Task>,
+    /// The decisions on which each fact rests.
     rests: Vec<Vec<usize>>,
     seen: Vec<usize>,
     turn: usize,
 }
 
-impl<'a, 'b> Writing<'a, 'b> {
-    fn new(known: &'a Known<'b>, conflict: &Conflict) -> Result<Writing<'a, 'b>, NoMemory> {
-        let alloc = known.alloc;
-        let count = known.facts.len();
-        let marked = needed(known, conflict)?;
-        Ok(Writing {
-            known,
-            steps: Vec::new(alloc),
-            height: 0,
-            said: Vec::from_elem(alloc, None, count)?,
-            only_said: Vec::from_elem(alloc, None, known.problem.readings.len())?,
-            cases: Vec::new(alloc),
-            tasks: Vec::new(alloc),
-            rests: rests_of(known, marked.as_slice())?,
-            seen: Vec::from_elem(alloc, 0, count)?,
-            turn: 0,
-        })
+impl Writing<'_, '_> {
+    /// The place of a claim that has been said.
+    pub(crate) fn place_of(&self, fact: usize) -> Option<usize> {
+        at(self.said.as_slice(), fact, None)
     }
 
-    pub(crate) fn fact(&self, place: usize) -> Fact {
-        self.known.facts.get(place)
+    /// Notes the place of a fact's claim.
+    fn remember(&mut self, fact: usize, place: usize) -> Result<(), NoMemory> {
+        put(&mut self.said, fact, Some(place));
+        self.said_last.push(fact)?;
+        Ok(())
     }
 
-    /// Adds a step whose claim is added to those that are shown. Answers the place of the claim.
-    pub(crate) fn put(&mut self, step: Step) -> Result<usize, NoMemory> {
-        self.steps.push(step)?;
-        let place = self.height;
-        self.height = place.saturating_add(1);
-        Ok(place)
-    }
-
-    /// Notes what was said for the case that is open.
-    pub(crate) fn note(&mut self, noted: Noted) -> Result<(), NoMemory> {
-        if let Some(case) = self.cases.last_mut() {
-            case.noted.push(noted)?;
+    /// Marks the facts that a conflict needs, in the conflicts of their cases too.
+    fn mark_needed(&mut self, conflict: usize) -> Result<(), NoMemory> {
+        let mut todo = Vec::new(self.known.alloc);
+        todo.push(conflict)?;
+        for _ in 0..usize::MAX {
+            let Some(place) = todo.pop() else {
+                break;
+            };
+            if at(self.seen.as_slice(), place, 1) > 0 {
+                continue;
+            }
+            put(&mut self.seen, place, 1);
+            todo.extend_from_slice(self.known.facts.premises(place))?;
+            if let Rule::Case { decision, conflict } = self.known.facts.get(place).rule {
+                todo.push(decision)?;
+                todo.push(conflict)?;
+            }
         }
         Ok(())
     }
 
-    pub(crate) fn remember(&mut self, fact: usize, place: usize) -> Result<(), NoMemory> {
-        put_option(&mut self.said, fact, Some(place));
-        self.note(Noted::Fact(fact))
-    }
-
-    pub(crate) fn place_of(&self, fact: usize) -> Option<usize> {
-        option_at(self.said.as_slice(), fact)
-    }
-
-    /// The place of a claim that has been said; one that hasn't makes the certificate wrong.
-    pub(crate) fn claim_of(&self, fact: usize) -> usize {
-        match self.place_of(fact) {
-            Some(place) => place,
-            None => usize::MAX,
-        }
-    }
-
-    /// The place of the claim that a transaction takes place.
-    pub(crate) fn claim_of_taken(&self, taken: Option<usize>) -> Option<usize> {
-        match taken {
-            Some(fact) => self.place_of(fact),
-            None => None,
-        }
-    }
-
-    /// The moment of a node.
-    pub(crate) fn moment(&self, node: usize) -> Moment {
-        match self.known.nodes.moment(node) {
-            Some(moment) => moment,
-            None => Moment::Opening,
-        }
-    }
-
-    /// The transaction of a node; the opening has none.
-    pub(crate) fn transaction(&self, node: usize) -> usize {
-        match self.known.nodes.transaction(node) {
-            Some(t) => t,
-            None => usize::MAX,
-        }
-    }
-
-    pub(crate) fn key_name(&self, key: usize) -> u64 {
-        self.known.problem.keys.key_at(key)
-    }
-
-    pub(crate) fn writer(&self, source: Source) -> Writer {
-        match self.known.problem.transaction_of(source) {
-            Some(t) => Writer::Transaction(t),
-            None => Writer::Opening,
-        }
-    }
-
-    /// Adds the tasks to say facts that haven't been said.
-    fn add_tasks(&mut self, facts: &[usize]) -> Result<(), NoMemory> {
-        for fact in facts {
-            if self.place_of(*fact).is_none() {
-                self.tasks.push(Task::Say(*fact))?;
+    /// Finds the decisions on which each fact rests that is needed.
+    fn find_rests(&mut self) -> Result<(), NoMemory> {
+        for place in 0..self.known.facts.len() {
+            let fact = self.known.facts.get(place);
+            if fact.level == 0 || at(self.seen.as_slice(), place, 0) == 0 {
+                continue;
+            }
+            let mut found = Vec::new(self.known.alloc);
+            if let Rule::Assumed = fact.rule {
+                found.push(place)?;
+            }
+            for premise in self.known.facts.premises(place) {
+                found.extend_from_slice(list_at(self.rests.as_slice(), *premise))?;
+            }
+            found.sort_unstable();
+            found.dedup();
+            if let Some(there) = self.rests.get_mut(place) {
+                *there = found;
             }
         }
         Ok(())
@@ -162,20 +105,24 @@ impl<'a, 'b> Writing<'a, 'b> {
         if self.place_of(place).is_some() {
             return Ok(());
         }
-        let fact = self.fact(place);
-        match fact.reason {
-            Reason::Assumed | Reason::AssumedSource { .. } => return Ok(()),
-            Reason::Case {
-                decision,
-                conflict,
-                ..
-            } => return self.begin_case(place, decision, conflict),
-            Reason::Answered { .. } | Reason::Later | Reason::Invoked => {}
+        match self.known.facts.get(place).rule {
+            Rule::Assumed => return Ok(()),
+            Rule::Case { decision, conflict } => {
+                return self.begin_case(place, decision, conflict);
+            }
             _ => self.tasks.push(Task::Build(place))?,
         }
-        let mut premises = Vec::new(self.known.alloc);
-        self.known.facts.add_premises(&mut premises, fact.reason)?;
-        self.add_tasks(premises.as_slice())
+        self.say_premises(place)
+    }
+
+    /// Adds the tasks to say the facts on which another rests.
+    fn say_premises(&mut self, place: usize) -> Result<(), NoMemory> {
+        for premise in self.known.facts.premises(place) {
+            if self.place_of(*premise).is_none() {
+                self.tasks.push(Task::Say(*premise))?;
+            }
+        }
+        Ok(())
     }
 
     /// Adds the tasks of a case: what rests on no assumption in it, the assumption, what the conflict rests on, and the end.
@@ -185,18 +132,10 @@ impl<'a, 'b> Writing<'a, 'b> {
         decision: usize,
         conflict: usize,
     ) -> Result<(), NoMemory> {
-        let known = self.known;
-        let Some(found) = known.facts.conflicts.get(conflict) else {
-            return Ok(());
-        };
-        let mut premises = Vec::new(known.alloc);
-        add_conflict(&mut premises, found)?;
         self.tasks.push(Task::Close { fact, conflict })?;
-        for premise in &premises {
-            self.tasks.push(Task::Say(*premise))?;
-        }
+        self.say_premises(conflict)?;
         self.tasks.push(Task::Open(decision))?;
-        self.add_outer(premises)
+        self.say_outer(conflict)
     }
 
     /// Whether all assumptions on which a fact rests are those of open cases.
@@ -209,24 +148,22 @@ impl<'a, 'b> Writing<'a, 'b> {
         true
     }
 
-    /// Of these facts and those on which they rest, adds the tasks to say those that need no further assumption.
-    fn add_outer(&mut self, facts: Vec<usize>) -> Result<(), NoMemory> {
+    /// Of the facts on which a conflict rests, adds the tasks to say those that need no further assumption.
+    fn say_outer(&mut self, conflict: usize) -> Result<(), NoMemory> {
         self.turn = self.turn.saturating_add(1);
-        let mut todo = facts;
-        for _ in 0..u64::MAX {
+        let mut todo = Vec::from_slice(self.known.alloc, self.known.facts.premises(conflict))?;
+        for _ in 0..usize::MAX {
             let Some(place) = todo.pop() else {
                 break;
             };
-            if number_at(self.seen.as_slice(), place) == self.turn {
+            if at(self.seen.as_slice(), place, self.turn) == self.turn {
                 continue;
             }
-            let turn = self.turn;
-            put_number(&mut self.seen, place, turn);
-            let fact = self.fact(place);
+            put(&mut self.seen, place, self.turn);
             if self.is_outer(place) {
                 self.tasks.push(Task::Say(place))?;
             } else {
-                self.known.facts.add_premises(&mut todo, fact.reason)?;
+                todo.extend_from_slice(self.known.facts.premises(place))?;
             }
         }
         Ok(())
@@ -234,129 +171,52 @@ impl<'a, 'b> Writing<'a, 'b> {
 
     /// Begins a case by its assumption.
     fn open_case(&mut self, decision: usize) -> Result<(), NoMemory> {
-        let step = match self.fact(decision).says {
-            Says::Before { first, second } => Step::AssumeBefore {
-                first: self.moment(first),
-                second: self.moment(second),
-            },
-            Says::Source { reading, source } => self.assumed_source(reading, source),
-            Says::Not { .. } | Says::Taken(_) => return Ok(()),
+        let Some(step) = self.assumption(decision) else {
+            return Ok(());
         };
         let place = self.put(step)?;
         self.cases.push(Case {
-            decision,
             place,
-            noted: Vec::new(self.known.alloc),
+            mark: self.said_last.len(),
         })?;
         self.remember(decision, place)
     }
 
     /// Ends the innermost case by a conflict: its contrary is what the fact says.
     fn close(&mut self, fact: usize, conflict: usize) -> Result<(), NoMemory> {
-        let known = self.known;
-        if let Some(found) = known.facts.conflicts.get(conflict) {
-            self.conclude(found)?;
-        }
+        self.conclude(conflict)?;
         let Some(case) = self.cases.pop() else {
             return Ok(());
         };
-        let Case {
-            decision: _,
-            place,
-            noted,
-        } = case;
-        for one in &noted {
-            match one {
-                Noted::Fact(said) => put_option(&mut self.said, *said, None),
-                Noted::Reading(reading) => put_option(&mut self.only_said, *reading, None),
-            }
+        for place in case.mark..self.said_last.len() {
+            let said = at(self.said_last.as_slice(), place, usize::MAX);
+            put(&mut self.said, said, None);
         }
-        self.height = place.saturating_add(1);
-        self.remember(fact, place)
+        self.said_last.truncate(case.mark);
+        self.height = case.place.saturating_add(1);
+        self.remember(fact, case.place)
     }
 
-    /// Adds the steps of a conflict, the last of which is a contradiction.
-    fn conclude(&mut self, conflict: &Conflict) -> Result<(), NoMemory> {
-        let premise = match conflict {
-            Conflict::Cycle(facts) => {
-                let turned = self.from_a_moment(facts.as_slice())?;
-                self.chain(turned.as_slice())?
-            }
-            Conflict::NoSource {
-                reading,
-                nots,
-                taken,
-            } => self.narrow(*reading, None, nots.as_slice(), *taken)?,
-            Conflict::OwnFault { transaction, taken } => {
-                return self.own_fault(*transaction, *taken);
-            }
-        };
-        self.steps.push(Step::Contra { premise })?;
-        Ok(())
-    }
-
-    /// A cycle from a fact whose first node is a moment and no time of the clock.
-    fn from_a_moment(&self, facts: &[usize]) -> Result<Vec<usize>, NoMemory> {
-        let mut start = 0;
-        for (place, fact) in facts.iter().enumerate() {
-            match self.fact(*fact).reason {
-                Reason::Later | Reason::Invoked => {}
-                _ => {
-                    start = place;
-                    break;
-                }
-            }
-        }
-        let mut turned = Vec::with_capacity(self.known.alloc, facts.len())?;
-        turned.extend_from_slice(part(facts, start, facts.len()))?;
-        turned.extend_from_slice(part(facts, 0, start))?;
-        Ok(turned)
-    }
-
-    /// Adds the step of a transaction whose own answers contradict each other.
-    fn own_fault(&mut self, transaction: usize, by: Option<usize>) -> Result<(), NoMemory> {
-        let taken = self.claim_of_taken(by);
-        let Some(fault) = self.known.problem.fault_of(transaction) else {
+    /// Builds a fact, if it wasn't said meanwhile.
+    fn build_once(&mut self, fact: usize) -> Result<(), NoMemory> {
+        if self.place_of(fact).is_some() {
             return Ok(());
-        };
-        self.steps.push(match fault {
-            OwnFault::Contradicted { operation, key } => Step::Contradicted {
-                transaction,
-                operation,
-                key,
-                taken,
-            },
-            OwnFault::Disagree { first, second, key } => Step::Disagree {
-                transaction,
-                first,
-                second,
-                key,
-                taken,
-            },
-            OwnFault::Unordered { operation } => Step::Unordered {
-                transaction,
-                operation,
-                taken,
-            },
-            OwnFault::Outside { operation, key } => Step::Outside {
-                transaction,
-                operation,
-                key,
-                taken,
-            },
-        })?;
-        Ok(())
+        }
+        match self.build(fact)? {
+            Some(place) => self.remember(fact, place),
+            None => Ok(()),
+        }
     }
 
     /// Does the tasks.
     fn work(&mut self) -> Result<(), NoMemory> {
-        for _ in 0..TASKS {
+        for _ in 0..usize::MAX {
             let Some(task) = self.tasks.pop() else {
-                return Ok(());
+                break;
             };
             match task {
                 Task::Say(fact) => self.say(fact)?,
-                Task::Build(fact) => self.build(fact)?,
+                Task::Build(fact) => self.build_once(fact)?,
                 Task::Open(decision) => self.open_case(decision)?,
                 Task::Close { fact, conflict } => self.close(fact, conflict)?,
             }
@@ -366,12 +226,25 @@ impl<'a, 'b> Writing<'a, 'b> {
 }
 
 /// The certificate of a conflict that rests on no decision.
-pub(crate) fn steps_of(known: &Known, conflict: &Conflict) -> Result<Vec<Step>, NoMemory> {
-    let mut writing = Writing::new(known, conflict)?;
-    let mut premises = Vec::new(known.alloc);
-    add_conflict(&mut premises, conflict)?;
-    writing.add_tasks(premises.as_slice())?;
+pub(crate) fn steps_of(known: &Known, conflict: usize) -> Result<Vec<Step>, NoMemory> {
+    let alloc = known.alloc;
+    let count = known.facts.len();
+    let mut writing = Writing {
+        known,
+        steps: Vec::new(alloc),
+        height: 0,
+        said: Vec::from_elem(alloc, None, count)?,
+        said_last: Vec::new(alloc),
+        cases: Vec::new(alloc),
+        tasks: Vec::new(alloc),
+        rests: empty_lists(alloc, count)?,
+        seen: Vec::from_elem(alloc, 0, count)?,
+        turn: 1,
+    };
+    writing.mark_needed(conflict)?;
+    writing.find_rests()?;
+    writing.say_premises(conflict)?;
     writing.work()?;
     writing.conclude(conflict)?;
-    Ok(std::mem::replace(&mut writing.steps, Vec::new(known.alloc)))
+    Ok(std::mem::replace(&mut writing.steps, Vec::new(alloc)))
 }
