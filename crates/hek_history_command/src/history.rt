@@ -94,7 +94,7 @@ fn write_verdict<'a, W: Write, O: Write>(
 }
 
 /// The verdict on a history, with its exit status.
-#[tactic(auto, using(hek_history_command::proofs::Statuses::is_status))]
+#[tactic(auto, using(crate::proofs::Statuses::is_status))]
 fn judged(
     alloc: Global,
     history: &History,

@@ -19,9 +19,7 @@ impl<'a> LogLine<'a> {
             bytes: bytes.strip_suffix(b"\n").unwrap_or(bytes),
         }
     }
-}
 
-impl LogLine<'_> {
     /// The fault that a value is not what is wanted there.
     pub(crate) fn wants(self, spot: Spot, wanted: Wanted) -> LogFault {
         LogFault::Wanted {
