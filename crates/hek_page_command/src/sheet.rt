@@ -30,19 +30,34 @@ pub(crate) fn write_sheet<'a, W: Write>(
 }
 
 fn sheet_of(alloc: Global, heading: &Heading<'_>, data: &Value) -> Result<Vec<u8>, NoMemory> {
-    let title = heading.title(alloc)?;
-    let json = data.to_string(alloc)?;
     let mut sheet = Vec::new(alloc);
-    sheet.extend_from_slice(FRONT.as_bytes())?;
-    put_title(title.as_str(), &mut sheet)?;
-    for part in [HEAD, STYLE, MIDDLE] {
-        sheet.extend_from_slice(part.as_bytes())?;
-    }
-    put_json(json.as_str(), &mut sheet)?;
-    for part in [BACK, SCRIPT, END] {
-        sheet.extend_from_slice(part.as_bytes())?;
-    }
+    put_parts(&[FRONT], &mut sheet)?;
+    put_title_of(alloc, heading, &mut sheet)?;
+    put_parts(&[HEAD, STYLE, MIDDLE], &mut sheet)?;
+    put_data(alloc, data, &mut sheet)?;
+    put_parts(&[BACK, SCRIPT, END], &mut sheet)?;
     Ok(sheet)
+}
+
+fn put_parts(parts: &[&str], sheet: &mut Vec<u8>) -> Result<(), NoMemory> {
+    for part in parts {
+        sheet.extend_from_slice(part.as_bytes())?;
+    }
+    Ok(())
+}
+
+fn put_title_of(
+    alloc: Global,
+    heading: &Heading<'_>,
+    sheet: &mut Vec<u8>,
+) -> Result<(), NoMemory> {
+    let title = heading.title(alloc)?;
+    put_title(title.as_str(), sheet)
+}
+
+fn put_data(alloc: Global, data: &Value, sheet: &mut Vec<u8>) -> Result<(), NoMemory> {
+    let json = data.to_string(alloc)?;
+    put_json(json.as_str(), sheet)
 }
 
 /// Appends a title as a text of HTML.
