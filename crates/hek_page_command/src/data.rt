@@ -1,9 +1,7 @@
 //! The data of a run's page, as JSON.
 use crate::comments::Comments;
 use crate::heading::{Heading, put_heading};
-use crate::members::{
-    Members, put_lines, put_lines_if, put_number, put_text, put_value, text_of,
-};
+use crate::members::{Members, put_lines, put_lines_if, put_number, put_text, put_value, text_of};
 use crate::tell::{Shown, StepText, Told, tell};
 use hek_commands::put_reply;
 use hek_rules::{Level, NoMemory, Schedule, Transcript, Verdict};
@@ -139,6 +137,7 @@ fn put_step(
     put_lines(alloc, "changed", step.changed.as_slice(), members)?;
     put_lines(alloc, "gone", step.gone.as_slice(), members)?;
     put_lines(alloc, "why", step.why.as_slice(), members)?;
+    put_text(alloc, "rule", step.rule, members)?;
     put_lines(alloc, "sees", step.sees.as_slice(), members)?;
     put_lines_if(alloc, "waits", &step.waits, members)?;
     put_lines(alloc, "ends", step.ends.as_slice(), members)?;

@@ -49,11 +49,7 @@ pub(crate) fn put_heading(
     put_link(alloc, "next", heading.next, members)
 }
 
-fn put_title(
-    alloc: Global,
-    heading: &Heading<'_>,
-    members: &mut Members,
-) -> Result<(), NoMemory> {
+fn put_title(alloc: Global, heading: &Heading<'_>, members: &mut Members) -> Result<(), NoMemory> {
     let title = heading.title(alloc)?;
     put_text(alloc, "title", title.as_str(), members)
 }

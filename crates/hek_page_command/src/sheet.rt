@@ -46,11 +46,7 @@ fn put_parts(parts: &[&str], sheet: &mut Vec<u8>) -> Result<(), NoMemory> {
     Ok(())
 }
 
-fn put_title_of(
-    alloc: Global,
-    heading: &Heading<'_>,
-    sheet: &mut Vec<u8>,
-) -> Result<(), NoMemory> {
+fn put_title_of(alloc: Global, heading: &Heading<'_>, sheet: &mut Vec<u8>) -> Result<(), NoMemory> {
     let title = heading.title(alloc)?;
     put_title(title.as_str(), sheet)
 }

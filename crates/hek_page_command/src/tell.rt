@@ -9,8 +9,8 @@ use crate::sees::put_sees;
 use crate::waits::Waits;
 use hek_commands::put_line;
 use hek_machine::Machine;
-use hek_rules::{Event, NoMemory, Schedule, Transcript, TxnId};
-use hek_why::{Dooms, Step, reasons};
+use hek_rules::{Event, NoMemory, Reply, Schedule, Transcript, TxnId};
+use hek_why::{Dooms, Reason, Step, reasons};
 use hek_why_command::put_reasons;
 use std::alloc::Global;
 
@@ -41,12 +41,14 @@ pub(crate) struct Opening {
 }
 
 /// What a page says of a step, in lines: what changed, the buckets that have no line any more, the reasons, what the
-/// transaction saw, all waits after the step if they have changed, and the transactions whose wait has ended.
+/// transaction saw, all waits after the step if they have changed, and the transactions whose wait has ended. Of an abort
+/// or a refusal also the definition that decided it, as `hek run --why=rules` names it; otherwise `rule` is empty.
 #[derive(Drop)]
 pub(crate) struct StepText {
     pub changed: Vec<u8>,
     pub gone: Vec<u8>,
     pub why: Vec<u8>,
+    pub rule: &'static str,
     pub sees: Vec<u8>,
     pub waits: Option<Vec<u8>>,
     pub ends: Vec<u8>,
@@ -100,7 +102,15 @@ fn tell_run(
         dooms: Dooms::new(alloc),
     };
     let steps = schedule.steps();
-    tell_steps(alloc, schedule, steps, shown, &mut machine, &mut watch, told)
+    tell_steps(
+        alloc,
+        schedule,
+        steps,
+        shown,
+        &mut machine,
+        &mut watch,
+        told,
+    )
 }
 
 /// Tells these steps from a machine that has done none.
@@ -185,7 +195,9 @@ fn tell_opening(
 ) -> Result<(), NoMemory> {
     let mut gone = Vec::new(alloc);
     let lines = &mut opening.lines;
-    watch.look.changes(alloc, schedule, machine, lines, &mut gone)?;
+    watch
+        .look
+        .changes(alloc, schedule, machine, lines, &mut gone)?;
     let mut waits = None;
     watch.waits.changes(alloc, machine, &mut waits)?;
     if let Some(waits) = waits {
@@ -272,6 +284,7 @@ fn no_text(alloc: Global) -> StepText {
         changed: Vec::new(alloc),
         gone: Vec::new(alloc),
         why: Vec::new(alloc),
+        rule: "",
         sees: Vec::new(alloc),
         waits: None,
         ends: Vec::new(alloc),
@@ -288,22 +301,36 @@ fn fill_text(
 ) -> Result<(), NoMemory> {
     let changed = &mut text.changed;
     let gone = &mut text.gone;
-    watch.look.changes(alloc, schedule, step.after, changed, gone)?;
-    put_why(alloc, schedule, step, &watch.dooms, &mut text.why)?;
+    watch
+        .look
+        .changes(alloc, schedule, step.after, changed, gone)?;
+    put_why(alloc, schedule, step, &watch.dooms, text)?;
     put_sees(alloc, schedule, step, &mut text.sees)?;
     watch.waits.changes(alloc, step.after, &mut text.waits)?;
     watch.waits.note(alloc, step, &mut text.ends)
 }
 
-/// Appends the reasons of a step's reply, a line each.
+/// Appends the reasons of a step's reply, a line each, and sets the rule.
 fn put_why(
     alloc: Global,
     schedule: &Schedule,
     step: &Step<'_>,
     dooms: &Dooms,
-    lines: &mut Vec<u8>,
+    text: &mut StepText,
 ) -> Result<(), NoMemory> {
     let t = step.event.txn().unwrap_or(TxnId::new(0));
     let list = reasons(alloc, step, dooms)?;
-    put_reasons(schedule, step.before, t, list.as_slice(), lines)
+    text.rule = rule_of(list.as_slice(), step.reply);
+    put_reasons(schedule, step.before, t, list.as_slice(), &mut text.why)
+}
+
+/// The definition that decided an abort or a refusal: that of its last reason. Empty for other replies.
+fn rule_of(reasons: &[Reason], reply: &Reply) -> &'static str {
+    if !matches!(reply, Reply::Aborted(_) | Reply::Refused(_)) {
+        return "";
+    }
+    match reasons.last() {
+        Some(reason) => reason.rule_name(reply),
+        None => "",
+    }
 }

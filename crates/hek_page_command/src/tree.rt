@@ -45,6 +45,7 @@ pub(crate) struct StepPlaces {
     pub sees: usize,
     pub waits: Option<usize>,
     pub ends: usize,
+    pub rule: usize,
 }
 
 /// The events of an order's play, and its outcome if the order is whole.
@@ -224,6 +225,7 @@ impl Tree {
             sees: self.add_text(alloc, step.sees.as_slice())?,
             waits,
             ends: self.add_text(alloc, step.ends.as_slice())?,
+            rule: self.add_text(alloc, step.rule.as_bytes())?,
         };
         let (place, _) = self.steps.insert_full(places)?;
         Ok(place)

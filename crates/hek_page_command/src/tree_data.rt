@@ -155,6 +155,7 @@ fn step_value(alloc: Global, step: &StepPlaces) -> Result<Value, NoMemory> {
         Some(step.sees),
         step.waits,
         Some(step.ends),
+        Some(step.rule),
     ];
     let mut values = Vec::new(alloc);
     for place in &places {
