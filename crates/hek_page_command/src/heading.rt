@@ -1,6 +1,6 @@
 //! What a page says of itself: its title, its number among lessons, and the pages before and after it.
 use crate::comments::Comments;
-use crate::members::{Members, put_text, put_value};
+use crate::members::{Members, number_value, put_text, put_value};
 use hek_rules::NoMemory;
 use serde_json::{Value, json};
 use std::alloc::Global;
@@ -29,7 +29,7 @@ impl Heading<'_> {
     /// The number of the lesson, or null.
     fn lesson_value(&self, alloc: Global) -> Result<Value, NoMemory> {
         match self.lesson {
-            Some(lesson) => Ok(json!(in alloc; lesson)?),
+            Some(lesson) => number_value(alloc, lesson),
             None => Ok(Value::Null),
         }
     }

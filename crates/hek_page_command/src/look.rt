@@ -102,12 +102,19 @@ impl Look {
             let mut line = Vec::new(alloc);
             put_bucket(machine, bucket, &mut line)?;
             let is_locked = !line.is_empty();
-            let changed = note(&mut self.buckets, bucket as usize, line, lines)?;
-            if changed && !is_locked && writeln!(gone, "bucket {bucket}").is_err() {
-                return Err(NoMemory);
+            if note(&mut self.buckets, bucket as usize, line, lines)? && !is_locked {
+                put_gone(bucket, gone)?;
             }
         }
         Ok(())
+    }
+}
+
+/// Appends a bucket that has no line any more.
+fn put_gone(bucket: u64, gone: &mut Vec<u8>) -> Result<(), NoMemory> {
+    match writeln!(gone, "bucket {bucket}") {
+        Ok(()) => Ok(()),
+        Err(_) => Err(NoMemory),
     }
 }
 

@@ -23,7 +23,7 @@ pub(crate) fn put_text(
     text: &str,
     members: &mut Members,
 ) -> Result<(), NoMemory> {
-    let value = json!(in alloc; text)?;
+    let value = text_value(alloc, text)?;
     put_value(alloc, name, value, members)
 }
 
@@ -56,8 +56,16 @@ pub(crate) fn put_number(
     number: u64,
     members: &mut Members,
 ) -> Result<(), NoMemory> {
-    let value = json!(in alloc; number)?;
+    let value = number_value(alloc, number)?;
     put_value(alloc, name, value, members)
+}
+
+pub(crate) fn text_value(alloc: Global, text: &str) -> Result<Value, NoMemory> {
+    Ok(json!(in alloc; text)?)
+}
+
+pub(crate) fn number_value(alloc: Global, number: u64) -> Result<Value, NoMemory> {
+    Ok(json!(in alloc; number)?)
 }
 
 /// Lines as text.

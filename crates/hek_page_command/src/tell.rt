@@ -168,21 +168,28 @@ fn pass_step(
 {
     let before = machine.copy()?;
     let reply = machine.step(*event)?;
-    let step = Step {
-        before: &before,
-        event: *event,
-        reply: &reply,
-        after: machine,
-    };
-    watch_step(alloc, &step, watch)?;
+    watch_step(alloc, &before, event, &reply, machine, watch)?;
     passed.push(*event, reply)
 }
 
 /// Takes note of a step that no page shows.
-fn watch_step(alloc: Global, step: &Step<'_>, watch: &mut Watch) -> Result<(), NoMemory> {
+fn watch_step(
+    alloc: Global,
+    before: &Machine,
+    event: &Event,
+    reply: &Reply,
+    after: &Machine,
+    watch: &mut Watch,
+) -> Result<(), NoMemory> {
+    let step = Step {
+        before,
+        event: *event,
+        reply,
+        after,
+    };
     let mut ended = Vec::new(alloc);
-    watch.waits.note(alloc, step, &mut ended)?;
-    watch.dooms.note(step.before, step.event, step.reply)
+    watch.waits.note(alloc, &step, &mut ended)?;
+    watch.dooms.note(before, *event, reply)
 }
 
 /// The state before the page, which becomes the last look.

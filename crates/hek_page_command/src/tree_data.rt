@@ -1,12 +1,14 @@
 //! The data of an explorer's page, as JSON.
 use crate::comments::Comments;
 use crate::heading::{Heading, put_heading};
-use crate::members::{Members, put_lines, put_number, put_text, put_value, text_of};
+use crate::members::{
+    Members, number_value, put_lines, put_number, put_text, put_value, text_of, text_value,
+};
 use crate::tree::{Node, StepPlaces, Tree};
 use hek_permute::{Form, Moves};
 use hek_rules::{Event, NoMemory, Schedule, TxnId};
 use indexmap::IndexSet;
-use serde_json::{Map, Value, json};
+use serde_json::{Map, Value};
 use std::alloc::Global;
 use std::io::Write;
 
@@ -73,7 +75,7 @@ fn name_values(alloc: Global, schedule: &Schedule) -> Result<Value, NoMemory> {
     let mut values = Vec::new(alloc);
     for place in 0..schedule.txn_count() {
         let name = schedule.name_of(TxnId::new(place as u64 + 1));
-        values.push(json!(in alloc; name)?)?;
+        values.push(text_value(alloc, name)?)?;
     }
     Ok(Value::Array(values))
 }
@@ -91,14 +93,28 @@ fn move_values(alloc: Global, moves: &[Moves], form: Form) -> Result<Value, NoMe
 fn moves_of_one(alloc: Global, of_one: &Moves, form: Form) -> Result<Value, NoMemory> {
     let mut values = Vec::new(alloc);
     for event in of_one.work() {
-        let text = work_text(alloc, event)?;
-        let text = text_of(text.as_slice());
-        values.push(json!(in alloc; text)?)?;
+        values.push(work_value(alloc, event)?)?;
     }
-    for text in last_texts(form, of_one.fails()) {
-        values.push(json!(in alloc; *text)?)?;
-    }
+    push_last(alloc, form, of_one.fails(), &mut values)?;
     Ok(Value::Array(values))
+}
+
+/// Appends the moves that end a transaction.
+fn push_last(
+    alloc: Global,
+    form: Form,
+    fails: bool,
+    values: &mut Vec<Value>,
+) -> Result<(), NoMemory> {
+    for text in last_texts(form, fails) {
+        values.push(text_value(alloc, text)?)?;
+    }
+    Ok(())
+}
+
+fn work_value(alloc: Global, event: &Event) -> Result<Value, NoMemory> {
+    let text = work_text(alloc, event)?;
+    text_value(alloc, text_of(text.as_slice()))
 }
 
 /// The moves that end a transaction.
@@ -131,8 +147,7 @@ fn work_text(alloc: Global, event: &Event) -> Result<Vec<u8>, NoMemory> {
 fn text_values(alloc: Global, texts: &IndexSet<Vec<u8>>) -> Result<Value, NoMemory> {
     let mut values = Vec::new(alloc);
     for text in texts {
-        let text = text_of(text.as_slice());
-        values.push(json!(in alloc; text)?)?;
+        values.push(text_value(alloc, text_of(text.as_slice()))?)?;
     }
     Ok(Value::Array(values))
 }
@@ -166,10 +181,7 @@ fn step_value(alloc: Global, step: &StepPlaces) -> Result<Value, NoMemory> {
 
 fn place_value(alloc: Global, place: Option<usize>) -> Result<Value, NoMemory> {
     match place {
-        Some(place) => {
-            let place = place as u64;
-            Ok(json!(in alloc; place)?)
-        }
+        Some(place) => number_value(alloc, place as u64),
         None => Ok(Value::Null),
     }
 }
@@ -186,12 +198,17 @@ fn node_values(alloc: Global, nodes: &[Node]) -> Result<Value, NoMemory> {
 /// outcome or null, and how many orders lead to each outcome.
 fn node_value(alloc: Global, node: &Node) -> Result<Value, NoMemory> {
     let mut values = Vec::new(alloc);
+    push_node(alloc, node, &mut values)?;
+    Ok(Value::Array(values))
+}
+
+fn push_node(alloc: Global, node: &Node, values: &mut Vec<Value>) -> Result<(), NoMemory> {
     values.push(place_value(alloc, Some(node.parent))?)?;
-    values.push(json!(in alloc; node.who.number())?)?;
+    values.push(number_value(alloc, node.who.number())?)?;
     values.push(places_value(alloc, node.steps.as_slice())?)?;
     values.push(place_value(alloc, node.outcome)?)?;
     values.push(counts_value(alloc, node.counts.as_slice())?)?;
-    Ok(Value::Array(values))
+    Ok(())
 }
 
 fn places_value(alloc: Global, places: &[usize]) -> Result<Value, NoMemory> {
@@ -205,7 +222,7 @@ fn places_value(alloc: Global, places: &[usize]) -> Result<Value, NoMemory> {
 fn counts_value(alloc: Global, counts: &[u64]) -> Result<Value, NoMemory> {
     let mut values = Vec::new(alloc);
     for count in counts {
-        values.push(json!(in alloc; *count)?)?;
+        values.push(number_value(alloc, *count)?)?;
     }
     Ok(Value::Array(values))
 }
