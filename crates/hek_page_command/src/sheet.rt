@@ -31,19 +31,44 @@ pub(crate) fn write_sheet<'a, W: Write>(
 
 fn sheet_of(alloc: Global, heading: &Heading<'_>, data: &Value) -> Result<Vec<u8>, NoMemory> {
     let mut sheet = Vec::new(alloc);
-    put_parts(&[FRONT], &mut sheet)?;
-    put_title_of(alloc, heading, &mut sheet)?;
-    put_parts(&[HEAD, STYLE, MIDDLE], &mut sheet)?;
+    put_head(alloc, heading, &mut sheet)?;
     put_data(alloc, data, &mut sheet)?;
-    put_parts(&[BACK, SCRIPT, END], &mut sheet)?;
+    put_foot(&mut sheet)?;
     Ok(sheet)
 }
 
-fn put_parts(parts: &[&str], sheet: &mut Vec<u8>) -> Result<(), NoMemory> {
-    for part in parts {
-        sheet.extend_from_slice(part.as_bytes())?;
-    }
+/// Appends what is before the data.
+fn put_head(alloc: Global, heading: &Heading<'_>, sheet: &mut Vec<u8>) -> Result<(), NoMemory> {
+    put_part(FRONT, sheet)?;
+    put_title_of(alloc, heading, sheet)?;
+    put_part(HEAD, sheet)?;
+    put_part(style_text(), sheet)?;
+    put_part(body_text(), sheet)
+}
+
+/// Appends what is after the data.
+fn put_foot(sheet: &mut Vec<u8>) -> Result<(), NoMemory> {
+    put_part(BACK, sheet)?;
+    put_part(script_text(), sheet)?;
+    put_part(END, sheet)
+}
+
+fn put_part(part: &str, sheet: &mut Vec<u8>) -> Result<(), NoMemory> {
+    sheet.extend_from_slice(part.as_bytes())?;
     Ok(())
+}
+
+// Each long text has a function of its own: a check of a function copies the constants in it for each of its steps.
+fn style_text() -> &'static str {
+    STYLE
+}
+
+fn body_text() -> &'static str {
+    MIDDLE
+}
+
+fn script_text() -> &'static str {
+    SCRIPT
 }
 
 fn put_title_of(alloc: Global, heading: &Heading<'_>, sheet: &mut Vec<u8>) -> Result<(), NoMemory> {
