@@ -328,6 +328,7 @@ const DECIDES = new Map([
   ["Checks.begins", "BegunTwice: the transaction has begun before."],
   ["World.is_terminated", "Ended: the transaction is over."],
   ["Checks.in_phase", "WrongPhase: the event comes out of turn."],
+  ["Table.holds_nothing", "WrongPhase: an end while something is left to give back: a lock, a waiter or a word to stamp."],
   ["Checks.draws", "ClockFull: no time is left to draw."],
 ]);
 const ruleOf = (step) => (step.rule ? [step.rule, DECIDES.get(step.rule) ?? ""] : RULES[step.op]);
