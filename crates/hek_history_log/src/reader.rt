@@ -1,6 +1,6 @@
 //! Reading a log.
 use crate::fault::{LogFault, Wanted};
-use crate::fields::{buckets_of, interval_of, level_of, name_of, rows_of, status_of, time_of};
+use crate::fields::{buckets_of, interval_of, level_of, name_of, read_rows, status_of, time_of};
 use crate::finish::finish;
 use crate::log_line::LogLine;
 use crate::logged::{Log, Names};
@@ -95,12 +95,21 @@ fn add_line(
         return Ok(());
     }
     let object = object_in(alloc, line, scratch)?;
+    add_object(alloc, line, &object, draft)
+}
+
+fn add_object(
+    alloc: Global,
+    line: LogLine<'_>,
+    object: &Value<'_>,
+    draft: &mut Draft,
+) -> Result<(), LogFault> {
     if draft.is_empty() && object.get("txn").is_none() {
-        return add_opening(alloc, line, &object, draft);
+        return add_opening(alloc, line, object, draft);
     }
-    let name = name_of(line, &object)?;
+    let name = name_of(line, object)?;
     let number = add_name(alloc, line, name, draft)?;
-    add_transaction(alloc, line, &object, number, draft)
+    add_transaction(alloc, line, object, number, draft)
 }
 
 /// The object that a line is.
@@ -140,8 +149,10 @@ fn add_opening(
     object: &Value<'_>,
     draft: &mut Draft,
 ) -> Result<(), LogFault> {
-    draft.symbols.buckets = buckets_of(line, object)?;
-    draft.history.rows = rows_of(alloc, line, object, &mut draft.symbols)?;
+    let buckets = buckets_of(line, object)?;
+    draft.symbols.buckets = buckets;
+    let rows = &mut draft.history.rows;
+    read_rows(alloc, line, object, &mut draft.symbols, rows)?;
     draft.rows_line = line.number;
     Ok(())
 }
