@@ -57,13 +57,27 @@ pub fn read_log<B: BufRead>(alloc: Global, input: &mut B) -> Result<Log, LogFaul
 fn read_lines<B: BufRead>(alloc: Global, input: &mut B, draft: &mut Draft) -> Result<(), LogFault> {
     let mut scratch = Scratch::new(alloc);
     let mut bytes = Vec::new(alloc);
+    add_lines(alloc, input, &mut bytes, &mut scratch, draft)
+}
+
+fn add_lines<B: BufRead>(
+    alloc: Global,
+    input: &mut B,
+    bytes: &mut Vec<u8>,
+    scratch: &mut Scratch,
+    draft: &mut Draft,
+) -> Result<(), LogFault> {
     for number in 1..u64::MAX {
-        read_line(input, &mut bytes)?;
+        read_line(input, bytes)?;
         if bytes.is_empty() {
             break;
         }
-        let line = LogLine::new(number, bytes.as_slice());
-        add_line(alloc, line, &mut scratch, draft)?;
+        add_line(
+            alloc,
+            LogLine::new(number, bytes.as_slice()),
+            scratch,
+            draft,
+        )?;
     }
     Ok(())
 }
