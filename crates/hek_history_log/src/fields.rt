@@ -114,22 +114,19 @@ pub(crate) fn buckets_of(line: LogLine<'_>, object: &Value<'_>) -> Result<Option
     }
 }
 
-/// The opening rows: none, if they are not given.
-pub(crate) fn rows_of(
+/// Reads the opening rows: none, if they are not given.
+pub(crate) fn read_rows(
     alloc: Global,
     line: LogLine<'_>,
     object: &Value<'_>,
     symbols: &mut Symbols,
-) -> Result<Vec<(u64, u64)>, LogFault> {
-    let Some(value) = object.get("rows") else {
-        return Ok(Vec::new(alloc));
-    };
-    let Value::Array(items) = value else {
-        return Err(line.wants(Spot::Field("rows"), Wanted::Rows));
-    };
-    let mut rows = Vec::with_capacity(alloc, items.len())?;
-    add_rows(alloc, line, items.as_slice(), symbols, &mut rows)?;
-    Ok(rows)
+    rows: &mut Vec<(u64, u64)>,
+) -> Result<(), LogFault> {
+    match object.get("rows") {
+        None => Ok(()),
+        Some(Value::Array(items)) => add_rows(alloc, line, items.as_slice(), symbols, rows),
+        Some(_) => Err(line.wants(Spot::Field("rows"), Wanted::Rows)),
+    }
 }
 
 fn add_rows(

@@ -1,4 +1,7 @@
 //! A log that was read.
+ghost use Rattle.std.specs.Prelude.{◌≡◌, ◌<◌, ◌^◌};
+ghost use Rattle.hek_history_log.specs.declared.shown.Label.TheVariants.{Number};
+
 use crate::numbering::Labels;
 use crate::shown::Label;
 use hek_history::History;
@@ -73,8 +76,10 @@ impl Log {
         }
     }
 
-    /// The value with a number of the history.
-    pub fn value(&self, number: u64) -> Label<'_> {
+    /// The value with a number of the history. A number below 2^63 stands for itself.
+    pub fn value(&self, number: u64) -> Label<'_>
+        ensures { number < 2 ^ 63 → result ≡ Number number }
+    {
         self.values.label(number)
     }
 }

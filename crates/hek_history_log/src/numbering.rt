@@ -1,4 +1,7 @@
 //! The numbers that stand for labels.
+ghost use Rattle.std.specs.Prelude.{◌≡◌, ◌<◌, ◌^◌};
+ghost use Rattle.hek_history_log.specs.declared.shown.Label.TheVariants.{Number};
+
 use crate::shown::Label;
 use hek_rules::NoMemory;
 use indexmap::IndexSet;
@@ -49,7 +52,9 @@ impl Labels {
     }
 
     /// The label with a number; a number that stands for no entry is its own label.
-    pub(crate) fn label(&self, number: u64) -> Label<'_> {
+    pub(crate) fn label(&self, number: u64) -> Label<'_>
+        ensures { number < 2 ^ 63 → result ≡ Number number }
+    {
         if number < ENTRIES {
             return Label::Number(number);
         }

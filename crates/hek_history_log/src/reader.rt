@@ -1,6 +1,6 @@
 //! Reading a log.
 use crate::fault::{LogFault, Wanted};
-use crate::fields::{buckets_of, interval_of, level_of, name_of, rows_of, status_of, time_of};
+use crate::fields::{buckets_of, interval_of, level_of, name_of, read_rows, status_of, time_of};
 use crate::finish::finish;
 use crate::log_line::LogLine;
 use crate::logged::{Log, Names};
@@ -57,13 +57,27 @@ pub fn read_log<B: BufRead>(alloc: Global, input: &mut B) -> Result<Log, LogFaul
 fn read_lines<B: BufRead>(alloc: Global, input: &mut B, draft: &mut Draft) -> Result<(), LogFault> {
     let mut scratch = Scratch::new(alloc);
     let mut bytes = Vec::new(alloc);
+    add_lines(alloc, input, &mut bytes, &mut scratch, draft)
+}
+
+fn add_lines<B: BufRead>(
+    alloc: Global,
+    input: &mut B,
+    bytes: &mut Vec<u8>,
+    scratch: &mut Scratch,
+    draft: &mut Draft,
+) -> Result<(), LogFault> {
     for number in 1..u64::MAX {
-        read_line(input, &mut bytes)?;
+        read_line(input, bytes)?;
         if bytes.is_empty() {
             break;
         }
-        let line = LogLine::new(number, bytes.as_slice());
-        add_line(alloc, line, &mut scratch, draft)?;
+        add_line(
+            alloc,
+            LogLine::new(number, bytes.as_slice()),
+            scratch,
+            draft,
+        )?;
     }
     Ok(())
 }
@@ -95,12 +109,21 @@ fn add_line(
         return Ok(());
     }
     let object = object_in(alloc, line, scratch)?;
+    add_object(alloc, line, &object, draft)
+}
+
+fn add_object(
+    alloc: Global,
+    line: LogLine<'_>,
+    object: &Value<'_>,
+    draft: &mut Draft,
+) -> Result<(), LogFault> {
     if draft.is_empty() && object.get("txn").is_none() {
-        return add_opening(alloc, line, &object, draft);
+        return add_opening(alloc, line, object, draft);
     }
-    let name = name_of(line, &object)?;
+    let name = name_of(line, object)?;
     let number = add_name(alloc, line, name, draft)?;
-    add_transaction(alloc, line, &object, number, draft)
+    add_transaction(alloc, line, object, number, draft)
 }
 
 /// The object that a line is.
@@ -140,8 +163,10 @@ fn add_opening(
     object: &Value<'_>,
     draft: &mut Draft,
 ) -> Result<(), LogFault> {
-    draft.symbols.buckets = buckets_of(line, object)?;
-    draft.history.rows = rows_of(alloc, line, object, &mut draft.symbols)?;
+    let buckets = buckets_of(line, object)?;
+    draft.symbols.buckets = buckets;
+    let rows = &mut draft.history.rows;
+    read_rows(alloc, line, object, &mut draft.symbols, rows)?;
     draft.rows_line = line.number;
     Ok(())
 }
