@@ -262,9 +262,20 @@ impl Known<'_> {
             .add(Says::Source { reading, source }, rule, least)?;
         self.note(fact)?;
         put(&mut self.sources, reading, Some(fact));
+        self.read_from(reading, source, fact)
+    }
+
+    /// Adds that the source of a reading is before the reader, by the fact that settles it, and so takes place.
+    pub(crate) fn read_from(
+        &mut self,
+        reading: usize,
+        source: Source,
+        settled: usize,
+    ) -> Result<(), Stop> {
+        let reader = self.problem.reading(reading).reader;
         let commit = self.nodes.of_source(self.problem, source);
         let begin = self.nodes.begin(reader);
-        self.facts.cite(fact)?;
+        self.facts.cite(settled)?;
         let read = self.force(commit, begin, Rule::Read(reading), 0)?;
         Ok(self.take(source, read, reader)?)
     }
