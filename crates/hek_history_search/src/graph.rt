@@ -169,29 +169,25 @@ impl Graph {
         self.path.clear();
         let mut node = to;
         for _ in 0..self.out.len() {
-            if node == from {
-                break;
-            }
             let edge = at(self.reached_by.as_slice(), node, NO_EDGE);
             self.path.push(edge.fact)?;
             node = edge.node;
+            if node == from {
+                break;
+            }
         }
         self.path.reverse();
         Ok(())
     }
 
-    /// Finds a shortest path from a node to another, if there is one within so many nodes.
-    pub(crate) fn find_path(
+    /// Looks from the nodes of the queue, up to a place of the order, for a path from the first of them to another.
+    fn look_ahead(
         &mut self,
         from: usize,
         to: usize,
+        end: usize,
         limit: usize,
     ) -> Result<Reached, NoMemory> {
-        let end = self.place_of(to);
-        if self.place_of(from) >= end {
-            return Ok(Reached::No);
-        }
-        self.begin_turn(from)?;
         for turn in 0..self.out.len() {
             if turn >= self.queue.len() {
                 return Ok(Reached::No);
@@ -207,6 +203,28 @@ impl Graph {
             }
         }
         Ok(Reached::No)
+    }
+
+    /// Finds a shortest path from a node to another, if there is one within so many nodes.
+    pub(crate) fn find_path(
+        &mut self,
+        from: usize,
+        to: usize,
+        limit: usize,
+    ) -> Result<Reached, NoMemory> {
+        let end = self.place_of(to);
+        if self.place_of(from) >= end {
+            return Ok(Reached::No);
+        }
+        self.begin_turn(from)?;
+        self.look_ahead(from, to, end, limit)
+    }
+
+    /// Finds a shortest cycle through a node, if there is one within so many nodes, whatever the order.
+    pub(crate) fn find_cycle(&mut self, node: usize, limit: usize) -> Result<Reached, NoMemory> {
+        self.begin_turn(node)?;
+        put(&mut self.seen, node, 0);
+        self.look_ahead(node, node, usize::MAX, limit)
     }
 
     /// Sees all nodes that lead to a node, down to a place of the order.

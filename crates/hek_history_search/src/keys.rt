@@ -8,6 +8,8 @@ use std::alloc::Global;
 #[derive(Drop)]
 pub(crate) struct Keys {
     names: Vec<u64>,
+    /// Into how many buckets scans divide the keys.
+    divisions: Vec<u64>,
     /// Into how many buckets keys are divided, the bucket, and the place of the key.
     bucketed: Vec<(u64, u64, usize)>,
 }
@@ -32,53 +34,55 @@ pub(crate) fn covers(scope: Scope, key: u64) -> bool {
     }
 }
 
-/// Adds the keys of an operation.
-fn add_names(names: &mut Vec<u64>, operation: &Operation) -> Result<(), NoMemory> {
-    if let Some(key) = key_of(operation) {
-        names.push(key)?;
-    }
-    if let Operation::Scan(_, pairs) = operation {
-        for pair in pairs {
-            names.push(pair.0)?;
-        }
-    }
-    Ok(())
-}
-
-/// Adds the number of buckets into which an operation divides keys, if it is new.
-fn add_division(divisions: &mut Vec<u64>, operation: &Operation) -> Result<(), NoMemory> {
-    if let Operation::Scan(Scope::Bucket(buckets, _), _) = operation {
-        if *buckets != 0 && !divisions.contains(buckets) {
-            divisions.push(*buckets)?;
-        }
-    }
-    Ok(())
-}
-
 impl Keys {
     /// The keys that a history names.
     pub(crate) fn of(alloc: Global, history: &History) -> Result<Keys, NoMemory> {
         let mut keys = Keys {
             names: Vec::new(alloc),
+            divisions: Vec::new(alloc),
             bucketed: Vec::new(alloc),
         };
-        let mut divisions = Vec::new(alloc);
+        keys.fill(history)?;
+        Ok(keys)
+    }
+
+    /// Takes the keys that a history names.
+    fn fill(&mut self, history: &History) -> Result<(), NoMemory> {
         for row in &history.rows {
-            keys.names.push(row.0)?;
+            self.names.push(row.0)?;
         }
         for transaction in &history.transactions {
             for operation in &transaction.operations {
-                add_names(&mut keys.names, operation)?;
-                add_division(&mut divisions, operation)?;
+                self.add(operation)?;
             }
         }
-        keys.names.sort_unstable();
-        keys.names.dedup();
-        for buckets in &divisions {
-            keys.divide(*buckets)?;
+        self.names.sort_unstable();
+        self.names.dedup();
+        for place in 0..self.divisions.len() {
+            let buckets = at(self.divisions.as_slice(), place, 0);
+            self.divide(buckets)?;
         }
-        keys.bucketed.sort_unstable();
-        Ok(keys)
+        self.bucketed.sort_unstable();
+        Ok(())
+    }
+
+    /// Adds the keys of an operation, and the number of buckets into which it divides keys, if it is new.
+    fn add(&mut self, operation: &Operation) -> Result<(), NoMemory> {
+        if let Some(key) = key_of(operation) {
+            self.names.push(key)?;
+        }
+        let Operation::Scan(scope, pairs) = operation else {
+            return Ok(());
+        };
+        for pair in pairs {
+            self.names.push(pair.0)?;
+        }
+        if let Scope::Bucket(buckets, _) = scope {
+            if !self.divisions.contains(buckets) {
+                self.divisions.push(*buckets)?;
+            }
+        }
+        Ok(())
     }
 
     /// Adds each key in its bucket.

@@ -5,7 +5,6 @@ use crate::graph::{Graph, Reached};
 use crate::hints::Hint;
 use crate::lists::{at, list_at, put};
 use crate::nodes::{Nodes, OPENING};
-use crate::order::sorted_nodes;
 use crate::problem::{Problem, Source};
 use crate::replay::Violation;
 use hek_rules::NoMemory;
@@ -43,8 +42,6 @@ pub(crate) struct Known<'a> {
     pub clock: Clock,
     pub graph: Graph,
     pub facts: Facts,
-    /// The nodes that are guessed to come after each.
-    pub guesses: Vec<Vec<usize>>,
     /// The only candidate of each reading, its own transaction left out.
     pub only: Vec<Option<Source>>,
     /// The fact that settles the source of each reading.
@@ -134,17 +131,6 @@ impl Known<'_> {
             self.graph.link(first, second, fact)?;
         }
         Ok(fact)
-    }
-
-    /// Makes the order of the nodes anew by the facts of now and the guesses. Answers whether the facts have an order.
-    pub(crate) fn anchor(&mut self) -> Result<bool, NoMemory> {
-        let guesses = self.guesses.as_slice();
-        let order = sorted_nodes(self.alloc, &self.graph, guesses, self.node_hints.as_slice())?;
-        let is_whole = order.len() == self.graph.len();
-        if is_whole {
-            self.graph.set_order(order);
-        }
-        Ok(is_whole)
     }
 
     /// Notes that a fact is to be taken back with the decision of its level.
@@ -276,9 +262,20 @@ impl Known<'_> {
             .add(Says::Source { reading, source }, rule, least)?;
         self.note(fact)?;
         put(&mut self.sources, reading, Some(fact));
+        self.read_from(reading, source, fact)
+    }
+
+    /// Adds that the source of a reading is before the reader, by the fact that settles it, and so takes place.
+    pub(crate) fn read_from(
+        &mut self,
+        reading: usize,
+        source: Source,
+        settled: usize,
+    ) -> Result<(), Stop> {
+        let reader = self.problem.reading(reading).reader;
         let commit = self.nodes.of_source(self.problem, source);
         let begin = self.nodes.begin(reader);
-        self.facts.cite(fact)?;
+        self.facts.cite(settled)?;
         let read = self.force(commit, begin, Rule::Read(reading), 0)?;
         Ok(self.take(source, read, reader)?)
     }

@@ -9,7 +9,6 @@ mod clock;
 mod cycle;
 mod facts;
 mod graph;
-mod guesses;
 mod hints;
 mod judging;
 mod keys;

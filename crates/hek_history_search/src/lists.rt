@@ -1,7 +1,4 @@
 //! Parts of lists, and lists of lists.
-use hek_rules::NoMemory;
-use std::alloc::Global;
-
 /// The part of a list from a place up to another, or nothing if the list has no such part.
 pub(crate) fn part<T>(list: &[T], from: usize, to: usize) -> &[T] {
     if from <= to && to <= list.len() {
@@ -24,15 +21,6 @@ pub(crate) fn put<T: Copy>(list: &mut Vec<T>, place: usize, value: T) {
     if let Some(there) = list.get_mut(place) {
         *there = value;
     }
-}
-
-/// So many empty lists.
-pub(crate) fn empty_lists<T: Drop>(alloc: Global, count: usize) -> Result<Vec<Vec<T>>, NoMemory> {
-    let mut lists = Vec::new(alloc);
-    for _ in 0..count {
-        lists.push(Vec::new(alloc))?;
-    }
-    Ok(lists)
 }
 
 /// The list at a place, or an empty one.

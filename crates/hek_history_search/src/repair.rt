@@ -101,11 +101,18 @@ impl Known<'_> {
         let source = self.problem.transaction_of(settled.source);
         let its = self.nodes.commit_of(source);
         let others = self.nodes.commit_of(writer);
+        let begin = self.nodes.begin(self.problem.reading(place).reader);
+        if let Some(fact) = settled.fact {
+            // a conflict kept from being added what follows from the source
+            if !self.is_in_order(its, begin) || !self.is_present_writer(source) {
+                return self.read_from(place, settled.source, fact);
+            }
+        }
         if source == writer || self.is_in_order(others, its) {
             return Ok(());
         }
         let after = Way {
-            first: self.nodes.begin(self.problem.reading(place).reader),
+            first: begin,
             second: others,
             rule: Rule::After(place),
             source: settled.fact,

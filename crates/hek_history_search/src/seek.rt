@@ -1,7 +1,7 @@
 //! The search: by facts, and by repairs: the order is replayed, and what fails is repaired, one after another.
-use crate::cycle::shortest_cycle;
 use crate::facts::{Rule, Stop};
 use crate::known::Known;
+use crate::lists::put;
 use crate::order::sorted_nodes;
 use crate::replay::Violation;
 use hek_history::Point;
@@ -46,18 +46,20 @@ impl Work {
 }
 
 impl Known<'_> {
-    /// The facts that need no decision, and an order that agrees with them and the guesses.
+    /// The facts that need no decision, and an order that agrees with them.
     fn start(&mut self) -> Result<(), Stop> {
         self.begin()?;
-        self.guess_all()?;
-        if self.anchor()? {
+        let order = sorted_nodes(self.alloc, &self.graph, self.node_hints.as_slice())?;
+        if order.len() == self.graph.len() {
+            self.graph.set_order(order);
             return Ok(());
         }
-        let guesses = Vec::new(self.alloc);
-        let hints = self.node_hints.as_slice();
-        let order = sorted_nodes(self.alloc, &self.graph, guesses.as_slice(), hints)?;
-        let cycle = shortest_cycle(self.alloc, &self.graph, &self.facts, order.as_slice())?;
-        self.facts.cite_all(cycle.as_slice())?;
+        let mut is_placed = Vec::from_elem(self.alloc, false, self.graph.len())?;
+        for node in &order {
+            put(&mut is_placed, *node, true);
+        }
+        self.find_short_cycle(is_placed.as_slice())?;
+        self.cite_path()?;
         self.contradict(Rule::Cycle)
     }
 
@@ -106,28 +108,16 @@ impl Known<'_> {
         Ok(None)
     }
 
-    /// The violations of the order, the first one last. Where they hardly became fewer, the order is made anew before.
-    fn replayed(&mut self, before: usize) -> Result<Vec<Violation>, NoMemory> {
-        let mut found = self.violations()?;
-        if found.len().saturating_mul(2) > before {
-            let _is_whole = self.anchor()?;
-            found = self.violations()?;
-        }
-        found.reverse();
-        Ok(found)
-    }
-
     /// Replays and repairs until nothing fails.
     fn repair_until(&mut self, effort: usize) -> Result<Outcome, NoMemory> {
         let mut work = Work {
             violations: Vec::new(self.alloc),
             effort,
         };
-        let mut before = usize::MAX;
         for _ in 0..effort {
-            work.violations = self.replayed(before)?;
+            work.violations = self.violations()?;
+            work.violations.reverse();
             work.spend(self.graph.len());
-            before = work.violations.len();
             if work.violations.is_empty() && self.pending.is_empty() {
                 return Ok(Outcome::Points(self.points()?));
             }
@@ -138,7 +128,7 @@ impl Known<'_> {
                 break;
             }
         }
-        Ok(Outcome::Unknown(before))
+        Ok(Outcome::Unknown(work.violations.len()))
     }
 
     /// Searches from the start.

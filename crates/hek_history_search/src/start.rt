@@ -4,8 +4,7 @@ use crate::facts::{Facts, Rule, Says, Stop};
 use crate::graph::Graph;
 use crate::hints::all_hints;
 use crate::known::Known;
-use crate::lists::part;
-use crate::nodes::{Nodes, OPENING};
+use crate::nodes::Nodes;
 use crate::problem::{Problem, Source};
 use hek_history::Moment;
 use hek_rules::NoMemory;
@@ -52,7 +51,6 @@ pub(crate) fn prepared<'a>(alloc: Global, problem: &'a Problem<'a>) -> Result<Kn
         clock,
         graph: Graph::new(alloc),
         facts: Facts::new(alloc),
-        guesses: Vec::new(alloc),
         only: Vec::new(alloc),
         sources: Vec::new(alloc),
         nots: Vec::new(alloc),
@@ -64,35 +62,6 @@ pub(crate) fn prepared<'a>(alloc: Global, problem: &'a Problem<'a>) -> Result<Kn
         conflicts: 0,
         sight: 0,
     })
-}
-
-/// A reading of a source.
-#[derive(Clone, Copy)]
-struct OfVersion {
-    source: Source,
-    key: usize,
-    reading: usize,
-    reader: usize,
-    /// Whether the reader writes the key.
-    overwrites: bool,
-    /// The fact that the source is before the reader.
-    read: usize,
-}
-
-/// The place of a source among all: the opening first.
-fn rank_of(source: Source) -> usize {
-    match source {
-        Source::Opening => 0,
-        Source::Row(row) => row.saturating_add(1),
-    }
-}
-
-/// Whether the next reading is of another version, or of another key.
-fn is_last_of_version(all: &[OfVersion], place: usize) -> bool {
-    match (all.get(place), all.get(place.saturating_add(1))) {
-        (Some(one), Some(next)) => one.source != next.source || one.key != next.key,
-        _ => true,
-    }
 }
 
 impl Known<'_> {
@@ -122,7 +91,6 @@ impl Known<'_> {
         }
         for node in 0..self.nodes.len() {
             self.graph.add_node(self.alloc)?;
-            self.guesses.push(Vec::new(self.alloc))?;
             let hint = self.node_hint(node);
             self.node_hints.push(hint)?;
         }
@@ -141,12 +109,6 @@ impl Known<'_> {
         Err(Stop::Conflict(conflict))
     }
 
-    /// Cites a fact that rests on no other.
-    fn cite_apart(&mut self, first: usize, second: usize, rule: Rule) -> Result<(), NoMemory> {
-        let fact = self.facts.add_apart(Says::Before { first, second }, rule)?;
-        self.facts.cite(fact)
-    }
-
     /// Each snapshot transaction begins before it commits.
     fn add_own(&mut self) -> Result<(), NoMemory> {
         for t in 0..self.problem.transactions() {
@@ -159,102 +121,22 @@ impl Known<'_> {
         Ok(())
     }
 
-    /// What a reading of a committed transaction shows, if it has one candidate, and the conflict if it has none.
-    fn add_read(&mut self, place: usize) -> Result<Option<OfVersion>, Stop> {
-        let reading = self.problem.reading(place);
-        let reader = reading.reader;
+    /// The only source of a reading of a committed transaction is before it, and there is a conflict if it has none.
+    fn add_read(&mut self, place: usize) -> Result<(), Stop> {
+        let reader = self.problem.reading(place).reader;
         if !self.problem.is_committed(reader) {
-            return Ok(None);
+            return Ok(());
         }
-        let source = match choice_of(self.problem, place) {
-            Choice::One(source) => source,
-            Choice::Several => return Ok(None),
-            Choice::None => {
-                self.contradict(Rule::NoSource(place))?;
-                return Ok(None);
-            }
-        };
-        let commit = self.nodes.of_source(self.problem, source);
-        let begin = self.nodes.begin(reader);
-        let read = self.begin_with(commit, begin, Rule::Read(place))?;
-        Ok(Some(OfVersion {
-            source,
-            key: reading.key,
-            reading: place,
-            reader,
-            overwrites: self.problem.left_at(reader, reading.key).is_some(),
-            read,
-        }))
-    }
-
-    /// The only sources of the committed ones are before their readers. Answers the readings by their sources.
-    fn add_reads(&mut self) -> Result<Vec<OfVersion>, Stop> {
-        let mut found = Vec::new(self.alloc);
-        for place in 0..self.problem.readings.len() {
-            if let Some(one) = self.add_read(place)? {
-                found.push(one)?;
+        match choice_of(self.problem, place) {
+            Choice::Several => Ok(()),
+            Choice::None => self.contradict(Rule::NoSource(place)),
+            Choice::One(source) => {
+                let commit = self.nodes.of_source(self.problem, source);
+                let begin = self.nodes.begin(reader);
+                let read = self.begin_with(commit, begin, Rule::Read(place))?;
+                Ok(self.take(source, read, reader)?)
             }
         }
-        found.sort_unstable_by_key(|one| (rank_of(one.source), one.key, one.reading));
-        Ok(found)
-    }
-
-    /// Cites the path from the source of a reading to the commit of its reader.
-    fn cite_overwriting(&mut self, one: OfVersion) -> Result<(), NoMemory> {
-        let begin = self.nodes.begin(one.reader);
-        let commit = self.nodes.commit(one.reader);
-        if one.source == Source::Opening {
-            return self.cite_apart(OPENING, commit, Rule::First);
-        }
-        self.facts.cite(one.read)?;
-        if begin == commit {
-            Ok(())
-        } else {
-            self.cite_apart(begin, commit, Rule::Own)
-        }
-    }
-
-    /// The others who read a version are before one who read it and overwrote it.
-    fn add_after(&mut self, one: OfVersion, readers: &[OfVersion]) -> Result<(), NoMemory> {
-        let commit = self.nodes.commit(one.reader);
-        for other in readers {
-            if other.reader != one.reader {
-                self.cite_overwriting(one)?;
-                let begin = self.nodes.begin(other.reader);
-                let _fact = self.begin_with(begin, commit, Rule::After(other.reading))?;
-            }
-        }
-        Ok(())
-    }
-
-    /// The same for two of those who overwrote it, among the readers of a version.
-    fn add_overwritten(&mut self, readers: &[OfVersion]) -> Result<(), NoMemory> {
-        let mut count: usize = 0;
-        for one in readers {
-            if one.overwrites && count < 2 {
-                self.add_after(*one, readers)?;
-                count = count.saturating_add(1);
-            }
-        }
-        Ok(())
-    }
-
-    /// What follows from the only sources.
-    fn add_sources(&mut self) -> Result<(), Stop> {
-        let found = self.add_reads()?;
-        let all = found.as_slice();
-        let mut from = 0;
-        for place in 0..all.len() {
-            if is_last_of_version(all, place) {
-                let end = place.saturating_add(1);
-                self.add_overwritten(part(all, from, end))?;
-                from = end;
-            }
-        }
-        for one in &found {
-            self.take(one.source, one.read, one.reader)?;
-        }
-        Ok(())
     }
 
     /// Adds the facts that need no decision.
@@ -266,7 +148,9 @@ impl Known<'_> {
             }
         }
         self.add_own()?;
-        self.add_sources()?;
+        for place in 0..self.problem.readings.len() {
+            self.add_read(place)?;
+        }
         self.add_clock()
     }
 

@@ -1,7 +1,7 @@
 //! The certificate of a conflict: the facts on which it rests as steps, each once in the case that it belongs to.
 use crate::facts::{Rule, Says};
 use crate::known::Known;
-use crate::lists::{at, empty_lists, list_at, put};
+use crate::lists::{at, list_at, put};
 use hek_history::Step;
 use hek_rules::NoMemory;
 
@@ -208,6 +208,20 @@ impl Writing<'_, '_> {
         }
     }
 
+    /// Writes the certificate of a conflict that rests on no decision.
+    fn write(&mut self, conflict: usize) -> Result<(), NoMemory> {
+        for _ in 0..self.known.facts.len() {
+            self.said.push(None)?;
+            self.rests.push(Vec::new(self.known.alloc))?;
+            self.seen.push(0)?;
+        }
+        self.mark_needed(conflict)?;
+        self.find_rests()?;
+        self.say_premises(conflict)?;
+        self.work()?;
+        self.conclude(conflict)
+    }
+
     /// Does the tasks.
     fn work(&mut self) -> Result<(), NoMemory> {
         for _ in 0..usize::MAX {
@@ -228,23 +242,18 @@ impl Writing<'_, '_> {
 /// The certificate of a conflict that rests on no decision.
 pub(crate) fn steps_of(known: &Known, conflict: usize) -> Result<Vec<Step>, NoMemory> {
     let alloc = known.alloc;
-    let count = known.facts.len();
     let mut writing = Writing {
         known,
         steps: Vec::new(alloc),
         height: 0,
-        said: Vec::from_elem(alloc, None, count)?,
+        said: Vec::new(alloc),
         said_last: Vec::new(alloc),
         cases: Vec::new(alloc),
         tasks: Vec::new(alloc),
-        rests: empty_lists(alloc, count)?,
-        seen: Vec::from_elem(alloc, 0, count)?,
+        rests: Vec::new(alloc),
+        seen: Vec::new(alloc),
         turn: 1,
     };
-    writing.mark_needed(conflict)?;
-    writing.find_rests()?;
-    writing.say_premises(conflict)?;
-    writing.work()?;
-    writing.conclude(conflict)?;
+    writing.write(conflict)?;
     Ok(std::mem::replace(&mut writing.steps, Vec::new(alloc)))
 }
