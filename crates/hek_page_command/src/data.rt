@@ -1,13 +1,13 @@
 //! The data of a run's page, as JSON.
 use crate::comments::Comments;
-use crate::heading::{Heading, link_value};
+use crate::heading::{Heading, put_heading};
+use crate::members::{Members, put_lines, put_lines_if, put_number, put_text, put_value, text_of};
 use crate::tell::{Shown, StepText, Told, tell};
 use hek_commands::put_reply;
 use hek_rules::{Level, NoMemory, Schedule, Transcript, Verdict};
 use hek_serial::{check, check_at, serial_reply_at};
-use serde_json::{Value, json};
+use serde_json::{Map, Value, json};
 use std::alloc::Global;
-use std::str;
 
 /// The data of the page of a schedule.
 pub(crate) fn data_of(
@@ -18,75 +18,92 @@ pub(crate) fn data_of(
     comments: &Comments,
 ) -> Result<Value, NoMemory> {
     let told = tell(alloc, schedule, shown)?;
-    let steps = step_values(alloc, shown, comments, told.steps.as_slice())?;
-    let title = heading.title(alloc)?;
-    let named = Named {
-        title: title.as_str(),
-        about: comments.about.as_str(),
-        buckets: schedule.buckets(),
-        done: shown.done as u64,
-    };
-    let lesson = heading.lesson_value(alloc)?;
-    let previous = link_value(alloc, heading.previous)?;
-    let next = link_value(alloc, heading.next)?;
-    run_value(alloc, &named, &told, steps, [lesson, previous, next])
+    let mut members = Map::new(alloc);
+    put_head(alloc, schedule, shown, heading, comments, &mut members)?;
+    put_told(alloc, shown, comments, &told, &mut members)?;
+    Ok(Value::Object(members))
 }
 
-/// What the data say before the steps.
-#[derive(Clone, Copy)]
-struct Named<'a> {
-    title: &'a str,
-    about: &'a str,
-    buckets: u64,
-    done: u64,
-}
-
-/// The data of a run. `ways` are the lesson's number and the pages before and after. `fault` is the number of the first
-/// event that isn't serial, or 0.
-fn run_value(
+/// Adds what the data say before the steps.
+fn put_head(
     alloc: Global,
-    named: &Named<'_>,
+    schedule: &Schedule,
+    shown: Shown,
+    heading: &Heading<'_>,
+    comments: &Comments,
+    members: &mut Members,
+) -> Result<(), NoMemory> {
+    put_text(alloc, "kind", "run", members)?;
+    put_heading(alloc, heading, comments, members)?;
+    put_number(alloc, "buckets", schedule.buckets(), members)?;
+    put_number(alloc, "done", shown.done as u64, members)
+}
+
+/// Adds the run that was told.
+fn put_told(
+    alloc: Global,
+    shown: Shown,
+    comments: &Comments,
     told: &Told,
-    steps: Value,
-    ways: [Value; 3],
-) -> Result<Value, NoMemory> {
-    let (title, about) = (named.title, named.about);
-    let (buckets, done) = (named.buckets, named.done);
-    let [lesson, previous, next] = ways;
-    let opening = text_of(told.opening.lines.as_slice());
-    let waits = text_of(told.opening.waits.as_slice());
-    let asked = text_of(told.opening.asked.as_slice());
-    let trace = text_of(told.trace.as_slice());
-    let fault = fault_of(alloc, &told.transcript)?;
-    let strict = strict_value(alloc, &told.transcript)?;
-    let value =
-        json!(in alloc; {"kind": "run", "title": title, "about": about, "lesson": lesson, "previous": previous, "next": next, "buckets": buckets, "done": done, "opening": opening, "waits": waits, "asked": asked, "trace": trace, "steps": steps, "fault": fault, "strict": strict})?;
-    Ok(value)
+    members: &mut Members,
+) -> Result<(), NoMemory> {
+    put_lines(alloc, "opening", told.opening.lines.as_slice(), members)?;
+    put_lines(alloc, "waits", told.opening.waits.as_slice(), members)?;
+    put_lines(alloc, "asked", told.opening.asked.as_slice(), members)?;
+    put_lines(alloc, "trace", told.trace.as_slice(), members)?;
+    let steps = step_values(alloc, shown, comments, told.steps.as_slice())?;
+    put_value(alloc, "steps", steps, members)?;
+    put_verdicts(alloc, &told.transcript, members)
+}
+
+/// Adds `fault`, the number of the first event that isn't serial, or 0; and `strict`, the same with the reply of the
+/// serial order if all transactions are taken as serializable, or null.
+fn put_verdicts(
+    alloc: Global,
+    transcript: &Transcript,
+    members: &mut Members,
+) -> Result<(), NoMemory> {
+    let fault = number_of(check(alloc, transcript)?);
+    put_number(alloc, "fault", fault, members)?;
+    let strict = strict_value(alloc, transcript)?;
+    put_value(alloc, "strict", strict, members)
 }
 
 /// The number of the first event that isn't serial, or 0.
-fn fault_of(alloc: Global, transcript: &Transcript) -> Result<u64, NoMemory> {
-    match check(alloc, transcript)? {
-        Verdict::Serial => Ok(0),
-        Verdict::NotSerial(number) => Ok(number),
+fn number_of(verdict: Verdict) -> u64 {
+    match verdict {
+        Verdict::Serial => 0,
+        Verdict::NotSerial(number) => number,
     }
 }
 
 /// The first event at fault if all transactions are taken as serializable, and the reply that it would have had in the
 /// serial order; null if there is none.
 fn strict_value(alloc: Global, transcript: &Transcript) -> Result<Value, NoMemory> {
-    let Verdict::NotSerial(number) = check_at(alloc, transcript, Level::Serializable)? else {
+    let number = number_of(check_at(alloc, transcript, Level::Serializable)?);
+    if number == 0 {
         return Ok(Value::Null);
-    };
-    let place = number.saturating_sub(1) as usize;
-    let reply = serial_reply_at(alloc, transcript, Level::Serializable, place)?;
-    let mut text = Vec::new(alloc);
-    if let Some(reply) = &reply {
-        put_reply(alloc, reply, &mut text)?;
     }
+    let mut text = Vec::new(alloc);
+    put_serial_reply(alloc, transcript, number, &mut text)?;
     let reply = text_of(text.as_slice());
     let value = json!(in alloc; [number, reply])?;
     Ok(value)
+}
+
+/// Appends the reply of an event in the serial order if all transactions are taken as serializable.
+fn put_serial_reply(
+    alloc: Global,
+    transcript: &Transcript,
+    number: u64,
+    text: &mut Vec<u8>,
+) -> Result<(), NoMemory> {
+    let place = number.saturating_sub(1) as usize;
+    let reply = serial_reply_at(alloc, transcript, Level::Serializable, place)?;
+    match &reply {
+        Some(reply) => put_reply(alloc, reply, text),
+        None => Ok(()),
+    }
 }
 
 fn step_values(
@@ -105,27 +122,24 @@ fn step_values(
 }
 
 fn step_value(alloc: Global, step: &StepText, note: &str) -> Result<Value, NoMemory> {
-    let changed = text_of(step.changed.as_slice());
-    let gone = text_of(step.gone.as_slice());
-    let why = text_of(step.why.as_slice());
-    let sees = text_of(step.sees.as_slice());
-    let waits = waits_value(alloc, step)?;
-    let ends = text_of(step.ends.as_slice());
-    let value =
-        json!(in alloc; {"changed": changed, "gone": gone, "why": why, "sees": sees, "waits": waits, "ends": ends, "note": note})?;
-    Ok(value)
+    let mut members = Map::new(alloc);
+    put_step(alloc, step, note, &mut members)?;
+    Ok(Value::Object(members))
 }
 
-/// The waits after a step, or null if they are those before it.
-fn waits_value(alloc: Global, step: &StepText) -> Result<Value, NoMemory> {
-    let Some(waits) = &step.waits else {
-        return Ok(Value::Null);
-    };
-    let waits = text_of(waits.as_slice());
-    Ok(json!(in alloc; waits)?)
-}
-
-/// Lines as text. All are ASCII: names have small letters, digits and underscores.
-pub(crate) fn text_of(bytes: &[u8]) -> &str {
-    str::from_utf8(bytes).unwrap_or("")
+/// Adds the texts of a step; null for waits that are those before it.
+fn put_step(
+    alloc: Global,
+    step: &StepText,
+    note: &str,
+    members: &mut Members,
+) -> Result<(), NoMemory> {
+    put_lines(alloc, "changed", step.changed.as_slice(), members)?;
+    put_lines(alloc, "gone", step.gone.as_slice(), members)?;
+    put_lines(alloc, "why", step.why.as_slice(), members)?;
+    put_text(alloc, "rule", step.rule, members)?;
+    put_lines(alloc, "sees", step.sees.as_slice(), members)?;
+    put_lines_if(alloc, "waits", &step.waits, members)?;
+    put_lines(alloc, "ends", step.ends.as_slice(), members)?;
+    put_text(alloc, "note", note, members)
 }

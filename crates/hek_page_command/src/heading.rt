@@ -1,4 +1,6 @@
 //! What a page says of itself: its title, its number among lessons, and the pages before and after it.
+use crate::comments::Comments;
+use crate::members::{Members, number_value, put_text, put_value};
 use hek_rules::NoMemory;
 use serde_json::{Value, json};
 use std::alloc::Global;
@@ -25,16 +27,45 @@ impl Heading<'_> {
     }
 
     /// The number of the lesson, or null.
-    pub(crate) fn lesson_value(&self, alloc: Global) -> Result<Value, NoMemory> {
+    fn lesson_value(&self, alloc: Global) -> Result<Value, NoMemory> {
         match self.lesson {
-            Some(lesson) => Ok(json!(in alloc; lesson)?),
+            Some(lesson) => number_value(alloc, lesson),
             None => Ok(Value::Null),
         }
     }
 }
 
+/// Adds the title, what the comments say of the schedule, the lesson, and the pages before and after.
+pub(crate) fn put_heading(
+    alloc: Global,
+    heading: &Heading<'_>,
+    comments: &Comments,
+    members: &mut Members,
+) -> Result<(), NoMemory> {
+    put_title(alloc, heading, members)?;
+    put_text(alloc, "about", comments.about.as_str(), members)?;
+    put_value(alloc, "lesson", heading.lesson_value(alloc)?, members)?;
+    put_link(alloc, "previous", heading.previous, members)?;
+    put_link(alloc, "next", heading.next, members)
+}
+
+fn put_title(alloc: Global, heading: &Heading<'_>, members: &mut Members) -> Result<(), NoMemory> {
+    let title = heading.title(alloc)?;
+    put_text(alloc, "title", title.as_str(), members)
+}
+
+fn put_link(
+    alloc: Global,
+    name: &str,
+    address: Option<&str>,
+    members: &mut Members,
+) -> Result<(), NoMemory> {
+    let value = link_value(alloc, address)?;
+    put_value(alloc, name, value, members)
+}
+
 /// A page's address and its title, or null if there is no address.
-pub(crate) fn link_value(alloc: Global, address: Option<&str>) -> Result<Value, NoMemory> {
+fn link_value(alloc: Global, address: Option<&str>) -> Result<Value, NoMemory> {
     let Some(address) = address else {
         return Ok(Value::Null);
     };

@@ -7,6 +7,7 @@ mod explorer;
 mod frame;
 mod heading;
 mod look;
+mod members;
 mod page;
 mod prefixes;
 mod script;

@@ -23,13 +23,6 @@ struct Words {
     end: u64,
 }
 
-/// The lines that have changed, and the buckets that have no line any more, as `bucket 0`.
-#[derive(Drop)]
-pub(crate) struct Changes {
-    pub lines: Vec<u8>,
-    pub gone: Vec<u8>,
-}
-
 impl Look {
     /// A look at nothing: at the next look every line has changed.
     pub(crate) fn new(alloc: Global) -> Look {
@@ -41,20 +34,20 @@ impl Look {
         }
     }
 
-    /// What has changed since the last look. This look becomes the last one.
+    /// Appends the lines that have changed since the last look, and the buckets that have no line any more, as
+    /// `bucket 0`. This look becomes the last one.
     pub(crate) fn changes(
         &mut self,
         alloc: Global,
         schedule: &Schedule,
         machine: &Machine,
-    ) -> Result<Changes, NoMemory> {
-        let mut lines = Vec::new(alloc);
-        let mut gone = Vec::new(alloc);
-        self.see_clock(alloc, machine, &mut lines)?;
-        self.see_versions(machine, &mut lines)?;
-        self.see_txns(alloc, schedule, machine, &mut lines)?;
-        self.see_buckets(alloc, machine, &mut lines, &mut gone)?;
-        Ok(Changes { lines, gone })
+        lines: &mut Vec<u8>,
+        gone: &mut Vec<u8>,
+    ) -> Result<(), NoMemory> {
+        self.see_clock(alloc, machine, lines)?;
+        self.see_versions(machine, lines)?;
+        self.see_txns(alloc, schedule, machine, lines)?;
+        self.see_buckets(alloc, machine, lines, gone)
     }
 
     fn see_clock(
@@ -109,12 +102,19 @@ impl Look {
             let mut line = Vec::new(alloc);
             put_bucket(machine, bucket, &mut line)?;
             let is_locked = !line.is_empty();
-            let changed = note(&mut self.buckets, bucket as usize, line, lines)?;
-            if changed && !is_locked && writeln!(gone, "bucket {bucket}").is_err() {
-                return Err(NoMemory);
+            if note(&mut self.buckets, bucket as usize, line, lines)? && !is_locked {
+                put_gone(bucket, gone)?;
             }
         }
         Ok(())
+    }
+}
+
+/// Appends a bucket that has no line any more.
+fn put_gone(bucket: u64, gone: &mut Vec<u8>) -> Result<(), NoMemory> {
+    match writeln!(gone, "bucket {bucket}") {
+        Ok(()) => Ok(()),
+        Err(_) => Err(NoMemory),
     }
 }
 
@@ -148,20 +148,25 @@ fn note(
     line: Vec<u8>,
     lines: &mut Vec<u8>,
 ) -> Result<bool, NoMemory> {
-    match kept.get_mut(place) {
-        Some(old) => {
-            if *old == line {
-                return Ok(false);
-            }
-            lines.extend_from_slice(line.as_slice())?;
-            *old = line;
-            Ok(true)
-        }
-        None => {
-            let is_empty = line.is_empty();
-            lines.extend_from_slice(line.as_slice())?;
-            kept.push(line)?;
-            Ok(!is_empty)
-        }
+    let is_new = !is_kept(kept.as_slice(), place, line.as_slice());
+    if is_new {
+        lines.extend_from_slice(line.as_slice())?;
     }
+    keep(kept, place, line)?;
+    Ok(is_new)
+}
+
+fn is_kept(kept: &[Vec<u8>], place: usize, line: &[u8]) -> bool {
+    match kept.get(place) {
+        Some(old) => old.as_slice() == line,
+        None => line.is_empty(),
+    }
+}
+
+fn keep(kept: &mut Vec<Vec<u8>>, place: usize, line: Vec<u8>) -> Result<(), NoMemory> {
+    match kept.get_mut(place) {
+        Some(old) => *old = line,
+        None => kept.push(line)?,
+    }
+    Ok(())
 }

@@ -58,7 +58,7 @@ function lastOf(list, position) {
 
 class Run {
   /** `opening`, `waits`, `asked`: the state before the first step, who waits there, and who has asked. `steps`: objects of `line` (event
-      and reply), `changed`, `gone`, `why`, `sees`, `ends`, and `waits` where these have changed; all are texts. */
+      and reply), `changed`, `gone`, `why`, `rule`, `sees`, `ends`, and `waits` where these have changed; all are texts. */
   constructor({ opening, waits, asked }, steps, done) {
     this.done = done;
     this.steps = steps.map((it) => ({ ...it, ...eventOf(it.line) }));
@@ -181,8 +181,8 @@ let tree = null;
 
 function plantTree() {
   const text = (at) => data.texts[at];
-  const steps = data.steps.map(([line, changed, gone, why, sees, waits, ends]) => ({
-    line: text(line), changed: text(changed), gone: text(gone), why: text(why), sees: text(sees), waits: waits === null ? null : text(waits), ends: text(ends),
+  const steps = data.steps.map(([line, changed, gone, why, sees, waits, ends, rule]) => ({
+    line: text(line), changed: text(changed), gone: text(gone), why: text(why), sees: text(sees), waits: waits === null ? null : text(waits), ends: text(ends), rule: text(rule),
   }));
   const nodes = data.nodes.map(([parent, who, places, outcome, counts], index) => ({ index, parent, who: who - 1, steps: places.map((at) => steps[at]), outcome, next: [], counts }));
   for (const node of nodes.slice(1)) nodes[node.parent].next[node.who] = node.index;
@@ -312,12 +312,26 @@ const RULES = {
   stamp: ["Table.stamp_rule", "stamp: one entry of the write set. After a commit the end time takes the place of the name; after an abort the name goes, and the Begin of a new version becomes infinity."],
   end: ["Table.end_rule", "end: Terminated, once nothing is left to give back."],
   detect: ["Table.detect_rule", "detect: looks for a cycle among the transactions that have finished and wait. The greatest number on any cycle is the victim; it aborts by Deadlock."],
-  conflict: ["Locks.write_refusal", "Conflict: the version is ended, or has a writer that hasn't aborted. The first writer wins."],
-  "no-more-reads": ["Locks.read_refusal", "NoMoreReads: the flag NoMoreReadLocks is set: the writer counts on having no reader any more."],
-  "no-more-waits": ["Locks.read_refusal", "NoMoreWaits: it would be the first reader of a version whose writer has finished, and may not be made to wait."],
-  cascade: ["Checks.check_of", "Cascade: it has AbortNow, since one that it trusted has aborted. It aborts at its next event, whatever that is."],
 };
-const ruleOf = (step) => (step.r[0] === "aborted" && RULES[step.r[1]]) || RULES[step.op];
+
+/* What decides an abort or a refusal: each definition that the data name, and what it says. */
+const DECIDES = new Map([
+  ["Locks.write_refusal", "Conflict: the version is ended, or has a writer that hasn't aborted. The first writer wins."],
+  ["Table.is_claimed", "Conflict: no version of the key is seen, but another Active transaction has made one."],
+  ["Table.is_made_later", "Conflict, at the snapshot level: no version of the key is seen, but one was made after the transaction began."],
+  ["Locks.read_refusal", "NoMoreReads: the flag NoMoreReadLocks is set, and the writer counts on having no reader any more. ReadersFull: 255 others read-lock the version. NoMoreWaits: it would be the first reader of a version whose writer has finished, and may not be made to wait."],
+  ["Walk.wait_judged", "NoMoreWaits: a serializable walk met a version that another Active transaction made, and that one has finished: it may not be made to wait."],
+  ["Table.doom", "Cascade: it has AbortNow, since one that it trusted has aborted. It aborts at its next event, whatever that is."],
+  ["Checks.repeats_cause", "It has aborted before: until its end it gets the same cause again for each read, write, finish, precommit, commit and fail."],
+  ["World.declared", "UnknownTxn: no transaction has this number."],
+  ["World.is_not_begun", "NotBegun: the transaction has not begun."],
+  ["Checks.begins", "BegunTwice: the transaction has begun before."],
+  ["World.is_terminated", "Ended: the transaction is over."],
+  ["Checks.in_phase", "WrongPhase: the event comes out of turn."],
+  ["Table.holds_nothing", "WrongPhase: an end while something is left to give back: a lock, a waiter or a word to stamp."],
+  ["Checks.draws", "ClockFull: no time is left to draw."],
+]);
+const ruleOf = (step) => (step.rule ? [step.rule, DECIDES.get(step.rule) ?? ""] : RULES[step.op]);
 
 /** A reason in the words of `hek run --why`, without its words in hexadecimal, the names as tags. */
 function reasonOf(line) {

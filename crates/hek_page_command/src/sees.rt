@@ -7,32 +7,25 @@ use hek_why::{Reason, Step, looks, read_time, sights};
 use std::alloc::Global;
 use std::io::Write;
 
-/// A line with the time at which the transaction of a step looks, as `at 3`, and a line for each version that it looks
+/// Appends a line with the time at which the transaction of a step looks, as `at 3`, and a line for each version that it looks
 /// at: `0 seen`, `1 passed over`, `2 seen if a`, `3 passed over if a`. A step that walks looks at the versions of its walk
-/// as they were before it, `begin` at all versions. Empty for a step that looks at none.
-pub(crate) fn sees_of(
+/// as they were before it, `begin` at all versions. Nothing for a step that looks at none.
+pub(crate) fn put_sees(
     alloc: Global,
     schedule: &Schedule,
     step: &Step<'_>,
-) -> Result<Vec<u8>, NoMemory> {
-    let mut lines = Vec::new(alloc);
+    lines: &mut Vec<u8>,
+) -> Result<(), NoMemory> {
     let Some(t) = step.event.txn() else {
-        return Ok(lines);
+        return Ok(());
     };
     if let (Event::Begin(_), Reply::Began(_)) = (step.event, step.reply) {
-        let versions = all_versions(alloc, step.after)?;
-        put_looks(
-            alloc,
-            schedule,
-            step.after,
-            t,
-            versions.as_slice(),
-            &mut lines,
-        )?;
+        put_looks(alloc, schedule, step.after, t, lines)
     } else if may_walk(step.before, t) && !matches!(step.reply, Reply::Refused(_)) {
-        put_walk(alloc, schedule, step.before, t, &step.event, &mut lines)?;
+        put_walk(alloc, schedule, step.before, t, &step.event, lines)
+    } else {
+        Ok(())
     }
-    Ok(lines)
 }
 
 /// Whether a transaction is one whose reads and writes walk over versions.
@@ -56,13 +49,13 @@ fn put_looks(
     schedule: &Schedule,
     machine: &Machine,
     t: TxnId,
-    versions: &[VersionId],
     lines: &mut Vec<u8>,
 ) -> Result<(), NoMemory> {
     if !machine.is_declared(t) {
         return Ok(());
     }
-    let seen = looks(alloc, machine, t, versions)?;
+    let versions = all_versions(alloc, machine)?;
+    let seen = looks(alloc, machine, t, versions.as_slice())?;
     put_seen(schedule, machine, t, seen.as_slice(), lines)
 }
 
@@ -110,17 +103,16 @@ fn put_sight(
     lines: &mut Vec<u8>,
 ) -> Result<(), NoMemory> {
     let index = version.index();
+    let how = match sight {
+        Sight::Seen | Sight::SeenIf(_) => "seen",
+        Sight::Hidden | Sight::HiddenActive(_) | Sight::HiddenIf(_) => "passed over",
+    };
     let written = match sight {
-        Sight::Seen => writeln!(lines, "{index} seen"),
-        Sight::Hidden | Sight::HiddenActive(_) => writeln!(lines, "{index} passed over"),
-        Sight::SeenIf(u) => {
+        Sight::SeenIf(u) | Sight::HiddenIf(u) => {
             let name = name_of(schedule, u);
-            writeln!(lines, "{index} seen if {name}")
+            writeln!(lines, "{index} {how} if {name}")
         }
-        Sight::HiddenIf(u) => {
-            let name = name_of(schedule, u);
-            writeln!(lines, "{index} passed over if {name}")
-        }
+        _ => writeln!(lines, "{index} {how}"),
     };
     put(written.is_ok())
 }

@@ -30,19 +30,55 @@ pub(crate) fn write_sheet<'a, W: Write>(
 }
 
 fn sheet_of(alloc: Global, heading: &Heading<'_>, data: &Value) -> Result<Vec<u8>, NoMemory> {
-    let title = heading.title(alloc)?;
-    let json = data.to_string(alloc)?;
     let mut sheet = Vec::new(alloc);
-    sheet.extend_from_slice(FRONT.as_bytes())?;
-    put_title(title.as_str(), &mut sheet)?;
-    for part in [HEAD, STYLE, MIDDLE] {
-        sheet.extend_from_slice(part.as_bytes())?;
-    }
-    put_json(json.as_str(), &mut sheet)?;
-    for part in [BACK, SCRIPT, END] {
-        sheet.extend_from_slice(part.as_bytes())?;
-    }
+    put_head(alloc, heading, &mut sheet)?;
+    put_data(alloc, data, &mut sheet)?;
+    put_foot(&mut sheet)?;
     Ok(sheet)
+}
+
+/// Appends what is before the data.
+fn put_head(alloc: Global, heading: &Heading<'_>, sheet: &mut Vec<u8>) -> Result<(), NoMemory> {
+    put_part(FRONT, sheet)?;
+    put_title_of(alloc, heading, sheet)?;
+    put_part(HEAD, sheet)?;
+    put_part(style_text(), sheet)?;
+    put_part(body_text(), sheet)
+}
+
+/// Appends what is after the data.
+fn put_foot(sheet: &mut Vec<u8>) -> Result<(), NoMemory> {
+    put_part(BACK, sheet)?;
+    put_part(script_text(), sheet)?;
+    put_part(END, sheet)
+}
+
+fn put_part(part: &str, sheet: &mut Vec<u8>) -> Result<(), NoMemory> {
+    sheet.extend_from_slice(part.as_bytes())?;
+    Ok(())
+}
+
+// Each long text has a function of its own: a check of a function copies the constants in it for each of its steps.
+fn style_text() -> &'static str {
+    STYLE
+}
+
+fn body_text() -> &'static str {
+    MIDDLE
+}
+
+fn script_text() -> &'static str {
+    SCRIPT
+}
+
+fn put_title_of(alloc: Global, heading: &Heading<'_>, sheet: &mut Vec<u8>) -> Result<(), NoMemory> {
+    let title = heading.title(alloc)?;
+    put_title(title.as_str(), sheet)
+}
+
+fn put_data(alloc: Global, data: &Value, sheet: &mut Vec<u8>) -> Result<(), NoMemory> {
+    let json = data.to_string(alloc)?;
+    put_json(json.as_str(), sheet)
 }
 
 /// Appends a title as a text of HTML.

@@ -3,7 +3,7 @@ ghost use Rattle.std.specs.Prelude.{◌≡◌, IfOk, IfErr, map};
 ghost use Rattle.hek_page_command.specs.Explorers.{ArePlayed, IsExploreStop};
 
 use crate::prefixes::{Prefix, is_whole, order_of};
-use crate::tell::{Opening, Shown, StepText, Told, tell};
+use crate::tell::{Shown, StepText, Told, tell};
 use hek_commands::HekFault;
 use hek_permute::{Form, Moves, OrderFault, Play, outcome_of, play_order, schedule_with};
 use hek_permute_command::put_outcome;
@@ -14,7 +14,8 @@ use std::alloc::Global;
 /// A tree of orders: its nodes in the order of the prefixes, and what they name by place.
 #[derive(Drop)]
 pub(crate) struct Tree {
-    pub opening: Opening,
+    /// The lines of the state before the first move.
+    pub opening: Vec<u8>,
     pub nodes: Vec<Node>,
     pub outcomes: IndexSet<Vec<u8>>,
     pub steps: IndexSet<StepPlaces>,
@@ -44,6 +45,7 @@ pub(crate) struct StepPlaces {
     pub sees: usize,
     pub waits: Option<usize>,
     pub ends: usize,
+    pub rule: usize,
 }
 
 /// The events of an order's play, and its outcome if the order is whole.
@@ -63,24 +65,42 @@ pub(crate) fn tree_of<'a>(
 ) -> Result<Tree, HekFault<'a>>
     ensures stops { IfErr result IsExploreStop }
 {
-    let start = tell(alloc, schedule, Shown { done: 0, last: 0 })?;
     let mut tree = Tree {
-        opening: start.opening,
+        opening: opening_of(alloc, schedule)?,
         nodes: Vec::new(alloc),
         outcomes: IndexSet::new(alloc),
         steps: IndexSet::new(alloc),
         texts: IndexSet::new(alloc),
     };
     for place in 0..prefixes.len() {
-        let order = order_of(alloc, prefixes, place)?;
-        let played = match play_of(alloc, schedule, moves, form, order.as_slice()) {
-            Ok(played) => played,
-            Err(fault) => return Err(fault_of(fault)),
-        };
-        tree.add_node(alloc, schedule, prefixes[place], played)?;
+        let played = played_at(alloc, schedule, moves, form, prefixes, place)?;
+        tree.add_node(alloc, schedule, prefixes[place], &played)?;
     }
     tree.add_counts(alloc)?;
     Ok(tree)
+}
+
+fn opening_of(alloc: Global, schedule: &Schedule) -> Result<Vec<u8>, NoMemory> {
+    let start = tell(alloc, schedule, Shown { done: 0, last: 0 })?;
+    Ok(Vec::from_slice(alloc, start.opening.lines.as_slice())?)
+}
+
+/// Plays the prefix at a place.
+fn played_at<'a>(
+    alloc: Global,
+    schedule: &Schedule,
+    moves: &[Moves],
+    form: Form,
+    prefixes: &[Prefix],
+    place: usize,
+) -> Result<Played, HekFault<'a>>
+    ensures stops { IfErr result IsExploreStop }
+{
+    let order = order_of(alloc, prefixes, place)?;
+    match play_of(alloc, schedule, moves, form, order.as_slice()) {
+        Ok(played) => Ok(played),
+        Err(fault) => Err(fault_of(fault)),
+    }
 }
 
 /// The fault of an order as that of a command.
@@ -120,6 +140,21 @@ fn play_of(
     })
 }
 
+/// What a page says of these steps of a run of events.
+fn told_of<'a>(
+    alloc: Global,
+    schedule: &Schedule,
+    events: &[Event],
+    shown: Shown,
+) -> Result<Told, HekFault<'a>>
+    ensures stops { IfErr result IsExploreStop }
+{
+    match schedule_with(alloc, schedule, None, events) {
+        Ok(run) => Ok(tell(alloc, &run, shown)?),
+        Err(fault) => Err(fault_of(fault)),
+    }
+}
+
 fn events_of(alloc: Global, play: &Play) -> Result<Vec<Event>, NoMemory>
     ensures { IfOk result (λ events. events.items ≡ map (λ entry. entry.event) play.now.history.items) }
 {
@@ -133,29 +168,23 @@ impl Tree {
         alloc: Global,
         schedule: &Schedule,
         prefix: Prefix,
-        played: Played,
+        played: &Played,
     ) -> Result<(), HekFault<'a>>
         ensures stops { IfErr result IsExploreStop }
     {
-        let Played { events, outcome } = played;
+        let outcome = self.add_outcome(alloc, &played.outcome)?;
         let shown = Shown {
             done: self.events_of(prefix.parent),
-            last: events.len(),
+            last: played.events.len(),
         };
-        let run = match schedule_with(alloc, schedule, None, events.as_slice()) {
-            Ok(run) => run,
-            Err(fault) => return Err(fault_of(fault)),
-        };
-        let told = tell(alloc, &run, shown)?;
-        let steps = self.add_steps(alloc, told)?;
-        let outcome = self.add_outcome(outcome)?;
+        let told = told_of(alloc, schedule, played.events.as_slice(), shown)?;
         let node = Node {
             parent: prefix.parent,
             who: prefix.who,
-            steps,
+            steps: self.add_steps(alloc, &told)?,
             outcome,
             counts: Vec::new(alloc),
-            events: events.len(),
+            events: shown.last,
         };
         match self.nodes.push(node) {
             Ok(()) => Ok(()),
@@ -172,11 +201,10 @@ impl Tree {
     }
 
     /// Adds the steps that were told, and answers their places.
-    fn add_steps(&mut self, alloc: Global, told: Told) -> Result<Vec<usize>, NoMemory> {
-        let Told { trace, steps, .. } = told;
+    fn add_steps(&mut self, alloc: Global, told: &Told) -> Result<Vec<usize>, NoMemory> {
         let mut places = Vec::new(alloc);
-        let mut rest = trace.as_slice();
-        for step in steps {
+        let mut rest = told.trace.as_slice();
+        for step in &told.steps {
             let (line, after) = line_of(rest);
             rest = after;
             places.push(self.add_step(alloc, line, step)?)?;
@@ -184,41 +212,39 @@ impl Tree {
         Ok(places)
     }
 
-    fn add_step(&mut self, alloc: Global, line: &[u8], step: StepText) -> Result<usize, NoMemory> {
-        let StepText {
-            changed,
-            gone,
-            why,
-            sees,
-            waits,
-            ends,
-        } = step;
-        let waits = match waits {
-            Some(waits) => Some(self.add_text(waits)?),
+    fn add_step(&mut self, alloc: Global, line: &[u8], step: &StepText) -> Result<usize, NoMemory> {
+        let waits = match &step.waits {
+            Some(waits) => Some(self.add_text(alloc, waits.as_slice())?),
             None => None,
         };
         let places = StepPlaces {
-            line: self.add_text(Vec::from_slice(alloc, line)?)?,
-            changed: self.add_text(changed)?,
-            gone: self.add_text(gone)?,
-            why: self.add_text(why)?,
-            sees: self.add_text(sees)?,
+            line: self.add_text(alloc, line)?,
+            changed: self.add_text(alloc, step.changed.as_slice())?,
+            gone: self.add_text(alloc, step.gone.as_slice())?,
+            why: self.add_text(alloc, step.why.as_slice())?,
+            sees: self.add_text(alloc, step.sees.as_slice())?,
             waits,
-            ends: self.add_text(ends)?,
+            ends: self.add_text(alloc, step.ends.as_slice())?,
+            rule: self.add_text(alloc, step.rule.as_bytes())?,
         };
         let (place, _) = self.steps.insert_full(places)?;
         Ok(place)
     }
 
-    fn add_text(&mut self, text: Vec<u8>) -> Result<usize, NoMemory> {
-        let (place, _) = self.texts.insert_full(text)?;
+    fn add_text(&mut self, alloc: Global, text: &[u8]) -> Result<usize, NoMemory> {
+        let (place, _) = self.texts.insert_full(Vec::from_slice(alloc, text)?)?;
         Ok(place)
     }
 
-    fn add_outcome(&mut self, outcome: Option<Vec<u8>>) -> Result<Option<usize>, NoMemory> {
+    fn add_outcome(
+        &mut self,
+        alloc: Global,
+        outcome: &Option<Vec<u8>>,
+    ) -> Result<Option<usize>, NoMemory> {
         let Some(text) = outcome else {
             return Ok(None);
         };
+        let text = Vec::from_slice(alloc, text.as_slice())?;
         let (place, _) = self.outcomes.insert_full(text)?;
         Ok(Some(place))
     }

@@ -1,12 +1,14 @@
 //! The data of an explorer's page, as JSON.
 use crate::comments::Comments;
-use crate::data::text_of;
-use crate::heading::{Heading, link_value};
+use crate::heading::{Heading, put_heading};
+use crate::members::{
+    Members, number_value, put_lines, put_number, put_text, put_value, text_of, text_value,
+};
 use crate::tree::{Node, StepPlaces, Tree};
 use hek_permute::{Form, Moves};
 use hek_rules::{Event, NoMemory, Schedule, TxnId};
 use indexmap::IndexSet;
-use serde_json::{Value, json};
+use serde_json::{Map, Value};
 use std::alloc::Global;
 use std::io::Write;
 
@@ -20,30 +22,60 @@ pub(crate) fn tree_data(
     heading: &Heading<'_>,
     comments: &Comments,
 ) -> Result<Value, NoMemory> {
+    let mut members = Map::new(alloc);
+    put_text(alloc, "kind", "tree", &mut members)?;
+    put_heading(alloc, heading, comments, &mut members)?;
+    put_start(alloc, schedule, tree, &mut members)?;
+    put_moves(alloc, schedule, moves, form, &mut members)?;
+    put_tree(alloc, tree, &mut members)?;
+    Ok(Value::Object(members))
+}
+
+/// Adds the state before the first move, in which nobody waits.
+fn put_start(
+    alloc: Global,
+    schedule: &Schedule,
+    tree: &Tree,
+    members: &mut Members,
+) -> Result<(), NoMemory> {
+    put_number(alloc, "buckets", schedule.buckets(), members)?;
+    put_number(alloc, "done", 0, members)?;
+    put_lines(alloc, "opening", tree.opening.as_slice(), members)?;
+    put_text(alloc, "waits", "", members)?;
+    put_text(alloc, "asked", "", members)
+}
+
+/// Adds the names of the transactions and their moves.
+fn put_moves(
+    alloc: Global,
+    schedule: &Schedule,
+    moves: &[Moves],
+    form: Form,
+    members: &mut Members,
+) -> Result<(), NoMemory> {
     let names = name_values(alloc, schedule)?;
+    put_value(alloc, "names", names, members)?;
     let moves = move_values(alloc, moves, form)?;
+    put_value(alloc, "moves", moves, members)
+}
+
+/// Adds the nodes and what they name by place.
+fn put_tree(alloc: Global, tree: &Tree, members: &mut Members) -> Result<(), NoMemory> {
     let outcomes = text_values(alloc, &tree.outcomes)?;
+    put_value(alloc, "outcomes", outcomes, members)?;
     let texts = text_values(alloc, &tree.texts)?;
-    let steps = step_values(alloc, tree)?;
+    put_value(alloc, "texts", texts, members)?;
+    let steps = step_values(alloc, &tree.steps)?;
+    put_value(alloc, "steps", steps, members)?;
     let nodes = node_values(alloc, tree.nodes.as_slice())?;
-    let title = heading.title(alloc)?;
-    let title = title.as_str();
-    let about = comments.about.as_str();
-    let previous = link_value(alloc, heading.previous)?;
-    let next = link_value(alloc, heading.next)?;
-    let lesson = heading.lesson_value(alloc)?;
-    let opening = text_of(tree.opening.lines.as_slice());
-    let buckets = schedule.buckets();
-    let value =
-        json!(in alloc; {"kind": "tree", "title": title, "about": about, "lesson": lesson, "previous": previous, "next": next, "buckets": buckets, "done": 0, "opening": opening, "waits": "", "asked": "", "names": names, "moves": moves, "outcomes": outcomes, "texts": texts, "steps": steps, "nodes": nodes})?;
-    Ok(value)
+    put_value(alloc, "nodes", nodes, members)
 }
 
 fn name_values(alloc: Global, schedule: &Schedule) -> Result<Value, NoMemory> {
     let mut values = Vec::new(alloc);
     for place in 0..schedule.txn_count() {
         let name = schedule.name_of(TxnId::new(place as u64 + 1));
-        values.push(json!(in alloc; name)?)?;
+        values.push(text_value(alloc, name)?)?;
     }
     Ok(Value::Array(values))
 }
@@ -61,14 +93,28 @@ fn move_values(alloc: Global, moves: &[Moves], form: Form) -> Result<Value, NoMe
 fn moves_of_one(alloc: Global, of_one: &Moves, form: Form) -> Result<Value, NoMemory> {
     let mut values = Vec::new(alloc);
     for event in of_one.work() {
-        let text = work_text(alloc, event)?;
-        let text = text_of(text.as_slice());
-        values.push(json!(in alloc; text)?)?;
+        values.push(work_value(alloc, event)?)?;
     }
-    for text in last_texts(form, of_one.fails()) {
-        values.push(json!(in alloc; *text)?)?;
-    }
+    push_last(alloc, form, of_one.fails(), &mut values)?;
     Ok(Value::Array(values))
+}
+
+/// Appends the moves that end a transaction.
+fn push_last(
+    alloc: Global,
+    form: Form,
+    fails: bool,
+    values: &mut Vec<Value>,
+) -> Result<(), NoMemory> {
+    for text in last_texts(form, fails) {
+        values.push(text_value(alloc, text)?)?;
+    }
+    Ok(())
+}
+
+fn work_value(alloc: Global, event: &Event) -> Result<Value, NoMemory> {
+    let text = work_text(alloc, event)?;
+    text_value(alloc, text_of(text.as_slice()))
 }
 
 /// The moves that end a transaction.
@@ -101,39 +147,41 @@ fn work_text(alloc: Global, event: &Event) -> Result<Vec<u8>, NoMemory> {
 fn text_values(alloc: Global, texts: &IndexSet<Vec<u8>>) -> Result<Value, NoMemory> {
     let mut values = Vec::new(alloc);
     for text in texts {
-        let text = text_of(text.as_slice());
-        values.push(json!(in alloc; text)?)?;
+        values.push(text_value(alloc, text_of(text.as_slice()))?)?;
     }
     Ok(Value::Array(values))
 }
 
 /// Each step: the text of its event and reply, and the places of its other texts; null for waits that have not changed.
-fn step_values(alloc: Global, tree: &Tree) -> Result<Value, NoMemory> {
+fn step_values(alloc: Global, steps: &IndexSet<StepPlaces>) -> Result<Value, NoMemory> {
     let mut values = Vec::new(alloc);
-    for step in &tree.steps {
+    for step in steps {
         values.push(step_value(alloc, step)?)?;
     }
     Ok(Value::Array(values))
 }
 
 fn step_value(alloc: Global, step: &StepPlaces) -> Result<Value, NoMemory> {
-    let line = step.line as u64;
-    let changed = step.changed as u64;
-    let gone = step.gone as u64;
-    let why = step.why as u64;
-    let sees = step.sees as u64;
-    let waits = place_value(alloc, step.waits)?;
-    let ends = step.ends as u64;
-    let value = json!(in alloc; [line, changed, gone, why, sees, waits, ends])?;
-    Ok(value)
+    let places = [
+        Some(step.line),
+        Some(step.changed),
+        Some(step.gone),
+        Some(step.why),
+        Some(step.sees),
+        step.waits,
+        Some(step.ends),
+        Some(step.rule),
+    ];
+    let mut values = Vec::new(alloc);
+    for place in &places {
+        values.push(place_value(alloc, *place)?)?;
+    }
+    Ok(Value::Array(values))
 }
 
 fn place_value(alloc: Global, place: Option<usize>) -> Result<Value, NoMemory> {
     match place {
-        Some(place) => {
-            let place = place as u64;
-            Ok(json!(in alloc; place)?)
-        }
+        Some(place) => number_value(alloc, place as u64),
         None => Ok(Value::Null),
     }
 }
@@ -149,20 +197,32 @@ fn node_values(alloc: Global, nodes: &[Node]) -> Result<Value, NoMemory> {
 /// A node: its parent's place, the number of the transaction that moves, the places of its steps, the place of its
 /// outcome or null, and how many orders lead to each outcome.
 fn node_value(alloc: Global, node: &Node) -> Result<Value, NoMemory> {
-    let parent = node.parent as u64;
-    let who = node.who.number();
-    let mut steps = Vec::new(alloc);
-    for step in &node.steps {
-        let place = *step as u64;
-        steps.push(json!(in alloc; place)?)?;
+    let mut values = Vec::new(alloc);
+    push_node(alloc, node, &mut values)?;
+    Ok(Value::Array(values))
+}
+
+fn push_node(alloc: Global, node: &Node, values: &mut Vec<Value>) -> Result<(), NoMemory> {
+    values.push(place_value(alloc, Some(node.parent))?)?;
+    values.push(number_value(alloc, node.who.number())?)?;
+    values.push(places_value(alloc, node.steps.as_slice())?)?;
+    values.push(place_value(alloc, node.outcome)?)?;
+    values.push(counts_value(alloc, node.counts.as_slice())?)?;
+    Ok(())
+}
+
+fn places_value(alloc: Global, places: &[usize]) -> Result<Value, NoMemory> {
+    let mut values = Vec::new(alloc);
+    for place in places {
+        values.push(place_value(alloc, Some(*place))?)?;
     }
-    let mut counts = Vec::new(alloc);
-    for count in &node.counts {
-        counts.push(json!(in alloc; *count)?)?;
+    Ok(Value::Array(values))
+}
+
+fn counts_value(alloc: Global, counts: &[u64]) -> Result<Value, NoMemory> {
+    let mut values = Vec::new(alloc);
+    for count in counts {
+        values.push(number_value(alloc, *count)?)?;
     }
-    let steps = Value::Array(steps);
-    let counts = Value::Array(counts);
-    let outcome = place_value(alloc, node.outcome)?;
-    let value = json!(in alloc; [parent, who, steps, outcome, counts])?;
-    Ok(value)
+    Ok(Value::Array(values))
 }

@@ -3,7 +3,7 @@ ghost use Rattle.hek_txn.specs.TxnTable.{Declared};
 
 use hek_machine::Machine;
 use hek_rules::{Event, NoMemory, Reply, State, TxnId};
-use hek_why::{Reason, commit_reasons, wait_reasons};
+use hek_why::{Reason, Step, commit_reasons, wait_reasons};
 use std::alloc::Global;
 use std::io::Write;
 
@@ -29,57 +29,70 @@ impl Waits {
         }
     }
 
-    /// The lines of all waits, if they are not those of the last look: `2 1 version 0` where transaction 2 waits for
-    /// transaction 1, which read-locks version 0, `2 1 bucket 3` for a bucket's lock, `2 1 commit` for a commit. This
+    /// Sets the lines of all waits, if they are not those of the last look: `2 1 version 0` where transaction 2 waits
+    /// for transaction 1, which read-locks version 0, `2 1 bucket 3` for a bucket's lock, `2 1 commit` for a commit. This
     /// look becomes the last one.
     pub(crate) fn changes(
         &mut self,
         alloc: Global,
         machine: &Machine,
-    ) -> Result<Option<Vec<u8>>, NoMemory> {
+        told: &mut Option<Vec<u8>>,
+    ) -> Result<(), NoMemory> {
         let lines = wait_lines(alloc, machine)?;
-        if lines == self.lines {
-            return Ok(None);
+        if lines != self.lines {
+            *told = Some(Vec::from_slice(alloc, lines.as_slice())?);
+            self.lines = lines;
         }
-        self.lines = Vec::from_slice(alloc, lines.as_slice())?;
-        Ok(Some(lines))
+        Ok(())
     }
 
-    /// Notes the reply of a step. Answers a line for each transaction whose wait has ended with the step: its number.
+    /// Notes the reply of a step. Appends a line for each transaction whose wait has ended with the step: its number.
     pub(crate) fn note(
         &mut self,
         alloc: Global,
+        step: &Step<'_>,
+        ended: &mut Vec<u8>,
+    ) -> Result<(), NoMemory> {
+        self.end_waits(alloc, step.after, ended)?;
+        self.add_ask(&step.event, step.reply)
+    }
+
+    /// Drops those that wait no longer, and appends their numbers.
+    fn end_waits(
+        &mut self,
+        alloc: Global,
         machine: &Machine,
-        event: &Event,
-        reply: &Reply,
-    ) -> Result<Vec<u8>, NoMemory> {
-        let mut ended = Vec::new(alloc);
+        ended: &mut Vec<u8>,
+    ) -> Result<(), NoMemory> {
         let mut kept = Vec::new(alloc);
         for ask in &self.asked {
             if still_waits(machine, *ask) {
                 kept.push(*ask)?;
             } else {
-                put_number(ask.txn, &mut ended)?;
-            }
-        }
-        if let Some(ask) = ask_of(event, reply) {
-            if !has(kept.as_slice(), ask.txn) {
-                kept.push(ask)?;
+                put_number(ask.txn, ended)?;
             }
         }
         self.asked = kept;
-        Ok(ended)
+        Ok(())
     }
 
-    /// A line for each transaction that has asked and waits: `2 waits`, or `2 commits`.
-    pub(crate) fn asked_lines(&self, alloc: Global) -> Result<Vec<u8>, NoMemory> {
-        let mut lines = Vec::new(alloc);
+    fn add_ask(&mut self, event: &Event, reply: &Reply) -> Result<(), NoMemory> {
+        if let Some(ask) = ask_of(event, reply) {
+            if !has(self.asked.as_slice(), ask.txn) {
+                self.asked.push(ask)?;
+            }
+        }
+        Ok(())
+    }
+
+    /// Appends a line for each transaction that has asked and waits: `2 waits`, or `2 commits`.
+    pub(crate) fn put_asked(&self, lines: &mut Vec<u8>) -> Result<(), NoMemory> {
         for ask in &self.asked {
             let number = ask.txn.number();
             let kind = if ask.is_commit { "commits" } else { "waits" };
             put(writeln!(lines, "{number} {kind}").is_ok())?;
         }
-        Ok(lines)
+        Ok(())
     }
 }
 

@@ -84,12 +84,26 @@ const RULES = {
   stamp: ["Table.stamp_rule", "stamp: one entry of the write set. After a commit the end time takes the place of the name; after an abort the name goes, and the Begin of a new version becomes infinity."],
   end: ["Table.end_rule", "end: Terminated, once nothing is left to give back."],
   detect: ["Table.detect_rule", "detect: looks for a cycle among the transactions that have finished and wait. The greatest number on any cycle is the victim; it aborts by Deadlock."],
-  conflict: ["Locks.write_refusal", "Conflict: the version is ended, or has a writer that hasn't aborted. The first writer wins."],
-  "no-more-reads": ["Locks.read_refusal", "NoMoreReads: the flag NoMoreReadLocks is set: the writer counts on having no reader any more."],
-  "no-more-waits": ["Locks.read_refusal", "NoMoreWaits: it would be the first reader of a version whose writer has finished, and may not be made to wait."],
-  cascade: ["Checks.check_of", "Cascade: it has AbortNow, since one that it trusted has aborted. It aborts at its next event, whatever that is."],
 };
-const ruleOf = (step) => (step.r[0] === "aborted" && RULES[step.r[1]]) || RULES[step.op];
+
+/* What decides an abort or a refusal: each definition that the data name, and what it says. */
+const DECIDES = new Map([
+  ["Locks.write_refusal", "Conflict: the version is ended, or has a writer that hasn't aborted. The first writer wins."],
+  ["Table.is_claimed", "Conflict: no version of the key is seen, but another Active transaction has made one."],
+  ["Table.is_made_later", "Conflict, at the snapshot level: no version of the key is seen, but one was made after the transaction began."],
+  ["Locks.read_refusal", "NoMoreReads: the flag NoMoreReadLocks is set, and the writer counts on having no reader any more. ReadersFull: 255 others read-lock the version. NoMoreWaits: it would be the first reader of a version whose writer has finished, and may not be made to wait."],
+  ["Walk.wait_judged", "NoMoreWaits: a serializable walk met a version that another Active transaction made, and that one has finished: it may not be made to wait."],
+  ["Table.doom", "Cascade: it has AbortNow, since one that it trusted has aborted. It aborts at its next event, whatever that is."],
+  ["Checks.repeats_cause", "It has aborted before: until its end it gets the same cause again for each read, write, finish, precommit, commit and fail."],
+  ["World.declared", "UnknownTxn: no transaction has this number."],
+  ["World.is_not_begun", "NotBegun: the transaction has not begun."],
+  ["Checks.begins", "BegunTwice: the transaction has begun before."],
+  ["World.is_terminated", "Ended: the transaction is over."],
+  ["Checks.in_phase", "WrongPhase: the event comes out of turn."],
+  ["Table.holds_nothing", "WrongPhase: an end while something is left to give back: a lock, a waiter or a word to stamp."],
+  ["Checks.draws", "ClockFull: no time is left to draw."],
+]);
+const ruleOf = (step) => (step.rule ? [step.rule, DECIDES.get(step.rule) ?? ""] : RULES[step.op]);
 
 /** A reason in the words of `hek run --why`, without its words in hexadecimal, the names as tags. */
 function reasonOf(line) {
