@@ -134,6 +134,7 @@ impl Case {
             "" => 0,
             "1" => 1,
             "2" => 2,
+            "3" => 3,
             _ => return Err(unreadable()),
         };
         let words = Words::read(self.alloc, text)?;

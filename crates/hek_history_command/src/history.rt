@@ -7,6 +7,7 @@ use crate::choice::{Choice, order_of, set_level};
 use crate::counts::counts_of;
 use crate::forgetting::forget_answers;
 use crate::order_lines::write_order;
+use crate::turned::turn;
 use crate::twins::have_both;
 use crate::{verdict_json, verdict_text};
 use hek_commands::{HekFault, buffered, send};
@@ -207,6 +208,7 @@ fn write_causes<'a, W: Write>(
 ) -> Result<(), HekFault<'a>> {
     let mut cause = cause;
     for _ in 0..log.history.transactions.len() {
+        turn(&mut cause);
         write_not_serial(alloc, log, &cause, question, out)?;
         if !question.all || cause.cycle.is_empty() {
             break;

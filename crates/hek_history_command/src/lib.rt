@@ -8,6 +8,7 @@ mod forgetting;
 mod history;
 mod order_lines;
 mod run_log;
+mod turned;
 mod twins;
 mod verdict_json;
 mod verdict_text;
