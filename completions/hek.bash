@@ -4,7 +4,7 @@ _hek() {
     local word=${COMP_WORDS[COMP_CWORD]} before=${COMP_WORDS[COMP_CWORD - 1]} command=${COMP_WORDS[1]} words="" files=""
     COMPREPLY=()
     if [ "$COMP_CWORD" -eq 1 ]; then
-        words="run debug page permute check drive threads word release asm dis help --help --version"
+        words="run debug page permute check history drive threads word release asm dis help --help --version"
         mapfile -t COMPREPLY < <(compgen -W "$words" -- "$word")
         return
     fi
@@ -15,7 +15,7 @@ _hek() {
         before="${COMP_WORDS[COMP_CWORD - 2]}="
     fi
     case "$command $before" in
-    "help help") words="run debug page permute check drive threads word release asm dis" ;;
+    "help help") words="run debug page permute check history drive threads word release asm dis" ;;
     "run --state-at") return ;;
     "run --why=") words="reasons rules" ;;
     "page --from") return ;;
@@ -30,6 +30,9 @@ _hek() {
     "permute --part") return ;;
     "permute --order") return ;;
     "check --level") words="serializable repeatable snapshot" ;;
+    "history --level") words="serializable repeatable snapshot" ;;
+    "history --order") return ;;
+    "history --order-out") return ;;
     "drive --why=") words="reasons rules" ;;
     "threads --turns") return ;;
     "threads --repeat") return ;;
@@ -42,11 +45,12 @@ _hek() {
         return
     fi
     case "$command" in
-    run) words="--text --image --state --state-at --why --changes --help" files=yes ;;
+    run) words="--text --image --state --state-at --why --changes --history --help" files=yes ;;
     debug) words="--text --image --help" files=yes ;;
     page) words="--text --image --from --to --title --lesson --previous --next --orders --split --limit --help" files=yes ;;
     permute) words="--text --image --level --split --limit --part --each --order --levels --help" files=yes ;;
     check) words="--text --image --level --why --summary --help" files=yes ;;
+    history) words="--level --order --all --order-out --json --help" files=yes ;;
     drive) words="--text --image --why --changes --help" files=yes ;;
     threads) words="--text --image --turns --repeat --help" files=yes ;;
     word) words="--changes --clock --txns --readers --help" ;;
