@@ -7,6 +7,7 @@ FILE is a schedule text. LIBRARY is bin/libhek_machine.so if not given (tools/bu
 """
 import ctypes
 import os
+import signal
 import sys
 
 ROOT = os.path.dirname(os.path.dirname(os.path.dirname(os.path.realpath(__file__))))
@@ -77,4 +78,6 @@ def main(file, library=f"{ROOT}/bin/libhek_machine.so"):
 if __name__ == "__main__":
     if len(sys.argv) not in (2, 3):
         sys.exit(__doc__)
+    # Ends quietly where the reader of its output leaves.
+    signal.signal(signal.SIGPIPE, signal.SIG_DFL)
     main(*sys.argv[1:])
