@@ -4,9 +4,18 @@ ghost use Rattle.hek_machine_c.specs.Made.{status_of, line_of};
 
 use hek_commands::HekFault;
 
-/// The statuses of a call.
+/// The status of a call that made a text.
 pub(crate) const MADE: u32 = 0;
 
+/// A line of the schedule's text is at fault.
+const BAD_LINE: u32 = 1;
+
+/// The schedule's text isn't UTF-8.
+const NOT_TEXT: u32 = 2;
+
+const NO_MEMORY: u32 = 3;
+
+/// The text that was made has more bytes than there is room for.
 pub(crate) const NO_ROOM: u32 = 4;
 
 /// What a call answers. `status` is 0 if a text was made, of `length` bytes; 1 if line `line` of the schedule's text is at
@@ -25,9 +34,9 @@ pub(crate) fn failed(fault: HekFault<'_>) -> HekMade
     ensures { result ≡ record { length = 0; line = line_of fault.entry; status = status_of fault.entry } }
 {
     let (line, status) = match fault {
-        HekFault::Line { line, .. } => (line, 1),
-        HekFault::NotText => (0, 2),
-        _ => (0, 3),
+        HekFault::Line { line, .. } => (line, BAD_LINE),
+        HekFault::NotText => (0, NOT_TEXT),
+        _ => (0, NO_MEMORY),
     };
     HekMade {
         length: 0,

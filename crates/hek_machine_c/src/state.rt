@@ -1,5 +1,6 @@
 //! The state after some steps of a schedule.
-ghost use Rattle.std.specs.Prelude.{◌≡◌, ◌≢◌, ℕ, List, length, MatchResult};
+ghost use Rattle.std.specs.Prelude.{◌≡◌, ◌≢◌, ◌<◌, ◌≤◌, ℕ, List, length, MatchResult};
+ghost use Rattle.std.specs.Str.{IsUtf8};
 ghost use Rattle.hek_machine_c.specs.Made.{HasFaultAt, MakingFails, IsIn, IsStateOfText};
 
 use crate::copied::{copied, owned};
@@ -14,6 +15,9 @@ pub extern "C" fn hek_state(alloc: Global, text: &[u8], steps: u64, out: &mut [u
     ensures made { result.status ≡ 0 → (lines : List ℕ) × IsStateOfText steps text.now lines × IsIn lines out.old out.new × (result.length ≡ length lines) }
     ensures kept { result.status ≢ 0 → out.new ≡ out.old }
     ensures line { result.status ≡ 1 → HasFaultAt result.line text.now }
+    ensures not_text { result.status ≡ 2 → ¬ (IsUtf8 text.now) }
+    ensures no_room { result.status ≡ 4 → (lines : List ℕ) × IsStateOfText steps text.now lines × (length out.old < length lines) × (result.length ≡ length lines) }
+    ensures statuses { result.status ≤ 4 }
 {
     match state(alloc, text, steps) {
         Ok(lines) => copied(lines.as_slice(), out),
