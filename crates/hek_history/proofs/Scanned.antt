@@ -5,8 +5,7 @@ use Rattle.std.proofs.lemmas.Option.{slice_get_within}
 use Rattle.std.proofs.lemmas.Map.Views.{Contains-keys_from_lookup}
 use Rattle.std.specs.Prelude.{slice_get, nat_lt, IsSome, IsTrue}
 use Rattle.std.specs.List.{list_all}
-use Rattle.std.specs.BTreeMap.{get, keys, BTreeMap}
-use Rattle.std.specs.Ordering.{nat_cmp, eq_by_cmp}
+use Rattle.std.specs.HashMap.{get, keys, HashMap}
 use Rattle.hek_rules.specs.Listing.{value_of}
 use Rattle.hek_history.specs.declared.history.Operation.{Operation}
 use Rattle.hek_history.specs.declared.history.Operation.TheVariants.{Read, Put, Insert, Update, Delete, Scan}
@@ -125,7 +124,7 @@ no_scan (Insert k x d) not_scan = tt
 no_scan (Update k x d) not_scan = tt
 no_scan (Delete k d) not_scan = tt
 
-pub empty_get : {X : Type 0} (m : BTreeMap ℕ X) (k : ℕ) → m.entries ≡ [] → get nat_cmp m k ≡ None
+pub empty_get : {X S : Type 0} (m : HashMap ℕ X S) (k : ℕ) → m.entries ≡ [] → get ◌==◌ m k ≡ None
 empty_get m k e = rw e refl
 
 -- ---- scans
@@ -143,23 +142,12 @@ pub list_all-from : {X : Type 0} (p : X → Bool) (xs : List X) → ((x : X) →
 list_all-from p [] all = refl
 list_all-from p (x ∷ xs) all = rw (all x) (list_all-from p xs all)
 
-nat_same : (x y : ℕ) → eq_by_cmp nat_cmp x y ≡ true → x ≡ y
-nat_same x y e =
-    elim (cases_Bool (nat_lt x y)) [
-      | inl less ↦ let f : false ≡ true = rw less at e in absurd (let g : ⊥ = cc in g)
-      | inr not_less ↦
-          elim (cases_Bool (x == y)) [
-            | inl same ↦ eqb-true x y same
-            | inr other ↦ let f : false ≡ true = rw (not_less, other) at e in absurd (let g : ⊥ = cc in g)
-          ]
-    ]
-
 some_is_some : {X : Type 0} (o : Option X) (v : X) → o ≡ Some v → IsSome o
 some_is_some {X} o v e = subst (λ (p : Option X). IsSome p) (sym e) refl
 
-at_key : {X : Type 0} (p : ℕ → Bool) (m : BTreeMap ℕ X) (k : ℕ) (v : X) → list_all p (keys m) ≡ true → get nat_cmp m k ≡ Some v → p k ≡ true
+at_key : {X S : Type 0} (p : ℕ → Bool) (m : HashMap ℕ X S) (k : ℕ) (v : X) → list_all p (keys m) ≡ true → get ◌==◌ m k ≡ Some v → p k ≡ true
 at_key p m k v all e =
-    let c = Contains-keys_from_lookup {eq = eq_by_cmp nat_cmp} nat_same k m.entries (some_is_some (get nat_cmp m k) v e) in
+    let c = Contains-keys_from_lookup {eq = ◌==◌} eqb-true k m.entries (some_is_some (get ◌==◌ m k) v e) in
     subst (λ (n : ℕ). p n ≡ true) c.2 (list_all-at p (keys m) c.0 k all c.1)
 
 pair_at : (pairs : List (ℕ × ℕ)) (k v : ℕ) → value_of pairs k ≡ Some v → (n : ℕ) × (p : ℕ × ℕ) × (slice_get pairs n ≡ Some p) × (p.0 ≡ k)
@@ -178,12 +166,12 @@ within : (lenient : Bool) (scope : Scope) (op : Operation) (f : ℕ → Option �
 within lenient scope op f k covered e = rw covered at e
 
 -- a scan is right where it allows what is found at the keys of its pairs, and at those keys of the rows and of the own changes that it is of
-pub scan_right : (lenient : Bool) (op : Operation) (scope : Scope) (pairs : List (ℕ × ℕ)) (rows : BTreeMap ℕ ℕ) (own : BTreeMap ℕ Change) → IsScan op scope pairs → IsByKey op →
-    ((n : ℕ) (p : ℕ × ℕ) → slice_get pairs n ≡ Some p → allows lenient p.0 op (seen (get nat_cmp rows) (get nat_cmp own) p.0) ≡ true) →
-    list_all (allowed_within lenient scope op (seen (get nat_cmp rows) (get nat_cmp own))) (keys own) ≡ true →
-    list_all (allowed_within lenient scope op (seen (get nat_cmp rows) (get nat_cmp own))) (keys rows) ≡ true →
-    IsRight lenient op (seen (get nat_cmp rows) (get nat_cmp own))
-scan_right lenient op scope pairs rows own scan by_key at_pairs at_own at_rows = record {
+pub scan_right : {S : Type 0} (lenient : Bool) (op : Operation) (scope : Scope) (pairs : List (ℕ × ℕ)) (rows : HashMap ℕ ℕ S) (own : HashMap ℕ Change S) → IsScan op scope pairs → IsByKey op →
+    ((n : ℕ) (p : ℕ × ℕ) → slice_get pairs n ≡ Some p → allows lenient p.0 op (seen (get ◌==◌ rows) (get ◌==◌ own) p.0) ≡ true) →
+    list_all (allowed_within lenient scope op (seen (get ◌==◌ rows) (get ◌==◌ own))) (keys own) ≡ true →
+    list_all (allowed_within lenient scope op (seen (get ◌==◌ rows) (get ◌==◌ own))) (keys rows) ≡ true →
+    IsRight lenient op (seen (get ◌==◌ rows) (get ◌==◌ own))
+scan_right {S} lenient op scope pairs rows own scan by_key at_pairs at_own at_rows = record {
   by_key = by_key;
   allowed = (λ k.
       elim (cases_option (value_of pairs k)) [
@@ -194,13 +182,13 @@ scan_right lenient op scope pairs rows own scan by_key at_pairs at_own at_rows =
             elim (cases_Bool (covers scope k)) [
               | inr other ↦ told lenient k op (f k) (outside op scope pairs k (f k) scan other unlisted)
               | inl covered ↦
-                  elim (cases_option (get nat_cmp rows k)) [
+                  elim (cases_option (get ◌==◌ rows k)) [
                     | inr row ↦ within lenient scope op f k covered (at_key (allowed_within lenient scope op f) rows k row.0 at_rows row.1)
                     | inl no_row ↦
-                        elim (cases_option (get nat_cmp own k)) [
+                        elim (cases_option (get ◌==◌ own k)) [
                           | inr change ↦ within lenient scope op f k covered (at_key (allowed_within lenient scope op f) own k change.0 at_own change.1)
                           | inl no_change ↦
-                              let none : f k ≡ None = ap (λ c. after (kept c) (get nat_cmp rows k)) no_change ∙ no_row in
+                              let none : f k ≡ None = ap (λ c. after (kept c) (get ◌==◌ rows k)) no_change ∙ no_row in
                               told lenient k op (f k) (subst (λ (v : Option ℕ). tells k op v ≡ true) (sym none) (inside op scope pairs k scan covered unlisted))
                         ]
                   ]
@@ -209,7 +197,7 @@ scan_right lenient op scope pairs rows own scan by_key at_pairs at_own at_rows =
 }
   where
     f : ℕ → Option ℕ
-    f = seen (get nat_cmp rows) (get nat_cmp own)
+    f = seen (get ◌==◌ rows) (get ◌==◌ own)
 
     outside : (op : Operation) (scope : Scope) (pairs : List (ℕ × ℕ)) (k : ℕ) (v : Option ℕ) → IsScan op scope pairs → covers scope k ≡ false → value_of pairs k ≡ None → tells k op v ≡ true
     outside (Scan s found) scope pairs k v scan other none =

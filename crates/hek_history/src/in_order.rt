@@ -1,7 +1,7 @@
 //! Whether points are in the order that is asked for.
 ghost use Rattle.std.specs.Prelude.{◌≡◌, ◌↔◌, ◌⊎◌, ◌&&◌, ◌+◌, ◌<◌, length, ℕ, true, false, is_some, Option, Some, None, IsTrue, IfOk, OnOk, if◌then◌else◌};
-ghost use Rattle.std.specs.BTreeMap.{get as get_in};
-ghost use Rattle.std.specs.Ordering.{nat_cmp};
+ghost use Rattle.std.specs.HashMap.{get as get_in};
+ghost use Rattle.std.specs.Prelude.{◌==◌};
 ghost use Rattle.hek_history.specs.declared.history.Point.TheVariants.{Commit};
 ghost use Rattle.hek_history.specs.Histories.{writes as writes_it, end_of as end_in};
 ghost use Rattle.hek_history.specs.Orders.{earlier as earlier_of};
@@ -15,7 +15,7 @@ use crate::replay::{explains, mark_changes};
 use crate::transactions::{answered_of, end_of, invoked_of, operations_of, writes};
 use hek_rules::NoMemory;
 use std::alloc::Global;
-use std::collections::BTreeMap;
+use std::collections::HashMap;
 
 /// The time of a point, before which no other is to be that comes after it.
 fn first_time(history: &History, order: Order, point: Point) -> Option<u64>
@@ -72,8 +72,8 @@ fn are_timed(history: &History, order: Order, points: &[Point]) -> bool
 }
 
 /// The end of the last writer of a key.
-fn last_end(history: &History, last: &BTreeMap<u64, usize>, key: u64) -> Option<u64>
-    ensures { result ≡ end_of_last history.now (get_in nat_cmp last.now) key }
+fn last_end(history: &History, last: &HashMap<u64, usize>, key: u64) -> Option<u64>
+    ensures { result ≡ end_of_last history.now (get_in ◌==◌ last.now) key }
 {
     match last.get(&key).copied() {
         Some(x) => end_of(history, x),
@@ -82,8 +82,8 @@ fn last_end(history: &History, last: &BTreeMap<u64, usize>, key: u64) -> Option<
 }
 
 /// Whether a key that t writes was not written by a transaction that ended later.
-fn is_newest_at(history: &History, last: &BTreeMap<u64, usize>, t: usize, key: u64) -> bool
-    ensures { IsTrue result ↔ (writes_it history.now t key ≡ true → earlier_of (end_in history.now t) (end_of_last history.now (get_in nat_cmp last.now) key) ≡ false) }
+fn is_newest_at(history: &History, last: &HashMap<u64, usize>, t: usize, key: u64) -> bool
+    ensures { IsTrue result ↔ (writes_it history.now t key ≡ true → earlier_of (end_in history.now t) (end_of_last history.now (get_in ◌==◌ last.now) key) ≡ false) }
 {
     if writes(history, t, key) {
         !earlier(end_of(history, t), last_end(history, last, key))
@@ -93,8 +93,8 @@ fn is_newest_at(history: &History, last: &BTreeMap<u64, usize>, t: usize, key: u
 }
 
 /// Whether no key that t writes was written by a transaction that ended later.
-fn is_newest(history: &History, last: &BTreeMap<u64, usize>, t: usize) -> bool
-    ensures { IsTrue result ↔ ((key : ℕ) → writes_it history.now t key ≡ true → earlier_of (end_in history.now t) (end_of_last history.now (get_in nat_cmp last.now) key) ≡ false) }
+fn is_newest(history: &History, last: &HashMap<u64, usize>, t: usize) -> bool
+    ensures { IsTrue result ↔ ((key : ℕ) → writes_it history.now t key ≡ true → earlier_of (end_in history.now t) (end_of_last history.now (get_in ◌==◌ last.now) key) ≡ false) }
 {
     let operations = operations_of(history, t);
     for n in 0..operations.len() {
@@ -106,8 +106,8 @@ fn is_newest(history: &History, last: &BTreeMap<u64, usize>, t: usize) -> bool
 }
 
 /// t is the last to write its keys from now on, if its end is given.
-fn mark(history: &History, last: &mut BTreeMap<u64, usize>, t: usize) -> Result<(), NoMemory>
-    ensures { OnOk result ((k : ℕ) → get_in nat_cmp last.new k ≡ (if writes_it history.now t k && is_some (end_in history.now t) then Some t else get_in nat_cmp last.old k)) }
+fn mark(history: &History, last: &mut HashMap<u64, usize>, t: usize) -> Result<(), NoMemory>
+    ensures { OnOk result ((k : ℕ) → get_in ◌==◌ last.new k ≡ (if writes_it history.now t k && is_some (end_in history.now t) then Some t else get_in ◌==◌ last.old k)) }
 {
     if end_of(history, t).is_none() {
         return Ok(());
@@ -122,12 +122,12 @@ fn commits_newest(
     points: &[Point],
     n: usize,
     t: usize,
-    last: &mut BTreeMap<u64, usize>,
+    last: &mut HashMap<u64, usize>,
 ) -> Result<bool, NoMemory>
     requires there { At points.now n (Commit t) }
-    requires known { IsNewestTo history.now points.now (get_in nat_cmp last.old) n }
+    requires known { IsNewestTo history.now points.now (get_in ◌==◌ last.old) n }
     ensures exact { IfOk result (λ yes. AreNewest history.now points.now → IsTrue yes) }
-    ensures known { IfOk result (λ yes. IsTrue yes → IsNewestTo history.now points.now (get_in nat_cmp last.new) (n + 1)) }
+    ensures known { IfOk result (λ yes. IsTrue yes → IsNewestTo history.now points.now (get_in ◌==◌ last.new) (n + 1)) }
 {
     let _points = points.len();
     if !is_newest(history, last, t) {
@@ -142,12 +142,12 @@ fn is_newest_point(
     history: &History,
     points: &[Point],
     n: usize,
-    last: &mut BTreeMap<u64, usize>,
+    last: &mut HashMap<u64, usize>,
 ) -> Result<bool, NoMemory>
     requires place { n < length points.now }
-    requires known { IsNewestTo history.now points.now (get_in nat_cmp last.old) n }
+    requires known { IsNewestTo history.now points.now (get_in ◌==◌ last.old) n }
     ensures exact { IfOk result (λ yes. AreNewest history.now points.now → IsTrue yes) }
-    ensures known { IfOk result (λ yes. IsTrue yes → IsNewestTo history.now points.now (get_in nat_cmp last.new) (n + 1)) }
+    ensures known { IfOk result (λ yes. IsTrue yes → IsNewestTo history.now points.now (get_in ◌==◌ last.new) (n + 1)) }
 {
     let _history = history.transactions.len();
     let _last = last.len();
@@ -161,7 +161,7 @@ fn is_newest_point(
 fn are_newest(alloc: Global, history: &History, points: &[Point]) -> Result<bool, NoMemory>
     ensures { IfOk result (λ yes. IsTrue yes ↔ AreNewest history.now points.now) }
 {
-    let mut last = BTreeMap::new(alloc);
+    let mut last = HashMap::new(alloc);
     for n in 0..points.len() {
         let newest = is_newest_point(history, points, n, &mut last)?;
         if !newest {

@@ -1,8 +1,7 @@
 //! What a transaction sees: rows, under its own changes.
 ghost use Rattle.std.specs.Prelude.{◌≡◌, ◌↔◌, ◌==◌, ℕ, Option, Some, None, true, false, slice_get, IsTrue, OnOk, IfOk, if◌then◌else◌};
-ghost use Rattle.std.specs.BTreeMap.{get as get_in};
-ghost use Rattle.std.specs.Ordering.{nat_cmp};
-ghost use Rattle.std.specs.BTreeMap.{keys};
+ghost use Rattle.std.specs.HashMap.{get as get_in};
+ghost use Rattle.std.specs.HashMap.{keys};
 ghost use Rattle.std.specs.List.{list_all};
 ghost use Rattle.hek_rules.specs.Listing.{value_of as value_in};
 ghost use Rattle.hek_history.specs.Answers.{IsRight, AreRight, allows as allowed_by, followed_by as composed, change_at as change_there};
@@ -16,11 +15,11 @@ use crate::scans::is_by_key;
 use crate::transactions::{is_lenient, operations_of};
 use hek_rules::NoMemory;
 use std::alloc::Global;
-use std::collections::BTreeMap;
+use std::collections::HashMap;
 
 /// The transaction's own change of a key so far.
-fn own_change(own: &BTreeMap<u64, Change>, key: u64) -> Change
-    ensures { result ≡ kept (get_in nat_cmp own.now key) }
+fn own_change(own: &HashMap<u64, Change>, key: u64) -> Change
+    ensures { result ≡ kept (get_in ◌==◌ own.now key) }
 {
     match own.get(&key).copied() {
         Some(change) => change,
@@ -29,8 +28,8 @@ fn own_change(own: &BTreeMap<u64, Change>, key: u64) -> Change
 }
 
 /// The value of a key.
-fn value_seen(rows: &BTreeMap<u64, u64>, own: &BTreeMap<u64, Change>, key: u64) -> Option<u64>
-    ensures { result ≡ seen (get_in nat_cmp rows.now) (get_in nat_cmp own.now) key }
+fn value_seen(rows: &HashMap<u64, u64>, own: &HashMap<u64, Change>, key: u64) -> Option<u64>
+    ensures { result ≡ seen (get_in ◌==◌ rows.now) (get_in ◌==◌ own.now) key }
 {
     after(own_change(own, key), rows.get(&key).copied())
 }
@@ -38,27 +37,27 @@ fn value_seen(rows: &BTreeMap<u64, u64>, own: &BTreeMap<u64, Change>, key: u64) 
 /// Whether an answer allows what the transaction sees at a key.
 fn allows_at(
     lenient: bool,
-    rows: &BTreeMap<u64, u64>,
-    own: &BTreeMap<u64, Change>,
+    rows: &HashMap<u64, u64>,
+    own: &HashMap<u64, Change>,
     operation: &Operation,
     key: u64,
 ) -> bool
-    ensures { result ≡ allowed_by lenient key operation.now (seen (get_in nat_cmp rows.now) (get_in nat_cmp own.now) key) }
+    ensures { result ≡ allowed_by lenient key operation.now (seen (get_in ◌==◌ rows.now) (get_in ◌==◌ own.now) key) }
 {
     allows(lenient, key, operation, value_seen(rows, own, key))
 }
 
 /// The key's own change is this from now on.
-fn put_change(own: &mut BTreeMap<u64, Change>, key: u64, change: Change) -> Result<(), NoMemory>
-    ensures { OnOk result ((k : ℕ) → get_in nat_cmp own.new k ≡ (if key == k then Some change else get_in nat_cmp own.old k)) }
+fn put_change(own: &mut HashMap<u64, Change>, key: u64, change: Change) -> Result<(), NoMemory>
+    ensures { OnOk result ((k : ℕ) → get_in ◌==◌ own.new k ≡ (if key == k then Some change else get_in ◌==◌ own.old k)) }
 {
     let _before = own.insert(key, change)?;
     Ok(())
 }
 
 /// One operation more.
-fn note(own: &mut BTreeMap<u64, Change>, operation: &Operation) -> Result<(), NoMemory>
-    ensures { OnOk result ((k : ℕ) → kept (get_in nat_cmp own.new k) ≡ composed (kept (get_in nat_cmp own.old k)) (change_there k operation.now)) }
+fn note(own: &mut HashMap<u64, Change>, operation: &Operation) -> Result<(), NoMemory>
+    ensures { OnOk result ((k : ℕ) → kept (get_in ◌==◌ own.new k) ≡ composed (kept (get_in ◌==◌ own.old k)) (change_there k operation.now)) }
 {
     let change = change_of(operation);
     if !is_change(change) {
@@ -71,13 +70,13 @@ fn note(own: &mut BTreeMap<u64, Change>, operation: &Operation) -> Result<(), No
 /// Whether a scan allows what the transaction sees at a key, if it is of that.
 fn allows_within(
     lenient: bool,
-    rows: &BTreeMap<u64, u64>,
-    own: &BTreeMap<u64, Change>,
+    rows: &HashMap<u64, u64>,
+    own: &HashMap<u64, Change>,
     operation: &Operation,
     scope: Scope,
     key: u64,
 ) -> bool
-    ensures { result ≡ allowed_within lenient scope operation.now (seen (get_in nat_cmp rows.now) (get_in nat_cmp own.now)) key }
+    ensures { result ≡ allowed_within lenient scope operation.now (seen (get_in ◌==◌ rows.now) (get_in ◌==◌ own.now)) key }
 {
     if covers(scope, key) {
         allows_at(lenient, rows, own, operation, key)
@@ -89,12 +88,12 @@ fn allows_within(
 /// The same at each key of the rows.
 fn allows_rows(
     lenient: bool,
-    rows: &BTreeMap<u64, u64>,
-    own: &BTreeMap<u64, Change>,
+    rows: &HashMap<u64, u64>,
+    own: &HashMap<u64, Change>,
     operation: &Operation,
     scope: Scope,
 ) -> bool
-    ensures { result ≡ list_all (allowed_within lenient scope operation.now (seen (get_in nat_cmp rows.now) (get_in nat_cmp own.now))) (keys rows.now) }
+    ensures { result ≡ list_all (allowed_within lenient scope operation.now (seen (get_in ◌==◌ rows.now) (get_in ◌==◌ own.now))) (keys rows.now) }
 {
     for key in rows.keys() {
         if !allows_within(lenient, rows, own, operation, scope, *key) {
@@ -107,12 +106,12 @@ fn allows_rows(
 /// The same at each key that the transaction itself changed.
 fn allows_own(
     lenient: bool,
-    rows: &BTreeMap<u64, u64>,
-    own: &BTreeMap<u64, Change>,
+    rows: &HashMap<u64, u64>,
+    own: &HashMap<u64, Change>,
     operation: &Operation,
     scope: Scope,
 ) -> bool
-    ensures { result ≡ list_all (allowed_within lenient scope operation.now (seen (get_in nat_cmp rows.now) (get_in nat_cmp own.now))) (keys own.now) }
+    ensures { result ≡ list_all (allowed_within lenient scope operation.now (seen (get_in ◌==◌ rows.now) (get_in ◌==◌ own.now))) (keys own.now) }
 {
     for key in own.keys() {
         if !allows_within(lenient, rows, own, operation, scope, *key) {
@@ -125,12 +124,12 @@ fn allows_own(
 /// The same of the keys of its pairs, whether or not it is of them.
 fn allows_pairs(
     lenient: bool,
-    rows: &BTreeMap<u64, u64>,
-    own: &BTreeMap<u64, Change>,
+    rows: &HashMap<u64, u64>,
+    own: &HashMap<u64, Change>,
     operation: &Operation,
     pairs: &[(u64, u64)],
 ) -> bool
-    ensures { IsTrue result ↔ ((n : ℕ) (p : ℕ × ℕ) → slice_get pairs.now n ≡ Some p → allowed_by lenient p.0 operation.now (seen (get_in nat_cmp rows.now) (get_in nat_cmp own.now) p.0) ≡ true) }
+    ensures { IsTrue result ↔ ((n : ℕ) (p : ℕ × ℕ) → slice_get pairs.now n ≡ Some p → allowed_by lenient p.0 operation.now (seen (get_in ◌==◌ rows.now) (get_in ◌==◌ own.now) p.0) ≡ true) }
 {
     for n in 0..pairs.len() {
         if !allows_at(lenient, rows, own, operation, pairs[n].0) {
@@ -143,14 +142,14 @@ fn allows_pairs(
 /// Whether a scan is right where the keys have what the transaction sees.
 fn is_right_scan(
     lenient: bool,
-    rows: &BTreeMap<u64, u64>,
-    own: &BTreeMap<u64, Change>,
+    rows: &HashMap<u64, u64>,
+    own: &HashMap<u64, Change>,
     operation: &Operation,
     scope: Scope,
     pairs: &[(u64, u64)],
 ) -> bool
     requires { IsScan operation.now scope pairs.now }
-    ensures { IsTrue result ↔ IsRight lenient operation.now (seen (get_in nat_cmp rows.now) (get_in nat_cmp own.now)) }
+    ensures { IsTrue result ↔ IsRight lenient operation.now (seen (get_in ◌==◌ rows.now) (get_in ◌==◌ own.now)) }
 {
     if !is_by_key(operation) {
         return false;
@@ -167,11 +166,11 @@ fn is_right_scan(
 /// Whether an answer is right where the keys have what the transaction sees.
 pub(crate) fn is_right(
     lenient: bool,
-    rows: &BTreeMap<u64, u64>,
-    own: &BTreeMap<u64, Change>,
+    rows: &HashMap<u64, u64>,
+    own: &HashMap<u64, Change>,
     operation: &Operation,
 ) -> bool
-    ensures { IsTrue result ↔ IsRight lenient operation.now (seen (get_in nat_cmp rows.now) (get_in nat_cmp own.now)) }
+    ensures { IsTrue result ↔ IsRight lenient operation.now (seen (get_in ◌==◌ rows.now) (get_in ◌==◌ own.now)) }
 {
     match operation {
         Operation::Scan(scope, pairs) => is_right_scan(
@@ -190,12 +189,12 @@ pub(crate) fn is_right(
 fn are_right(
     alloc: Global,
     lenient: bool,
-    rows: &BTreeMap<u64, u64>,
+    rows: &HashMap<u64, u64>,
     operations: &[Operation],
 ) -> Result<bool, NoMemory>
-    ensures { IfOk result (λ yes. IsTrue yes ↔ AreRightOver lenient operations.now (get_in nat_cmp rows.now)) }
+    ensures { IfOk result (λ yes. IsTrue yes ↔ AreRightOver lenient operations.now (get_in ◌==◌ rows.now)) }
 {
-    let mut own = BTreeMap::new(alloc);
+    let mut own = HashMap::new(alloc);
     for n in 0..operations.len() {
         if !is_right(lenient, rows, &own, &operations[n]) {
             return Ok(false);
@@ -211,9 +210,9 @@ pub(crate) fn are_right_after(
     history: &History,
     points: &[Point],
     t: usize,
-    rows: &BTreeMap<u64, u64>,
+    rows: &HashMap<u64, u64>,
 ) -> Result<bool, NoMemory>
-    requires { (k : ℕ) → get_in nat_cmp rows.now k ≡ value_in (rows_after history.now points.now) k }
+    requires { (k : ℕ) → get_in ◌==◌ rows.now k ≡ value_in (rows_after history.now points.now) k }
     ensures { IfOk result (λ yes. IsTrue yes ↔ AreRight (lenient_in history.now t) (operations_in history.now t) (rows_after history.now points.now)) }
 {
     let _points = points.len();

@@ -1,7 +1,7 @@
-use Rattle.std.specs.BTreeMap.{get}
-use Rattle.std.specs.Ordering.{nat_cmp}
+use Rattle.std.specs.HashMap.{get}
+use Rattle.std.specs.Prelude.{◌==◌}
 use Rattle.hek_history.specs.Replays.{IsNewestTo}
 use Rattle.hek_history.proofs.in_order.are_newest.Given as goal
 
 abbrev pub invariant-loop-n : goal.invariant-loop-n
-invariant-loop-n l = IsNewestTo l.history l.points (get nat_cmp l.last) l.n
+invariant-loop-n l = IsNewestTo l.history l.points (get ◌==◌ l.last) l.n

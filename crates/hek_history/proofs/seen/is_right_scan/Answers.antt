@@ -1,6 +1,6 @@
 use Rattle.std.proofs.Common.{◌∙◌, refl, sym}
-use Rattle.std.specs.BTreeMap.{get, keys}
-use Rattle.std.specs.Ordering.{nat_cmp}
+use Rattle.std.specs.HashMap.{get, keys}
+use Rattle.std.specs.Prelude.{◌==◌}
 use Rattle.hek_history.specs.Replays.{seen}
 use Rattle.hek_history.proofs.Scanned.{scan_right, within-right}
 use Rattle.hek_history.proofs.seen.is_right_scan.Goals as goal
@@ -14,12 +14,12 @@ returns-then-not-allows_pairs c = (λ f. cc, λ r. c.if-not-allows_pairs.ensures
 pub returns-then-not-allows_own : goal.returns-then-not-allows_own
 returns-then-not-allows_own c = (
   λ f. cc,
-  λ r. c.if-not-allows_own.ensures ∙ within-right c.args.lenient c.args.scope c.args.operation.now (seen (get nat_cmp c.args.rows.now) (get nat_cmp c.args.own.now)) (keys c.args.own.now) r,
+  λ r. c.if-not-allows_own.ensures ∙ within-right c.args.lenient c.args.scope c.args.operation.now (seen (get ◌==◌ c.args.rows.now) (get ◌==◌ c.args.own.now)) (keys c.args.own.now) r,
 )
 
 pub returns : goal.returns
 returns c = (
   λ yes'. scan_right c.args.lenient c.args.operation.now c.args.scope c.args.pairs.now c.args.rows.now c.args.own.now c.requires (c.if-not-is_by_key.ensures.0 refl) (c.if-not-allows_pairs.ensures.0 refl)
       (sym c.if-not-allows_own.ensures) (sym c.allows_rows.ensures ∙ yes'),
-  λ r. c.allows_rows.ensures ∙ within-right c.args.lenient c.args.scope c.args.operation.now (seen (get nat_cmp c.args.rows.now) (get nat_cmp c.args.own.now)) (keys c.args.rows.now) r,
+  λ r. c.allows_rows.ensures ∙ within-right c.args.lenient c.args.scope c.args.operation.now (seen (get ◌==◌ c.args.rows.now) (get ◌==◌ c.args.own.now)) (keys c.args.rows.now) r,
 )
