@@ -2,27 +2,28 @@
 use crate::one::{events_of, leveled};
 use hek_asm::canonical;
 use hek_commands::{HekFault, ScheduleFile, schedule_in};
-use hek_permute::{Form, moves_of};
+use hek_permute::{Form, Moves, moves_of};
 use hek_rules::{Event, EventKind, NoMemory, Schedule, TxnId};
 use hek_worker::is_work;
 use std::alloc::Global;
 use std::io::Read;
 
-/// The text of the schedule whose steps are those of an order's play: the reads and writes of a file in their order,
-/// `begin` before a transaction's first, and its end, as `hek permute` plays it, where the file has the first of the
-/// steps that end it, or after its last read or write if there is none.
+/// The text of the schedule whose steps are those of an order's play by events, in the order of a file: each read and
+/// write where the file has it; `begin`, `finish`, `precommit` and what follows where the file has them, if it has them
+/// in this order. A transaction for which the file has no step that ends it ends after its last read or write; what else
+/// is missing comes before what needs it, or after the last step.
 pub fn auto_file<'a, R: Read + Drop>(
     alloc: Global,
     file: ScheduleFile<R>,
 ) -> Result<ScheduleFile<R>, HekFault<'a>> {
     let schedule = schedule_in(alloc, file)?;
     let moves = moves_of(alloc, &schedule)?;
-    let order = order_in_file(alloc, &schedule)?;
+    let order = order_in_file(alloc, &schedule, moves.as_slice())?;
     let events = events_of(
         alloc,
         &schedule,
         moves.as_slice(),
-        Form::Whole,
+        Form::Event,
         order.as_slice(),
     )?;
     let made = leveled(alloc, &schedule, None, events.as_slice())?;
@@ -30,90 +31,115 @@ pub fn auto_file<'a, R: Read + Drop>(
     Ok(ScheduleFile::Text(text.into_bytes()))
 }
 
-/// Where a file has the end of a transaction: the place of a step, and whether this is one that ends it.
+/// What a file has had of a transaction: how many reads and writes, and how many moves are in the order. `ends` is the
+/// place of its last step that ends it; `works` and `most` are how many reads and writes, and moves, it has in all.
 #[derive(Clone, Copy)]
-struct Ending {
-    place: usize,
-    is_step: bool,
+struct Track {
+    works: usize,
+    most: usize,
+    ends: Option<usize>,
+    seen: usize,
+    made: usize,
 }
 
-/// The order of moves in which a file has the reads, writes and ends of its transactions.
-fn order_in_file(alloc: Global, schedule: &Schedule) -> Result<Vec<TxnId>, NoMemory> {
-    let endings = endings_of(alloc, schedule)?;
+/// The order of moves, by events, in which a file has the steps of its transactions.
+fn order_in_file(
+    alloc: Global,
+    schedule: &Schedule,
+    moves: &[Moves],
+) -> Result<Vec<TxnId>, NoMemory> {
+    let mut tracks = tracks_of(alloc, schedule, moves)?;
     let mut order = Vec::new(alloc);
     for (place, step) in schedule.steps().iter().enumerate() {
-        if let Some(txn) = step.txn() {
-            push_moves(txn, place, step, endings.as_slice(), &mut order)?;
-        }
+        push_step(place, step, tracks.as_mut_slice(), &mut order)?;
     }
-    for (index, ending) in endings.iter().enumerate() {
-        if ending.place >= schedule.steps().len() {
-            order.push(TxnId::new((index as u64).saturating_add(1)))?;
-        }
+    for (index, track) in tracks.iter().enumerate() {
+        let txn = TxnId::new((index as u64).saturating_add(1));
+        push_moves(txn, track.most.saturating_sub(track.made), &mut order)?;
     }
     Ok(order)
 }
 
-/// Adds the moves of a transaction that a step of its own stands for.
-fn push_moves(
-    txn: TxnId,
-    place: usize,
-    step: &Event,
-    endings: &[Ending],
-    order: &mut Vec<TxnId>,
-) -> Result<(), NoMemory> {
-    if is_work(txn, *step) {
-        order.push(txn)?;
-    }
-    if let Some(ending) = endings.get(index_of(txn)) {
-        if ending.place == place {
-            order.push(txn)?;
-        }
-    }
-    Ok(())
-}
-
-/// The end of each transaction by ID: the first step that ends it after its last read or write, or that read or write
-/// if there is none; the place after the last step for one without steps.
-fn endings_of(alloc: Global, schedule: &Schedule) -> Result<Vec<Ending>, NoMemory> {
-    let none = Ending {
-        place: schedule.steps().len(),
-        is_step: false,
-    };
-    let mut endings = Vec::new(alloc);
-    for _ in 0..schedule.txn_count() {
-        endings.push(none)?;
+/// The tracks of all transactions before the first step.
+fn tracks_of(alloc: Global, schedule: &Schedule, moves: &[Moves]) -> Result<Vec<Track>, NoMemory> {
+    let mut tracks = Vec::new(alloc);
+    for of_one in moves {
+        let works = of_one.work().len();
+        tracks.push(Track {
+            works,
+            most: works.saturating_add(Form::Event.other_moves()),
+            ends: None,
+            seen: 0,
+            made: 0,
+        })?;
     }
     for (place, step) in schedule.steps().iter().enumerate() {
-        note_step(place, step, endings.as_mut_slice());
+        note_end(place, step, tracks.as_mut_slice());
     }
-    Ok(endings)
+    Ok(tracks)
 }
 
-/// Takes note of a step of the file.
-fn note_step(place: usize, step: &Event, endings: &mut [Ending]) {
-    let Some(txn) = step.txn() else {
+/// Takes note of a step that ends its transaction.
+fn note_end(place: usize, step: &Event, tracks: &mut [Track]) {
+    if !is_end(step) {
         return;
-    };
-    let Some(ending) = endings.get_mut(index_of(txn)) else {
-        return;
+    }
+    if let Some(track) = track_of(step, tracks) {
+        track.ends = Some(place);
+    }
+}
+
+/// The track of a step's transaction.
+fn track_of<'t>(step: &Event, tracks: &'t mut [Track]) -> Option<&'t mut Track> {
+    let txn = step.txn()?;
+    tracks.get_mut(txn.number().saturating_sub(1) as usize)
+}
+
+/// Adds the moves that a step of the file stands for, and those before them.
+fn push_step(
+    place: usize,
+    step: &Event,
+    tracks: &mut [Track],
+    order: &mut Vec<TxnId>,
+) -> Result<(), NoMemory> {
+    let (Some(txn), Some(track)) = (step.txn(), track_of(step, tracks)) else {
+        return Ok(());
     };
     if is_work(txn, *step) {
-        *ending = Ending {
-            place,
-            is_step: false,
-        };
-    } else if is_end(step) && !ending.is_step {
-        *ending = Ending {
-            place,
-            is_step: true,
-        };
+        track.seen = track.seen.saturating_add(1);
+    }
+    let moves = moves_upto(track, place, step);
+    let count = moves.saturating_sub(track.made);
+    track.made = moves.max(track.made);
+    push_moves(txn, count, order)
+}
+
+/// How many moves of a transaction have come with a step of its own, by the file.
+fn moves_upto(track: &Track, place: usize, step: &Event) -> usize {
+    let begun = track.seen.saturating_add(1);
+    if track.seen < track.works {
+        return begun;
+    }
+    match step.kind() {
+        EventKind::Begin => begun,
+        EventKind::Finish => begun.saturating_add(1),
+        EventKind::Precommit => begun.saturating_add(2),
+        _ if is_end(step) => track.most,
+        _ if ends_later(track, place) => begun,
+        _ => track.most,
     }
 }
 
-/// The place of a transaction in lists of all transactions.
-fn index_of(txn: TxnId) -> usize {
-    txn.number().saturating_sub(1) as usize
+/// Whether the file has a step after this place that ends the transaction.
+fn ends_later(track: &Track, place: usize) -> bool {
+    track.ends.is_some_and(|end| end > place)
+}
+
+fn push_moves(txn: TxnId, count: usize, order: &mut Vec<TxnId>) -> Result<(), NoMemory> {
+    for _ in 0..count {
+        order.push(txn)?;
+    }
+    Ok(())
 }
 
 /// Whether a step ends its transaction.
