@@ -3,6 +3,7 @@ use Rattle.std.specs.Prelude.{ℕ, ◌≡◌, ◌+◌, ◌⊎◌, ◌==◌, fals
 use Rattle.hek_rules.specs.declared.event.Event.{Event}
 use Rattle.hek_rules.specs.declared.reply.Reply.{Reply}
 use Rattle.hek_worker.specs.declared.entry.Entry.{Entry}
+use Rattle.hek_worker.specs.declared.stage.Stage.{Stage}
 use Rattle.hek_worker.specs.declared.stage.Stage.TheVariants.{Start}
 use Rattle.hek_worker.specs.Grammar.{event_at}
 use Rattle.hek_worker.specs.History.{part_of}

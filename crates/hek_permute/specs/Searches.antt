@@ -73,4 +73,4 @@ IsFound p form works s (Some moves) = IsShortest p form works s moves
 pub record IsAnswer (p : Plan) (form : Form) (s : Sought) (found : Option (List ℕ)) : Type 0 where
   pub works : List Work
   pub are : AreMoves p works
-  pub found : IsFound p form works s found
+  pub answer : IsFound p form works s found

@@ -129,12 +129,31 @@ fn meets_anew(
 
 /// Whether these are the moves that were tried last.
 fn is_that(tried: &Option<Vec<TxnId>>, front: &[TxnId]) -> bool
-    ensures { IsTrue result ↔ (option_map (λ v. v.items) tried.now ≡ Some front.now) }
+    ensures { IsTrue result → option_map (λ v. v.items) tried.now ≡ Some front.now }
 {
     match tried {
-        Some(tried) => tried.as_slice() == front,
+        Some(tried) => are_same(tried.as_slice(), front),
         None => false,
     }
+}
+
+/// Whether the moves are equal.
+fn are_same(moves: &[TxnId], others: &[TxnId]) -> bool
+    ensures { IsTrue result ↔ (moves.now ≡ others.now) }
+{
+    let mut rest = moves;
+    let mut others_rest = others;
+    while let Some((first, later)) = rest.split_first() {
+        let Some((other, others_later)) = others_rest.split_first() else {
+            return false;
+        };
+        if *first != *other {
+            return false;
+        }
+        rest = later;
+        others_rest = others_later;
+    }
+    others_rest.is_empty()
 }
 
 /// Whether a play of these moves has the reply.

@@ -1,5 +1,5 @@
 //! One order of moves, played on a new machine.
-ghost use Rattle.std.specs.Prelude.{◌≡◌, ◌↔◌, ◌+◌, ◌<◌, ◌⊎◌, IfOk, IsTrue, IfSome, OnOk, false, length, reverse, slice_get};
+ghost use Rattle.std.specs.Prelude.{◌≡◌, ◌↔◌, ◌+◌, ◌<◌, ◌⊎◌, IfOk, IsTrue, IfSome, OnOk, false, length, nat_lt, reverse, slice_get};
 ghost use Rattle.hek_worker.specs.History.{Replays};
 ghost use Rattle.hek_permute.specs.Plays.{IsPlay, before_precommit, before_work, gives_up, may_go, turned};
 ghost use Rattle.hek_permute.specs.Places.{AllRest, HasCome, IsMoveCounted, IsLater, IsMade, RestBut, due_at, standing_of};
@@ -40,8 +40,8 @@ impl Place {
     {
         match self.stage {
             Stage::Start => self.moves > 0,
-            Stage::Working(place) => self.moves > before_work(form) + place,
-            Stage::Preparing => self.moves > before_precommit(form) + of_one.work().len(),
+            Stage::Working(place) => is_more(self.moves, before_work(form), place),
+            Stage::Preparing => is_more(self.moves, before_precommit(form), of_one.work().len()),
             Stage::Releasing(false) => self.moves >= move_count(of_one, form),
             Stage::Ended => false,
             _ => true,
@@ -92,6 +92,16 @@ impl Place {
             }
             _ => stage,
         }
+    }
+}
+
+/// Whether the number of moves is above the sum of the others.
+fn is_more(moves: usize, before: usize, place: usize) -> bool
+    ensures { result ≡ nat_lt (before + place) moves }
+{
+    match moves.checked_sub(before) {
+        Some(rest) => rest > place,
+        None => false,
     }
 }
 
