@@ -22,7 +22,7 @@ use Rattle.hek_permute.specs.declared.play.Place.{Place}
 use Rattle.hek_permute.specs.Moves.{Work, move_count}
 use Rattle.hek_permute.specs.Orders.{name_count}
 use Rattle.hek_permute.specs.Tallies.{one_if}
-use Rattle.hek_permute.specs.Plays.{Standing, at_start, before_work, before_precommit, may_go, gives_up, due, turned, IsDue, IsAtRest, Makes, Walks, AllStand, IsPlay}
+use Rattle.hek_permute.specs.Plays.{Standing, at_start, before_work, before_precommit, may_go, gives_up, due, IsDue, IsAtRest, Makes, Walks, AllStand, IsPlay}
 use Rattle.hek_permute.specs.Places.{first_place, standing_of, due_at, entry_of, IsResting, IsMade, HasGone, HasCome, AreAt, AllRest, RestBut, IsMoveCounted, IsLater, HasMoved, MovesAreCounted}
 
 lt_more : (i n : ℕ) → IsTrue (nat_lt i n) → IsTrue (nat_lt i (n + 1))

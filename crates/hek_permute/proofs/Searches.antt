@@ -1,12 +1,13 @@
 -- The search for a reply among the first moves of all orders.
-use Rattle.std.proofs.Common.{◌≡◌, ℕ, suc, zero, ◌+◌, ◌<◌, List, [], ◌∷◌, length, refl, ap, sym, subst, inl, inr, arith, Option, Some, None, take}
-use Rattle.std.specs.Prelude.{◌⊎◌}
+use Rattle.std.proofs.Common.{◌≡◌, ◌∙◌, ℕ, suc, zero, ◌+◌, ◌<◌, Bool, true, false, List, [], ◌∷◌, refl, ap, sym, subst, inl, inr, arith, Option, Some, None, Vec, Global, is_some, take}
+use Rattle.std.specs.Prelude.{◌⊎◌, IfSome, MatchBool}
+use Rattle.std.specs.Option.{option_map}
 use Rattle.std.specs.List.{AllByRecursion}
 use Rattle.hek_rules.specs.Plan.{Plan}
 use Rattle.hek_permute.specs.declared.find.Sought.{Sought}
 use Rattle.hek_permute.specs.declared.moves.Form.{Form}
 use Rattle.hek_permute.specs.Moves.{Work, counts_of}
-use Rattle.hek_permute.specs.Orders.{IsBelow, AreAlike, IsNext, IsLast, IsAmong, AreAll}
+use Rattle.hek_permute.specs.Orders.{IsNext, IsLast, IsAmong, AreAll}
 use Rattle.hek_permute.specs.Wholes.{first_in}
 use Rattle.hek_permute.specs.Searches.{Meets, Misses, NoneAt, NoneBelow, IsFirstAt, IsFoundAt}
 use Rattle.hek_permute.proofs.Walks.{IsWalk, walk-first, walk-next, walk-last}
@@ -68,3 +69,25 @@ none-more p form works s n below here = λ k some low. elim (less_or_same k (n +
 
 pub none-yet : (p : Plan) (form : Form) (works : List Work) (s : Sought) → NoneBelow p form works s (0 + 1)
 none-yet p form works s = λ k some low. absurd (omega (arith, some, low))
+
+-- ---- what the functions of the search have
+
+pub when_true : (A B : Type 0) (b : Bool) → b ≡ true → MatchBool b A B → A
+when_true A B true e h = h
+when_true A B false e h = absurd (cc)
+
+pub when_false : (A B : Type 0) (b : Bool) → b ≡ false → MatchBool b A B → B
+when_false A B true e h = absurd (cc)
+when_false A B false e h = h
+
+pub front_is : (n : ℕ) (order slice front : List ℕ) → slice ≡ order → front ≡ take n slice → front ≡ take n order
+front_is n order slice front e f = f ∙ ap (take n) e
+
+pub tried-miss : {T : Type 0} (P : List T → Type 0) (o : Option (Vec T Global)) (front : List T) → option_map (λ v. v.items) o ≡ Some front → P front → IfSome o (λ v. P v.items)
+tried-miss P (Some v) front e h = let same : v.items ≡ front = cc in subst P (sym same) h
+tried-miss P None front e h = tt
+
+pub none-found : (p : Plan) (form : Form) (works : List Work) (s : Sought) (n : ℕ) (o : Option (Vec ℕ Global)) → is_some o ≡ false
+    → IsFoundAt p form works s n (option_map (λ v. v.items) o) → NoneAt p form works s n
+none-found p form works s n (Some v) e h = absurd (cc)
+none-found p form works s n None e h = h
