@@ -2,6 +2,7 @@
 use crate::nearest::nearest;
 use clap::ArgMatches;
 use hek_asm::level_named;
+use hek_permute::Form;
 use hek_permute_command::part_of;
 use hek_rules::number;
 use std::alloc::Global;
@@ -88,6 +89,9 @@ const LEVELS: &[&str] = &["serializable", "repeatable", "snapshot"];
 /// The orders that `hek history` can be asked for.
 const KINDS: &[&str] = &["any", "versions", "commit", "real"];
 
+/// The forms of moves that `hek permute` can be asked for.
+const GRAINS: &[&str] = &["move", "split", "event"];
+
 /// What is wrong with the value of an option.
 #[derive(Clone, Copy)]
 enum Wrong<'a> {
@@ -100,6 +104,9 @@ enum Wrong<'a> {
     NoOrder,
     /// No order of a history has this name, but maybe one that is near.
     NoKind(Option<&'a str>),
+    /// No form of moves has this name, but maybe one that is near.
+    NoGrain(Option<&'a str>),
+    NoReply,
 }
 
 /// An option with a value that is at fault. Its text is a line each: the option with its value, what is wrong
@@ -130,6 +137,16 @@ pub fn advice_of<'a>(alloc: Global, command: &str, found: &ArgMatches<'a>) -> Op
             return Some(Advice::new("part", value, Wrong::NoPart));
         }
         _ => {}
+    }
+    match found.get_str("grain") {
+        Some(value) if Form::named(value).is_none() => {
+            let wrong = Wrong::NoGrain(nearest(alloc, value, GRAINS));
+            return Some(Advice::new("grain", value, wrong));
+        }
+        _ => {}
+    }
+    if let Some(value) = found.get_str("find") {
+        return Some(Advice::new("find", value, Wrong::NoReply));
     }
     let value = found.get_str("order")?;
     let wrong = if command == "history" {
@@ -185,6 +202,8 @@ impl<'a> Advice<'a> {
             Wrong::NoPart => write!(f, "`{value}` is not a part"),
             Wrong::NoOrder => write!(f, "`{value}` is not an order of the moves"),
             Wrong::NoKind(_) => write!(f, "no order is called `{value}`"),
+            Wrong::NoGrain(_) => write!(f, "no grain is called `{value}`"),
+            Wrong::NoReply => write!(f, "`{value}` is not a reply"),
         }
     }
 
@@ -197,6 +216,10 @@ impl<'a> Advice<'a> {
             Wrong::NoPart => f.write_str("K/N, as in `1/3`, K from 1 to N"),
             Wrong::NoOrder => f.write_str("the name of its transaction for each move"),
             Wrong::NoKind(_) => f.write_str("any versions commit real"),
+            Wrong::NoGrain(_) => f.write_str("move split event"),
+            Wrong::NoReply => f.write_str(
+                "a reply as a trace has it, maybe after the name of a transaction; or `not serial`",
+            ),
         }
     }
 }
@@ -212,9 +235,9 @@ impl Display for Advice<'_> {
         f.write_str("\n  | wanted: ")?;
         self.write_wanted(f)?;
         match self.wrong {
-            Wrong::NoLevel(Some(meant)) | Wrong::NoKind(Some(meant)) => {
-                write!(f, "\n  | did you mean `{meant}`?\n")
-            }
+            Wrong::NoLevel(Some(meant))
+            | Wrong::NoKind(Some(meant))
+            | Wrong::NoGrain(Some(meant)) => { write!(f, "\n  | did you mean `{meant}`?\n") }
             _ => f.write_str("\n"),
         }
     }

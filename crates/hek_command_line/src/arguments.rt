@@ -187,6 +187,11 @@ it prints
             help: "prints the run as a log for hek history, in place of its trace",
             form: Form::Flag,
         },
+        ArgumentText {
+            name: "auto",
+            help: "runs only the reads and writes of FILE, and begins and ends each transaction by itself",
+            form: Form::Flag,
+        },
     ],
 };
 
@@ -362,6 +367,7 @@ The verdict takes all transactions as serializable. `hek permute two.hek --order
             help: "makes finish and precommit a separate move",
             form: Form::Flag,
         },
+        GRAIN,
         ArgumentText {
             name: "limit",
             help: "plays nothing if there are more than N orders (100000)",
@@ -387,7 +393,18 @@ The verdict takes all transactions as serializable. `hek permute two.hek --order
             help: "prints the outcomes at each level, side by side",
             form: Form::Flag,
         },
+        ArgumentText {
+            name: "find",
+            help: "prints the shortest beginning of an order in which this comes: `a aborted deadlock`, `waiting 1`, `not serial`",
+            form: Form::Value("TEXT"),
+        },
     ],
+};
+
+const GRAIN: ArgumentText = ArgumentText {
+    name: "grain",
+    help: "cuts the end of a transaction into one move (move), two (split), or a move for each event (event)",
+    form: Form::Value("GRAIN"),
 };
 
 const PAGE: CommandText = CommandText {
@@ -440,6 +457,7 @@ The page shows each step with its reply, and the versions, waits and lock words 
             help: "with --orders: makes finish and precommit a separate move",
             form: Form::Flag,
         },
+        GRAIN,
         ArgumentText {
             name: "limit",
             help: "with --orders: writes nothing if there are more than N nodes (5000)",
@@ -592,6 +610,8 @@ fn command<'a>(alloc: Global, text: &CommandText) -> Result<Command<'a>, AllocEr
 fn rivals_of(command: &str, name: &str) -> &'static [&'static str] {
     match (command, name) {
         ("permute", "order") => &["each", "levels", "part"],
+        ("permute", "find") => &["each", "levels", "part", "order"],
+        ("permute" | "page", "grain") => &["split"],
         ("permute", "levels") => &["each", "level"],
         ("run", "history") => &["state", "state-at", "why", "changes"],
         ("page", "orders") => &["from", "to"],

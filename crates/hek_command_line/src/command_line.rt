@@ -17,7 +17,7 @@ use hek_debug_command::{debug_command, debug_session};
 use hek_history_command::run_log_command;
 use hek_page_command::{Extent, Heading, MOST_NODES, Part, explorer_command, page_command};
 use hek_permute::Form;
-use hek_permute_command::{Choice, part_of, permute_command};
+use hek_permute_command::{Choice, auto_file, part_of, permute_command};
 use hek_rules::{Level, number};
 use hek_threads_command::{repeat_command, threads_command};
 use hek_why_command::{Extras, Why, drive_command, explain_command};
@@ -282,6 +282,11 @@ fn run_schedule<'a, D: Disk, I: Read + Drop, W: Write>(
     let extras = extras_of(found);
     let state = limit.is_some() || found.get_flag("state");
     let file = schedule_file(alloc, found, disk, &mut input)?;
+    let file = if found.get_flag("auto") {
+        auto_file(alloc, file)?
+    } else {
+        file
+    };
     if found.get_flag("history") {
         return run_log_command(alloc, file, out);
     }
@@ -369,7 +374,7 @@ fn page<'a, D: Disk, I: Read + Drop, W: Write, E: Write>(
         to: step_of(found, "to")?,
     };
     let extent = Extent {
-        form: form_of(found),
+        form: form_of(found)?,
         limit: number_of(found, "limit")?.unwrap_or(MOST_NODES),
     };
     let heading = heading_of(found)?;
@@ -391,12 +396,12 @@ fn heading_of<'a>(found: &ArgMatches<'a>) -> Result<Heading<'a>, HekFault<'a>> {
     })
 }
 
-/// How the end of a transaction is cut into moves.
-fn form_of(found: &ArgMatches<'_>) -> Form {
-    if found.get_flag("split") {
-        Form::Split
-    } else {
-        Form::Whole
+/// How a transaction is cut into moves.
+fn form_of<'a>(found: &ArgMatches<'a>) -> Result<Form, HekFault<'a>> {
+    match found.get_str("grain") {
+        Some(word) => Form::named(word).ok_or(HekFault::BadArgument),
+        None if found.get_flag("split") => Ok(Form::Split),
+        None => Ok(Form::Whole),
     }
 }
 
@@ -452,12 +457,13 @@ fn permute<'a, D: Disk, I: Read + Drop, W: Write, E: Write>(
 fn choice_of<'a>(found: &ArgMatches<'a>) -> Result<Choice<'a>, HekFault<'a>> {
     Ok(Choice {
         level: level_of(found)?,
-        form: form_of(found),
+        form: form_of(found)?,
         limit: limit_of(found)?,
         part: parts_of(found)?,
         each: found.get_flag("each"),
         order: found.get_str("order"),
         levels: found.get_flag("levels"),
+        find: found.get_str("find"),
     })
 }
 

@@ -92,6 +92,9 @@ fn move_values(alloc: Global, moves: &[Moves], form: Form) -> Result<Value, NoMe
 /// The moves of one transaction: its reads and writes, and how it ends.
 fn moves_of_one(alloc: Global, of_one: &Moves, form: Form) -> Result<Value, NoMemory> {
     let mut values = Vec::new(alloc);
+    if form == Form::Event {
+        values.push(text_value(alloc, "begin")?)?;
+    }
     for event in of_one.work() {
         values.push(work_value(alloc, event)?)?;
     }
@@ -124,6 +127,8 @@ fn last_texts(form: Form, fails: bool) -> &'static [&'static str] {
         (Form::Whole, true) => &["fail"],
         (Form::Split, false) => &["finish, precommit", "commit"],
         (Form::Split, true) => &["finish, precommit", "fail"],
+        (Form::Event, false) => &["finish", "precommit", "commit"],
+        (Form::Event, true) => &["finish", "precommit", "fail"],
     }
 }
 

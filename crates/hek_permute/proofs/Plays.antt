@@ -6,6 +6,7 @@ use Rattle.std.proofs.Math.Seq.{take-suc}
 use Rattle.std.proofs.lemmas.List.Sums.{sum_by-cons}
 use Rattle.std.proofs.lemmas.Option.{slice_get_within}
 use Rattle.std.proofs.lemmas.List.Elements.{filter-append}
+use Rattle.std.proofs.lemmas.Bool.{cases_Bool}
 use Rattle.std.proofs.lemmas.Bool.Decides.{nat_tests}
 use Rattle.hek_laws.proofs.Table.SetTxns.{slice_get-set_same, slice_get-set}
 use Rattle.hek_rules.specs.declared.event.Event.{Event}
@@ -18,11 +19,11 @@ use Rattle.hek_worker.specs.Grammar.{event_at}
 use Rattle.hek_worker.specs.History.{part_of}
 use Rattle.hek_permute.specs.declared.moves.Form.{Form}
 use Rattle.hek_permute.specs.declared.play.Place.{Place}
-use Rattle.hek_permute.specs.Moves.{Work, last_moves}
+use Rattle.hek_permute.specs.Moves.{Work, move_count}
 use Rattle.hek_permute.specs.Orders.{name_count}
 use Rattle.hek_permute.specs.Tallies.{one_if}
-use Rattle.hek_permute.specs.Plays.{Standing, at_start, may_go, turned, Makes, Walks, AllStand, IsPlay}
-use Rattle.hek_permute.specs.Places.{first_place, standing_of, entry_of, IsResting, IsMade, HasGone, HasCome, AreAt, AllRest, RestBut, IsMoveCounted, IsLater, HasMoved, MovesAreCounted}
+use Rattle.hek_permute.specs.Plays.{Standing, at_start, before_work, before_precommit, may_go, gives_up, due, IsDue, IsAtRest, Makes, Walks, AllStand, IsPlay}
+use Rattle.hek_permute.specs.Places.{first_place, standing_of, due_at, entry_of, IsResting, IsMade, HasGone, HasCome, AreAt, AllRest, RestBut, IsMoveCounted, IsLater, HasMoved, MovesAreCounted}
 
 lt_more : (i n : ℕ) → IsTrue (nat_lt i n) → IsTrue (nat_lt i (n + 1))
 lt_more i n h = grind (arith, nat_tests)
@@ -33,20 +34,41 @@ le_more i n h = grind (arith, nat_tests)
 -- what belongs to a move that has come still belongs to one after one more move
 go_more : (form : Form) (w : Work) (n : ℕ) (s : Stage) → IsTrue (may_go form w n s) → IsTrue (may_go form w (n + 1) s)
 go_more form w n Start h = lt_more 0 n h
-go_more form w n (Working i) h = lt_more i n h
-go_more form w n Preparing h = lt_more (length w.events) n h
+go_more form w n (Working i) h = lt_more (before_work form + i) n h
+go_more form w n Preparing h = lt_more (before_precommit form + length w.events) n h
 go_more form w n Looking h = h
 go_more form w n GivingUp h = h
-go_more form w n (Releasing false) h = le_more (length w.events + last_moves form) n h
+go_more form w n (Releasing false) h = le_more (move_count form w) n h
 go_more form w n (Releasing true) h = h
 go_more form w n Committing h = h
 go_more form w n (Stamping cut) h = h
 go_more form w n Ending h = h
 go_more form w n Ended h = absurd (cc)
 
+-- one that fails while it waits may still do so after one more move
+gives_up-more : (form : Form) (w : Work) (n : ℕ) (s : Standing) → IsTrue (gives_up form w n s) → IsTrue (gives_up form w (n + 1) s)
+gives_up-more form w n s h = elim (cases_Bool s.waits) [
+  | inr a ↦ absurd (let f : false ≡ true = rw a at h in cc)
+  | inl a ↦ elim (cases_Bool w.fails) [
+    | inr b ↦ absurd (let f : false ≡ true = rw (a, b) at h in cc)
+    | inl b ↦ rw (a, b) (le_more (move_count form w) n (rw (a, b) at h))
+  ]
+]
+
+due_more : (form : Form) (w : Work) (n : ℕ) (s : Standing) (d : Stage) → IsDue form w n s d → IsDue form w (n + 1) s d
+due_more form w n s d (inl h) = inl h
+due_more form w n s d (inr h) = inr (gives_up-more form w n s h.0, h.1)
+
+-- what decides the next event
+pub is_due : (form : Form) (w : Work) (n : ℕ) (s : Standing) → IsDue form w n s (due form w n s)
+is_due form w n s = elim (cases_Bool (gives_up form w n s)) [
+  | inl a ↦ inr (a, rw a refl)
+  | inr a ↦ inl (rw a refl)
+]
+
 step_more : (form : Form) (t : ℕ) (w : Work) (n : ℕ) (s m : Standing) (x : Event × Reply) → ((x.0 ≡ Detect) × (m ≡ s)) ⊎ Makes form t w n s x m → ((x.0 ≡ Detect) × (m ≡ s)) ⊎ Makes form t w (n + 1) s x m
 step_more form t w n s m x (inl h) = inl h
-step_more form t w n s m x (inr h) = inr (go_more form w n s.stage h.0, h.1, h.2)
+step_more form t w n s m x (inr h) = inr (go_more form w n s.stage h.0, h.1, due_more form w n s h.1 h.2, h.3, h.4)
 
 pub walk_more : (form : Form) (t : ℕ) (w : Work) (n : ℕ) (s z : Standing) (xs : List (Event × Reply)) → Walks form t w n s xs z → Walks form t w (n + 1) s xs z
 walk_more form t w n s z [] h = h
@@ -89,9 +111,18 @@ same_some o x y h g = cc
 pub made_one : (form : Form) (t : ℕ) (w : Work) (p m q : Place) (old h new : List Entry) → (g : HasGone form t w p m old h) → IsTrue (may_go form w m.moves m.stage)
     → IsMade form t w m q h new → HasGone form t w p q old new
 made_one form t w p m q old h new g may d =
-    let x : Event × Reply = (event_at t w.events (turned form w m.stage), d.reply) in
-    let one : Walks form t w p.moves (standing_of m) (x ∷ []) (standing_of q) =
-    (standing_of q, inr (subst (λ (n : ℕ). IsTrue (may_go form w n m.stage)) g.moves may, refl, d.standing), refl) in
+    let x : Event × Reply = (event_at t w.events (due_at form w m), d.reply) in
+    let one : Walks form t w p.moves (standing_of m) (x ∷ []) (standing_of q) = (
+      standing_of q,
+      inr (
+        subst (λ (n : ℕ). IsTrue (may_go form w n m.stage)) g.moves may,
+        due_at form w m,
+        subst (λ (n : ℕ). IsDue form w n (standing_of m) (due_at form w m)) g.moves (is_due form w m.moves (standing_of m)),
+        refl,
+        d.standing,
+      ),
+      refl,
+    ) in
     record {
       made = g.made ++ x ∷ [];
       grown = d.entry ∙ ap (λ (ys : List Entry). ys ++ entry_of t x ∷ []) g.grown ∙ append_assoc old (map (entry_of t) g.made) (entry_of t x ∷ [])
@@ -300,9 +331,8 @@ some_at [] i h = absurd (omega arith)
 some_at (x ∷ xs) zero h = (x, refl)
 some_at (x ∷ xs) (suc i) h = some_at xs i (omega arith)
 
-rest_by : (form : Form) (w : Work) (p : Place) (n : ℕ) → p.moves ≡ n → IsResting form w p → IsTrue p.waits ⊎ (may_go form w n p.stage ≡ false)
-rest_by form w p n e (inl h) = inl h
-rest_by form w p n e (inr h) = inr (ap (λ (m : ℕ). may_go form w m p.stage) (sym e) ∙ h)
+rest_by : (form : Form) (w : Work) (p : Place) (n : ℕ) → p.moves ≡ n → IsResting form w p → IsAtRest form w n (standing_of p)
+rest_by form w p n e h = subst (λ (m : ℕ). IsAtRest form w m (standing_of p)) e h
 
 pub stands : (form : Form) (works : List Work) (places : List Place) (h : List Entry) (names : List ℕ) → AllRest form works places h → MovesAreCounted places names → AllStand form works names h
 stands form works places h names all c = λ i w gw.

@@ -6,7 +6,7 @@ use Rattle.hek_rules.specs.Plan.{Plan}
 use Rattle.hek_permute.specs.declared.moves.Form.{Form}
 use Rattle.hek_permute.specs.Found.{Line}
 use Rattle.hek_permute.specs.Moves.{Work, AreMoves, counts_of, first_order_from}
-use Rattle.hek_permute.specs.Orders.{IsBelow, AreAlike, IsNext, IsLast, IsAmong, AreFalling}
+use Rattle.hek_permute.specs.Orders.{IsBelow, AreAlike, IsNext, IsLast, IsAmong, AreFalling, AreAll}
 use Rattle.hek_permute.specs.Tallies.{Goes, IsTally, is_between, total, one_if}
 use Rattle.hek_permute.specs.Wholes.{IsWhole, first_in}
 use Rattle.hek_permute.proofs.Successors.{least}
@@ -75,32 +75,21 @@ rising b (x ∷ xs) r (suc i) (suc k) low h = rising x xs r.1 i k (omega arith) 
 pub none_below : (ns : List ℕ) (q : List ℕ) → AreAlike (first_order_from 1 ns) q → IsBelow q (first_order_from 1 ns) → ⊥
 none_below ns q a b = least (first_order_from 1 ns) q (rising 1 (first_order_from 1 ns) (first_rises 1 ns)) a b
 
--- the orders before one, with the last first, and the tally of those in the part
-pub record IsSoFar (p : Plan) (form : Form) (from to number : ℕ) (moves : List Work) (order : List ℕ) (rows : List Line) : Type 0 where
-  pub are : AreMoves p moves
-  pub past : List (List ℕ)
-  pub count : length past ≡ number
-  pub alike : AreAlike (first_in form moves) order
-  pub sound : AllByRecursion (AreAlike (first_in form moves)) past
+-- the orders before one, with the last first
+pub record IsWalk (first order : List ℕ) (past : List (List ℕ)) : Type 0 where
+  pub alike : AreAlike first order
+  pub sound : AllByRecursion (AreAlike first) past
   pub below : AllByRecursion (λ (q : List ℕ). IsBelow q order) past
   pub falling : AreFalling past
-  pub complete : (q : List ℕ) → AreAlike (first_in form moves) q → IsBelow q order → IsAmong q past
-  pub tally : IsTally p form moves from to past rows
-  pub total : total rows ≡ min to number - from
+  pub complete : (q : List ℕ) → AreAlike first q → IsBelow q order → IsAmong q past
 
-pub at_first : (p : Plan) (form : Form) (from to : ℕ) (moves : List Work) (order : List ℕ) (rows : List Line) → AreMoves p moves
-    → order ≡ first_in form moves → rows ≡ [] → IsSoFar p form from to 0 moves order rows
-at_first p form from to moves order rows are is none = record {
-  are = are;
-  past = [];
-  count = refl;
-  alike = subst (AreAlike (first_in form moves)) (sym is) (λ t. refl);
+pub walk-first : (ns order : List ℕ) → order ≡ first_order_from 1 ns → IsWalk (first_order_from 1 ns) order []
+walk-first ns order is = record {
+  alike = subst (AreAlike (first_order_from 1 ns)) (sym is) (λ t. refl);
   sound = tt;
   below = tt;
   falling = tt;
-  complete = λ q a b. absurd (none_below (counts_of form moves) q a (subst (IsBelow q) is b));
-  tally = none;
-  total = ap total none ∙ none_yet from to;
+  complete = λ q a b. absurd (none_below ns q a (subst (IsBelow q) is b));
 }
 
 all_below : (old new : List ℕ) (past : List (List ℕ)) → IsBelow old new → AllByRecursion (λ (q : List ℕ). IsBelow q old) past → AllByRecursion (λ (q : List ℕ). IsBelow q new) past
@@ -117,6 +106,42 @@ here_or_before first order past q all a not_behind (inr (inr g)) = absurd (not_b
 alike_to : (first order q : List ℕ) → AreAlike first order → AreAlike first q → AreAlike order q
 alike_to first order q a b = λ t. sym (a t) ∙ b t
 
+pub walk-next : (first order new : List ℕ) (past : List (List ℕ)) → IsWalk first order past → IsNext order new → IsWalk first new (order ∷ past)
+walk-next first order new past h next = record {
+  alike = λ t. h.alike t ∙ next.alike t;
+  sound = (h.alike, h.sound);
+  below = (next.behind, all_below order new past next.behind h.below);
+  falling = (h.below, h.falling);
+  complete = λ q a b. here_or_before first order past q h.complete a (λ behind. next.first q (alike_to first order q h.alike a) behind b) (compared q order);
+}
+
+pub walk-last : (first order : List ℕ) (past : List (List ℕ)) → IsWalk first order past → IsLast order → AreAll first (order ∷ past)
+walk-last first order past h last = record {
+  sound = (h.alike, h.sound);
+  falling = (h.below, h.falling);
+  complete = λ q a. here_or_before first order past q h.complete a (λ behind. last.none q (alike_to first order q h.alike a) behind) (compared q order);
+}
+
+-- the orders before one, and the tally of those in the part
+pub record IsSoFar (p : Plan) (form : Form) (from to number : ℕ) (moves : List Work) (order : List ℕ) (rows : List Line) : Type 0 where
+  pub are : AreMoves p moves
+  pub past : List (List ℕ)
+  pub count : length past ≡ number
+  pub walk : IsWalk (first_in form moves) order past
+  pub tally : IsTally p form moves from to past rows
+  pub total : total rows ≡ min to number - from
+
+pub at_first : (p : Plan) (form : Form) (from to : ℕ) (moves : List Work) (order : List ℕ) (rows : List Line) → AreMoves p moves
+    → order ≡ first_in form moves → rows ≡ [] → IsSoFar p form from to 0 moves order rows
+at_first p form from to moves order rows are is none = record {
+  are = are;
+  past = [];
+  count = refl;
+  walk = walk-first (counts_of form moves) order is;
+  tally = none;
+  total = ap total none ∙ none_yet from to;
+}
+
 goes_at : (p : Plan) (form : Form) (works : List Work) (from to m n : ℕ) (order : List ℕ) (was rows : List Line) → m ≡ n → Goes p form works (is_between from to n) order was rows → Goes p form works (is_between from to m) order was rows
 goes_at p form works from to m n order was rows e g = subst (λ (k : ℕ). Goes p form works (is_between from to k) order was rows) (sym e) g
 
@@ -130,12 +155,7 @@ at_next p form from to number moves order new was rows h g next = record {
   are = h.are;
   past = order ∷ h.past;
   count = omega (arith, h.count);
-  alike = λ t. h.alike t ∙ next.alike t;
-  sound = (h.alike, h.sound);
-  below = (next.behind, all_below order new h.past next.behind h.below);
-  falling = (h.below, h.falling);
-  complete = λ q a b. here_or_before (first_in form moves) order h.past q h.complete a
-      (λ behind. next.first q (alike_to (first_in form moves) order q h.alike a) behind b) (compared q order);
+  walk = walk-next (first_in form moves) order new h.past h.walk next;
   tally = (was, h.tally, goes_at p form moves from to (length h.past) number order was rows h.count g);
   total = next_total from to number (total was) (total rows) h.total (goes_total p form moves (is_between from to number) order was rows g);
 }
@@ -149,12 +169,7 @@ at_last p form from to number moves order was rows h g last = record {
   moves = moves;
   are = h.are;
   orders = order ∷ h.past;
-  all = record {
-    sound = (h.alike, h.sound);
-    falling = (h.below, h.falling);
-    complete = λ q a. here_or_before (first_in form moves) order h.past q h.complete a
-        (λ behind. last.none q (alike_to (first_in form moves) order q h.alike a) behind) (compared q order);
-  };
+  all = walk-last (first_in form moves) order h.past h.walk last;
   tally = (was, h.tally, goes_at p form moves from to (length h.past) number order was rows h.count g);
   count = next_total from to number (total was) (total rows) h.total (goes_total p form moves (is_between from to number) order was rows g)
       ∙ ap (λ (n : ℕ). min to n - from) (one_longer order h.past number h.count);

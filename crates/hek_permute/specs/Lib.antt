@@ -7,4 +7,5 @@ pub mod Plays
 pub mod Tallies
 pub mod Places
 pub mod Wholes
+pub mod Searches
 pub mod Leveled

@@ -5,7 +5,7 @@ use Rattle.hek_rules.specs.declared.event.Event.TheVariants as event
 use Rattle.hek_rules.specs.Plan.{Plan}
 use Rattle.hek_worker.specs.Grammar.{work_of}
 use Rattle.hek_permute.specs.declared.moves.Form.{Form}
-use Rattle.hek_permute.specs.declared.moves.Form.TheVariants.{Whole, Split}
+use Rattle.hek_permute.specs.declared.moves.Form.TheVariants.{Whole, Split, Event as ByEvent}
 
 -- what a transaction does: its reads and writes in order, and whether it fails in the end
 pub record Work : Type 0 where
@@ -30,14 +30,19 @@ pub record AreMoves (p : Plan) (all : List Work) : Type 0 where
   pub count : length all ≡ length p.txns
   pub each : (i : ℕ) (w : Work) → slice_get all i ≡ Some w → w ≡ work_in p (i + 1)
 
--- how many moves end a transaction
-abbrev pub last_moves : Form → ℕ
-last_moves Whole = 1
-last_moves Split = 2
+-- how many moves a transaction has beside its reads and writes
+abbrev pub other_moves : Form → ℕ
+other_moves Whole = 1
+other_moves Split = 2
+other_moves ByEvent = 4
+
+-- how many moves a transaction has
+abbrev pub move_count : Form → Work → ℕ
+move_count form w = length w.events + other_moves form
 
 -- how many moves each transaction has
 abbrev pub counts_of : Form → List Work → List ℕ
-counts_of form all = map (λ w. length w.events + last_moves form) all
+counts_of form all = map (move_count form) all
 
 -- all moves of t, then those of the next transaction, and so on
 abbrev pub first_order_from : ℕ → List ℕ → List ℕ

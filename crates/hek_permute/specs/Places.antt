@@ -1,8 +1,9 @@
 -- Where all transactions are during a play.
-use Rattle.std.specs.Prelude.{ℕ, ◌≡◌, ◌+◌, ◌⊎◌, ◌==◌, false, IsTrue, Some, List, [], ◌∷◌, ◌++◌, length, map, slice_get, slice_set}
+use Rattle.std.specs.Prelude.{ℕ, ◌≡◌, ◌+◌, ◌==◌, false, Some, List, [], ◌∷◌, ◌++◌, length, map, slice_get, slice_set}
 use Rattle.hek_rules.specs.declared.event.Event.{Event}
 use Rattle.hek_rules.specs.declared.reply.Reply.{Reply}
 use Rattle.hek_worker.specs.declared.entry.Entry.{Entry}
+use Rattle.hek_worker.specs.declared.stage.Stage.{Stage}
 use Rattle.hek_worker.specs.declared.stage.Stage.TheVariants.{Start}
 use Rattle.hek_worker.specs.Grammar.{event_at}
 use Rattle.hek_worker.specs.History.{part_of}
@@ -11,7 +12,7 @@ use Rattle.hek_permute.specs.declared.play.Place.{Place}
 use Rattle.hek_permute.specs.Moves.{Work}
 use Rattle.hek_permute.specs.Orders.{name_count}
 use Rattle.hek_permute.specs.Tallies.{one_if}
-use Rattle.hek_permute.specs.Plays.{Standing, at_start, may_go, turned, after_reply, Walks}
+use Rattle.hek_permute.specs.Plays.{Standing, at_start, due, after_reply, IsAtRest, Walks}
 
 -- a transaction's place before its first event and before any move
 abbrev pub first_place : Place
@@ -20,9 +21,13 @@ first_place = record { stage = Start; moves = 0; waits = false }
 abbrev pub standing_of : Place → Standing
 standing_of p = record { stage = p.stage; waits = p.waits }
 
--- a transaction goes no further: it waits, or no event of it belongs to a move that has come
+-- a transaction goes no further
 abbrev pub IsResting : Form → Work → Place → Type 0
-IsResting form w p = IsTrue p.waits ⊎ (may_go form w p.moves p.stage ≡ false)
+IsResting form w p = IsAtRest form w p.moves (standing_of p)
+
+-- the stage that decides a transaction's next event
+abbrev pub due_at : Form → Work → Place → Stage
+due_at form w p = due form w p.moves (standing_of p)
 
 abbrev pub entry_of : ℕ → Event × Reply → Entry
 entry_of t x = record { worker = t; event = x.0; reply = x.1 }
@@ -30,8 +35,8 @@ entry_of t x = record { worker = t; event = x.0; reply = x.1 }
 -- one event of t led from place p to place q
 pub record IsMade (form : Form) (t : ℕ) (w : Work) (p q : Place) (old new : List Entry) : Type 0 where
   pub reply : Reply
-  pub entry : new ≡ old ++ entry_of t (event_at t w.events (turned form w p.stage), reply) ∷ []
-  pub standing : after_reply form t w p.stage reply ≡ Some (standing_of q)
+  pub entry : new ≡ old ++ entry_of t (event_at t w.events (due_at form w p), reply) ∷ []
+  pub standing : after_reply t w p.stage (due_at form w p) reply ≡ Some (standing_of q)
   pub moves : q.moves ≡ p.moves
 
 -- events of t led from place p to place q

@@ -2,6 +2,7 @@
 #![tactic(auto)]
 
 mod fault;
+mod find;
 mod leveled;
 mod moves;
 mod order;
@@ -11,8 +12,9 @@ mod tally;
 mod whole;
 
 pub use fault::OrderFault;
+pub use find::{Sought, find_order};
 pub use leveled::schedule_with;
-pub use moves::{Form, Moves, first_order, moves_of, order_count};
+pub use moves::{Form, Moves, first_order, move_count, moves_of, order_count};
 pub use order::next_order;
 pub use outcome::{Ending, Outcome, outcome_of};
 pub use play::{Play, play_order};

@@ -1,6 +1,6 @@
 //! The moves of transactions, and the orders in which they can come.
 ghost use Rattle.std.specs.Prelude.{◌≡◌, ◌+◌, ◌++◌, IfOk, OnOk, length, replicate};
-ghost use Rattle.hek_permute.specs.Moves.{AreMoves, counts_of, last_moves, has_fail, first_order_from};
+ghost use Rattle.hek_permute.specs.Moves.{AreMoves, counts_of, move_count, other_moves, has_fail, first_order_from};
 ghost use Rattle.hek_worker.specs.Grammar.{work_of};
 
 use hek_rules::{Event, NoMemory, Schedule, TxnId};
@@ -8,23 +8,36 @@ use hek_worker::is_work;
 use std::alloc::Global;
 use std::marker::Model;
 
-/// How the end of a transaction is cut into moves.
+/// How a transaction is cut into moves. Each read or write is one.
 #[derive(Clone, Copy, Debug, PartialEq, Eq)]
 pub enum Form {
-    /// One move, from `finish` to `end`.
+    /// `begin` belongs to the first move, and one more goes from `finish` to `end`.
     Whole,
-    /// Two moves: `finish` and `precommit`, and then the rest.
+    /// `begin` belongs to the first move, and two more are `finish` with `precommit`, and the rest.
     Split,
+    /// Moves of their own are `begin`, `finish`, `precommit`, and the rest.
+    Event,
 }
 
 impl Form {
-    /// How many moves end a transaction.
-    pub fn last_moves(self) -> usize
-        ensures { result ≡ last_moves self }
+    /// The form with this name: `move`, `split` or `event`.
+    pub fn named(word: &str) -> Option<Form> {
+        match word {
+            "move" => Some(Form::Whole),
+            "split" => Some(Form::Split),
+            "event" => Some(Form::Event),
+            _ => None,
+        }
+    }
+
+    /// How many moves a transaction has beside its reads and writes.
+    pub fn other_moves(self) -> usize
+        ensures { result ≡ other_moves self }
     {
         match self {
             Form::Whole => 1,
             Form::Split => 2,
+            Form::Event => 4,
         }
     }
 }
@@ -139,10 +152,10 @@ fn push_times(order: &mut Vec<TxnId>, txn: TxnId, count: usize) -> Result<(), No
 }
 
 /// How many moves a transaction has.
-pub(crate) fn move_count(of_one: &Moves, form: Form) -> usize
-    ensures { result ≡ length of_one.now.events + last_moves form }
+pub fn move_count(of_one: &Moves, form: Form) -> usize
+    ensures { result ≡ move_count form of_one.now }
 {
-    of_one.work().len() + form.last_moves()
+    of_one.work().len() + form.other_moves()
 }
 
 /// How many orders there are; None if the number, or a product on the way to it, is 2^64 or more.

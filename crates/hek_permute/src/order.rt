@@ -18,6 +18,13 @@ pub fn next_order(order: &mut [TxnId]) -> bool
     }
 }
 
+/// The next order, if there is one.
+pub(crate) fn advance(order: &mut Vec<TxnId>) -> bool
+    ensures { MatchBool result (IsNext order.old.items order.new.items) (IsLast order.old.items) }
+{
+    next_order(order.as_mut_slice())
+}
+
 /// The last place whose transaction is below the next one; the transactions after the place fall or stay equal.
 fn turn_of(order: &[TxnId]) -> Option<usize>
     ensures { MatchOption result (IsFalling order.now) (IsTurn order.now) }

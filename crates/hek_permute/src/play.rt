@@ -1,8 +1,8 @@
 //! One order of moves, played on a new machine.
-ghost use Rattle.std.specs.Prelude.{◌≡◌, ◌+◌, ◌<◌, ◌⊎◌, IfOk, IfSome, OnOk, false, length, reverse, slice_get};
+ghost use Rattle.std.specs.Prelude.{◌≡◌, ◌↔◌, ◌+◌, ◌<◌, ◌⊎◌, IfOk, IsTrue, IfSome, OnOk, false, length, nat_lt, reverse, slice_get};
 ghost use Rattle.hek_worker.specs.History.{Replays};
-ghost use Rattle.hek_permute.specs.Plays.{IsPlay, may_go, turned};
-ghost use Rattle.hek_permute.specs.Places.{AllRest, HasCome, IsMoveCounted, IsLater, IsMade, RestBut};
+ghost use Rattle.hek_permute.specs.Plays.{IsPlay, before_precommit, before_work, gives_up, may_go, turned};
+ghost use Rattle.hek_permute.specs.Places.{AllRest, HasCome, IsMoveCounted, IsLater, IsMade, RestBut, due_at, standing_of};
 
 use crate::fault::OrderFault;
 use crate::moves::{Form, Moves, move_count};
@@ -40,16 +40,41 @@ impl Place {
     {
         match self.stage {
             Stage::Start => self.moves > 0,
-            Stage::Working(place) => self.moves > place,
-            Stage::Preparing => self.moves > of_one.work().len(),
+            Stage::Working(place) => is_more(self.moves, before_work(form), place),
+            Stage::Preparing => is_more(self.moves, before_precommit(form), of_one.work().len()),
             Stage::Releasing(false) => self.moves >= move_count(of_one, form),
             Stage::Ended => false,
             _ => true,
         }
     }
 
-    /// What the transaction does next: one that fails does `fail` where its last move is due.
-    fn next_stage(&self, of_one: &Moves, form: Form) -> Stage
+    /// Whether the transaction fails while it waits: all its moves have come, the last of which is `fail`.
+    fn gives_up(&self, of_one: &Moves, form: Form) -> bool
+        ensures { result ≡ gives_up form of_one.now self.now.moves (standing_of self.now) }
+    {
+        self.waits && of_one.fails() && self.moves >= move_count(of_one, form)
+    }
+
+    /// Whether the transaction waits and does not fail.
+    fn rests(&self, of_one: &Moves, form: Form) -> bool
+        ensures { IsTrue result ↔ (IsTrue self.now.waits × (gives_up form of_one.now self.now.moves (standing_of self.now) ≡ false)) }
+    {
+        self.waits && !self.gives_up(of_one, form)
+    }
+
+    /// The stage that decides the transaction's next event.
+    fn due(&self, of_one: &Moves, form: Form) -> Stage
+        ensures { result ≡ due_at form of_one.now self.now }
+    {
+        if self.gives_up(of_one, form) {
+            Stage::GivingUp
+        } else {
+            self.turned(of_one, form)
+        }
+    }
+
+    /// What the transaction does next if it doesn't wait: one that fails does `fail` where its last move is due.
+    fn turned(&self, of_one: &Moves, form: Form) -> Stage
         ensures { result ≡ turned form of_one.now self.now.stage }
     {
         let fails = of_one.fails();
@@ -62,7 +87,7 @@ impl Place {
                     stage
                 }
             }
-            (Form::Split, Stage::Releasing(false)) => {
+            (Form::Split | Form::Event, Stage::Releasing(false)) => {
                 if fails { Stage::GivingUp } else { stage }
             }
             _ => stage,
@@ -70,10 +95,41 @@ impl Place {
     }
 }
 
-/// Plays an order of moves on a machine that is loaded with the schedule's rows and transactions. `begin` belongs to
-/// the first move of a transaction. A last move that waits is tried again after each move of another transaction, in
-/// the order of the declarations, as long as one of them gets on. When all transactions that have begun and not ended
-/// wait, there is a `detect`. An aborted transaction gives everything back at once, and its remaining moves do nothing.
+/// Whether the number of moves is above the sum of the others.
+fn is_more(moves: usize, before: usize, place: usize) -> bool
+    ensures { result ≡ nat_lt (before + place) moves }
+{
+    match moves.checked_sub(before) {
+        Some(rest) => rest > place,
+        None => false,
+    }
+}
+
+/// How many moves come before a transaction's first read or write.
+fn before_work(form: Form) -> usize
+    ensures { result ≡ before_work form }
+{
+    match form {
+        Form::Event => 1,
+        Form::Whole | Form::Split => 0,
+    }
+}
+
+/// How many moves beside the reads and writes come before a transaction's `precommit`.
+fn before_precommit(form: Form) -> usize
+    ensures { result ≡ before_precommit form }
+{
+    match form {
+        Form::Event => 2,
+        Form::Whole | Form::Split => 0,
+    }
+}
+
+/// Plays an order of moves on a machine that is loaded with the schedule's rows and transactions. A transaction that
+/// waits is tried again after each move of another, in the order of the declarations, as long as one of them gets on;
+/// if its last move is `fail`, it fails when that comes, though it waits. When all transactions that have begun and not
+/// ended wait, there is a `detect`. An aborted transaction gives everything back at once, and its remaining moves do
+/// nothing.
 pub fn play_order(
     alloc: Global,
     schedule: &Schedule,
@@ -238,10 +294,10 @@ fn go_from(
             return Ok((place, got_on));
         }
         place = one_event(book, of_one, form, txn, &place)?;
-        if place.waits {
+        if place.rests(of_one, form) {
             return Ok((place, got_on));
         }
-        got_on = true;
+        got_on = got_on || !place.waits;
     }
     Err(OrderFault::Mismatch)
 }
@@ -258,7 +314,7 @@ fn one_event(
     ensures made { IfOk result (λ q. IsMade form txn of_one.now place.now q book.old.history book.new.history) }
 {
     let at = Position {
-        stage: place.next_stage(of_one, form),
+        stage: place.due(of_one, form),
         turns: 0,
     };
     let (_, reply) = book.attempt(txn, at.event(txn, of_one.work()))?;

@@ -1,13 +1,12 @@
 //! All orders of a schedule's moves, played one after another.
-ghost use Rattle.std.specs.Prelude.{◌≡◌, IfOk, MatchBool, OnOk};
+ghost use Rattle.std.specs.Prelude.{◌≡◌, IfOk, OnOk};
 ghost use Rattle.hek_permute.specs.Found.{Found};
 ghost use Rattle.hek_permute.specs.Tallies.{Goes, IsNoted, IsPlayed, is_between};
-ghost use Rattle.hek_permute.specs.Orders.{IsLast, IsNext};
 ghost use Rattle.hek_permute.specs.Wholes.{IsWhole};
 
 use crate::fault::OrderFault;
 use crate::moves::{Form, Moves, first_order, moves_of};
-use crate::order::next_order;
+use crate::order::advance;
 use crate::outcome::{Outcome, outcome_of};
 use crate::play::play_order;
 use crate::tally::Tally;
@@ -59,13 +58,6 @@ fn is_between(from: u64, to: u64, number: u64) -> bool
     ensures { result ≡ is_between from to number }
 {
     from <= number && number < to
-}
-
-/// The next order, if there is one.
-fn advance(order: &mut Vec<TxnId>) -> bool
-    ensures { MatchBool result (IsNext order.old.items order.new.items) (IsLast order.old.items) }
-{
-    next_order(order.as_mut_slice())
 }
 
 /// Plays an order and notes its outcome, if the order is in the part.

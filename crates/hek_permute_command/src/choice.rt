@@ -18,6 +18,8 @@ pub struct Choice<'a> {
     pub order: Option<&'a str>,
     /// Whether to write the outcomes at each level.
     pub levels: bool,
+    /// What to look for, to write the shortest beginning of an order in which it comes.
+    pub find: Option<&'a str>,
 }
 
 /// The part that a text such as `2/8` names: its number, from 1, and the number of parts.

@@ -26,7 +26,7 @@ pub(crate) fn write_one<'a, W: Write>(
 }
 
 /// The events of the play of an order.
-fn events_of<'a>(
+pub(crate) fn events_of<'a>(
     alloc: Global,
     schedule: &Schedule,
     moves: &[Moves],

@@ -1,5 +1,6 @@
 //! The command `permute`: plays the orders that are asked for, and writes their outcomes.
 use crate::choice::{Choice, range_of};
+use crate::find::write_found;
 use crate::lines::{put_order, put_outcome, put_row, put_written};
 use crate::one::{fault_of, leveled, write_one};
 use crate::table::put_table;
@@ -36,6 +37,9 @@ fn permute<'a, W: Write, E: Write>(
     let Some((from, to)) = range(alloc, schedule, choice, faults)? else {
         return Ok(1);
     };
+    if let Some(wanted) = choice.find {
+        return at_find(alloc, schedule, choice, wanted, to, out);
+    }
     let mut text = Vec::new(alloc);
     if choice.levels {
         put_levels(alloc, schedule, choice.form, from, to, &mut text)?;
@@ -56,6 +60,19 @@ fn at_order<'a, W: Write>(
 ) -> Result<u8, HekFault<'a>> {
     let leveled = leveled(alloc, schedule, choice.level, schedule.steps())?;
     write_one(alloc, &leveled, choice.form, names, out)
+}
+
+/// The shortest beginning of an order in which something comes; there are `count` orders.
+fn at_find<'a, W: Write>(
+    alloc: Global,
+    schedule: &Schedule,
+    choice: Choice<'_>,
+    wanted: &str,
+    count: u64,
+    out: &mut W,
+) -> Result<u8, HekFault<'a>> {
+    let leveled = leveled(alloc, schedule, choice.level, schedule.steps())?;
+    write_found(alloc, &leveled, choice.form, wanted, count, out)
 }
 
 /// The orders of the part: the number of the first and the number after the last; None if there are too many.
