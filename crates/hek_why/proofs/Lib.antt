@@ -10,3 +10,9 @@ pub mod Numbers
 pub mod LastSeen
 pub mod Causes
 pub mod Adding
+pub mod Growing
+pub mod Exact
+pub mod Leading
+pub mod PartsLeft
+pub mod Parts
+pub mod LeadsLaw

@@ -7,4 +7,5 @@ pub mod Causes
 pub mod Phases
 pub mod Same
 pub mod Changes
+pub mod Leads
 pub mod RuleNames

@@ -4,6 +4,7 @@ ghost use Rattle.hek_machine.specs.Judgements.{IsShown};
 ghost use Rattle.hek_machine.specs.Observed.{key_in, value_in};
 ghost use Rattle.hek_why.specs.Same.{same_begin, same_end, same_numbers};
 ghost use Rattle.hek_why.specs.Changes.{unless, field, each_below, version_changes, txn_changes, bucket_changes, AreChanges, Adds};
+ghost use Rattle.hek_why.specs.Leads.{LeadOn};
 
 use crate::change::Change;
 use crate::items::Items;
@@ -16,8 +17,16 @@ use std::alloc::Global;
 /// What differs between two states of a machine: the clock, the versions, the transactions and the buckets, each in the
 /// order of numbers. Of a version that only `after` has, all of it is one change. Nothing is said of a version that
 /// only `before` has, or of a transaction or bucket that only one of the two has: none of these occur if both are
-/// states of one run, `after` being the later.
+/// states of one run, `after` being the later. There the changes, done one after another, lead from all that `before`
+/// shows to all that `after` shows.
 pub fn changes(alloc: Global, before: &Machine, after: &Machine) -> Result<Vec<Change>, NoMemory>
+    ensures differ { IfOk result (λ list. AreChanges before.now after.now list.items) }
+    ensures lead { IfOk result (λ list. LeadOn before.now after.now list.items) }
+{
+    differences(alloc, before, after)
+}
+
+fn differences(alloc: Global, before: &Machine, after: &Machine) -> Result<Vec<Change>, NoMemory>
     ensures { IfOk result (λ list. AreChanges before.now after.now list.items) }
 {
     let mut list = Vec::new(alloc);
