@@ -7,7 +7,7 @@ const tag = (id) => `<b class="t ${colourOf(id)}">${esc(nameOf(id))}</b>`;
 const tagName = (name) => (run.ids.has(name) ? tag(run.ids.get(name)) : esc(name));
 const things = (count) => (count === "1" || count === 1 ? "1 thing" : `${count} things`);
 const CAUSES = {
-  conflict: "somebody else wrote there first; it does not wait, it aborts at once",
+  conflict: "what it sees is not the latest version of the key any more, or has another writer; it does not wait, it aborts at once",
   "no-more-reads": "the writer counts on having no reader any more, so no read lock is given",
   "readers-full": "the version has 255 readers, and its count is full",
   "no-more-waits": "the writer has finished, and nobody may make it wait any more",
