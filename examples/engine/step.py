@@ -105,20 +105,19 @@ def differences(ours, theirs):
 
 
 class Hek:
-    """`hek drive`. After each event it is given a line that is not one: the answer to that line ends the event's answer."""
+    """`hek drive`. An empty line ends its answer to an event."""
 
     def __init__(self, program, path):
         opening = subprocess.run([program, "run", "--text", "--state-at", "0", path], capture_output=True, text=True, check=True)
-        words = [program, "drive", "--text", "--changes", path]
+        words = [program, "drive", "--text", "--changes", "--ends", path]
         self.process = subprocess.Popen(words, text=True, stdin=subprocess.PIPE, stdout=subprocess.PIPE)
-        self.state, self.lines = read_state(opening.stdout.splitlines()), 0
+        self.state = read_state(opening.stdout.splitlines())
 
     def do(self, event):
-        self.process.stdin.write(f"{event}\n?\n")
+        self.process.stdin.write(f"{event}\n")
         self.process.stdin.flush()
-        self.lines += 2
         answer = self.process.stdout.readline()
-        for line in iter(self.process.stdout.readline, f"? line {self.lines}: 2 BadWord\n"):
+        for line in iter(self.process.stdout.readline, "\n"):
             change(self.state, line)
         return answer.rstrip("\n").partition(" -> ")[2]
 

@@ -230,7 +230,23 @@ the lines
 are answered with
   1 a begin -> began 1
   2 a read 10 -> found 100",
-    arguments: &[FILE, TEXT, IMAGE, WHY, CHANGES],
+    arguments: &[
+        FILE,
+        TEXT,
+        IMAGE,
+        WHY,
+        CHANGES,
+        ArgumentText {
+            name: "state",
+            help: "prints the state of the machine after each answer",
+            form: Form::Flag,
+        },
+        ArgumentText {
+            name: "ends",
+            help: "ends what is printed for each line with an empty line",
+            form: Form::Flag,
+        },
+    ],
 };
 
 const CHECK: CommandText = CommandText {
@@ -259,6 +275,11 @@ with the number of the first event at fault, and status 1. Each transaction is j
         ArgumentText {
             name: "summary",
             help: "also prints how many transactions have committed, and how many events are judged",
+            form: Form::Flag,
+        },
+        ArgumentText {
+            name: "all",
+            help: "also prints each event at fault, its serial reply, and who wrote what was read",
             form: Form::Flag,
         },
     ],

@@ -5,10 +5,10 @@ use crate::disk::{Disk, LateFile, open};
 use crate::log::history;
 use crate::output::NotedOutput;
 use crate::schedule::{schedule_file, schedule_text};
-use crate::summary::{note_nothing, summary_command};
 use clap::error::ErrorKind as ClapKind;
 use clap::{ArgMatches, Error};
 use hek_asm::level_named;
+use hek_check_command::{Beside, all_command, note_nothing, summary_command};
 use hek_commands::{
     HekFault, INPUT, asm_command, check_command, dis_command, read_text, release_command, report,
     run_command, state_command,
@@ -20,7 +20,7 @@ use hek_permute::Form;
 use hek_permute_command::{Choice, auto_file, part_of, permute_command};
 use hek_rules::{Level, number};
 use hek_threads_command::{repeat_command, threads_command};
-use hek_why_command::{Extras, Why, drive_command, explain_command};
+use hek_why_command::{Driving, Extras, Why, drive_command, explain_command};
 use hek_word_command::{Bounds, changes_command, word_command};
 use std::alloc::Global;
 use std::convert::AsStr;
@@ -313,17 +313,23 @@ fn extras_of(found: &ArgMatches<'_>) -> Extras {
     }
 }
 
-fn drive<'a, D: Disk, I: Read + Drop, W: Write>(
+fn drive<'a, D: Disk, I: Read + IsTerminal + Drop, W: Write>(
     alloc: Global,
     found: &ArgMatches<'a>,
     disk: &D,
     input: I,
     out: &mut W,
 ) -> Result<u8, HekFault<'a>> {
+    let driving = Driving {
+        extras: extras_of(found),
+        state: found.get_flag("state"),
+        ends: found.get_flag("ends"),
+        prompts: input.is_terminal(),
+    };
     let mut input = Some(input);
     let file = schedule_file(alloc, found, disk, &mut input)?;
     let events = open(disk, &mut input, INPUT)?;
-    drive_command(alloc, file, events, extras_of(found), out)
+    drive_command(alloc, file, events, driving, out)
 }
 
 /// The number that an option has, if the words have the option.
@@ -427,7 +433,16 @@ fn check<'a, D: Disk, I: Read + Drop, W: Write, E: Write + IsTerminal>(
     let name = text(found, "TRACE")?;
     let trace = read_text(alloc, open(disk, &mut input, name)?, name)?;
     let why = found.get_flag("why");
-    if found.get_flag("summary") {
+    let summary = found.get_flag("summary");
+    if found.get_flag("all") {
+        let beside = Beside {
+            level,
+            why,
+            summary,
+        };
+        return all_command(alloc, file, trace.as_slice(), beside, out, faults);
+    }
+    if summary {
         return summary_command(alloc, file, trace.as_slice(), level, why, out, faults);
     }
     let status = check_command(alloc, file, trace.as_slice(), level, why, out)?;

@@ -9,7 +9,6 @@ mod log;
 mod nearest;
 mod output;
 mod schedule;
-mod summary;
 
 pub use command_line::{answer, answer_in_threads, program};
 pub use disk::{Disk, SystemDisk};

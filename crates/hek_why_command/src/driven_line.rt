@@ -23,7 +23,7 @@ fn number_of(word: &[u8]) -> Result<u64, AsmKind> {
 }
 
 /// The event on a line, None if the line has no words, or the line's fault.
-pub(crate) fn read_event(schedule: &Schedule, line: &[u8]) -> Result<Option<Event>, AsmKind>
+pub fn read_event(schedule: &Schedule, line: &[u8]) -> Result<Option<Event>, AsmKind>
     ensures { IfOk result (λ event. IfSome event (IsStep schedule.now.buckets (length schedule.now.txns))) }
 {
     if has_foreign(line) {

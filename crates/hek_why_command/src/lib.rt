@@ -15,8 +15,9 @@ mod step;
 mod word_text;
 
 pub use changes::put_changes;
-pub use drive::drive_command;
+pub use drive::{Driving, drive_command};
+pub use driven_line::read_event;
 pub use one_step::explain_step;
-pub use reason_text::put_reasons;
+pub use reason_text::{put_reasons, put_ruled_reasons};
 pub use run::explain_command;
 pub use step::{Extras, Why};

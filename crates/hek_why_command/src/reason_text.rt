@@ -28,7 +28,7 @@ pub fn put_reasons(
 
 /// Appends a line, after two spaces, for each reason of a step of t, with the name of the definition that decided it at
 /// its end: ` [Table.commit_rule]`.
-pub(crate) fn put_ruled_reasons(
+pub fn put_ruled_reasons(
     schedule: &Schedule,
     step: &Step<'_>,
     t: TxnId,

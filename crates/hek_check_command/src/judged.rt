@@ -1,68 +1,23 @@
-//! `hek check --summary`: how much of a trace is judged.
-use hek_commands::{HekFault, ScheduleFile, check_command};
-use hek_rules::Level;
+//! How much of a trace is judged.
+use hek_commands::HekFault;
 use std::alloc::Global;
 use std::collections::BTreeSet;
 use std::fmt::{Display, Formatter};
-use std::io::{Read, Write};
+use std::io::Write;
 use std::{fmt, str};
 
-/// Writes what `check_command` writes, and in its first line also how much is judged. Notes in `faults` if nothing is.
-/// Answers the exit status of `check_command`.
-pub fn summary_command<'a, R: Read + Drop, W: Write, E: Write>(
-    alloc: Global,
-    file: ScheduleFile<R>,
-    trace: &[u8],
-    level: Option<Level>,
-    why: bool,
-    out: &mut W,
-    faults: &mut E,
-) -> Result<u8, HekFault<'a>> {
-    let mut verdict = Vec::new(alloc);
-    let status = match check_command(alloc, file, trace, level, why, &mut verdict) {
-        Ok(status) => status,
-        // A list of bytes refuses them only if memory runs out.
-        Err(HekFault::CannotWrite) => return Err(HekFault::NoMemory),
-        Err(fault) => return Err(fault),
-    };
-    let judged = Judged::of(alloc, trace)?;
-    write_judged(verdict.as_slice(), judged, out)?;
-    judged.note(faults);
-    Ok(status)
-}
-
-/// Notes in `faults` that nothing is judged, if no transaction of a trace has committed. Without the memory to find out
-/// it says nothing.
-pub fn note_nothing<E: Write>(alloc: Global, trace: &[u8], faults: &mut E) {
-    if let Ok(judged) = Judged::of(alloc, trace) {
-        judged.note(faults);
-    }
-}
-
-/// Writes the lines of a verdict, with what is judged at the end of the first.
-fn write_judged<'a, W: Write>(
-    verdict: &[u8],
-    judged: Judged,
-    out: &mut W,
-) -> Result<(), HekFault<'a>> {
-    let verdict = str::from_utf8(verdict).unwrap_or("");
-    let (line, rest) = verdict.split_once('\n').unwrap_or((verdict, ""));
-    match write!(out, "{line}: {judged}\n{rest}") {
-        Ok(()) => Ok(()),
-        Err(_) => Err(HekFault::CannotWrite),
-    }
-}
-
 /// How many transactions of a trace have committed, and how many events these have: the events that are judged.
-#[derive(Clone, Copy)]
-struct Judged {
-    committed: usize,
-    events: usize,
+#[derive(Clone, Copy, Debug, PartialEq, Eq)]
+pub struct Judged {
+    /// How many transactions have committed.
+    pub committed: usize,
+    /// How many events these have.
+    pub events: usize,
 }
 
 impl Judged {
     /// What is judged of a text that is a trace. Of another text it says nothing.
-    fn of<'a>(alloc: Global, trace: &[u8]) -> Result<Judged, HekFault<'a>> {
+    pub fn of<'a>(alloc: Global, trace: &[u8]) -> Result<Judged, HekFault<'a>> {
         let trace = str::from_utf8(trace).map_err(|_| HekFault::NotText)?;
         let names = committed_in(alloc, trace)?;
         let mut events: usize = 0;
@@ -78,7 +33,7 @@ impl Judged {
     }
 
     /// Notes that nothing is judged, if no transaction has committed.
-    fn note<E: Write>(self, faults: &mut E) {
+    pub fn note<E: Write>(self, faults: &mut E) {
         if self.committed == 0 {
             let _ = writeln!(faults, "hek: note: no committed transaction in this trace");
         }
