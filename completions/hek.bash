@@ -24,11 +24,14 @@ _hek() {
     "page --lesson") return ;;
     "page --previous") return ;;
     "page --next") return ;;
+    "page --grain") return ;;
     "page --limit") return ;;
     "permute --level") words="serializable repeatable snapshot" ;;
+    "permute --grain") return ;;
     "permute --limit") return ;;
     "permute --part") return ;;
     "permute --order") return ;;
+    "permute --find") return ;;
     "check --level") words="serializable repeatable snapshot" ;;
     "history --level") words="serializable repeatable snapshot" ;;
     "history --order") return ;;
@@ -45,13 +48,13 @@ _hek() {
         return
     fi
     case "$command" in
-    run) words="--text --image --state --state-at --why --changes --history --help" files=yes ;;
+    run) words="--text --image --state --state-at --why --changes --history --auto --help" files=yes ;;
     debug) words="--text --image --help" files=yes ;;
-    page) words="--text --image --from --to --title --lesson --previous --next --orders --split --limit --help" files=yes ;;
-    permute) words="--text --image --level --split --limit --part --each --order --levels --help" files=yes ;;
-    check) words="--text --image --level --why --summary --help" files=yes ;;
+    page) words="--text --image --from --to --title --lesson --previous --next --orders --split --grain --limit --help" files=yes ;;
+    permute) words="--text --image --level --split --grain --limit --part --each --order --levels --find --help" files=yes ;;
+    check) words="--text --image --level --why --summary --all --help" files=yes ;;
     history) words="--level --order --all --order-out --json --help" files=yes ;;
-    drive) words="--text --image --why --changes --help" files=yes ;;
+    drive) words="--text --image --why --changes --state --ends --help" files=yes ;;
     threads) words="--text --image --turns --repeat --help" files=yes ;;
     word) words="--changes --clock --txns --readers --help" ;;
     release) words="--help" ;;

@@ -23,6 +23,7 @@ complete -c hek -n '__fish_seen_subcommand_from run' -l state-at -x -d 'stops af
 complete -c hek -n '__fish_seen_subcommand_from run' -l why -a 'reasons rules' -d 'prints the reasons of each reply under its line; =rules also names the definition that decided each'
 complete -c hek -n '__fish_seen_subcommand_from run' -l changes -d 'prints what each step changed under its line'
 complete -c hek -n '__fish_seen_subcommand_from run' -l history -d 'prints the run as a log for hek history, in place of its trace'
+complete -c hek -n '__fish_seen_subcommand_from run' -l auto -d 'runs only the reads and writes of FILE, and begins and ends each transaction by itself'
 complete -c hek -n '__fish_seen_subcommand_from run' -s h -l help -d 'Print help'
 complete -c hek -n '__fish_seen_subcommand_from run' -F
 complete -c hek -n '__fish_seen_subcommand_from debug' -l text -d 'FILE is a schedule text, whatever its name'
@@ -39,6 +40,7 @@ complete -c hek -n '__fish_seen_subcommand_from page' -l previous -x -d 'the add
 complete -c hek -n '__fish_seen_subcommand_from page' -l next -x -d 'the address of the page after this one'
 complete -c hek -n '__fish_seen_subcommand_from page' -l orders -d 'makes the explorer of every order of the moves, as hek permute plays them'
 complete -c hek -n '__fish_seen_subcommand_from page' -l split -d 'with --orders: makes finish and precommit a separate move'
+complete -c hek -n '__fish_seen_subcommand_from page' -l grain -x -d 'cuts the end of a transaction into one move (move), two (split), or a move for each event (event)'
 complete -c hek -n '__fish_seen_subcommand_from page' -l limit -x -d 'with --orders: writes nothing if there are more than N nodes (5000)'
 complete -c hek -n '__fish_seen_subcommand_from page' -s h -l help -d 'Print help'
 complete -c hek -n '__fish_seen_subcommand_from page' -F
@@ -46,11 +48,13 @@ complete -c hek -n '__fish_seen_subcommand_from permute' -l text -d 'FILE is a s
 complete -c hek -n '__fish_seen_subcommand_from permute' -l image -d 'FILE is a schedule image, whatever its name'
 complete -c hek -n '__fish_seen_subcommand_from permute' -l level -x -a 'serializable repeatable snapshot' -d 'judges or runs all transactions as serializable, repeatable or snapshot'
 complete -c hek -n '__fish_seen_subcommand_from permute' -l split -d 'makes finish and precommit a separate move'
+complete -c hek -n '__fish_seen_subcommand_from permute' -l grain -x -d 'cuts the end of a transaction into one move (move), two (split), or a move for each event (event)'
 complete -c hek -n '__fish_seen_subcommand_from permute' -l limit -x -d 'plays nothing if there are more than N orders (100000)'
 complete -c hek -n '__fish_seen_subcommand_from permute' -l part -x -d 'plays the Kth of N equal parts of the orders'
 complete -c hek -n '__fish_seen_subcommand_from permute' -l each -d 'prints a line for each order'
 complete -c hek -n '__fish_seen_subcommand_from permute' -l order -x -d 'prints the events of one order as a schedule: a name for each move'
 complete -c hek -n '__fish_seen_subcommand_from permute' -l levels -d 'prints the outcomes at each level, side by side'
+complete -c hek -n '__fish_seen_subcommand_from permute' -l find -x -d 'prints the shortest beginning of an order in which this comes: `a aborted deadlock`, `waiting 1`, `not serial`'
 complete -c hek -n '__fish_seen_subcommand_from permute' -s h -l help -d 'Print help'
 complete -c hek -n '__fish_seen_subcommand_from permute' -F
 complete -c hek -n '__fish_seen_subcommand_from check' -l text -d 'FILE is a schedule text, whatever its name'
@@ -58,6 +62,7 @@ complete -c hek -n '__fish_seen_subcommand_from check' -l image -d 'FILE is a sc
 complete -c hek -n '__fish_seen_subcommand_from check' -l level -x -a 'serializable repeatable snapshot' -d 'judges or runs all transactions as serializable, repeatable or snapshot'
 complete -c hek -n '__fish_seen_subcommand_from check' -l why -d 'prints the reply that the first event at fault should have had'
 complete -c hek -n '__fish_seen_subcommand_from check' -l summary -d 'also prints how many transactions have committed, and how many events are judged'
+complete -c hek -n '__fish_seen_subcommand_from check' -l all -d 'also prints each event at fault, its serial reply, and who wrote what was read'
 complete -c hek -n '__fish_seen_subcommand_from check' -s h -l help -d 'Print help'
 complete -c hek -n '__fish_seen_subcommand_from check' -F
 complete -c hek -n '__fish_seen_subcommand_from history' -l level -x -a 'serializable repeatable snapshot' -d 'judges or runs all transactions as serializable, repeatable or snapshot'
@@ -71,6 +76,8 @@ complete -c hek -n '__fish_seen_subcommand_from drive' -l text -d 'FILE is a sch
 complete -c hek -n '__fish_seen_subcommand_from drive' -l image -d 'FILE is a schedule image, whatever its name'
 complete -c hek -n '__fish_seen_subcommand_from drive' -l why -a 'reasons rules' -d 'prints the reasons of each reply under its line; =rules also names the definition that decided each'
 complete -c hek -n '__fish_seen_subcommand_from drive' -l changes -d 'prints what each step changed under its line'
+complete -c hek -n '__fish_seen_subcommand_from drive' -l state -d 'prints the state of the machine after each answer'
+complete -c hek -n '__fish_seen_subcommand_from drive' -l ends -d 'ends what is printed for each line with an empty line'
 complete -c hek -n '__fish_seen_subcommand_from drive' -s h -l help -d 'Print help'
 complete -c hek -n '__fish_seen_subcommand_from drive' -F
 complete -c hek -n '__fish_seen_subcommand_from threads' -l text -d 'FILE is a schedule text, whatever its name'

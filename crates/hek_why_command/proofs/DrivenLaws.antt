@@ -1,6 +1,7 @@
 -- What is written answer by answer.
-use Rattle.std.proofs.Common.{◌≡◌, ℕ, List, [], ◌∷◌, ◌++◌, ◌∙◌, ap, sym, append_assoc, Bool, Option, Some, None}
+use Rattle.std.proofs.Common.{◌≡◌, subst, ℕ, List, [], ◌∷◌, ◌++◌, ◌∙◌, ap, sym, append_assoc, Bool, Option, Some, None}
 use Rattle.std.proofs.lemmas.List.{append-nil}
+use Rattle.std.specs.Prelude.{Result, Ok, Err, OnOk}
 use Rattle.std.specs.Io.KnownBytes.{Appends}
 use Rattle.hek_why_command.specs.Driven.{Told, answer_text, answers_text, HasAnswers}
 
@@ -35,3 +36,9 @@ one_more ends (Some held) (Some now) (Some then) told state p q =
       written = q ∙ ap (λ (xs : List ℕ). xs ++ text) p.written ∙ append_assoc held (answers_text ends p.answers) text
           ∙ ap (λ (xs : List ℕ). held ++ xs) (sym (more_text ends p.answers a));
     }
+
+-- what is written after a greeting that writes nothing
+pub greeted : {T E : Type 0} (r : Result T E) (Quiet : Type 0) (ends : Bool) (before greeted after : Option (List ℕ)) → (Quiet → greeted ≡ before)
+    → OnOk r (Quiet → HasAnswers ends greeted after) → OnOk r (Quiet → HasAnswers ends before after)
+greeted (Ok x) Quiet ends before now after same h = λ quiet. subst (λ (held : Option (List ℕ)). HasAnswers ends held after) (same quiet) (h quiet)
+greeted (Err e) Quiet ends before now after same h = tt

@@ -55,14 +55,17 @@ pub fn drive_command<'a, R: Read + Drop, I: Read + Drop, W: Write>(
         extras: driving.extras,
     };
     let mut input = buffered(alloc, input)?;
-    if driving.prompts {
-        greet(&schedule, out)?;
-    }
+    greet(driving.prompts, &schedule, out)?;
     drive(alloc, &mut telling, &mut machine, driving, &mut input, out)
 }
 
-/// Says how many transactions there are, and what a line is.
-fn greet<'a, W: Write>(schedule: &Schedule, out: &mut W) -> Result<(), HekFault<'a>> {
+/// At a terminal, says how many transactions there are, and what a line is.
+fn greet<'a, W: Write>(prompts: bool, schedule: &Schedule, out: &mut W) -> Result<(), HekFault<'a>>
+    ensures { prompts ≡ false → W.contents out.new ≡ W.contents out.old }
+{
+    if !prompts {
+        return Ok(());
+    }
     let count = schedule.txn_count();
     match writeln!(
         out,
