@@ -18,6 +18,7 @@ const LEVELS: Choice<'static> = Choice {
     each: false,
     order: None,
     levels: true,
+    find: None,
 };
 
 /// Plays all orders of each schedule of a folder, in the order of SUMMARY, compares their outcomes by level with what is stored,
