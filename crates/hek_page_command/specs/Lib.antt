@@ -1,3 +1,4 @@
 pub mod Pages
 pub mod Explorers
 pub mod Sheets
+pub mod Tellings

@@ -2,7 +2,9 @@
 use crate::comments::Comments;
 use crate::heading::{Heading, put_heading};
 use crate::members::{Members, put_lines, put_lines_if, put_number, put_text, put_value, text_of};
-use crate::tell::{Shown, StepText, Told, tell};
+use crate::rules::put_rules;
+use crate::step_text::StepText;
+use crate::story::{StepRange, Story, story_of};
 use hek_commands::put_reply;
 use hek_rules::{Level, NoMemory, Schedule, Transcript, Verdict};
 use hek_serial::{check, check_at, serial_reply_at};
@@ -13,14 +15,14 @@ use std::alloc::Global;
 pub(crate) fn data_of(
     alloc: Global,
     schedule: &Schedule,
-    shown: Shown,
+    range: StepRange,
     heading: &Heading<'_>,
     comments: &Comments,
 ) -> Result<Value, NoMemory> {
-    let told = tell(alloc, schedule, shown)?;
+    let story = story_of(alloc, schedule, range)?;
     let mut members = Map::new(alloc);
-    put_head(alloc, schedule, shown, heading, comments, &mut members)?;
-    put_told(alloc, shown, comments, &told, &mut members)?;
+    put_head(alloc, schedule, range, heading, comments, &mut members)?;
+    put_story(alloc, range, comments, &story, &mut members)?;
     Ok(Value::Object(members))
 }
 
@@ -28,7 +30,7 @@ pub(crate) fn data_of(
 fn put_head(
     alloc: Global,
     schedule: &Schedule,
-    shown: Shown,
+    range: StepRange,
     heading: &Heading<'_>,
     comments: &Comments,
     members: &mut Members,
@@ -36,24 +38,25 @@ fn put_head(
     put_text(alloc, "kind", "run", members)?;
     put_heading(alloc, heading, comments, members)?;
     put_number(alloc, "buckets", schedule.buckets(), members)?;
-    put_number(alloc, "done", shown.done as u64, members)
+    put_number(alloc, "done", range.done as u64, members)
 }
 
-/// Adds the run that was told.
-fn put_told(
+/// Adds the run.
+fn put_story(
     alloc: Global,
-    shown: Shown,
+    range: StepRange,
     comments: &Comments,
-    told: &Told,
+    story: &Story,
     members: &mut Members,
 ) -> Result<(), NoMemory> {
-    put_lines(alloc, "opening", told.opening.lines.as_slice(), members)?;
-    put_lines(alloc, "waits", told.opening.waits.as_slice(), members)?;
-    put_lines(alloc, "asked", told.opening.asked.as_slice(), members)?;
-    put_lines(alloc, "trace", told.trace.as_slice(), members)?;
-    let steps = step_values(alloc, shown, comments, told.steps.as_slice())?;
+    put_lines(alloc, "opening", story.opening.lines.as_slice(), members)?;
+    put_lines(alloc, "waits", story.opening.waits.as_slice(), members)?;
+    put_lines(alloc, "asked", story.opening.asked.as_slice(), members)?;
+    put_lines(alloc, "trace", story.trace.as_slice(), members)?;
+    put_rules(alloc, members)?;
+    let steps = step_values(alloc, range, comments, story.steps.as_slice())?;
     put_value(alloc, "steps", steps, members)?;
-    put_verdicts(alloc, &told.transcript, members)
+    put_verdicts(alloc, &story.transcript, members)
 }
 
 /// Adds `fault`, the number of the first event that isn't serial, or 0; and `strict`, the same with the reply of the
@@ -108,12 +111,12 @@ fn put_serial_reply(
 
 fn step_values(
     alloc: Global,
-    shown: Shown,
+    range: StepRange,
     comments: &Comments,
     steps: &[StepText],
 ) -> Result<Value, NoMemory> {
     let mut values = Vec::new(alloc);
-    let mut number = shown.done as u64;
+    let mut number = range.done as u64;
     for step in steps {
         number = number.saturating_add(1);
         values.push(step_value(alloc, step, comments.note_of(number))?)?;
@@ -137,7 +140,7 @@ fn put_step(
     put_lines(alloc, "changed", step.changed.as_slice(), members)?;
     put_lines(alloc, "gone", step.gone.as_slice(), members)?;
     put_lines(alloc, "why", step.why.as_slice(), members)?;
-    put_text(alloc, "rule", step.rule, members)?;
+    put_text(alloc, "rule", step.rule.name, members)?;
     put_lines(alloc, "sees", step.sees.as_slice(), members)?;
     put_lines_if(alloc, "waits", &step.waits, members)?;
     put_lines(alloc, "ends", step.ends.as_slice(), members)?;

@@ -1,20 +1,23 @@
 //! The command `page`: a schedule's run as one page for a browser.
 #![tactic(auto)]
 
+mod changed;
 mod comments;
 mod data;
 mod explorer;
 mod frame;
 mod heading;
-mod look;
 mod members;
 mod page;
+mod played;
 mod prefixes;
+mod rules;
 mod script;
 mod sees;
 mod sheet;
+mod step_text;
+mod story;
 mod style;
-mod tell;
 mod tree;
 mod tree_data;
 mod waits;
@@ -22,3 +25,6 @@ mod waits;
 pub use explorer::{Extent, MOST_NODES, explorer_command};
 pub use heading::Heading;
 pub use page::{MOST_STEPS, Part, page_command};
+pub use played::{OrderStory, order_story};
+pub use step_text::StepText;
+pub use story::{Opening, StepRange, Story, story_of};

@@ -7,7 +7,7 @@ use crate::comments::{Comments, comments_in};
 use crate::data::data_of;
 use crate::heading::Heading;
 use crate::sheet::write_sheet;
-use crate::tell::Shown;
+use crate::story::StepRange;
 use hek_commands::{HekFault, ScheduleFile, schedule_in};
 use hek_rules::Schedule;
 use std::alloc::Global;
@@ -52,23 +52,23 @@ fn write_page<'a, W: Write, E: Write>(
     ensures answer { IfOk result (λ status. IsAnswer (count_of part (length schedule.now.steps)) status (W.contents out.old) (W.contents out.new)) }
     ensures stops { IfErr result IsStop }
 {
-    let shown = shown_of(part, schedule.steps().len() as u64);
-    if (shown.last as u64).saturating_sub(shown.done as u64) > MOST_STEPS {
+    let range = range_of(part, schedule.steps().len() as u64);
+    if (range.last as u64).saturating_sub(range.done as u64) > MOST_STEPS {
         let _ = writeln!(faults, "hek: page: more than {MOST_STEPS} steps");
         return Ok(1);
     }
-    let data = data_of(alloc, schedule, shown, heading, comments)?;
+    let data = data_of(alloc, schedule, range, heading, comments)?;
     write_sheet(alloc, heading, &data, out)?;
     Ok(0)
 }
 
 /// The steps of a part of `steps` steps.
-fn shown_of(part: Part, steps: u64) -> Shown
+fn range_of(part: Part, steps: u64) -> StepRange
     ensures { (result.done ≡ done_of part steps) × (result.last ≡ last_step part steps) }
 {
     let last = part.to.unwrap_or(steps).min(steps);
     let done = part.from.unwrap_or(1).saturating_sub(1).min(last);
-    Shown {
+    StepRange {
         done: done as usize,
         last: last as usize,
     }

@@ -1,13 +1,14 @@
 //! The tree of all orders of a schedule's moves: each node is a prefix of orders, played.
-ghost use Rattle.std.specs.Prelude.{◌≡◌, IfOk, IfErr, map};
-ghost use Rattle.hek_page_command.specs.Explorers.{ArePlayed, IsExploreStop};
+ghost use Rattle.std.specs.Prelude.{IfErr};
+ghost use Rattle.hek_page_command.specs.Explorers.{IsExploreStop};
 
-use crate::prefixes::{Prefix, is_whole, order_of};
-use crate::tell::{Shown, StepText, Told, tell};
+use crate::played::{OrderStory, order_story};
+use crate::prefixes::{Prefix, order_of};
+use crate::step_text::StepText;
+use crate::story::{StepRange, Story, story_of};
 use hek_commands::HekFault;
-use hek_permute::{Form, Moves, OrderFault, Play, outcome_of, play_order, schedule_with};
-use hek_permute_command::put_outcome;
-use hek_rules::{Event, NoMemory, Schedule, TxnId};
+use hek_permute::{Form, Moves, OrderFault};
+use hek_rules::{NoMemory, Schedule, TxnId};
 use indexmap::IndexSet;
 use std::alloc::Global;
 
@@ -48,13 +49,6 @@ pub(crate) struct StepPlaces {
     pub rule: usize,
 }
 
-/// The events of an order's play, and its outcome if the order is whole.
-#[derive(Drop)]
-struct Played {
-    events: Vec<Event>,
-    outcome: Option<Vec<u8>>,
-}
-
 /// The tree of these prefixes.
 pub(crate) fn tree_of<'a>(
     alloc: Global,
@@ -73,19 +67,20 @@ pub(crate) fn tree_of<'a>(
         texts: IndexSet::new(alloc),
     };
     for place in 0..prefixes.len() {
-        let played = played_at(alloc, schedule, moves, form, prefixes, place)?;
-        tree.add_node(alloc, schedule, prefixes[place], &played)?;
+        let done = tree.events_of(prefixes[place].parent);
+        let played = played_at(alloc, schedule, moves, form, prefixes, place, done)?;
+        tree.add_node(alloc, prefixes[place], &played)?;
     }
     tree.add_counts(alloc)?;
     Ok(tree)
 }
 
 fn opening_of(alloc: Global, schedule: &Schedule) -> Result<Vec<u8>, NoMemory> {
-    let start = tell(alloc, schedule, Shown { done: 0, last: 0 })?;
+    let start = story_of(alloc, schedule, StepRange { done: 0, last: 0 })?;
     Ok(Vec::from_slice(alloc, start.opening.lines.as_slice())?)
 }
 
-/// Plays the prefix at a place.
+/// Plays the prefix at a place. The first `done` events are those of its parent.
 fn played_at<'a>(
     alloc: Global,
     schedule: &Schedule,
@@ -93,11 +88,12 @@ fn played_at<'a>(
     form: Form,
     prefixes: &[Prefix],
     place: usize,
-) -> Result<Played, HekFault<'a>>
+    done: usize,
+) -> Result<OrderStory, HekFault<'a>>
     ensures stops { IfErr result IsExploreStop }
 {
     let order = order_of(alloc, prefixes, place)?;
-    match play_of(alloc, schedule, moves, form, order.as_slice()) {
+    match order_story(alloc, schedule, moves, form, order.as_slice(), done) {
         Ok(played) => Ok(played),
         Err(fault) => Err(fault_of(fault)),
     }
@@ -113,83 +109,25 @@ fn fault_of<'a>(fault: OrderFault) -> HekFault<'a>
     }
 }
 
-/// Plays an order.
-fn play_of(
-    alloc: Global,
-    schedule: &Schedule,
-    moves: &[Moves],
-    form: Form,
-    order: &[TxnId],
-) -> Result<Played, OrderFault>
-    ensures played { IfOk result (λ played. ArePlayed form moves.now order.now played.events.items) }
-{
-    let play = play_order(alloc, schedule, moves, form, order)?;
-    let events = events_of(alloc, &play)?;
-    if !is_whole(moves, form, order) {
-        return Ok(Played {
-            events,
-            outcome: None,
-        });
-    }
-    let outcome = outcome_of(alloc, schedule, play)?;
-    let mut text = Vec::new(alloc);
-    put_outcome(alloc, schedule, &outcome, &mut text)?;
-    Ok(Played {
-        events,
-        outcome: Some(text),
-    })
-}
-
-/// What a page says of these steps of a run of events.
-fn told_of<'a>(
-    alloc: Global,
-    schedule: &Schedule,
-    events: &[Event],
-    shown: Shown,
-) -> Result<Told, HekFault<'a>>
-    ensures stops { IfErr result IsExploreStop }
-{
-    match schedule_with(alloc, schedule, None, events) {
-        Ok(run) => Ok(tell(alloc, &run, shown)?),
-        Err(fault) => Err(fault_of(fault)),
-    }
-}
-
-fn events_of(alloc: Global, play: &Play) -> Result<Vec<Event>, NoMemory>
-    ensures { IfOk result (λ events. events.items ≡ map (λ entry. entry.event) play.now.history.items) }
-{
-    Ok(play.history.iter().map(|entry| entry.event).collect(alloc)?)
-}
-
 impl Tree {
     /// Adds the node of a prefix that was played: its steps are those after the play of its parent.
-    fn add_node<'a>(
+    fn add_node(
         &mut self,
         alloc: Global,
-        schedule: &Schedule,
         prefix: Prefix,
-        played: &Played,
-    ) -> Result<(), HekFault<'a>>
-        ensures stops { IfErr result IsExploreStop }
-    {
+        played: &OrderStory,
+    ) -> Result<(), NoMemory> {
         let outcome = self.add_outcome(alloc, &played.outcome)?;
-        let shown = Shown {
-            done: self.events_of(prefix.parent),
-            last: played.events.len(),
-        };
-        let told = told_of(alloc, schedule, played.events.as_slice(), shown)?;
         let node = Node {
             parent: prefix.parent,
             who: prefix.who,
-            steps: self.add_steps(alloc, &told)?,
+            steps: self.add_steps(alloc, &played.story)?,
             outcome,
             counts: Vec::new(alloc),
-            events: shown.last,
+            events: played.events.len(),
         };
-        match self.nodes.push(node) {
-            Ok(()) => Ok(()),
-            Err(_) => Err(HekFault::NoMemory),
-        }
+        self.nodes.push(node)?;
+        Ok(())
     }
 
     /// How many events the play of the node at a place has; none before the first node.
@@ -200,11 +138,11 @@ impl Tree {
         }
     }
 
-    /// Adds the steps that were told, and answers their places.
-    fn add_steps(&mut self, alloc: Global, told: &Told) -> Result<Vec<usize>, NoMemory> {
+    /// Adds the steps of a story, and answers their places.
+    fn add_steps(&mut self, alloc: Global, story: &Story) -> Result<Vec<usize>, NoMemory> {
         let mut places = Vec::new(alloc);
-        let mut rest = told.trace.as_slice();
-        for step in &told.steps {
+        let mut rest = story.trace.as_slice();
+        for step in &story.steps {
             let (line, after) = line_of(rest);
             rest = after;
             places.push(self.add_step(alloc, line, step)?)?;
@@ -225,7 +163,7 @@ impl Tree {
             sees: self.add_text(alloc, step.sees.as_slice())?,
             waits,
             ends: self.add_text(alloc, step.ends.as_slice())?,
-            rule: self.add_text(alloc, step.rule.as_bytes())?,
+            rule: self.add_text(alloc, step.rule.name.as_bytes())?,
         };
         let (place, _) = self.steps.insert_full(places)?;
         Ok(place)

@@ -137,7 +137,7 @@ document.addEventListener("click", (event) => {
   const choice = hit("data-choice");
   if (choice) return choose(choice.dataset.choice);
   const rule = hit("data-rule");
-  if (rule) { const [name, said] = ruleOf(run.steps[here - 1]); return tell(`<h2>${esc(name)}</h2><p>${esc(said)}</p><p class="soft">docs/RULES.md, "The rule table"</p>`); }
+  if (rule) { const [name, said] = ruleOf(run.steps[here - 1]); return tell(`<h2>${esc(name)}</h2><p>${esc(said)}</p><p class="soft">docs/RULES.md, "Every reply"</p>`); }
   const next = hit("data-next");
   if (next) return takeMove(Number(next.dataset.next));
   const crumb = hit("data-crumb");

@@ -1,0 +1,117 @@
+-- A run one step at a time: the machine after each step, and what the steps change up to it.
+use Rattle.std.proofs.Common.{◌≡◌, ℕ, zero, suc, ◌+◌, ◌<◌, ◌≤◌, ◌⊎◌, List, [], ◌∷◌, ◌++◌, refl, ◌∙◌, ap, sym, subst, ⊎_elim, inl, inr, length, take, get_or, arith, append_assoc}
+use Rattle.std.proofs.lemmas.Bool.{cases_eq}
+use Rattle.std.proofs.lemmas.List.{take_more, append-nil, length-append}
+use Rattle.std.proofs.lemmas.List.Elements.{All-get_or}
+use Rattle.std.specs.List.{All}
+use Rattle.hek_rules.specs.declared.event.Event.{Event}
+use Rattle.hek_rules.specs.Plan.{Plan}
+use Rattle.hek_rules.specs.Run.{next, run}
+use Rattle.hek_rules.specs.World.{World}
+use Rattle.hek_laws.specs.Runs.{IsPlaced}
+use Rattle.hek_laws.proofs.Runs.Reachable.{run-append}
+use Rattle.hek_laws.proofs.Worlds.Fixed.{fixed-run}
+use Rattle.hek_machine.specs.declared.engine.Engine.{Engine}
+use Rattle.hek_machine.specs.Observed.{opening_of, StandsAs}
+use Rattle.hek_machine.specs.Stands.{StandsFor}
+use Rattle.hek_why.specs.declared.change.Change.{Change}
+use Rattle.hek_why.specs.Leads.{Leads, LeadOn}
+use Rattle.hek_why.proofs.LeadsLaw.{leads_none, leads_on}
+use Rattle.hek_page_command.specs.declared.step_text.StepText.{StepText}
+use Rattle.hek_page_command.specs.Tellings.{world_at, changes_upto, AreTold, IsStepAdded, LeadsNext}
+
+-- ---- the machine
+
+-- the world after one more step
+pub world_more : (p : Plan) (i : ℕ) (e : Event) → i < length p.steps → e ≡ get_or p.steps i e → world_at p (i + 1) ≡ next (world_at p i) e
+world_more p i e below at =
+    ap (run (opening_of p 1)) (take_more p.steps i e below ∙ ap (λ (x : Event). take i p.steps ++ x ∷ []) (sym at)) ∙ run-append (opening_of p 1) (take i p.steps) e
+
+pub stands_more : (p : Plan) (es : List Event) (i : ℕ) (e : Event) (m n : Engine) → es ≡ p.steps → i < length es → e ≡ get_or es i e → StandsFor m (world_at p i) → LeadsNext e m n → StandsFor n (world_at p (i + 1))
+stands_more p es i e m n same below at stands on =
+    let within : i < length p.steps = subst (λ (fs : List Event). i < length fs) same below in
+    let here : e ≡ get_or p.steps i e = at ∙ ap (λ (fs : List Event). get_or fs i e) same in
+    subst (StandsFor n) (sym (world_more p i e within here)) (on (world_at p i) stands)
+
+-- a machine that stands for a world of the run has the schedule's number of buckets, so it takes each of its steps
+pub placed_at : (p : Plan) (es : List Event) (i : ℕ) (e : Event) (m : Engine) → i < length es → e ≡ get_or es i e → All (IsPlaced p.buckets) es → StandsFor m (world_at p i) → IsPlaced (length m.buckets) e
+placed_at p es i e m below at placed stands =
+    let count : length m.buckets ≡ p.buckets = stands.shows.buckets.count ∙ (fixed-run (opening_of p 1) (take i p.steps)).buckets in
+    let here : IsPlaced p.buckets (get_or es i e) = All-get_or (IsPlaced p.buckets) es i e below placed in
+    subst (λ (b : ℕ). IsPlaced b e) (sym count) (subst (IsPlaced p.buckets) (sym at) here)
+
+-- changes from a copy of a machine are changes from the machine
+pub lead_from_copy : (m b n : Engine) (cs : List Change) → StandsAs m b → LeadOn b n cs → LeadOn m n cs
+lead_from_copy m b n cs same lead w es stands after = lead w es (same w stands) after
+
+-- ---- the changes
+
+upto_front : (n : ℕ) (ss : List StepText) (t : StepText) → n ≤ length ss → changes_upto n (ss ++ t ∷ []) ≡ changes_upto n ss
+upto_front zero ss t le = refl
+upto_front (suc n) [] t le = absurd (omega (arith, le))
+upto_front (suc n) (s ∷ ss) t le = ap (λ (cs : List Change). s.changes.items ++ cs) (upto_front n ss t (omega (arith, le)))
+
+upto_last : (ss : List StepText) (t : StepText) → changes_upto (suc (length ss)) (ss ++ t ∷ []) ≡ changes_upto (length ss) ss ++ t.changes.items
+upto_last [] t = append-nil t.changes.items
+upto_last (s ∷ ss) t = ap (λ (cs : List Change). s.changes.items ++ cs) (upto_last ss t) ∙ sym (append_assoc s.changes.items (changes_upto (length ss) ss) t.changes.items)
+
+leads_at_start : (p : Plan) (done n : ℕ) → n ≤ 0 → Leads (world_at p done) (world_at p (done + n)) (changes_upto n [])
+leads_at_start p done zero few =
+    let same : done ≡ done + 0 = omega arith in
+    subst (λ (k : ℕ). Leads (world_at p done) (world_at p k) []) same (leads_none (world_at p done))
+leads_at_start p done (suc n) few = absurd (omega (arith, few))
+
+pub told_none : (p : Plan) (done : ℕ) (steps : List StepText) → steps ≡ [] → done ≤ length p.steps → AreTold p done steps
+told_none p done steps none le = subst (AreTold p done) (sym none) (record {
+  within = omega (arith, le);
+  lead = λ n few. leads_at_start p done n few;
+})
+
+last_or_front : (n k : ℕ) → n ≤ suc k → (n ≡ suc k) ⊎ (n ≤ k)
+last_or_front n k le = ⊎_elim (λ same. inl same) (λ other. inr (omega (arith, le, other))) (cases_eq n (suc k))
+
+longer : (old : List StepText) (t : StepText) → length (old ++ t ∷ []) ≡ length old + 1
+longer old t = length-append old (t ∷ [])
+
+module _ (p : Plan) (done : ℕ) (steps : List StepText) (t : StepText) where
+  -- up to the step that is added
+  leads_to_last : AreTold p done steps → Leads (world_at p (done + length steps)) (world_at p (done + suc (length steps))) t.changes.items
+      → Leads (world_at p done) (world_at p (done + suc (length steps))) (changes_upto (suc (length steps)) (steps ++ t ∷ []))
+  leads_to_last told lead =
+      subst (Leads (world_at p done) (world_at p (done + suc (length steps)))) (sym (upto_last steps t))
+      (leads_on (world_at p done) (world_at p (done + length steps)) (world_at p (done + suc (length steps))) (changes_upto (length steps) steps) t.changes.items
+      (told.lead (length steps) (omega arith)) lead)
+
+  told_added : AreTold p done steps → done + length steps < length p.steps
+      → Leads (world_at p (done + length steps)) (world_at p (done + suc (length steps))) t.changes.items → AreTold p done (steps ++ t ∷ [])
+  told_added told below lead =
+      let long = longer steps t in
+      record {
+        within = omega (arith, below, long);
+        lead = λ n few. ⊎_elim
+            (λ last. subst (λ (k : ℕ). Leads (world_at p done) (world_at p (done + k)) (changes_upto k (steps ++ t ∷ []))) (sym last) (leads_to_last told lead))
+            (λ front. subst (Leads (world_at p done) (world_at p (done + n))) (sym (upto_front n steps t front)) (told.lead n front))
+            (last_or_front n (length steps) (omega (arith, few, long)));
+      }
+
+-- one more step
+pub told_more : (p : Plan) (es : List Event) (done i : ℕ) (e : Event) (m n : Engine) (old new : List StepText) → es ≡ p.steps → i < length es → e ≡ get_or es i e → StandsFor m (world_at p i) → LeadsNext e m n
+    → done + length old ≡ i → AreTold p done old → IsStepAdded m n old new → AreTold p done new
+told_more p es done i e m n old new same below at stands on count told added =
+    let text : StepText = added.text in
+    let within : i < length p.steps = subst (λ (fs : List Event). i < length fs) same below in
+    let here : e ≡ get_or p.steps i e = at ∙ ap (λ (fs : List Event). get_or fs i e) same in
+    let step : Leads (world_at p i) (next (world_at p i) e) text.changes.items = added.lead (world_at p i) (e ∷ []) stands (on (world_at p i) stands) in
+    let lead : Leads (world_at p i) (world_at p (i + 1)) text.changes.items =
+    subst (λ (w : World). Leads (world_at p i) w text.changes.items) (sym (world_more p i e within here)) step in
+    let after : i + 1 ≡ done + suc (length old) = omega (arith, count) in
+    let moved : Leads (world_at p (done + length old)) (world_at p (done + suc (length old))) text.changes.items =
+    subst (λ (k : ℕ). Leads (world_at p k) (world_at p (done + suc (length old))) text.changes.items) (sym count)
+    (subst (λ (k : ℕ). Leads (world_at p i) (world_at p k) text.changes.items) after lead) in
+    subst (AreTold p done) (sym added.added) (told_added p done old text told (omega (arith, count, within)) moved)
+
+pub count_more : (done i : ℕ) (m n : Engine) (old new : List StepText) → done + length old ≡ i → IsStepAdded m n old new → done + length new ≡ i + 1
+count_more done i m n old new count added =
+    let long = longer old added.text in
+    let same : length new ≡ length (old ++ added.text ∷ []) = ap (λ (ss : List StepText). length ss) added.added in
+    omega (arith, count, long, same)

@@ -1,0 +1,119 @@
+//! What a step changed, in the lines of a state.
+use hek_commands::{clock_line, put_bucket, put_txn, put_version};
+use hek_machine::Machine;
+use hek_rules::{NoMemory, Schedule, TxnId, VersionId};
+use hek_why::Change;
+use std::alloc::Global;
+use std::io::Write;
+
+/// What has a line in the text of a state.
+#[derive(Clone, Copy, PartialEq)]
+enum Subject {
+    Clock,
+    Version(VersionId),
+    Txn(TxnId),
+    Bucket(u64),
+}
+
+/// Appends to `lines` the line of each thing that the changes name, as it is in the machine after them. A bucket that has no line
+/// any more goes to `gone`, as `bucket 0`. The changes of one thing are next to each other.
+pub(crate) fn put_changed(
+    alloc: Global,
+    schedule: &Schedule,
+    machine: &Machine,
+    changes: &[Change],
+    lines: &mut Vec<u8>,
+    gone: &mut Vec<u8>,
+) -> Result<(), NoMemory> {
+    let mut last = None;
+    for change in changes {
+        let subject = subject_of(change);
+        if !is_last(last, subject) {
+            put_subject(alloc, schedule, machine, subject, lines, gone)?;
+            last = Some(subject);
+        }
+    }
+    Ok(())
+}
+
+fn is_last(last: Option<Subject>, subject: Subject) -> bool {
+    match last {
+        Some(last) => last == subject,
+        None => false,
+    }
+}
+
+fn subject_of(change: &Change) -> Subject {
+    match change {
+        Change::Clock(..) => Subject::Clock,
+        Change::Begin { version, .. }
+        | Change::End { version, .. }
+        | Change::NewVersion { version, .. } => Subject::Version(*version),
+        Change::Txn { txn, .. } => Subject::Txn(*txn),
+        Change::LockCount { bucket, .. } | Change::LockList { bucket, .. } => {
+            Subject::Bucket(*bucket)
+        }
+    }
+}
+
+fn put_subject(
+    alloc: Global,
+    schedule: &Schedule,
+    machine: &Machine,
+    subject: Subject,
+    lines: &mut Vec<u8>,
+    gone: &mut Vec<u8>,
+) -> Result<(), NoMemory> {
+    match subject {
+        Subject::Clock => put_clock(alloc, machine, lines),
+        Subject::Version(v) => put_version(machine, v, lines),
+        Subject::Txn(t) => put_txn_line(schedule, machine, t, lines),
+        Subject::Bucket(bucket) => put_bucket_line(machine, bucket, lines, gone),
+    }
+}
+
+/// Appends the line of the clock.
+pub(crate) fn put_clock(
+    alloc: Global,
+    machine: &Machine,
+    lines: &mut Vec<u8>,
+) -> Result<(), NoMemory> {
+    let line = clock_line(alloc, machine.clock())?;
+    lines.extend_from_slice(line.as_slice())?;
+    Ok(())
+}
+
+fn put_txn_line(
+    schedule: &Schedule,
+    machine: &Machine,
+    t: TxnId,
+    lines: &mut Vec<u8>,
+) -> Result<(), NoMemory> {
+    if t.number() > 0 && t.number() <= schedule.txn_count() as u64 {
+        put_txn(schedule, machine, t, lines)?;
+    }
+    Ok(())
+}
+
+fn put_bucket_line(
+    machine: &Machine,
+    bucket: u64,
+    lines: &mut Vec<u8>,
+    gone: &mut Vec<u8>,
+) -> Result<(), NoMemory> {
+    if bucket >= machine.buckets() {
+        return Ok(());
+    }
+    if machine.lock_count(bucket) == 0 {
+        return put_gone(bucket, gone);
+    }
+    put_bucket(machine, bucket, lines)
+}
+
+/// Appends a bucket that has no line any more.
+fn put_gone(bucket: u64, gone: &mut Vec<u8>) -> Result<(), NoMemory> {
+    match writeln!(gone, "bucket {bucket}") {
+        Ok(()) => Ok(()),
+        Err(_) => Err(NoMemory),
+    }
+}

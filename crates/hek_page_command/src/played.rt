@@ -1,0 +1,84 @@
+//! The play of an order, or of the first moves of one, as a page shows it.
+ghost use Rattle.std.specs.Prelude.{◌≡◌, IfOk, None, length, map};
+ghost use Rattle.hek_page_command.specs.Explorers.{IsOrderStory};
+ghost use Rattle.hek_page_command.specs.Tellings.{IsStory};
+ghost use Rattle.hek_permute.specs.Leveled.{leveled};
+
+use crate::prefixes::is_whole;
+use crate::story::{StepRange, Story, story_of};
+use hek_permute::{Form, Moves, OrderFault, Play, outcome_of, play_order, schedule_with};
+use hek_permute_command::put_outcome;
+use hek_rules::{Event, NoMemory, Schedule, TxnId};
+use std::alloc::Global;
+
+/// The events of a play, the story of those that a page shows, and the line of the outcome if the order is whole.
+#[derive(Drop)]
+pub struct OrderStory {
+    pub events: Vec<Event>,
+    pub story: Story,
+    pub outcome: Option<Vec<u8>>,
+}
+
+/// The play of an order, or of the first moves of one: its events, and the story of those after the first `done` ones. `moves`
+/// are those of the schedule's transactions.
+pub fn order_story(
+    alloc: Global,
+    schedule: &Schedule,
+    moves: &[Moves],
+    form: Form,
+    order: &[TxnId],
+    done: usize,
+) -> Result<OrderStory, OrderFault>
+    ensures { IfOk result (λ told. IsOrderStory schedule.now form moves.now order.now done told.events.items told.story.steps.items) }
+{
+    let play = play_order(alloc, schedule, moves, form, order)?;
+    let events = events_of(alloc, &play)?;
+    let outcome = outcome_line(alloc, schedule, moves, form, order, play)?;
+    let story = story_of_events(alloc, schedule, events.as_slice(), done)?;
+    Ok(OrderStory {
+        events,
+        story,
+        outcome,
+    })
+}
+
+fn events_of(alloc: Global, play: &Play) -> Result<Vec<Event>, NoMemory>
+    ensures { IfOk result (λ events. events.items ≡ map (λ entry. entry.event) play.now.history.items) }
+{
+    Ok(play.history.iter().map(|entry| entry.event).collect(alloc)?)
+}
+
+/// The line of a play's outcome, if the order is whole.
+fn outcome_line(
+    alloc: Global,
+    schedule: &Schedule,
+    moves: &[Moves],
+    form: Form,
+    order: &[TxnId],
+    play: Play,
+) -> Result<Option<Vec<u8>>, OrderFault> {
+    if !is_whole(moves, form, order) {
+        return Ok(None);
+    }
+    let outcome = outcome_of(alloc, schedule, play)?;
+    let mut text = Vec::new(alloc);
+    put_outcome(alloc, schedule, &outcome, &mut text)?;
+    Ok(Some(text))
+}
+
+/// The story of these events over a schedule's rows and transactions, after the first `done` ones.
+fn story_of_events(
+    alloc: Global,
+    schedule: &Schedule,
+    events: &[Event],
+    done: usize,
+) -> Result<Story, OrderFault>
+    ensures { IfOk result (λ story. IsStory (leveled schedule.now None events.now) (record { done = done; last = length events.now }) story.steps.items) }
+{
+    let run = schedule_with(alloc, schedule, None, events)?;
+    let range = StepRange {
+        done,
+        last: events.len(),
+    };
+    Ok(story_of(alloc, &run, range)?)
+}

@@ -1,0 +1,105 @@
+//! What a page says of one step.
+ghost use Rattle.std.specs.Prelude.{◌≡◌, IfOk};
+ghost use Rattle.hek_why.specs.Leads.{LeadOn};
+
+use crate::changed::put_changed;
+use crate::sees::put_sees;
+use crate::waits::Waits;
+use hek_rules::{NoMemory, Schedule, TxnId};
+use hek_why::{Change, Dooms, Step, changes, reasons};
+use hek_why_command::{ReplyRule, put_reasons, reply_rule};
+use std::alloc::Global;
+
+/// What a page says of a step: what the step changed, and these lines: `changed`, the line of each thing that it changed, as the
+/// state has it after the step; `gone`, the buckets that have no line any more; `why`, the reasons; `sees`, what the transaction
+/// saw; `waits`, all waits after the step, if they have changed; `ends`, the transactions whose wait has ended. `rule` is the row
+/// of the table of replies.
+#[derive(Drop)]
+pub struct StepText {
+    pub changes: Vec<Change>,
+    pub changed: Vec<u8>,
+    pub gone: Vec<u8>,
+    pub why: Vec<u8>,
+    pub rule: &'static ReplyRule,
+    pub sees: Vec<u8>,
+    pub waits: Option<Vec<u8>>,
+    pub ends: Vec<u8>,
+}
+
+/// What is kept from step to step: the waits, and which transactions must abort because of which.
+#[derive(Drop)]
+pub(crate) struct Watch {
+    pub waits: Waits,
+    pub dooms: Dooms,
+}
+
+/// Why a step has its reply: the reasons, a line each, and the row of the table of replies.
+#[derive(Drop)]
+struct Because {
+    lines: Vec<u8>,
+    rule: &'static ReplyRule,
+}
+
+/// What a page says of a step.
+pub(crate) fn step_text(
+    alloc: Global,
+    schedule: &Schedule,
+    step: &Step<'_>,
+    watch: &mut Watch,
+) -> Result<StepText, NoMemory>
+    ensures lead { IfOk result (λ text. LeadOn step.now.before.now step.now.after.now text.changes.items) }
+{
+    let list = changes(alloc, step.before, step.after)?;
+    let because = because_of(alloc, schedule, step, &watch.dooms)?;
+    let mut text = StepText {
+        changes: list,
+        changed: Vec::new(alloc),
+        gone: Vec::new(alloc),
+        why: because.lines,
+        rule: because.rule,
+        sees: Vec::new(alloc),
+        waits: None,
+        ends: Vec::new(alloc),
+    };
+    fill(alloc, schedule, step, watch, &mut text)?;
+    Ok(text)
+}
+
+/// Adds the lines of what changed, of what the transaction saw, and of the waits.
+fn fill(
+    alloc: Global,
+    schedule: &Schedule,
+    step: &Step<'_>,
+    watch: &mut Watch,
+    text: &mut StepText,
+) -> Result<(), NoMemory>
+    ensures kept { text.new.changes ≡ text.old.changes }
+{
+    let changes = text.changes.as_slice();
+    let changed = &mut text.changed;
+    put_changed(
+        alloc,
+        schedule,
+        step.after,
+        changes,
+        changed,
+        &mut text.gone,
+    )?;
+    put_sees(alloc, schedule, step, &mut text.sees)?;
+    watch.waits.changes(alloc, step.after, &mut text.waits)?;
+    watch.waits.note(alloc, step, &mut text.ends)
+}
+
+fn because_of(
+    alloc: Global,
+    schedule: &Schedule,
+    step: &Step<'_>,
+    dooms: &Dooms,
+) -> Result<Because, NoMemory> {
+    let t = step.event.txn().unwrap_or(TxnId::new(0));
+    let list = reasons(alloc, step, dooms)?;
+    let mut lines = Vec::new(alloc);
+    put_reasons(schedule, step.before, t, list.as_slice(), &mut lines)?;
+    let rule = reply_rule(step, list.as_slice());
+    Ok(Because { lines, rule })
+}
