@@ -3,11 +3,13 @@ use hek_rules::{Schedule, Time, TxnId};
 use serde::Serializer;
 use std::fmt::Display;
 
+#[inline(always)]
 pub(crate) fn put_text<S: Serializer>(name: &str, text: &str, out: &mut S) -> Result<(), S::Error> {
     out.key(name)?;
     out.str(text)
 }
 
+#[inline(always)]
 pub(crate) fn put_number<S: Serializer>(
     name: &str,
     number: u64,
@@ -17,11 +19,13 @@ pub(crate) fn put_number<S: Serializer>(
     out.u64(number)
 }
 
+#[inline(always)]
 pub(crate) fn put_flag<S: Serializer>(name: &str, flag: bool, out: &mut S) -> Result<(), S::Error> {
     out.key(name)?;
     out.bool(flag)
 }
 
+#[inline(always)]
 pub(crate) fn put_null<S: Serializer>(name: &str, out: &mut S) -> Result<(), S::Error> {
     out.key(name)?;
     out.unit()
@@ -68,6 +72,7 @@ pub(crate) fn write_time<S: Serializer>(time: Time, out: &mut S) -> Result<(), S
 }
 
 /// The name of a transaction, or its number if the schedule does not declare it.
+#[inline(always)]
 pub(crate) fn put_name<S: Serializer>(
     name: &str,
     schedule: &Schedule,
@@ -103,6 +108,7 @@ pub(crate) fn write_names<S: Serializer>(
 }
 
 /// The name of a transaction, or its number if the schedule does not declare it.
+#[inline(always)]
 fn write_name<S: Serializer>(
     schedule: &Schedule,
     txn: TxnId,

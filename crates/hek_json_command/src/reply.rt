@@ -87,6 +87,7 @@ fn put_late_words<S: Serializer>(
     }
 }
 
+#[inline(always)]
 fn put_counted<S: Serializer>(
     kind: &str,
     name: &str,

@@ -109,7 +109,7 @@ fn found_of<'a, E: Write>(
     let moves = moves_of(alloc, schedule)?;
     let most = first_order(alloc, moves.as_slice(), form)?.len();
     let found = match wanted {
-        Wanted::Reply(sought) => find_order(alloc, schedule, form, sought),
+        Wanted::Reply(sought) => find_order(alloc, schedule, form, sought, progress),
         Wanted::NotSerial => first_not_serial(alloc, schedule, form, progress),
     };
     match found {

@@ -1,5 +1,5 @@
 //! How many orders have been played, on a line of a terminal.
-use hek_permute::{Outcome, Watch};
+use hek_permute::{Outcome, Pace, Watch};
 use hek_rules::TxnId;
 use std::io::Write;
 
@@ -36,6 +36,16 @@ impl<'e, E: Write> Progress<'e, E> {
         }
     }
 
+    /// Counts the play of the beginning of an order. It is not known how many there will be.
+    fn count_beginning(&mut self) {
+        self.done = self.done.saturating_add(1);
+        if self.shows && self.done % PACE == 0 {
+            let done = self.done;
+            let _ = write!(self.terminal, "\rhek: permute: {done} beginnings of orders");
+            let _ = self.terminal.flush();
+        }
+    }
+
     /// Clears the line, if there is one.
     pub fn clear(&mut self) {
         if self.shows && self.done >= PACE {
@@ -49,5 +59,11 @@ impl<E: Write> Watch for Progress<'_, E> {
     fn see(&mut self, _order: &[TxnId], _outcome: &Outcome) -> bool {
         self.count();
         true
+    }
+}
+
+impl<E: Write> Pace for Progress<'_, E> {
+    fn count_play(&mut self) {
+        self.count_beginning();
     }
 }
