@@ -16,8 +16,8 @@ use hek_commands::{
 };
 use hek_debug_command::{debug_command, debug_session};
 use hek_history_command::run_log_command;
-use hek_page_command::{Extent, Heading, MOST_NODES, Part, explorer_command, page_command};
 use hek_json_command::{Asked, run_json};
+use hek_page_command::{Extent, Heading, MOST_NODES, Part, explorer_command, page_command};
 use hek_permute::Form;
 use hek_permute_command::{Choice, auto_file, part_of};
 use hek_rules::{Level, number};
@@ -526,14 +526,7 @@ fn parts_of<'a>(found: &ArgMatches<'a>) -> Result<(u64, u64), HekFault<'a>> {
 /// The greatest number of turns, and of runs.
 const MOST: u64 = 1_000_000;
 
-fn threads<
-    'a,
-    T: Threads + Wait + Sync,
-    D: Disk,
-    I: Read + Drop,
-    W: Write,
-    E: Write + IsTerminal,
->(
+fn threads<'a, T: Threads + Wait + Sync, D: Disk, I: Read + Drop, W: Write, E: Write + IsTerminal>(
     system: &T,
     alloc: Global,
     found: &ArgMatches<'a>,

@@ -73,13 +73,7 @@ pub fn permute_as<'a, R: Read + Drop, W: Write, E: Write>(
 
 /// Runs transactions in threads, once or many times, and writes text or, if it is asked for, JSON. Many runs show on a
 /// terminal how many are over.
-pub fn threads_as<
-    'a,
-    T: Threads + Wait + Sync,
-    R: Read + Drop,
-    W: Write,
-    E: Write + IsTerminal,
->(
+pub fn threads_as<'a, T: Threads + Wait + Sync, R: Read + Drop, W: Write, E: Write + IsTerminal>(
     system: &T,
     alloc: Global,
     found: &ArgMatches<'_>,

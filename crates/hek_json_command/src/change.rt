@@ -84,11 +84,7 @@ fn put_counts<S: Serializer>(before: u64, after: u64, out: &mut S) -> Result<(),
     put_number("after", after, out)
 }
 
-fn put_version<S: Serializer>(
-    kind: &str,
-    version: VersionId,
-    out: &mut S,
-) -> Result<(), S::Error> {
+fn put_version<S: Serializer>(kind: &str, version: VersionId, out: &mut S) -> Result<(), S::Error> {
     put_text("kind", kind, out)?;
     put_number("version", version.index(), out)
 }

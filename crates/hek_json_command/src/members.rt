@@ -54,11 +54,7 @@ pub(crate) fn put_shown<S: Serializer, T: Display>(
 }
 
 /// A time, or null for 0: drawn times begin at 1.
-pub(crate) fn put_time<S: Serializer>(
-    name: &str,
-    time: Time,
-    out: &mut S,
-) -> Result<(), S::Error> {
+pub(crate) fn put_time<S: Serializer>(name: &str, time: Time, out: &mut S) -> Result<(), S::Error> {
     out.key(name)?;
     write_time(time, out)
 }
@@ -109,11 +105,7 @@ pub(crate) fn write_names<S: Serializer>(
 
 /// The name of a transaction, or its number if the schedule does not declare it.
 #[inline(always)]
-fn write_name<S: Serializer>(
-    schedule: &Schedule,
-    txn: TxnId,
-    out: &mut S,
-) -> Result<(), S::Error> {
+fn write_name<S: Serializer>(schedule: &Schedule, txn: TxnId, out: &mut S) -> Result<(), S::Error> {
     let number = txn.number();
     if number == 0 || number > schedule.txn_count() as u64 {
         return out.u64(number);

@@ -29,7 +29,14 @@ pub fn permute_json<'a, R: Read + Drop, W: Write, E: Write>(
     };
     let mut progress = Progress::new(faults, choice.progress, most_plays(choice, from, to));
     let mut lines = Vec::new(alloc);
-    let played = put_asked(alloc, &schedule, choice, (from, to), &mut progress, &mut lines);
+    let played = put_asked(
+        alloc,
+        &schedule,
+        choice,
+        (from, to),
+        &mut progress,
+        &mut lines,
+    );
     progress.clear();
     let status = played?;
     send(&mut lines, out)?;

@@ -46,7 +46,14 @@ fn write_run<'a, W: Write>(
     schedule.known();
     let mut machine = Machine::load(alloc, schedule)?;
     let mut telling = Telling::new(alloc, schedule, extras);
-    write_steps(alloc, &mut telling, &mut machine, schedule.steps(), limit, out)?;
+    write_steps(
+        alloc,
+        &mut telling,
+        &mut machine,
+        schedule.steps(),
+        limit,
+        out,
+    )?;
     let mut lines = Vec::new(alloc);
     if state {
         put_state(alloc, schedule, &machine, &mut lines)?;

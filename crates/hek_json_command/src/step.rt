@@ -162,8 +162,16 @@ fn put_full(
         number: telling.done,
         event: step.event,
         reply: step.reply,
-        why: if extras.why.is_some() { Some(why) } else { None },
-        changes: if extras.changes { Some(changed.as_slice()) } else { None },
+        why: if extras.why.is_some() {
+            Some(why)
+        } else {
+            None
+        },
+        changes: if extras.changes {
+            Some(changed.as_slice())
+        } else {
+            None
+        },
     };
     put_object(alloc, &line, lines)
 }

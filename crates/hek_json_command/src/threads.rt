@@ -70,11 +70,7 @@ fn write_history<'a, T: Threads + Wait + Sync, W: Write>(
 }
 
 /// The object of each entry of a history.
-fn history_lines(
-    alloc: Global,
-    schedule: &Schedule,
-    report: Report,
-) -> Result<Vec<u8>, NoMemory> {
+fn history_lines(alloc: Global, schedule: &Schedule, report: Report) -> Result<Vec<u8>, NoMemory> {
     let Report {
         machine: _,
         history,
@@ -84,7 +80,14 @@ fn history_lines(
     let mut number = 0u64;
     for entry in history.as_slice() {
         number = number.saturating_add(1);
-        put_plain(alloc, schedule, number, entry.event, &entry.reply, &mut lines)?;
+        put_plain(
+            alloc,
+            schedule,
+            number,
+            entry.event,
+            &entry.reply,
+            &mut lines,
+        )?;
     }
     Ok(lines)
 }

@@ -72,12 +72,7 @@ fn put_times<S: Serializer>(
     put_time("after", new, out)
 }
 
-fn put_counts<S: Serializer>(
-    field: &str,
-    old: u64,
-    new: u64,
-    out: &mut S,
-) -> Result<(), S::Error> {
+fn put_counts<S: Serializer>(field: &str, old: u64, new: u64, out: &mut S) -> Result<(), S::Error> {
     put_text("field", field, out)?;
     put_number("before", old, out)?;
     put_number("after", new, out)

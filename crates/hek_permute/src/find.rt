@@ -52,7 +52,15 @@ pub fn find_order<P: Pace>(
 {
     let moves = moves_of(alloc, schedule)?;
     let first = first_order(alloc, moves.as_slice(), form)?;
-    find_shortest(alloc, schedule, moves.as_slice(), form, sought, first.len(), pace)
+    find_shortest(
+        alloc,
+        schedule,
+        moves.as_slice(),
+        form,
+        sought,
+        first.len(),
+        pace,
+    )
 }
 
 /// The same, by the number of moves.
@@ -93,7 +101,9 @@ fn find_at<P: Pace>(
     let mut tried = None;
     for _ in 0..u64::MAX {
         let front = front_of(order.as_slice(), count);
-        if meets_anew(alloc, schedule, moves, form, sought, front, &mut tried, pace)? {
+        if meets_anew(
+            alloc, schedule, moves, form, sought, front, &mut tried, pace,
+        )? {
             return Ok(tried);
         }
         if !advance(&mut order) {

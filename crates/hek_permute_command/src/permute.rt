@@ -41,7 +41,14 @@ fn permute<'a, W: Write, E: Write>(
     };
     let mut progress = Progress::new(faults, choice.progress, most_plays(choice, from, to));
     let mut text = Vec::new(alloc);
-    let played = put_asked(alloc, schedule, choice, (from, to), &mut progress, &mut text);
+    let played = put_asked(
+        alloc,
+        schedule,
+        choice,
+        (from, to),
+        &mut progress,
+        &mut text,
+    );
     progress.clear();
     let status = played?;
     send(&mut text, out)?;
