@@ -199,11 +199,11 @@ fn put_faults(
     Ok(())
 }
 
-fn put_fault(
+fn put_fault<'x>(
     alloc: Global,
-    schedule: &Schedule,
-    transcript: &Transcript,
-    fault: &Fault,
+    schedule: &'x Schedule,
+    transcript: &'x Transcript,
+    fault: &'x Fault,
     lines: &mut Vec<u8>,
 ) -> Result<(), NoMemory> {
     let (Some(event), Some(reply)) = (
@@ -246,7 +246,7 @@ impl Serialize for FaultLine<'_> {
     fn serialize<S: Serializer>(&self, out: &mut S) -> Result<(), S::Error> {
         out.begin_map(None)?;
         put_number("step", (self.place as u64).saturating_add(1), out)?;
-        put_event(self.schedule, self.event, out)?;
+        put_event(self.schedule, &self.event, out)?;
         put_reply("reply", self.schedule, self.reply, out)?;
         put_maybe_reply("serial_reply", self.schedule, self.serial, out)?;
         put_missing("read", self, self.had, self.wanted, out)?;

@@ -6,7 +6,7 @@ use serde::Serializer;
 /// The name of an event's transaction, or null, and the event: its kind and its operands.
 pub(crate) fn put_event<S: Serializer>(
     schedule: &Schedule,
-    event: Event,
+    event: &Event,
     out: &mut S,
 ) -> Result<(), S::Error> {
     match event.txn() {
@@ -21,8 +21,8 @@ pub(crate) fn put_event<S: Serializer>(
 }
 
 #[inline(always)]
-fn put_operands<S: Serializer>(event: Event, out: &mut S) -> Result<(), S::Error> {
-    match event {
+fn put_operands<S: Serializer>(event: &Event, out: &mut S) -> Result<(), S::Error> {
+    match *event {
         Event::Read(_, key) | Event::Delete(_, key) => put_number("key", key, out),
         Event::Scan(_, bucket) => put_number("bucket", bucket, out),
         Event::Insert(_, key, value) | Event::Update(_, key, value) => {

@@ -136,10 +136,10 @@ impl Serialize for NoneLine {
 }
 
 /// Appends the lines of a tally.
-pub(crate) fn put_tally(
+pub(crate) fn put_tally<'x>(
     alloc: Global,
-    schedule: &Schedule,
-    tally: &Tally,
+    schedule: &'x Schedule,
+    tally: &'x Tally,
     lines: &mut Vec<u8>,
 ) -> Result<(), NoMemory> {
     let mut orders = 0u64;
@@ -155,11 +155,11 @@ pub(crate) fn put_tally(
 }
 
 /// Appends the line of an order.
-pub(crate) fn put_order(
+pub(crate) fn put_order<'x>(
     alloc: Global,
-    schedule: &Schedule,
-    order: &[TxnId],
-    outcome: &Outcome,
+    schedule: &'x Schedule,
+    order: &'x [TxnId],
+    outcome: &'x Outcome,
     lines: &mut Vec<u8>,
 ) -> Result<(), NoMemory> {
     let line = OrderLine {
@@ -171,11 +171,11 @@ pub(crate) fn put_order(
 }
 
 /// Appends the line of an outcome at all levels.
-pub(crate) fn put_leveled(
+pub(crate) fn put_leveled<'x>(
     alloc: Global,
-    schedule: &Schedule,
-    tallies: &[Tally],
-    outcome: &Outcome,
+    schedule: &'x Schedule,
+    tallies: &'x [Tally],
+    outcome: &'x Outcome,
     lines: &mut Vec<u8>,
 ) -> Result<(), NoMemory> {
     let line = LevelLine {
@@ -187,10 +187,10 @@ pub(crate) fn put_leveled(
 }
 
 /// Appends the line of moves.
-pub(crate) fn put_moves(
+pub(crate) fn put_moves<'x>(
     alloc: Global,
-    schedule: &Schedule,
-    moves: &[TxnId],
+    schedule: &'x Schedule,
+    moves: &'x [TxnId],
     of: usize,
     lines: &mut Vec<u8>,
 ) -> Result<(), NoMemory> {

@@ -34,10 +34,10 @@ impl Serialize for StateLine<'_> {
 }
 
 /// Appends the line of a machine's state.
-pub(crate) fn put_state(
+pub(crate) fn put_state<'x>(
     alloc: Global,
-    schedule: &Schedule,
-    machine: &Machine,
+    schedule: &'x Schedule,
+    machine: &'x Machine,
     lines: &mut Vec<u8>,
 ) -> Result<(), NoMemory> {
     put_object(alloc, &StateLine { schedule, machine }, lines)
@@ -129,18 +129,18 @@ fn put_counters<S: Serializer>(machine: &Machine, t: TxnId, out: &mut S) -> Resu
 fn put_held<S: Serializer>(machine: &Machine, t: TxnId, out: &mut S) -> Result<(), S::Error>
     requires { Declared machine.now.txns t }
 {
-    match (
-        machine.read_list(t),
-        machine.write_list(t),
-        machine.bucket_list(t),
-    ) {
-        (Ok(reads), Ok(writes), Ok(buckets)) => {
-            put_versions("reads", reads.as_slice(), out)?;
-            put_writes("writes", writes.as_slice(), out)?;
-            put_buckets("buckets", buckets.as_slice(), out)
-        }
-        _ => Err(no_memory(out)),
-    }
+    let Ok(reads) = machine.read_list(t) else {
+        return Err(no_memory(out));
+    };
+    put_versions("reads", reads.as_slice(), out)?;
+    let Ok(writes) = machine.write_list(t) else {
+        return Err(no_memory(out));
+    };
+    put_writes("writes", writes.as_slice(), out)?;
+    let Ok(buckets) = machine.bucket_list(t) else {
+        return Err(no_memory(out));
+    };
+    put_buckets("buckets", buckets.as_slice(), out)
 }
 
 /// The transactions that wait for this one, and those that depend on it.
@@ -152,13 +152,14 @@ fn put_others<S: Serializer>(
 ) -> Result<(), S::Error>
     requires { Declared machine.now.txns t }
 {
-    match (machine.waiting_list(t), machine.dependents(t)) {
-        (Ok(waiting), Ok(dependents)) => {
-            put_names("waiting", schedule, waiting.as_slice(), out)?;
-            put_names("dependents", schedule, dependents.as_slice(), out)
-        }
-        _ => Err(no_memory(out)),
-    }
+    let Ok(waiting) = machine.waiting_list(t) else {
+        return Err(no_memory(out));
+    };
+    put_names("waiting", schedule, waiting.as_slice(), out)?;
+    let Ok(dependents) = machine.dependents(t) else {
+        return Err(no_memory(out));
+    };
+    put_names("dependents", schedule, dependents.as_slice(), out)
 }
 
 /// The locked buckets.

@@ -32,7 +32,7 @@ impl Serialize for StepLine<'_> {
     fn serialize<S: Serializer>(&self, out: &mut S) -> Result<(), S::Error> {
         out.begin_map(None)?;
         put_number("step", self.number, out)?;
-        put_event(self.schedule, self.event, out)?;
+        put_event(self.schedule, &self.event, out)?;
         put_reply("reply", self.schedule, self.reply, out)?;
         if let Some(why) = self.why {
             put_reasons(why, out)?;
@@ -90,12 +90,12 @@ pub(crate) fn tell_step(
 }
 
 /// Appends the object of a step without reasons and changes.
-pub(crate) fn put_plain(
+pub(crate) fn put_plain<'x>(
     alloc: Global,
-    schedule: &Schedule,
+    schedule: &'x Schedule,
     number: u64,
     event: Event,
-    reply: &Reply,
+    reply: &'x Reply,
     lines: &mut Vec<u8>,
 ) -> Result<(), NoMemory> {
     let line = StepLine {
@@ -135,10 +135,10 @@ fn tell_from(
 }
 
 /// Appends the object of a step with its reasons and changes, as they are asked for.
-fn put_full(
+fn put_full<'x>(
     alloc: Global,
-    telling: &Telling<'_>,
-    step: &Step<'_>,
+    telling: &'x Telling<'x>,
+    step: &'x Step<'x>,
     lines: &mut Vec<u8>,
 ) -> Result<(), NoMemory> {
     let extras = telling.extras;

@@ -203,10 +203,10 @@ fn count_one(
 }
 
 /// How many outcomes there are, and a line for each.
-fn outcome_lines(
+fn outcome_lines<'x>(
     alloc: Global,
-    schedule: &Schedule,
-    outcomes: &Outcomes,
+    schedule: &'x Schedule,
+    outcomes: &'x Outcomes,
     times: u64,
 ) -> Result<Vec<u8>, NoMemory> {
     let mut lines = Vec::new(alloc);
