@@ -5,13 +5,10 @@ ghost use Rattle.hek_commands.specs.Commands.{CheckFails, TraceTextFails, judged
 ghost use Rattle.hek_rules.specs.Faults.{IsVerdict};
 ghost use Rattle.hek_json_command.specs.Statuses.{HasStatusOf};
 
-use crate::event::put_event;
-use crate::line::put_object;
-use crate::members::{put_name, put_number, put_text};
-use crate::reply::{put_maybe_reply, put_reply};
 use hek_asm::read_trace;
 use hek_check_command::{Fault, Judged, Source, faults_of, pairs_of, source_of};
 use hek_commands::{HekFault, ScheduleFile, schedule_in, send};
+use hek_json::{put_event, put_maybe_reply, put_name, put_number, put_object, put_reply, put_text};
 use hek_rules::{Event, Level, NoMemory, Reply, Schedule, Transcript, Verdict};
 use hek_serial::{check, check_at, serial_reply, serial_reply_at};
 use serde::{Described, Serialize, Serializer};

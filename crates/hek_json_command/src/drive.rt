@@ -2,12 +2,10 @@
 ghost use Rattle.std.specs.Prelude.{◌≡◌, ◌≤◌, length, IfOk};
 ghost use Rattle.hek_rules.specs.Plan.{IsStep};
 
-use crate::line::put_object;
-use crate::members::{put_number, put_text};
-use crate::state::put_state;
-use crate::step::{Telling, tell_step};
+use crate::told::{Telling, tell_step};
 use hek_asm::AsmKind;
 use hek_commands::{HekFault, INPUT, ScheduleFile, buffered, read_fault, schedule_in, send};
+use hek_json::{put_number, put_object, put_state, put_text};
 use hek_machine::Machine;
 use hek_rules::{Event, NoMemory, next_line};
 use hek_why_command::{Extras, read_event};

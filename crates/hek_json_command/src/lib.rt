@@ -1,24 +1,14 @@
 //! What commands print with `--json`: one object of JSON on each line.
 #![tactic(auto)]
 
-mod change;
 mod check;
 mod drive;
-mod event;
-mod line;
-mod members;
 mod orders;
 mod outcome;
-mod party;
 mod permute;
-mod reason;
-mod reply;
 mod run;
-mod state;
-mod step;
 mod threads;
-mod txn_change;
-mod word;
+mod told;
 
 pub use check::{Asked, check_json};
 pub use drive::{Driven, drive_json};

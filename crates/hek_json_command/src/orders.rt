@@ -1,7 +1,6 @@
 //! Lines of `hek permute --json`.
-use crate::line::put_object;
-use crate::members::{put_flag, put_names, put_null, put_number};
 use crate::outcome::put_outcome;
+use hek_json::{put_flag, put_names, put_null, put_number, put_object};
 use hek_permute::{Outcome, Row, Tally};
 use hek_permute_command::count_of;
 use hek_rules::{Level, NoMemory, Schedule, TxnId};

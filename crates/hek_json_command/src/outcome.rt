@@ -1,6 +1,6 @@
 //! Outcomes of orders and of runs in threads.
-use crate::members::{put_flag, put_name, put_rows, put_text};
 use hek_commands::state_text;
+use hek_json::{put_flag, put_name, put_rows, put_text};
 use hek_permute::{Ending, Outcome};
 use hek_rules::{Schedule, State, TxnId};
 use serde::Serializer;

@@ -3,9 +3,9 @@ ghost use Rattle.std.specs.Prelude.{◌≡◌, length, IfOk};
 ghost use Rattle.std.specs.List.{All};
 ghost use Rattle.hek_laws.specs.Runs.{IsPlaced};
 
-use crate::state::put_state;
-use crate::step::{Telling, tell_step};
+use crate::told::{Telling, tell_step};
 use hek_commands::{HekFault, ScheduleFile, schedule_in, send};
+use hek_json::put_state;
 use hek_machine::Machine;
 use hek_rules::{Event, NoMemory, Schedule};
 use hek_why_command::Extras;

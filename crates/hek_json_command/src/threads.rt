@@ -3,11 +3,9 @@ ghost use Rattle.std.specs.Prelude.{◌≡◌, MatchResult, IfErr};
 ghost use Rattle.hek_commands.specs.Commands.{FileGives};
 ghost use Rattle.hek_threads_command.specs.Threaded.{IsRunFault, IsThreadsStop, ThreadsFail};
 
-use crate::line::put_object;
-use crate::members::{put_flag, put_number, put_rows};
 use crate::outcome::put_ends;
-use crate::step::put_plain;
 use hek_commands::{HekFault, ScheduleFile, schedule_in, send};
+use hek_json::{put_flag, put_number, put_object, put_plain, put_rows};
 use hek_permute::Ending;
 use hek_rules::{NoMemory, Pairs, Reply, Schedule, Verdict};
 use hek_serial::check;

@@ -4,7 +4,7 @@ use hek_rules::{Refusal, Reply, Schedule, TxnId};
 use serde::Serializer;
 
 /// A reply: its kind, as a trace has it, and its other words.
-pub(crate) fn put_reply<S: Serializer>(
+pub fn put_reply<S: Serializer>(
     name: &str,
     schedule: &Schedule,
     reply: &Reply,
@@ -17,7 +17,7 @@ pub(crate) fn put_reply<S: Serializer>(
 }
 
 /// A reply, or null.
-pub(crate) fn put_maybe_reply<S: Serializer>(
+pub fn put_maybe_reply<S: Serializer>(
     name: &str,
     schedule: &Schedule,
     reply: Option<&Reply>,

@@ -1,6 +1,6 @@
 //! Transactions that a reason names, with their states.
-use crate::members::{put_name, put_text, put_time};
-use hek_commands::state_text;
+use crate::members::{put_name, put_shown, put_time};
+use crate::phase::StateText;
 use hek_machine::Machine;
 use hek_rules::{Schedule, TxnId};
 use serde::Serializer;
@@ -17,7 +17,7 @@ pub(crate) fn put_party<S: Serializer>(
     out.begin_map(None)?;
     put_name("txn", schedule, txn, out)?;
     if machine.is_declared(txn) {
-        put_text("state", state_text(machine.state(txn)), out)?;
+        put_shown("state", &StateText(machine.state(txn)), out)?;
         put_time("end", machine.end_time(txn), out)?;
     }
     out.end_map()

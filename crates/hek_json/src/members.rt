@@ -4,29 +4,25 @@ use serde::Serializer;
 use std::fmt::Display;
 
 #[inline(always)]
-pub(crate) fn put_text<S: Serializer>(name: &str, text: &str, out: &mut S) -> Result<(), S::Error> {
+pub fn put_text<S: Serializer>(name: &str, text: &str, out: &mut S) -> Result<(), S::Error> {
     out.key(name)?;
     out.str(text)
 }
 
 #[inline(always)]
-pub(crate) fn put_number<S: Serializer>(
-    name: &str,
-    number: u64,
-    out: &mut S,
-) -> Result<(), S::Error> {
+pub fn put_number<S: Serializer>(name: &str, number: u64, out: &mut S) -> Result<(), S::Error> {
     out.key(name)?;
     out.u64(number)
 }
 
 #[inline(always)]
-pub(crate) fn put_flag<S: Serializer>(name: &str, flag: bool, out: &mut S) -> Result<(), S::Error> {
+pub fn put_flag<S: Serializer>(name: &str, flag: bool, out: &mut S) -> Result<(), S::Error> {
     out.key(name)?;
     out.bool(flag)
 }
 
 #[inline(always)]
-pub(crate) fn put_null<S: Serializer>(name: &str, out: &mut S) -> Result<(), S::Error> {
+pub fn put_null<S: Serializer>(name: &str, out: &mut S) -> Result<(), S::Error> {
     out.key(name)?;
     out.unit()
 }
@@ -69,7 +65,7 @@ pub(crate) fn write_time<S: Serializer>(time: Time, out: &mut S) -> Result<(), S
 
 /// The name of a transaction, or its number if the schedule does not declare it.
 #[inline(always)]
-pub(crate) fn put_name<S: Serializer>(
+pub fn put_name<S: Serializer>(
     name: &str,
     schedule: &Schedule,
     txn: TxnId,
@@ -80,7 +76,7 @@ pub(crate) fn put_name<S: Serializer>(
 }
 
 /// The names of transactions.
-pub(crate) fn put_names<S: Serializer>(
+pub fn put_names<S: Serializer>(
     name: &str,
     schedule: &Schedule,
     txns: &[TxnId],
@@ -123,7 +119,7 @@ pub(crate) fn write_numbers<S: Serializer>(numbers: &[u64], out: &mut S) -> Resu
 }
 
 /// Pairs of a key and a value, each an array.
-pub(crate) fn put_rows<S: Serializer>(pairs: &[(u64, u64)], out: &mut S) -> Result<(), S::Error> {
+pub fn put_rows<S: Serializer>(pairs: &[(u64, u64)], out: &mut S) -> Result<(), S::Error> {
     out.key("rows")?;
     out.begin_seq(Some(pairs.len()))?;
     for pair in pairs {

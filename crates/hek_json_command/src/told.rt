@@ -1,48 +1,13 @@
-//! One step of a run.
+//! A run that is told step by step.
 ghost use Rattle.std.specs.Prelude.{◌≡◌, length};
 ghost use Rattle.hek_laws.specs.Runs.{IsPlaced};
 
-use crate::change::put_changes;
-use crate::event::put_event;
-use crate::line::put_object;
-use crate::members::put_number;
-use crate::reason::{Reasons, put_reasons};
-use crate::reply::put_reply;
+use hek_json::{Beside, put_plain, put_step};
 use hek_machine::Machine;
-use hek_rules::{Event, NoMemory, Reply, Schedule};
-use hek_why::{Change, Dooms, Step, changes, reasons};
+use hek_rules::{Event, NoMemory, Schedule};
+use hek_why::{Dooms, Step, changes, reasons};
 use hek_why_command::{Extras, Why};
-use serde::{Described, Serialize, Serializer};
 use std::alloc::Global;
-
-/// A step: its number, event and reply, and with them the reasons and the changes, if they are asked for.
-#[derive(Clone, Copy)]
-struct StepLine<'a> {
-    schedule: &'a Schedule,
-    number: u64,
-    event: Event,
-    reply: &'a Reply,
-    why: Option<Reasons<'a>>,
-    changes: Option<&'a [Change]>,
-}
-
-impl Described for StepLine<'_> {}
-
-impl Serialize for StepLine<'_> {
-    fn serialize<S: Serializer>(&self, out: &mut S) -> Result<(), S::Error> {
-        out.begin_map(None)?;
-        put_number("step", self.number, out)?;
-        put_event(self.schedule, &self.event, out)?;
-        put_reply("reply", self.schedule, self.reply, out)?;
-        if let Some(why) = self.why {
-            put_reasons(why, out)?;
-        }
-        if let Some(list) = self.changes {
-            put_changes(self.schedule, list, out)?;
-        }
-        out.end_map()
-    }
-}
 
 /// A run so far: the schedule, the number of events done, which abort doomed which transaction, and what is asked for
 /// with each step.
@@ -89,26 +54,6 @@ pub(crate) fn tell_step(
     put_plain(alloc, telling.schedule, telling.done, *event, &reply, lines)
 }
 
-/// Appends the object of a step without reasons and changes.
-pub(crate) fn put_plain<'x>(
-    alloc: Global,
-    schedule: &'x Schedule,
-    number: u64,
-    event: Event,
-    reply: &'x Reply,
-    lines: &mut Vec<u8>,
-) -> Result<(), NoMemory> {
-    let line = StepLine {
-        schedule,
-        number,
-        event,
-        reply,
-        why: None,
-        changes: None,
-    };
-    put_object(alloc, &line, lines)
-}
-
 /// Does an event on the machine, given a copy of it from before. Appends the line of its object, with what is asked for.
 fn tell_from(
     alloc: Global,
@@ -135,43 +80,37 @@ fn tell_from(
 }
 
 /// Appends the object of a step with its reasons and changes, as they are asked for.
-fn put_full<'x>(
+fn put_full(
     alloc: Global,
-    telling: &'x Telling<'x>,
-    step: &'x Step<'x>,
+    telling: &Telling<'_>,
+    step: &Step<'_>,
     lines: &mut Vec<u8>,
 ) -> Result<(), NoMemory> {
-    let extras = telling.extras;
-    let list = match extras.why {
+    let Extras {
+        why,
+        changes: wants_changes,
+    } = telling.extras;
+    let list = match why {
         Some(_) => reasons(alloc, step, &telling.dooms)?,
         None => Vec::new(alloc),
     };
-    let changed = if extras.changes {
+    let changed = if wants_changes {
         changes(alloc, step.before, step.after)?
     } else {
         Vec::new(alloc)
     };
-    let why = Reasons {
-        schedule: telling.schedule,
-        step,
-        list: list.as_slice(),
-        ruled: extras.why == Some(Why::Rules),
-    };
-    let line = StepLine {
-        schedule: telling.schedule,
-        number: telling.done,
-        event: step.event,
-        reply: step.reply,
-        why: if extras.why.is_some() {
-            Some(why)
+    let beside = Beside {
+        why: if why.is_some() {
+            Some(list.as_slice())
         } else {
             None
         },
-        changes: if extras.changes {
+        ruled: why == Some(Why::Rules),
+        changes: if wants_changes {
             Some(changed.as_slice())
         } else {
             None
         },
     };
-    put_object(alloc, &line, lines)
+    put_step(alloc, telling.schedule, telling.done, step, beside, lines)
 }

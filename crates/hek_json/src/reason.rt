@@ -1,9 +1,9 @@
 //! Reasons of replies.
-use crate::members::{put_flag, put_maybe, put_name, put_names, put_number, put_text};
+use crate::members::{put_flag, put_maybe, put_name, put_names, put_number, put_shown, put_text};
 use crate::party::put_party;
+use crate::phase::{StateText, phase_text};
 use crate::reply::refusal_name;
 use crate::word::{put_begin, put_end};
-use hek_commands::state_text;
 use hek_machine::Machine;
 use hek_rules::{
     BeginRecord, Cause, Level, Refusal, Schedule, Sight, State, Time, TxnId, VersionId,
@@ -311,21 +311,9 @@ fn put_refused<S: Serializer>(
 ) -> Result<(), S::Error> {
     put_text("kind", "refused", out)?;
     put_text("refusal", refusal_name(refusal), out)?;
-    put_text("state", state_text(state), out)?;
+    put_shown("state", &StateText(state), out)?;
     put_flag("finished", finished, out)?;
     put_text("wanted", phase_text(phase), out)
-}
-
-fn phase_text(phase: Phase) -> &'static str {
-    match phase {
-        Phase::NotBegun => "not begun",
-        Phase::Open => "active and not finished",
-        Phase::Finished => "active and finished",
-        Phase::Preparing => "preparing",
-        Phase::Live => "active or preparing",
-        Phase::Releasing => "preparing, committed or aborted",
-        Phase::Over => "committed or aborted",
-    }
 }
 
 /// What a transaction has left to give back and to stamp.

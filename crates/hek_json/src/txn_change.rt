@@ -1,6 +1,8 @@
 //! Fields of a transaction that a step changed, and the lists that a transaction has.
-use crate::members::{put_flag, put_names, put_number, put_text, put_time, write_numbers};
-use hek_commands::state_text;
+use crate::members::{
+    put_flag, put_names, put_number, put_shown, put_text, put_time, write_numbers,
+};
+use crate::phase::StateText;
 use hek_rules::{Schedule, State, Time, TxnId, VersionId, WriteEntry};
 use hek_why::TxnChange;
 use serde::Serializer;
@@ -57,8 +59,8 @@ fn put_list_change<S: Serializer>(
 
 fn put_states<S: Serializer>(old: State, new: State, out: &mut S) -> Result<(), S::Error> {
     put_text("field", "state", out)?;
-    put_text("before", state_text(old), out)?;
-    put_text("after", state_text(new), out)
+    put_shown("before", &StateText(old), out)?;
+    put_shown("after", &StateText(new), out)
 }
 
 fn put_times<S: Serializer>(

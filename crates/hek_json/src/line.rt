@@ -5,7 +5,7 @@ use serde_json::to_vec;
 use std::alloc::Global;
 
 /// Appends the line of an object.
-pub(crate) fn put_object<T: Serialize>(
+pub fn put_object<T: Serialize>(
     alloc: Global,
     object: &T,
     lines: &mut Vec<u8>,

@@ -4,7 +4,7 @@ use hek_rules::{Event, Schedule};
 use serde::Serializer;
 
 /// The name of an event's transaction, or null, and the event: its kind and its operands.
-pub(crate) fn put_event<S: Serializer>(
+pub fn put_event<S: Serializer>(
     schedule: &Schedule,
     event: &Event,
     out: &mut S,

@@ -3,10 +3,12 @@ ghost use Rattle.std.specs.Prelude.{◌<◌, length};
 ghost use Rattle.hek_txn.specs.TxnTable.{Declared};
 
 use crate::line::put_object;
-use crate::members::{put_flag, put_maybe, put_name, put_names, put_number, put_text, put_time};
+use crate::members::{
+    put_flag, put_maybe, put_name, put_names, put_number, put_shown, put_text, put_time,
+};
+use crate::phase::StateText;
 use crate::txn_change::{put_buckets, put_versions, put_writes};
 use crate::word::{put_begin, put_end};
-use hek_commands::state_text;
 use hek_machine::Machine;
 use hek_rules::{NoMemory, Schedule, TxnId, VersionId};
 use serde::{Described, Serialize, Serializer};
@@ -34,7 +36,7 @@ impl Serialize for StateLine<'_> {
 }
 
 /// Appends the line of a machine's state.
-pub(crate) fn put_state<'x>(
+pub fn put_state<'x>(
     alloc: Global,
     schedule: &'x Schedule,
     machine: &'x Machine,
@@ -111,7 +113,7 @@ fn put_phase<S: Serializer>(machine: &Machine, t: TxnId, out: &mut S) -> Result<
     requires { Declared machine.now.txns t }
 {
     put_text("level", machine.level(t).word(), out)?;
-    put_text("state", state_text(machine.state(t)), out)?;
+    put_shown("state", &StateText(machine.state(t)), out)?;
     put_time("begin", machine.begin_time(t), out)?;
     put_time("end", machine.end_time(t), out)
 }
