@@ -20,7 +20,6 @@ pub fn put_event<S: Serializer>(
     out.end_map()
 }
 
-#[inline(always)]
 fn put_operands<S: Serializer>(event: &Event, out: &mut S) -> Result<(), S::Error> {
     match *event {
         Event::Read(_, key) | Event::Delete(_, key) => put_number("key", key, out),

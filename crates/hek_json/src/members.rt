@@ -3,25 +3,21 @@ use hek_rules::{Schedule, Time, TxnId};
 use serde::Serializer;
 use std::fmt::Display;
 
-#[inline(always)]
 pub fn put_text<S: Serializer>(name: &str, text: &str, out: &mut S) -> Result<(), S::Error> {
     out.key(name)?;
     out.str(text)
 }
 
-#[inline(always)]
 pub fn put_number<S: Serializer>(name: &str, number: u64, out: &mut S) -> Result<(), S::Error> {
     out.key(name)?;
     out.u64(number)
 }
 
-#[inline(always)]
 pub fn put_flag<S: Serializer>(name: &str, flag: bool, out: &mut S) -> Result<(), S::Error> {
     out.key(name)?;
     out.bool(flag)
 }
 
-#[inline(always)]
 pub fn put_null<S: Serializer>(name: &str, out: &mut S) -> Result<(), S::Error> {
     out.key(name)?;
     out.unit()
@@ -64,7 +60,6 @@ pub(crate) fn write_time<S: Serializer>(time: Time, out: &mut S) -> Result<(), S
 }
 
 /// The name of a transaction, or its number if the schedule does not declare it.
-#[inline(always)]
 pub fn put_name<S: Serializer>(
     name: &str,
     schedule: &Schedule,
@@ -100,7 +95,6 @@ pub(crate) fn write_names<S: Serializer>(
 }
 
 /// The name of a transaction, or its number if the schedule does not declare it.
-#[inline(always)]
 fn write_name<S: Serializer>(schedule: &Schedule, txn: TxnId, out: &mut S) -> Result<(), S::Error> {
     let number = txn.number();
     if number == 0 || number > schedule.txn_count() as u64 {

@@ -87,7 +87,6 @@ fn put_late_words<S: Serializer>(
     }
 }
 
-#[inline(always)]
 fn put_counted<S: Serializer>(
     kind: &str,
     name: &str,
