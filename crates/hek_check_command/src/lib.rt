@@ -11,4 +11,4 @@ pub use all::{Beside, Checked, all_command, check_text, names_of};
 pub use faults::{Fault, faults_of};
 pub use judged::Judged;
 pub use summary::{note_nothing, summary_command};
-pub use writers::put_sources;
+pub use writers::{Source, pairs_of, put_sources, source_of};

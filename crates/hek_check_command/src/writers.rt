@@ -5,7 +5,7 @@ use std::io::Write;
 
 /// Where a pair of a key and a value comes from.
 #[derive(Clone, Copy)]
-enum Source {
+pub enum Source {
     /// The write at this place of the trace.
     Write(usize),
     /// The loaded rows.
@@ -50,7 +50,7 @@ pub fn put_sources(
 }
 
 /// The pairs that a reply to an event has: of a read its key with the value, of a scan all.
-fn pairs_of(
+pub fn pairs_of(
     alloc: Global,
     event: Event,
     reply: Option<&Reply>,
@@ -98,7 +98,7 @@ fn put_source(source: Source, names: &[&str], line: &mut Vec<u8>) -> Result<(), 
 
 /// Where a pair comes from, for an event at a place: the last write of it before, or else the loaded rows, or else the
 /// first write of it after.
-fn source_of(transcript: &Transcript, place: usize, pair: (u64, u64)) -> Source {
+pub fn source_of(transcript: &Transcript, place: usize, pair: (u64, u64)) -> Source {
     let mut found = Source::Nowhere;
     if transcript.rows().contains(&pair) {
         found = Source::Loaded;

@@ -2,6 +2,7 @@
 use crate::advice::advice_of;
 use crate::arguments::{RULES, meant_command, read_words};
 use crate::disk::{Disk, LateFile, open};
+use crate::json::{check_as_json, drive_as, permute_as, threads_as, wants_json};
 use crate::log::history;
 use crate::output::NotedOutput;
 use crate::schedule::{schedule_file, schedule_text};
@@ -15,12 +16,12 @@ use hek_commands::{
 };
 use hek_debug_command::{debug_command, debug_session};
 use hek_history_command::run_log_command;
+use hek_json_command::{Asked, run_json};
 use hek_page_command::{Extent, Heading, MOST_NODES, Part, explorer_command, page_command};
 use hek_permute::Form;
-use hek_permute_command::{Choice, auto_file, part_of, permute_command};
+use hek_permute_command::{Choice, auto_file, part_of};
 use hek_rules::{Level, number};
-use hek_threads_command::{repeat_command, threads_command};
-use hek_why_command::{Driving, Extras, Why, drive_command, explain_command};
+use hek_why_command::{Driving, Extras, Why, explain_command};
 use hek_word_command::{Bounds, changes_command, word_command};
 use std::alloc::Global;
 use std::convert::AsStr;
@@ -109,7 +110,9 @@ pub fn answer_in_threads<
     let ran = match read_words(alloc, words) {
         Ok(matches) => {
             let ran = match matches.subcommand() {
-                Some(("threads", found)) => threads(system, alloc, found, disk, input, &mut out),
+                Some(("threads", found)) => {
+                    threads(system, alloc, found, disk, input, &mut out, faults)
+                }
                 _ => run(alloc, &matches, disk, input, &mut out, faults),
             };
             advised(alloc, ran, &matches, faults)
@@ -290,6 +293,9 @@ fn run_schedule<'a, D: Disk, I: Read + Drop, W: Write>(
     if found.get_flag("history") {
         return run_log_command(alloc, file, out);
     }
+    if wants_json(found) {
+        return run_json(alloc, file, extras, limit, state, out);
+    }
     if extras.why.is_some() || extras.changes {
         return explain_command(alloc, file, extras, limit, state, out);
     }
@@ -329,7 +335,7 @@ fn drive<'a, D: Disk, I: Read + IsTerminal + Drop, W: Write>(
     let mut input = Some(input);
     let file = schedule_file(alloc, found, disk, &mut input)?;
     let events = open(disk, &mut input, INPUT)?;
-    drive_command(alloc, file, events, driving, out)
+    drive_as(alloc, found, file, events, driving, out)
 }
 
 /// The number that an option has, if the words have the option.
@@ -434,6 +440,15 @@ fn check<'a, D: Disk, I: Read + Drop, W: Write, E: Write + IsTerminal>(
     let trace = read_text(alloc, open(disk, &mut input, name)?, name)?;
     let why = found.get_flag("why");
     let summary = found.get_flag("summary");
+    if wants_json(found) {
+        let asked = Asked {
+            level,
+            why,
+            summary,
+            all: found.get_flag("all"),
+        };
+        return check_as_json(alloc, file, trace.as_slice(), asked, out, faults);
+    }
     if found.get_flag("all") {
         let beside = Beside {
             level,
@@ -455,7 +470,7 @@ fn check<'a, D: Disk, I: Read + Drop, W: Write, E: Write + IsTerminal>(
 /// How many orders are played at most, if the words give no limit.
 const MOST_ORDERS: u64 = 100_000;
 
-fn permute<'a, D: Disk, I: Read + Drop, W: Write, E: Write>(
+fn permute<'a, D: Disk, I: Read + Drop, W: Write, E: Write + IsTerminal>(
     alloc: Global,
     found: &ArgMatches<'a>,
     disk: &D,
@@ -464,12 +479,12 @@ fn permute<'a, D: Disk, I: Read + Drop, W: Write, E: Write>(
     faults: &mut E,
 ) -> Result<u8, HekFault<'a>> {
     let mut input = Some(input);
-    let choice = choice_of(found)?;
+    let choice = choice_of(found, faults.is_terminal())?;
     let file = schedule_file(alloc, found, disk, &mut input)?;
-    permute_command(alloc, file, choice, out, faults)
+    permute_as(alloc, found, file, choice, out, faults)
 }
 
-fn choice_of<'a>(found: &ArgMatches<'a>) -> Result<Choice<'a>, HekFault<'a>> {
+fn choice_of<'a>(found: &ArgMatches<'a>, progress: bool) -> Result<Choice<'a>, HekFault<'a>> {
     Ok(Choice {
         level: level_of(found)?,
         form: form_of(found)?,
@@ -479,6 +494,7 @@ fn choice_of<'a>(found: &ArgMatches<'a>) -> Result<Choice<'a>, HekFault<'a>> {
         order: found.get_str("order"),
         levels: found.get_flag("levels"),
         find: found.get_str("find"),
+        progress,
     })
 }
 
@@ -510,13 +526,14 @@ fn parts_of<'a>(found: &ArgMatches<'a>) -> Result<(u64, u64), HekFault<'a>> {
 /// The greatest number of turns, and of runs.
 const MOST: u64 = 1_000_000;
 
-fn threads<'a, T: Threads + Wait + Sync, D: Disk, I: Read + Drop, W: Write>(
+fn threads<'a, T: Threads + Wait + Sync, D: Disk, I: Read + Drop, W: Write, E: Write + IsTerminal>(
     system: &T,
     alloc: Global,
     found: &ArgMatches<'a>,
     disk: &D,
     input: I,
     out: &mut W,
+    faults: &mut E,
 ) -> Result<u8, HekFault<'a>> {
     let mut input = Some(input);
     let turns = count_from(text(found, "turns")?, 0)?;
@@ -525,10 +542,7 @@ fn threads<'a, T: Threads + Wait + Sync, D: Disk, I: Read + Drop, W: Write>(
         Some(text) => Some(count_from(text, 1)?),
     };
     let file = schedule_file(alloc, found, disk, &mut input)?;
-    match times {
-        None => threads_command(system, alloc, file, turns, out),
-        Some(times) => repeat_command(system, alloc, file, turns, times, out),
-    }
+    threads_as(system, alloc, found, file, turns, times, out, faults)
 }
 
 /// The number that a text gives, from `least` to 1,000,000.

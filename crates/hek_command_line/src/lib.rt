@@ -5,6 +5,7 @@ mod advice;
 mod arguments;
 mod command_line;
 mod disk;
+mod json;
 mod log;
 mod nearest;
 mod output;

@@ -19,6 +19,7 @@ const LEVELS: Choice<'static> = Choice {
     order: None,
     levels: true,
     find: None,
+    progress: false,
 };
 
 /// Plays all orders of each schedule of a folder, in the order of SUMMARY, compares their outcomes by level with what is stored,

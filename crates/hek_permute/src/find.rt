@@ -33,35 +33,51 @@ impl Sought {
     }
 }
 
+/// Counts the plays of a search. No contract says what it sees.
+pub trait Pace {
+    /// `find_order` calls this before each play.
+    fn count_play(&mut self);
+}
+
 /// The moves of a schedule's transactions after which the reply has come, if it comes in the play of an order: the
 /// shortest beginning of an order, and of equally long ones the first. Without an answer no order has the reply.
-pub fn find_order(
+pub fn find_order<P: Pace>(
     alloc: Global,
     schedule: &Schedule,
     form: Form,
     sought: &Sought,
+    pace: &mut P,
 ) -> Result<Option<Vec<TxnId>>, OrderFault>
     ensures { IfOk result (λ found. IsAnswer schedule.now form sought.now (option_map (λ v. v.items) found)) }
 {
     let moves = moves_of(alloc, schedule)?;
     let first = first_order(alloc, moves.as_slice(), form)?;
-    find_shortest(alloc, schedule, moves.as_slice(), form, sought, first.len())
+    find_shortest(
+        alloc,
+        schedule,
+        moves.as_slice(),
+        form,
+        sought,
+        first.len(),
+        pace,
+    )
 }
 
 /// The same, by the number of moves.
-fn find_shortest(
+fn find_shortest<P: Pace>(
     alloc: Global,
     schedule: &Schedule,
     moves: &[Moves],
     form: Form,
     sought: &Sought,
     most: usize,
+    pace: &mut P,
 ) -> Result<Option<Vec<TxnId>>, OrderFault>
     requires { most ≡ length (first_in form moves.now) }
     ensures { IfOk result (λ found. IsFound schedule.now form moves.now sought.now (option_map (λ v. v.items) found)) }
 {
     for less in 0..most {
-        let found = find_at(alloc, schedule, moves, form, sought, less + 1)?;
+        let found = find_at(alloc, schedule, moves, form, sought, less + 1, pace)?;
         if found.is_some() {
             return Ok(found);
         }
@@ -70,13 +86,14 @@ fn find_shortest(
 }
 
 /// The first order that has the reply in its first `count` moves: these moves.
-fn find_at(
+fn find_at<P: Pace>(
     alloc: Global,
     schedule: &Schedule,
     moves: &[Moves],
     form: Form,
     sought: &Sought,
     count: usize,
+    pace: &mut P,
 ) -> Result<Option<Vec<TxnId>>, OrderFault>
     ensures { IfOk result (λ found. IsFoundAt schedule.now form moves.now sought.now count (option_map (λ v. v.items) found)) }
 {
@@ -84,7 +101,9 @@ fn find_at(
     let mut tried = None;
     for _ in 0..u64::MAX {
         let front = front_of(order.as_slice(), count);
-        if meets_anew(alloc, schedule, moves, form, sought, front, &mut tried)? {
+        if meets_anew(
+            alloc, schedule, moves, form, sought, front, &mut tried, pace,
+        )? {
             return Ok(tried);
         }
         if !advance(&mut order) {
@@ -106,7 +125,7 @@ fn front_of(order: &[TxnId], count: usize) -> &[TxnId]
 
 /// Whether a play of these moves has the reply; they become the ones that were tried last. Moves that were tried last
 /// do not have it, and are not played again.
-fn meets_anew(
+fn meets_anew<P: Pace>(
     alloc: Global,
     schedule: &Schedule,
     moves: &[Moves],
@@ -114,6 +133,7 @@ fn meets_anew(
     sought: &Sought,
     front: &[TxnId],
     tried: &mut Option<Vec<TxnId>>,
+    pace: &mut P,
 ) -> Result<bool, OrderFault>
     requires { IfSome tried.old (λ v. Misses schedule.now form moves.now sought.now v.items) }
     ensures right { IfOk result (λ yes. MatchBool yes (Meets schedule.now form moves.now sought.now front.now) (Misses schedule.now form moves.now sought.now front.now)) }
@@ -122,7 +142,7 @@ fn meets_anew(
     if is_that(tried, front) {
         return Ok(false);
     }
-    let found = meets(alloc, schedule, moves, form, sought, front)?;
+    let found = meets(alloc, schedule, moves, form, sought, front, pace)?;
     *tried = Some(Vec::from_slice(alloc, front)?);
     Ok(found)
 }
@@ -157,16 +177,18 @@ fn are_same(moves: &[TxnId], others: &[TxnId]) -> bool
 }
 
 /// Whether a play of these moves has the reply.
-fn meets(
+fn meets<P: Pace>(
     alloc: Global,
     schedule: &Schedule,
     moves: &[Moves],
     form: Form,
     sought: &Sought,
     front: &[TxnId],
+    pace: &mut P,
 ) -> Result<bool, OrderFault>
     ensures { IfOk result (λ yes. MatchBool yes (Meets schedule.now form moves.now sought.now front.now) (Misses schedule.now form moves.now sought.now front.now)) }
 {
+    pace.count_play();
     let play = play_order(alloc, schedule, moves, form, front)?;
     Ok(has_hit(play.history.as_slice(), sought))
 }

@@ -12,7 +12,7 @@ mod tally;
 mod whole;
 
 pub use fault::OrderFault;
-pub use find::{Sought, find_order};
+pub use find::{Pace, Sought, find_order};
 pub use leveled::schedule_with;
 pub use moves::{Form, Moves, first_order, move_count, moves_of, order_count};
 pub use order::next_order;

@@ -20,6 +20,8 @@ pub struct Choice<'a> {
     pub levels: bool,
     /// What to look for, to write the shortest beginning of an order in which it comes.
     pub find: Option<&'a str>,
+    /// Whether standard error is a terminal, on which the number of orders that have been played is shown.
+    pub progress: bool,
 }
 
 /// The part that a text such as `2/8` names: its number, from 1, and the number of parts.

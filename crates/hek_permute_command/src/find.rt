@@ -1,8 +1,9 @@
 //! The shortest beginning of an order in which something comes, as a schedule.
 use crate::lines::{put_order, put_written};
-use crate::one::{fault_of, leveled};
+use crate::one::{Played, fault_of, leveled};
+use crate::progress::Progress;
 use hek_asm::{canonical, read_trace};
-use hek_commands::{HekFault, ScheduleFile, send};
+use hek_commands::{HekFault, ScheduleFile};
 use hek_permute::{
     Form, OrderFault, Outcome, Play, Sought, Watch, find_order, first_order, moves_of, play_all,
     play_order,
@@ -27,30 +28,28 @@ struct Found {
     most: usize,
 }
 
-/// Writes the schedule of the shortest beginning of an order in which a reply or a verdict comes, or `none of N orders`.
+/// Appends the schedule of the shortest beginning of an order in which a reply or a verdict comes, or `none of N orders`.
 /// Answers the exit status: 1 for none.
-pub(crate) fn write_found<'a, W: Write>(
+pub(crate) fn put_search<'a, E: Write>(
     alloc: Global,
     schedule: &Schedule,
     form: Form,
     text: &str,
     count: u64,
-    out: &mut W,
+    progress: &mut Progress<'_, E>,
+    lines: &mut Vec<u8>,
 ) -> Result<u8, HekFault<'a>> {
     let wanted = wanted_of(alloc, schedule, text)?;
-    let mut lines = Vec::new(alloc);
-    let status = match found_of(alloc, schedule, form, &wanted)? {
+    match found_of(alloc, schedule, form, &wanted, progress)? {
         Some(found) => {
-            put_found(alloc, schedule, form, &wanted, &found, &mut lines)?;
-            0
+            put_found(alloc, schedule, form, &wanted, found, lines)?;
+            Ok(0)
         }
         None => {
             put_written(writeln!(lines, "none of {count} orders").is_ok())?;
-            1
+            Ok(1)
         }
-    };
-    send(&mut lines, out)?;
-    Ok(status)
+    }
 }
 
 /// What a text asks for: `not serial`, a reply, or a name and a reply.
@@ -100,17 +99,18 @@ fn detect_line(alloc: Global, text: &str) -> Result<String, NoMemory> {
 }
 
 /// The moves after which it came, if it comes.
-fn found_of<'a>(
+fn found_of<'a, E: Write>(
     alloc: Global,
     schedule: &Schedule,
     form: Form,
     wanted: &Wanted,
+    progress: &mut Progress<'_, E>,
 ) -> Result<Option<Found>, HekFault<'a>> {
     let moves = moves_of(alloc, schedule)?;
     let most = first_order(alloc, moves.as_slice(), form)?.len();
     let found = match wanted {
-        Wanted::Reply(sought) => find_order(alloc, schedule, form, sought),
-        Wanted::NotSerial => first_not_serial(alloc, schedule, form),
+        Wanted::Reply(sought) => find_order(alloc, schedule, form, sought, progress),
+        Wanted::NotSerial => first_not_serial(alloc, schedule, form, progress),
     };
     match found {
         Ok(Some(moves)) => Ok(Some(Found { moves, most })),
@@ -121,13 +121,15 @@ fn found_of<'a>(
 
 /// A watcher that keeps the first order whose history is not serial.
 #[derive(Drop)]
-struct NotSerial {
+struct NotSerial<'p, 'e, E: Write> {
     alloc: Global,
+    progress: &'p mut Progress<'e, E>,
     order: Option<Vec<TxnId>>,
 }
 
-impl Watch for NotSerial {
+impl<E: Write> Watch for NotSerial<'_, '_, E> {
     fn see(&mut self, order: &[TxnId], outcome: &Outcome) -> bool {
+        self.progress.count();
         if outcome.serial() {
             return true;
         }
@@ -139,12 +141,17 @@ impl Watch for NotSerial {
 }
 
 /// The first order whose history is not serial.
-fn first_not_serial(
+fn first_not_serial<E: Write>(
     alloc: Global,
     schedule: &Schedule,
     form: Form,
+    progress: &mut Progress<'_, E>,
 ) -> Result<Option<Vec<TxnId>>, OrderFault> {
-    let mut watch = NotSerial { alloc, order: None };
+    let mut watch = NotSerial {
+        alloc,
+        progress,
+        order: None,
+    };
     match play_all(alloc, schedule, form, 0, u64::MAX, &mut watch) {
         Ok(_) => Ok(None),
         Err(fault) => match watch.order {
@@ -154,15 +161,28 @@ fn first_not_serial(
     }
 }
 
-/// Appends the schedule of the play of these moves, up to the event that has the reply.
+/// Appends the schedule of the play of the moves that were found, up to the event that has the reply.
 fn put_found<'a>(
     alloc: Global,
     schedule: &Schedule,
     form: Form,
     wanted: &Wanted,
-    found: &Found,
+    found: Found,
     lines: &mut Vec<u8>,
 ) -> Result<(), HekFault<'a>> {
+    let played = played_of(alloc, schedule, form, wanted, found)?;
+    put_heading(schedule, &played, lines)?;
+    put_schedule(alloc, &played.schedule, wanted, lines)
+}
+
+/// The moves that were found, and the schedule of their play up to the event that has the reply.
+fn played_of<'a>(
+    alloc: Global,
+    schedule: &Schedule,
+    form: Form,
+    wanted: &Wanted,
+    found: Found,
+) -> Result<Played, HekFault<'a>> {
     let moves = moves_of(alloc, schedule)?;
     let play = match play_order(
         alloc,
@@ -176,12 +196,32 @@ fn put_found<'a>(
     };
     let events = events_upto(alloc, &play, wanted)?;
     let made = leveled(alloc, schedule, None, events.as_slice())?;
-    put_heading(schedule, found, lines)?;
-    put_schedule(alloc, &made, wanted, lines)
+    let Found { moves, most } = found;
+    Ok(Played {
+        moves,
+        most,
+        schedule: made,
+    })
+}
+
+/// The shortest beginning of an order in which a reply or a verdict comes, and the schedule of its play up to the event
+/// that has the reply; None if it comes in no order.
+pub fn find_played<'a, E: Write>(
+    alloc: Global,
+    schedule: &Schedule,
+    form: Form,
+    text: &str,
+    progress: &mut Progress<'_, E>,
+) -> Result<Option<Played>, HekFault<'a>> {
+    let wanted = wanted_of(alloc, schedule, text)?;
+    match found_of(alloc, schedule, form, &wanted, progress)? {
+        Some(found) => Ok(Some(played_of(alloc, schedule, form, &wanted, found)?)),
+        None => Ok(None),
+    }
 }
 
 /// Appends `# after M of N moves: NAMES`.
-fn put_heading(schedule: &Schedule, found: &Found, lines: &mut Vec<u8>) -> Result<(), NoMemory> {
+fn put_heading(schedule: &Schedule, found: &Played, lines: &mut Vec<u8>) -> Result<(), NoMemory> {
     let made = found.moves.len();
     let most = found.most;
     put_written(write!(lines, "# after {made} of {most} moves: ").is_ok())?;

@@ -7,9 +7,14 @@ mod find;
 mod lines;
 mod one;
 mod permute;
+mod progress;
 mod table;
 
 pub use auto::auto_file;
 pub use choice::{Choice, part_of};
+pub use find::find_played;
 pub use lines::put_outcome;
-pub use permute::permute_command;
+pub use one::{Played, fault_of, leveled, one_order};
+pub use permute::{most_plays, permute_command, range, tallies_of, tally_of};
+pub use progress::Progress;
+pub use table::{count_of, is_first};

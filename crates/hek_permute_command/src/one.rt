@@ -14,15 +14,38 @@ pub(crate) fn write_one<'a, W: Write>(
     names: &str,
     out: &mut W,
 ) -> Result<u8, HekFault<'a>> {
-    let moves = moves_of(alloc, schedule)?;
-    let order = order_named(alloc, schedule, moves.as_slice(), form, names)?;
-    let events = events_of(alloc, schedule, moves.as_slice(), form, order.as_slice())?;
-    let played = leveled(alloc, schedule, None, events.as_slice())?;
-    let text = canonical(alloc, &played)?;
+    let played = one_order(alloc, schedule, form, names)?;
+    let text = canonical(alloc, &played.schedule)?;
     match out.write_all(text.as_bytes()) {
         Ok(()) => Ok(0),
         Err(_) => Err(HekFault::CannotWrite),
     }
+}
+
+/// Moves, how many moves an order has, and the schedule whose steps are the events of these moves.
+#[derive(Drop)]
+pub struct Played {
+    pub moves: Vec<TxnId>,
+    pub most: usize,
+    pub schedule: Schedule,
+}
+
+/// The order that names give, and the schedule whose steps are its events.
+pub fn one_order<'a>(
+    alloc: Global,
+    schedule: &Schedule,
+    form: Form,
+    names: &str,
+) -> Result<Played, HekFault<'a>> {
+    let moves = moves_of(alloc, schedule)?;
+    let order = order_named(alloc, schedule, moves.as_slice(), form, names)?;
+    let events = events_of(alloc, schedule, moves.as_slice(), form, order.as_slice())?;
+    let played = leveled(alloc, schedule, None, events.as_slice())?;
+    Ok(Played {
+        most: order.len(),
+        moves: order,
+        schedule: played,
+    })
 }
 
 /// The events of the play of an order.
@@ -48,7 +71,7 @@ pub(crate) fn events_of<'a>(
 }
 
 /// The schedule at this level, or at its own levels, with these steps.
-pub(crate) fn leveled<'a>(
+pub fn leveled<'a>(
     alloc: Global,
     schedule: &Schedule,
     level: Option<Level>,
@@ -61,7 +84,7 @@ pub(crate) fn leveled<'a>(
 }
 
 /// The fault of an order as that of a command.
-pub(crate) fn fault_of<'a>(fault: OrderFault) -> HekFault<'a> {
+pub fn fault_of<'a>(fault: OrderFault) -> HekFault<'a> {
     match fault {
         OrderFault::NoMemory => HekFault::NoMemory,
         OrderFault::Mismatch | OrderFault::TooMany | OrderFault::TooLong => HekFault::Mismatch(0),

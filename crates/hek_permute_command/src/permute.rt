@@ -1,8 +1,9 @@
 //! The command `permute`: plays the orders that are asked for, and writes their outcomes.
 use crate::choice::{Choice, range_of};
-use crate::find::write_found;
+use crate::find::put_search;
 use crate::lines::{put_order, put_outcome, put_row, put_written};
 use crate::one::{fault_of, leveled, write_one};
+use crate::progress::Progress;
 use crate::table::put_table;
 use hek_commands::{HekFault, ScheduleFile, schedule_in, send};
 use hek_permute::{Form, Outcome, Tally, Watch, moves_of, order_count, play_all};
@@ -12,7 +13,8 @@ use std::io::{Read, Write};
 
 /// Plays all orders of the moves of the schedule in a file, or does what else the choice asks for, and writes the
 /// outcomes. Answers the exit status. Nothing is written before the last order is over. If there are more orders than
-/// the limit, `faults` says so, and the status is 1.
+/// the limit, `faults` says so, and the status is 1. If the choice says so, `faults` is a terminal, and has a line with
+/// the number of orders that have been played, until the last is over.
 pub fn permute_command<'a, R: Read + Drop, W: Write, E: Write>(
     alloc: Global,
     file: ScheduleFile<R>,
@@ -37,17 +39,51 @@ fn permute<'a, W: Write, E: Write>(
     let Some((from, to)) = range(alloc, schedule, choice, faults)? else {
         return Ok(1);
     };
-    if let Some(wanted) = choice.find {
-        return at_find(alloc, schedule, choice, wanted, to, out);
-    }
+    let mut progress = Progress::new(faults, choice.progress, most_plays(choice, from, to));
     let mut text = Vec::new(alloc);
-    if choice.levels {
-        put_levels(alloc, schedule, choice.form, from, to, &mut text)?;
-    } else {
-        put_orders(alloc, schedule, choice, from, to, &mut text)?;
-    }
+    let played = put_asked(
+        alloc,
+        schedule,
+        choice,
+        (from, to),
+        &mut progress,
+        &mut text,
+    );
+    progress.clear();
+    let status = played?;
     send(&mut text, out)?;
+    Ok(status)
+}
+
+/// Plays the orders from a number on and below another, and appends what the choice asks for. Answers the exit status.
+fn put_asked<'a, E: Write>(
+    alloc: Global,
+    schedule: &Schedule,
+    choice: Choice<'_>,
+    part: (u64, u64),
+    progress: &mut Progress<'_, E>,
+    text: &mut Vec<u8>,
+) -> Result<u8, HekFault<'a>> {
+    let (from, to) = part;
+    if let Some(wanted) = choice.find {
+        return at_find(alloc, schedule, choice, wanted, to, progress, text);
+    }
+    if choice.levels {
+        put_levels(alloc, schedule, choice.form, from, to, progress, text)?;
+    } else {
+        put_orders(alloc, schedule, choice, from, to, progress, text)?;
+    }
     Ok(0)
+}
+
+/// How many plays the orders of a part take.
+pub fn most_plays(choice: Choice<'_>, from: u64, to: u64) -> u64 {
+    let orders = to.saturating_sub(from);
+    if choice.levels {
+        orders.saturating_mul(Level::ALL.len() as u64)
+    } else {
+        orders
+    }
 }
 
 /// The events of one order.
@@ -63,20 +99,21 @@ fn at_order<'a, W: Write>(
 }
 
 /// The shortest beginning of an order in which something comes; there are `count` orders.
-fn at_find<'a, W: Write>(
+fn at_find<'a, E: Write>(
     alloc: Global,
     schedule: &Schedule,
     choice: Choice<'_>,
     wanted: &str,
     count: u64,
-    out: &mut W,
+    progress: &mut Progress<'_, E>,
+    text: &mut Vec<u8>,
 ) -> Result<u8, HekFault<'a>> {
     let leveled = leveled(alloc, schedule, choice.level, schedule.steps())?;
-    write_found(alloc, &leveled, choice.form, wanted, count, out)
+    put_search(alloc, &leveled, choice.form, wanted, count, progress, text)
 }
 
 /// The orders of the part: the number of the first and the number after the last; None if there are too many.
-fn range<'a, E: Write>(
+pub fn range<'a, E: Write>(
     alloc: Global,
     schedule: &Schedule,
     choice: Choice<'_>,
@@ -101,43 +138,35 @@ fn range<'a, E: Write>(
 }
 
 /// The lines of the orders at the chosen level.
-fn put_orders<'a>(
+fn put_orders<'a, E: Write>(
     alloc: Global,
     schedule: &Schedule,
     choice: Choice<'_>,
     from: u64,
     to: u64,
+    progress: &mut Progress<'_, E>,
     text: &mut Vec<u8>,
 ) -> Result<(), HekFault<'a>> {
     let leveled = leveled(alloc, schedule, choice.level, schedule.steps())?;
     if choice.each {
-        put_each(alloc, &leveled, choice.form, from, to, text)
+        put_each(alloc, &leveled, choice.form, from, to, progress, text)
     } else {
-        let tally = tally_of(alloc, &leveled, choice.form, from, to)?;
+        let tally = tally_of(alloc, &leveled, choice.form, from, to, progress)?;
         put_tally(alloc, &leveled, &tally, text)?;
         Ok(())
     }
 }
 
-/// A watcher that looks at nothing.
-#[derive(Drop)]
-struct Blind;
-
-impl Watch for Blind {
-    fn see(&mut self, _order: &[TxnId], _outcome: &Outcome) -> bool {
-        true
-    }
-}
-
 /// The tally of the orders, the most frequent outcomes first.
-fn tally_of<'a>(
+pub fn tally_of<'a, E: Write>(
     alloc: Global,
     schedule: &Schedule,
     form: Form,
     from: u64,
     to: u64,
+    progress: &mut Progress<'_, E>,
 ) -> Result<Tally, HekFault<'a>> {
-    match play_all(alloc, schedule, form, from, to, &mut Blind) {
+    match play_all(alloc, schedule, form, from, to, progress) {
         Ok(mut tally) => match tally.sort() {
             Ok(()) => Ok(tally),
             Err(fault) => Err(fault_of(fault)),
@@ -169,14 +198,16 @@ fn put_heading(orders: u64, outcomes: usize, text: &mut Vec<u8>) -> Result<(), N
 
 /// A watcher that gathers a line for each order.
 #[derive(Drop)]
-struct Lines<'s> {
+struct Lines<'s, 'p, 'e, E: Write> {
     alloc: Global,
     schedule: &'s Schedule,
+    progress: &'p mut Progress<'e, E>,
     text: Vec<u8>,
 }
 
-impl Watch for Lines<'_> {
+impl<E: Write> Watch for Lines<'_, '_, '_, E> {
     fn see(&mut self, order: &[TxnId], outcome: &Outcome) -> bool {
+        self.progress.count();
         put_line(self.alloc, self.schedule, order, outcome, &mut self.text).is_ok()
     }
 }
@@ -198,17 +229,19 @@ fn put_line(
     Ok(())
 }
 
-fn put_each<'a>(
+fn put_each<'a, E: Write>(
     alloc: Global,
     schedule: &Schedule,
     form: Form,
     from: u64,
     to: u64,
+    progress: &mut Progress<'_, E>,
     text: &mut Vec<u8>,
 ) -> Result<(), HekFault<'a>> {
     let mut lines = Lines {
         alloc,
         schedule,
+        progress,
         text: Vec::new(alloc),
     };
     if let Err(fault) = play_all(alloc, schedule, form, from, to, &mut lines) {
@@ -221,33 +254,36 @@ fn put_each<'a>(
 }
 
 /// The table of outcomes by level.
-fn put_levels<'a>(
+fn put_levels<'a, E: Write>(
     alloc: Global,
     schedule: &Schedule,
     form: Form,
     from: u64,
     to: u64,
+    progress: &mut Progress<'_, E>,
     text: &mut Vec<u8>,
 ) -> Result<(), HekFault<'a>> {
-    let mut tallies = Vec::new(alloc);
-    for level in Level::ALL {
-        let tally = tally_at(alloc, schedule, level, form, from, to)?;
-        if tallies.push(tally).is_err() {
-            return Err(HekFault::NoMemory);
-        }
-    }
+    let tallies = tallies_of(alloc, schedule, form, from, to, progress)?;
     put_table(alloc, schedule, tallies.as_slice(), text)?;
     Ok(())
 }
 
-fn tally_at<'a>(
+/// The tally of the orders at each level, in the order of the levels.
+pub fn tallies_of<'a, E: Write>(
     alloc: Global,
     schedule: &Schedule,
-    level: Level,
     form: Form,
     from: u64,
     to: u64,
-) -> Result<Tally, HekFault<'a>> {
-    let leveled = leveled(alloc, schedule, Some(level), schedule.steps())?;
-    tally_of(alloc, &leveled, form, from, to)
+    progress: &mut Progress<'_, E>,
+) -> Result<Vec<Tally>, HekFault<'a>> {
+    let mut tallies = Vec::new(alloc);
+    for level in Level::ALL {
+        let leveled = leveled(alloc, schedule, Some(level), schedule.steps())?;
+        let tally = tally_of(alloc, &leveled, form, from, to, progress)?;
+        if tallies.push(tally).is_err() {
+            return Err(HekFault::NoMemory);
+        }
+    }
+    Ok(tallies)
 }

@@ -38,7 +38,7 @@ fn put_levels(text: &mut Vec<u8>) -> Result<(), NoMemory> {
 }
 
 /// Whether no tally before this one has the outcome.
-fn is_first(tallies: &[Tally], column: usize, outcome: &Outcome) -> bool {
+pub fn is_first(tallies: &[Tally], column: usize, outcome: &Outcome) -> bool {
     for (place, tally) in tallies.iter().enumerate() {
         if place < column && count_of(tally, outcome) > 0 {
             return false;
@@ -48,7 +48,7 @@ fn is_first(tallies: &[Tally], column: usize, outcome: &Outcome) -> bool {
 }
 
 /// How many orders have the outcome.
-fn count_of(tally: &Tally, outcome: &Outcome) -> u64 {
+pub fn count_of(tally: &Tally, outcome: &Outcome) -> u64 {
     for row in tally.rows() {
         if row.outcome().same(outcome) {
             return row.orders();

@@ -2,8 +2,11 @@
 #![tactic(auto)]
 
 mod outcome;
+mod progress;
 mod repeat;
 mod threads;
 
+pub use outcome::end_of;
+pub use progress::Progress;
 pub use repeat::repeat_command;
-pub use threads::threads_command;
+pub use threads::{report_of, threads_command};

@@ -54,7 +54,7 @@ fn put_ends(
 }
 
 /// How a worker's transaction ended: Committed, or Aborted with the cause.
-fn end_of(part: &Part) -> Reply
+pub fn end_of(part: &Part) -> Reply
     ensures { result ≡ ending_reply part.now }
 {
     let mut rest = part.as_slice();

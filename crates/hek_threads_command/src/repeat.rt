@@ -4,6 +4,7 @@ ghost use Rattle.hek_commands.specs.Commands.{FileGives};
 ghost use Rattle.hek_threads_command.specs.Threaded.{IsRunFault, IsThreadsStop, ThreadsFail};
 
 use crate::outcome::outcome_text;
+use crate::progress::Progress;
 use crate::threads::report_of;
 use hek_commands::{HekFault, ScheduleFile, schedule_in, send};
 use hek_rules::{NoMemory, Schedule};
@@ -19,45 +20,51 @@ type Outcomes = BTreeMap<Vec<u8>, u64>;
 
 /// Runs the transactions of the schedule in a file `times` times. Writes how many different outcomes there were, and
 /// each outcome with how often it occurred. Answers the exit status. Nothing is written before the last run is over.
+/// `progress` counts the runs.
 #[tactic(auto, using(crate::proofs::Histories::stop_fails))]
-pub fn repeat_command<'a, T: Threads + Wait + Sync, R: Read + Drop, W: Write>(
+pub fn repeat_command<'a, T: Threads + Wait + Sync, R: Read + Drop, W: Write, E: Write>(
     rt: &T,
     alloc: Global,
     file: ScheduleFile<R>,
     turns: u64,
     times: u64,
+    progress: &mut Progress<'_, E>,
     out: &mut W,
 ) -> Result<u8, HekFault<'a>>
     ensures { MatchResult result (λ status. (status ≡ 0) × ((plan : _) × FileGives R.remaining file plan)) (ThreadsFail R.remaining file) }
 {
     let schedule = schedule_in(alloc, file)?;
-    write_outcomes(rt, alloc, &schedule, turns, times, out)?;
+    write_outcomes(rt, alloc, &schedule, turns, times, progress, out)?;
     Ok(0)
 }
 
 /// Runs a schedule's transactions `times` times, and writes the outcomes.
-fn write_outcomes<'a, T: Threads + Wait + Sync, W: Write>(
+fn write_outcomes<'a, T: Threads + Wait + Sync, W: Write, E: Write>(
     rt: &T,
     alloc: Global,
     schedule: &Schedule,
     turns: u64,
     times: u64,
+    progress: &mut Progress<'_, E>,
     out: &mut W,
 ) -> Result<(), HekFault<'a>>
     ensures { IfErr result IsThreadsStop }
 {
-    let outcomes = outcomes_of(rt, alloc, schedule, turns, times)?;
+    let outcomes = outcomes_of(rt, alloc, schedule, turns, times, progress);
+    progress.clear();
+    let outcomes = outcomes?;
     let mut text = outcome_lines(alloc, &outcomes, times)?;
     send(&mut text, out)
 }
 
 /// The outcomes of `times` runs.
-fn outcomes_of<'a, T: Threads + Wait + Sync>(
+fn outcomes_of<'a, T: Threads + Wait + Sync, E: Write>(
     rt: &T,
     alloc: Global,
     schedule: &Schedule,
     turns: u64,
     times: u64,
+    progress: &mut Progress<'_, E>,
 ) -> Result<Outcomes, HekFault<'a>>
     ensures { IfErr result IsRunFault }
 {
@@ -66,6 +73,7 @@ fn outcomes_of<'a, T: Threads + Wait + Sync>(
         let report = report_of(rt, alloc, schedule, turns)?;
         let outcome = outcome_text(alloc, schedule, report)?;
         count_one(&mut outcomes, outcome)?;
+        progress.count();
     }
     Ok(outcomes)
 }

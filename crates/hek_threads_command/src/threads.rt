@@ -55,7 +55,7 @@ impl Gate for Open {
 }
 
 /// The report of a run in threads.
-pub(crate) fn report_of<'a, T: Threads + Wait + Sync>(
+pub fn report_of<'a, T: Threads + Wait + Sync>(
     rt: &T,
     alloc: Global,
     schedule: &Schedule,
