@@ -1,5 +1,5 @@
 //! What is wrong with a line that is not a command.
-use crate::name::{Meaning, Name, Place, meaning, name_of};
+use crate::name::{Meaning, Name, NameText, Place, meaning, name_of};
 use crate::operand::{BREAKS, FILE_BREAKS, Operand, SHOWS, WATCHES, operand_mistake};
 use hek_rules::{EventKind, Schedule, next_word, number};
 
@@ -147,14 +147,10 @@ fn for_sessions(place: Place) -> &'static str {
 fn no_name<'t>(schedule: &Schedule, word: Word<'t>, medium: Medium) -> Mistake<'t> {
     let commands = Wanted::Commands(medium);
     let short = meaning(word.text);
-    if medium == Medium::File && matches!(short, Meaning::One(_)) {
-        return Mistake::new(
-            word,
-            "",
-            "@ is short for a command in a session alone: a file has whole words",
-            commands,
-        )
-        .meaning(Meant::Nearest);
+    if medium == Medium::File {
+        if let Meaning::One(text) = short {
+            return short_in_file(word, text);
+        }
     }
     if matches!(short, Meaning::Several) {
         return Mistake::new(word, "", "several commands begin with @", Wanted::Longer);
@@ -168,6 +164,16 @@ fn no_name<'t>(schedule: &Schedule, word: Word<'t>, medium: Medium) -> Mistake<'
         return Mistake::new(word, "", form, commands);
     }
     Mistake::new(word, "", unknown(word.text), commands).meaning(Meant::Nearest)
+}
+
+/// What is wrong with a word in a file that is short for a command in a session.
+fn short_in_file<'t>(word: Word<'t>, text: NameText) -> Mistake<'t> {
+    let form = "@ means `%` only in a session without a file of commands";
+    let mistake = Mistake::new(word, text.word, form, Wanted::Commands(Medium::File));
+    if text.place == Place::Files {
+        return mistake.meaning(Meant::Form("%"));
+    }
+    mistake
 }
 
 fn unknown(word: &[u8]) -> &'static str {

@@ -130,6 +130,7 @@ const HABITS: &[(&str, &str)] = &[
     ("next", "step"),
     ("r", "run"),
     ("c", "run"),
+    ("cont", "run"),
     ("continue", "run"),
     ("b", "break"),
 ];

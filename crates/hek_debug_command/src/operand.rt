@@ -80,7 +80,7 @@ pub(crate) fn operand_mistake<'t>(
     }
     let place = operand.most(line);
     let more = nth_word(line, place)?;
-    let mistake = Mistake::new(more, command, operand.too_many(place), operand.whole());
+    let mistake = Mistake::new(more, command, operand.too_many(), operand.whole());
     Some(mistake.after(second.text))
 }
 
@@ -117,15 +117,14 @@ impl Operand {
         }
     }
 
-    fn too_many(self, place: usize) -> &'static str {
+    fn too_many(self) -> &'static str {
         match self {
             Operand::Position => "`% ^` takes one number, and @ is one word too many",
             Operand::Event => "`% ^` takes one event, and @ is one word too many",
             Operand::Txn => "`% ^` takes one name, and @ is one word too many",
             Operand::Version => "`% ^` takes one version, and @ is one word too many",
             Operand::Key => "`% ^` takes one key, and @ is one word too many",
-            Operand::Reply if place > 3 => "`% ^` takes two words, and @ is one word too many",
-            Operand::Reply => "no reply goes on with @",
+            Operand::Reply => "`% ^` takes a kind of replies, and @ is one word too many",
         }
     }
 
@@ -138,7 +137,7 @@ impl Operand {
             Operand::Version => Wanted::Form("`% ^ V`"),
             Operand::Key => Wanted::Form("`% ^ K`"),
             Operand::Reply => Wanted::Form(
-                "`break reply waiting`, `break reply aborted deadlock`, ..: the first words of a reply",
+                "the first words of a reply, as in `break reply waiting` and `break reply aborted deadlock`",
             ),
         }
     }
