@@ -34,7 +34,7 @@ const HELP: &str = "moves:
   run                 on until a breakpoint or a watch fits, or to the end
   back N              N steps back
   goto N              to the position after step N
-  reverse             back to the last position before at which one fits, or to the start
+  reverse             back until a breakpoint or a watch fits, or to the start
 breakpoints and watches, at which run and reverse stop:
   break N             after step N; also break at N
   break event EVENT   after each event of a kind, as in break event update

@@ -1,6 +1,6 @@
 //! The words that mistyped ones mean.
 #![tactic(auto)]
 
-mod nearest;
+mod near;
 
-pub use nearest::nearest;
+pub use near::nearest;
