@@ -2,7 +2,7 @@
 use crate::debug::{commands_of_text, debug};
 use crate::mistake::{Meant, Medium, Mistake, Wanted, mistake_of};
 use crate::name::{NAMES, NameText, Place};
-use crate::stop_text::{put_number, put_text};
+use crate::stop_text::put_text;
 use hek_commands::{HekFault, ScheduleFile, report, schedule_in};
 use hek_diagnostics::nearest;
 use hek_rules::{NoMemory, Schedule, TxnId, next_line};

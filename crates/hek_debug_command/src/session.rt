@@ -39,8 +39,8 @@ pub struct Manner {
 struct Session {
     moves: Moves,
     manner: Manner,
-    /// How many steps the last `step` was to do; 0 before the first.
-    last_step: u64,
+    /// How many steps the last `step` was to do; None before the first.
+    last_step: Option<u64>,
 }
 
 /// Reads commands, one on each line, does each with the steps of the schedule in a file, and answers it before the next
@@ -66,7 +66,7 @@ pub fn debug_session<'a, R: Read + Drop, I: Read + Drop, W: Write, E: Write>(
             held: Vec::new(alloc),
         },
         manner,
-        last_step: 0,
+        last_step: None,
     };
     answer_lines(alloc, &mut session, &mut lines, out, faults)
 }
@@ -170,9 +170,11 @@ fn again<'a, W: Write>(
     line: &[u8],
     out: &mut W,
 ) -> Result<Onward, HekFault<'a>> {
-    if session.manner.prompts && session.last_step > 0 && is_blank(line) {
-        let command = Command::Step(session.last_step);
-        session.moves.command(alloc, command, out)?;
+    if !session.manner.prompts || !is_blank(line) {
+        return Ok(Onward::Next);
+    }
+    if let Some(count) = session.last_step {
+        session.moves.command(alloc, Command::Step(count), out)?;
     }
     Ok(Onward::Next)
 }
@@ -210,9 +212,9 @@ fn carry_out<'a, W: Write>(
 }
 
 /// How many steps an empty line is to do after a command.
-fn step_after(last: u64, command: Command) -> u64 {
+fn step_after(last: Option<u64>, command: Command) -> Option<u64> {
     match command {
-        Command::Step(count) => count,
+        Command::Step(count) => Some(count),
         _ => last,
     }
 }
