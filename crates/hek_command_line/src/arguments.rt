@@ -308,7 +308,7 @@ const DEBUG: CommandText = CommandText {
   watch end V        stops where the End word of version V changes
   watch waits NAME   stops where the number that a transaction waits for changes
   clear              forgets all breakpoints and watches
-Without COMMANDS they are read from standard input, and each is answered at once; there `help` lists them, with the questions that only such a session has.
+Without COMMANDS they are read from standard input, and each is answered at once; there `help` lists them, with the commands and questions that only such a session has.
 
 Example:
   hek debug first.hek

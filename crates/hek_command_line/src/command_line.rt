@@ -14,7 +14,7 @@ use hek_commands::{
     HekFault, INPUT, asm_command, check_command, dis_command, read_text, release_command, report,
     run_command, state_command,
 };
-use hek_debug_command::{debug_command, debug_session};
+use hek_debug_command::{CommandFile, Manner, debug_command, debug_session, explained_command};
 use hek_history_command::run_log_command;
 use hek_json_command::{Asked, run_json};
 use hek_page_command::{Extent, Heading, MOST_NODES, Part, explorer_command, page_command};
@@ -349,7 +349,7 @@ fn number_of<'a>(found: &ArgMatches<'a>, name: &str) -> Result<Option<u64>, HekF
     }
 }
 
-fn debug<'a, D: Disk, I: Read + IsTerminal + Drop, W: Write, E: Write>(
+fn debug<'a, D: Disk, I: Read + IsTerminal + Drop, W: Write, E: Write + IsTerminal>(
     alloc: Global,
     found: &ArgMatches<'a>,
     disk: &D,
@@ -357,17 +357,24 @@ fn debug<'a, D: Disk, I: Read + IsTerminal + Drop, W: Write, E: Write>(
     out: &mut W,
     faults: &mut E,
 ) -> Result<u8, HekFault<'a>> {
-    let prompts = input.is_terminal();
+    let manner = Manner {
+        prompts: input.is_terminal(),
+        explains: faults.is_terminal(),
+    };
     let mut input = Some(input);
     let file = schedule_file(alloc, found, disk, &mut input)?;
     match found.get_str("COMMANDS") {
         Some(name) => {
             let commands = read_text(alloc, open(disk, &mut input, name)?, name)?;
-            debug_command(alloc, file, commands.as_slice(), out)
+            let text = commands.as_slice();
+            if manner.explains {
+                return explained_command(alloc, file, CommandFile { name, text }, out, faults);
+            }
+            debug_command(alloc, file, text, out)
         }
         None => {
             let typed = open(disk, &mut input, INPUT)?;
-            debug_session(alloc, file, typed, prompts, out, faults)
+            debug_session(alloc, file, typed, manner, out, faults)
         }
     }
 }

@@ -36,7 +36,7 @@ pub fn debug_command<'a, R: Read + Drop, W: Write>(
 }
 
 /// Does commands from the start of a schedule.
-fn debug<'a, W: Write>(
+pub(crate) fn debug<'a, W: Write>(
     alloc: Global,
     schedule: Schedule,
     commands: &[Command],
@@ -50,7 +50,7 @@ fn debug<'a, W: Write>(
 }
 
 /// The commands in a text, with the names that a schedule gives.
-fn commands_of_text<'a>(
+pub(crate) fn commands_of_text<'a>(
     alloc: Global,
     schedule: &Schedule,
     text: &str,

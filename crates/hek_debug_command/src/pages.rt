@@ -3,6 +3,7 @@ ghost use Rattle.std.specs.Prelude.{length};
 ghost use Rattle.std.specs.List.{AllByRecursion};
 ghost use Rattle.hek_asm.specs.Trace.{NamesDeclared};
 
+use crate::held::{Held, count_held};
 use crate::question::Question;
 use crate::stop_text::{put_name, put_number, put_text};
 use hek_asm::write_step;
@@ -28,34 +29,38 @@ const CHANGES: Extras = Extras {
     changes: true,
 };
 
-const HELP: &str = "commands:
-  step N              N steps on, as in step 1
+const HELP: &str = "moves:
+  step [N]            N steps on, 1 if no N is given; an empty line does it again
   run                 on until a breakpoint or a watch fits, or to the end
-  back N              N steps back, as in back 2
-  break at N          run stops after step N, as in break at 4
-  break event EVENT   run stops after each event of a kind, as in break event update
-  break txn NAME      run stops after each event of a transaction, as in break txn b
-  watch begin V       run stops where the Begin word of a version changes, as in watch begin 1
-  watch end V         run stops where the End word of a version changes, as in watch end 0
-  watch waits NAME    run stops where the number that a transaction waits for changes, as in watch waits b
-  clear               no more breakpoints and watches
+  back N              N steps back
+  goto N              to the position after step N
+  reverse             back until a breakpoint or a watch fits, or to the start
+breakpoints and watches, at which run and reverse stop:
+  break N             after step N; also break at N
+  break event EVENT   after each event of a kind, as in break event update
+  break txn NAME      after each event of a transaction, as in break txn b
+  break reply REPLY   after each step whose reply begins so, as in break reply waiting
+  watch begin V       where the Begin word of a version changes, as in watch begin 1
+  watch end V         where the End word of a version changes, as in watch end 0
+  watch waits NAME    where the number that a transaction waits for changes, as in watch waits b
+  marks               all of them, each after its index
+  delete I            takes one away, as in delete 2
+  clear               takes all away
 questions:
-  show                the whole state: the clock, versions, transactions and locked buckets
-  show txn NAME       a transaction, as in show txn b
-  show version V      a version, as in show version 0
-  show key K          the versions of a key, as in show key 10
   list                the steps round the position, the next one marked with =>
   why                 the last step, and the reasons of its reply
   changes             the last step, and what it changed
-  marks               the breakpoints and watches, as they were set
-  help                this
-  quit                the end of the session
+  show                the whole state: the clock, versions, transactions and locked buckets
+  show txn NAME       a transaction; also show version V, show key K
+help, quit
+The first word may be cut short, as in ba 3; s and n are step, r and c run, b is break
 ";
 
 /// Appends the answer to a question. `quit` has none.
 pub(crate) fn put_answer(
     alloc: Global,
     debugger: &Debugger,
+    held: &[Held],
     question: Question,
     lines: &mut Vec<u8>,
 ) -> Result<(), NoMemory> {
@@ -68,7 +73,7 @@ pub(crate) fn put_answer(
         Question::Steps => put_steps(alloc, debugger, lines),
         Question::Why => put_last(alloc, debugger, WHY, lines),
         Question::Changes => put_last(alloc, debugger, CHANGES, lines),
-        Question::Marks => put_marks(debugger, lines),
+        Question::Marks => put_marks(debugger, held, lines),
         Question::Help => put_text(HELP, lines),
         Question::Quit => Ok(()),
     }
@@ -198,17 +203,50 @@ fn put_last(
 }
 
 /// Each breakpoint and watch, as the command that sets it.
-fn put_marks(debugger: &Debugger, lines: &mut Vec<u8>) -> Result<(), NoMemory> {
-    let marks = debugger.marks();
-    if marks.is_empty() {
+fn put_marks(debugger: &Debugger, held: &[Held], lines: &mut Vec<u8>) -> Result<(), NoMemory> {
+    if count_held(held) == 0 {
         return put_text("none\n", lines);
     }
-    for place in 0..marks.len() {
-        put_number(place as u64 + 1, lines)?;
-        put_mark(debugger.schedule(), marks[place], lines)?;
-        put_text("\n", lines)?;
+    let mut index = 0u64;
+    for one in held {
+        index = index.saturating_add(1);
+        put_held(debugger, index, *one, lines)?;
     }
     Ok(())
+}
+
+/// The line of a breakpoint or watch. One that was taken away has none.
+fn put_held(
+    debugger: &Debugger,
+    index: u64,
+    held: Held,
+    lines: &mut Vec<u8>,
+) -> Result<(), NoMemory> {
+    match held {
+        Held::Gone => Ok(()),
+        Held::OnReply(kind) => {
+            put_number(index, lines)?;
+            put_named(" break reply ", kind.first, lines)?;
+            put_second(kind.second, lines)?;
+            put_text("\n", lines)
+        }
+        Held::Mark => match debugger.mark(index) {
+            None => Ok(()),
+            Some(mark) => {
+                put_number(index, lines)?;
+                put_mark(debugger.schedule(), mark, lines)?;
+                put_text("\n", lines)
+            }
+        },
+    }
+}
+
+/// The second word of a kind of replies, if it has one.
+fn put_second(word: &str, lines: &mut Vec<u8>) -> Result<(), NoMemory> {
+    if word.is_empty() {
+        return Ok(());
+    }
+    put_named(" ", word, lines)
 }
 
 fn put_mark(schedule: &Schedule, mark: Mark, lines: &mut Vec<u8>) -> Result<(), NoMemory> {

@@ -1,11 +1,14 @@
 //! Sessions of the command `debug`, in which its commands are typed.
-use crate::debug::do_one;
+use crate::explain::explain_typed;
+use crate::held::is_held;
+use crate::moves::Moves;
 use crate::pages::put_answer;
-use crate::question::{Question, read_question};
+use crate::question::Question;
+use crate::typed::{Typed, read_typed};
 use hek_commands::{
     HekFault, INPUT, ScheduleFile, buffered, read_fault, report, schedule_in, send,
 };
-use hek_debug::{CommandLine, Debugger, read_command};
+use hek_debug::{Command, Debugger, Mark};
 use hek_rules::next_line;
 use std::alloc::Global;
 use std::io::{BufRead, Read, Write};
@@ -17,30 +20,55 @@ const PROMPT: &[u8] = b"hek> ";
 #[derive(Clone, Copy, PartialEq, Eq)]
 enum Onward {
     Next,
-    /// The line is not a command.
+    /// The line is not a command, or names a mark that isn't there.
     Unknown,
     Over,
 }
 
+/// How a session speaks with who types.
+#[derive(Clone, Copy, Debug, PartialEq, Eq)]
+pub struct Manner {
+    /// Whether a prompt is before each line, as at a terminal. An empty line then does the last `step` again.
+    pub prompts: bool,
+    /// Whether what is wrong with a line that is not a command is said after its fault.
+    pub explains: bool,
+}
+
+/// A session: its debugger, and what its lines lean on.
+#[derive(Drop)]
+struct Session {
+    moves: Moves,
+    manner: Manner,
+    /// How many steps the last `step` was to do; None before the first.
+    last_step: Option<u64>,
+}
+
 /// Reads commands, one on each line, does each with the steps of the schedule in a file, and answers it before the next
-/// is read. With `prompts`, as at a terminal, writes a prompt before each line. A line that isn't a command, or that
-/// runs out of memory, is reported in `faults`, and the session goes on. Answers the exit status: 1 if there was such a
-/// line.
+/// is read. A line that isn't a command, or that runs out of memory, is reported in `faults`, and the session goes on.
+/// Answers the exit status: 1 if there was such a line.
 pub fn debug_session<'a, R: Read + Drop, I: Read + Drop, W: Write, E: Write>(
     alloc: Global,
     file: ScheduleFile<R>,
     input: I,
-    prompts: bool,
+    manner: Manner,
     out: &mut W,
     faults: &mut E,
 ) -> Result<u8, HekFault<'a>> {
     let schedule = schedule_in(alloc, file)?;
-    let mut debugger = Debugger::open(alloc, schedule)?;
+    let debugger = Debugger::open(alloc, schedule)?;
     let mut lines = buffered(alloc, input)?;
-    if prompts {
+    if manner.prompts {
         greet(&debugger, out)?;
     }
-    answer_lines(alloc, &mut debugger, &mut lines, prompts, out, faults)
+    let mut session = Session {
+        moves: Moves {
+            debugger,
+            held: Vec::new(alloc),
+        },
+        manner,
+        last_step: None,
+    };
+    answer_lines(alloc, &mut session, &mut lines, out, faults)
 }
 
 /// Says how many steps there are, and how to list the commands.
@@ -55,12 +83,12 @@ fn greet<'a, W: Write>(debugger: &Debugger, out: &mut W) -> Result<(), HekFault<
 /// Answers each line that is typed, until the input ends or `quit`.
 fn answer_lines<'a, B: BufRead, W: Write, E: Write>(
     alloc: Global,
-    debugger: &mut Debugger,
+    session: &mut Session,
     lines: &mut B,
-    prompts: bool,
     out: &mut W,
     faults: &mut E,
 ) -> Result<u8, HekFault<'a>> {
+    let prompts = session.manner.prompts;
     let mut status = 0;
     for number in 1..u64::MAX {
         if prompts {
@@ -73,12 +101,12 @@ fn answer_lines<'a, B: BufRead, W: Write, E: Write>(
         let Some((text, _)) = next_line(line.as_slice()) else {
             return end(prompts, status, out);
         };
-        match answer_line(alloc, debugger, text, out) {
+        match answer_line(alloc, session, text, out, faults) {
             Ok(Onward::Next) => {}
             Ok(Onward::Over) => return Ok(status),
             Ok(Onward::Unknown) => {
                 status = report(HekFault::CommandLine(number), faults);
-                hint(prompts, faults);
+                explain(alloc, session, text, faults);
             }
             Err(HekFault::NoMemory) => status = report(HekFault::NoMemory, faults),
             Err(fault) => return Err(fault),
@@ -95,8 +123,12 @@ fn end<'a, W: Write>(prompts: bool, status: u8, out: &mut W) -> Result<u8, HekFa
     Ok(status)
 }
 
-fn hint<E: Write>(prompts: bool, faults: &mut E) {
-    if prompts {
+/// After the fault of a line, says what is wrong with the line, or at a terminal how to list the commands.
+fn explain<E: Write>(alloc: Global, session: &Session, line: &[u8], faults: &mut E) {
+    if session.manner.explains {
+        let schedule = session.moves.debugger.schedule();
+        explain_typed(alloc, schedule, line, faults);
+    } else if session.manner.prompts {
         let _ = writeln!(faults, "help lists the commands");
     }
 }
@@ -110,41 +142,121 @@ fn show<'a, W: Write>(bytes: &[u8], out: &mut W) -> Result<(), HekFault<'a>> {
 }
 
 /// Does what a line asks for, and flushes the answer.
-fn answer_line<'a, W: Write>(
+fn answer_line<'a, W: Write, E: Write>(
     alloc: Global,
-    debugger: &mut Debugger,
+    session: &mut Session,
+    line: &[u8],
+    out: &mut W,
+    faults: &mut E,
+) -> Result<Onward, HekFault<'a>> {
+    let typed = read_typed(alloc, session.moves.debugger.schedule(), line)?;
+    let onward = match typed {
+        Typed::Empty => again(alloc, session, line, out)?,
+        Typed::Unknown => return Ok(Onward::Unknown),
+        Typed::Question(question) => answer_question(alloc, &session.moves, question, out)?,
+        typed => carry_out(alloc, session, typed, out)?,
+    };
+    if out.flush().is_err() {
+        return Err(HekFault::CannotWrite);
+    }
+    note_place(session, typed, faults);
+    Ok(onward)
+}
+
+/// At a terminal an empty line does the last `step` again. A line with a comment does nothing.
+fn again<'a, W: Write>(
+    alloc: Global,
+    session: &mut Session,
     line: &[u8],
     out: &mut W,
 ) -> Result<Onward, HekFault<'a>> {
-    let onward = match read_command(debugger.schedule(), line) {
-        CommandLine::Empty => Onward::Next,
-        CommandLine::Command(command) => {
-            do_one(alloc, debugger, command, out)?;
-            Onward::Next
+    if !session.manner.prompts || !is_blank(line) {
+        return Ok(Onward::Next);
+    }
+    if let Some(count) = session.last_step {
+        session.moves.command(alloc, Command::Step(count), out)?;
+    }
+    Ok(Onward::Next)
+}
+
+/// Whether a line has blanks alone.
+fn is_blank(line: &[u8]) -> bool {
+    line.iter()
+        .all(|byte| matches!(*byte, b' ' | b'\t' | b'\r'))
+}
+
+/// Does a command.
+fn carry_out<'a, W: Write>(
+    alloc: Global,
+    session: &mut Session,
+    typed: Typed,
+    out: &mut W,
+) -> Result<Onward, HekFault<'a>> {
+    match typed {
+        Typed::Command(command) => {
+            session.last_step = step_after(session.last_step, command);
+            session.moves.command(alloc, command, out)?;
         }
-        CommandLine::Unknown => answer_question(alloc, debugger, line, out)?,
+        Typed::Goto(to) => session.moves.goto(alloc, to, out)?,
+        Typed::Reverse => session.moves.reverse(alloc, out)?,
+        Typed::BreakReply(kind) => session.moves.break_reply(alloc, kind, out)?,
+        Typed::Delete(index) => {
+            if !is_held(session.moves.held.as_slice(), index) {
+                return Ok(Onward::Unknown);
+            }
+            session.moves.delete(alloc, index, out)?;
+        }
+        Typed::Empty | Typed::Question(_) | Typed::Unknown => {}
+    }
+    Ok(Onward::Next)
+}
+
+/// How many steps an empty line is to do after a command.
+fn step_after(last: Option<u64>, command: Command) -> Option<u64> {
+    match command {
+        Command::Step(count) => Some(count),
+        _ => last,
+    }
+}
+
+/// Says of a breakpoint at a position that no step leads there.
+fn note_place<E: Write>(session: &Session, typed: Typed, faults: &mut E) {
+    let Typed::Command(Command::Set(Mark::At(place))) = typed else {
+        return;
     };
-    match out.flush() {
-        Ok(()) => Ok(onward),
-        Err(_) => Err(HekFault::CannotWrite),
+    let steps = session.moves.debugger.schedule().steps().len() as u64;
+    if place == 0 {
+        let _ = writeln!(faults, "hek: note: no run stops at 0");
+    } else if place > steps {
+        let _ = writeln!(
+            faults,
+            "hek: note: there are {steps} steps, so no run stops at {place}"
+        );
     }
 }
 
 /// Answers a question.
 fn answer_question<'a, W: Write>(
     alloc: Global,
-    debugger: &Debugger,
-    line: &[u8],
+    moves: &Moves,
+    question: Question,
     out: &mut W,
 ) -> Result<Onward, HekFault<'a>> {
-    match read_question(debugger.schedule(), line) {
-        None => Ok(Onward::Unknown),
-        Some(Question::Quit) => Ok(Onward::Over),
-        Some(question) => {
-            let mut lines = Vec::new(alloc);
-            put_answer(alloc, debugger, question, &mut lines)?;
-            send(&mut lines, out)?;
-            Ok(Onward::Next)
-        }
+    if is_quit(question) {
+        return Ok(Onward::Over);
     }
+    let mut lines = Vec::new(alloc);
+    put_answer(
+        alloc,
+        &moves.debugger,
+        moves.held.as_slice(),
+        question,
+        &mut lines,
+    )?;
+    send(&mut lines, out)?;
+    Ok(Onward::Next)
+}
+
+fn is_quit(question: Question) -> bool {
+    matches!(question, Question::Quit)
 }

@@ -25,6 +25,24 @@ pub(crate) fn put_told(
     put_watches(debugger, lines)
 }
 
+/// The same as `put_told`, with another reason of the stop: a word of a session, and a number.
+pub(crate) fn put_told_as(
+    alloc: Global,
+    debugger: &Debugger,
+    stop: &Stop,
+    word: &str,
+    number: u64,
+    lines: &mut Vec<u8>,
+) -> Result<(), NoMemory> {
+    put_text("at ", lines)?;
+    put_number(stop.at, lines)?;
+    put_text(word, lines)?;
+    put_number(number, lines)?;
+    put_answer(alloc, &stop.last, lines)?;
+    put_text("\n", lines)?;
+    put_watches(debugger, lines)
+}
+
 /// The line of a stop.
 fn put_stop(alloc: Global, stop: &Stop, lines: &mut Vec<u8>) -> Result<(), NoMemory>
     ensures { OnOk result (lines.new.items ≡ lines.old.items ++ stop_line stop.now) }

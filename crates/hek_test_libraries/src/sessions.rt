@@ -1,7 +1,7 @@
 //! A debugger's session in which memory may be refused.
 use crate::asserts::{holds, is};
 use hek_commands::{HekFault, ScheduleFile};
-use hek_debug_command::debug_session;
+use hek_debug_command::{Manner, debug_session};
 use std::alloc::{AllocError, Global};
 use std::process::Abort;
 use std::test::Fail;
@@ -21,6 +21,12 @@ a precommit
 a release
 ";
 
+/// As from a pipe.
+const PIPED: Manner = Manner {
+    prompts: false,
+    explains: false,
+};
+
 /// What a session answers, the faults, and the status.
 fn held(
     rt: &impl Abort,
@@ -31,7 +37,7 @@ fn held(
     let file = ScheduleFile::<&[u8]>::Text(Vec::from_slice(alloc, text.as_bytes())?);
     let (mut out, mut faults) = (Vec::new(alloc), Vec::new(alloc));
     let bytes = input.as_bytes();
-    let status = match debug_session(alloc, file, bytes, false, &mut out, &mut faults) {
+    let status = match debug_session(alloc, file, bytes, PIPED, &mut out, &mut faults) {
         Ok(status) => status,
         // `out` is a list, which can't be written where it can't grow.
         Err(fault) => {

@@ -1,0 +1,6 @@
+//! The words that mistyped ones mean.
+#![tactic(auto)]
+
+mod near;
+
+pub use near::nearest;
