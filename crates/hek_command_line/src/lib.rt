@@ -5,8 +5,10 @@ mod advice;
 mod arguments;
 mod command_line;
 mod disk;
+mod explain;
+mod kept;
 mod log;
-mod nearest;
+mod notes;
 mod output;
 mod schedule;
 

@@ -24,7 +24,8 @@ const BREAKS: &[&str] = &["at", "event", "txn"];
 
 const WATCHES: &[&str] = &["begin", "end", "waits"];
 
-const EVENT_WORDS: &str = "begin read scan insert update delete finish precommit release commit fail stamp end detect";
+const EVENT_WORDS: &str =
+    "begin read scan insert update delete finish precommit release commit fail stamp end detect";
 
 /// What is wrong with the line of this number of a text that should be commands of the debugger, as `read_commands` says;
 /// `name` is that of the file. None if the text has no such line.
@@ -77,7 +78,10 @@ fn unknown<'t>(schedule: &Schedule, first: Word<'t>) -> Finding<'t> {
         let form = "no command is called @: a text of commands ends with its last line";
         return Finding::at(first, form).wanting(COMMAND_WORDS);
     } else if schedule.id_of(first.text).is_some() {
-        Finding::at(first, "no command is called @: steps are typed in `hek drive`")
+        Finding::at(
+            first,
+            "no command is called @: steps are typed in `hek drive`",
+        )
     } else if first.has_capitals_of(COMMANDS) {
         Finding::at(first, "no command is called @: commands are in lower case")
     } else {
@@ -93,20 +97,34 @@ fn too_many<'t>(first: Word<'t>, rest: &[Word<'t>]) -> Finding<'t> {
     let Some(more) = rest.first() else {
         return Finding::at(first, "@ is not a command");
     };
-    let wanted = if first.is("run") { "`run` alone" } else { "`clear` alone" };
-    Finding::at(*more, "& takes nothing after it, and @ is one word too many")
-        .with_other(first.text)
-        .wanting(wanted)
+    let wanted = if first.is("run") {
+        "`run` alone"
+    } else {
+        "`clear` alone"
+    };
+    Finding::at(
+        *more,
+        "& takes nothing after it, and @ is one word too many",
+    )
+    .with_other(first.text)
+    .wanting(wanted)
 }
 
 /// `step` or `back`, and what is after it.
 fn judge_steps<'t>(first: Word<'t>, rest: &[Word<'t>]) -> Finding<'t> {
-    let wanted = if first.is("step") { "`step N`" } else { "`back N`" };
+    let wanted = if first.is("step") {
+        "`step N`"
+    } else {
+        "`back N`"
+    };
     match rest {
         [] => Finding::at(first, "@ wants a number after it").wanting(wanted),
         [count] if count.is("-1") && first.is("step") => {
             let mut finding = no_number(*count, Role::Other);
-            finding.sentence = Finding::at(*count, "@ is not a number: `back 1` goes back").sentence;
+            finding.sentence = Finding::at(
+                *count,
+                "@ is not a number: `back 1` goes back",
+            ).sentence;
             finding
         }
         [count] => no_number(*count, Role::Other),
@@ -119,7 +137,9 @@ fn judge_steps<'t>(first: Word<'t>, rest: &[Word<'t>]) -> Finding<'t> {
 /// `break`, and what is after it.
 fn judge_break<'t>(schedule: &Schedule, first: Word<'t>, rest: &[Word<'t>]) -> Finding<'t> {
     let [what, operands @ ..] = rest else {
-        return Finding::at(first, "@ wants `at`, `event` or `txn` after it").wanting("at event txn");
+        return Finding::at(first, "@ wants `at`, `event` or `txn` after it").wanting(
+            "at event txn",
+        );
     };
     if what.is("at") {
         return judge_operand(*what, operands, "`break at N`", "& wants a number after it");
@@ -135,16 +155,17 @@ fn judge_break<'t>(schedule: &Schedule, first: Word<'t>, rest: &[Word<'t>]) -> F
 
 /// A word after `break` that is not `at`, `event` or `txn`.
 fn no_break<'t>(schedule: &Schedule, what: Word<'t>) -> Finding<'t> {
-    let finding = Finding::at(what, "`break` wants `at`, `event` or `txn` before @")
-        .wanting("at event txn");
+    let finding = Finding::at(what, "`break` wants `at`, `event` or `txn` before @").wanting(
+        "at event txn",
+    );
     if EventKind::named(what.text).is_some() {
-        return finding.with_instead("`break event` and @");
+        return finding.with_instead("break event ~");
     }
     if number(what.text).is_some() {
-        return finding.with_instead("`break at` and @");
+        return finding.with_instead("break at ~");
     }
     if schedule.id_of(what.text).is_some() {
-        return finding.with_instead("`break txn` and @");
+        return finding.with_instead("break txn ~");
     }
     finding.hinting(Hint::Among(BREAKS))
 }
@@ -152,8 +173,9 @@ fn no_break<'t>(schedule: &Schedule, what: Word<'t>) -> Finding<'t> {
 /// `watch`, and what is after it.
 fn judge_watch<'t>(schedule: &Schedule, first: Word<'t>, rest: &[Word<'t>]) -> Finding<'t> {
     let [what, operands @ ..] = rest else {
-        return Finding::at(first, "@ wants `begin`, `end` or `waits` after it")
-            .wanting("begin end waits");
+        return Finding::at(first, "@ wants `begin`, `end` or `waits` after it").wanting(
+            "begin end waits",
+        );
     };
     if what.is("waits") {
         return judge_txn(schedule, *what, operands, "`watch waits NAME`");
@@ -172,7 +194,12 @@ fn judge_version<'t>(what: Word<'t>, operands: &[Word<'t>]) -> Finding<'t> {
         [version] => no_number(*version, Role::Version)
             .wanting("a version, from 0")
             .hinting(Hint::Number),
-        _ => judge_operand(what, operands, "`watch begin V` or `watch end V`", "& wants a version after it"),
+        _ => judge_operand(
+            what,
+            operands,
+            "`watch begin V` or `watch end V`",
+            "& wants a version after it",
+        ),
     }
 }
 

@@ -10,9 +10,8 @@ use crate::sentence::Sentence;
 use crate::token::meant_pair;
 use hek_rules::NoMemory;
 use std::alloc::Global;
-use std::fmt;
 use std::fmt::{Display, Formatter};
-use std::str;
+use std::{fmt, str};
 
 /// A fault of a text. It prints as lines, each with its end: the file with line and column, the line, and under it what is
 /// wrong, what is wanted, what is meant and what to do instead, as far as these are known.
@@ -117,11 +116,7 @@ fn near(alloc: Global, found: &[u8], words: &[&str]) -> Result<Option<String>, N
     }
 }
 
-fn near_bytes(
-    alloc: Global,
-    found: &[u8],
-    words: &[&[u8]],
-) -> Result<Option<String>, NoMemory> {
+fn near_bytes(alloc: Global, found: &[u8], words: &[&[u8]]) -> Result<Option<String>, NoMemory> {
     let mut texts = Vec::new(alloc);
     for word in words {
         if let Ok(text) = str::from_utf8(word) {

@@ -85,6 +85,22 @@ impl<'t> Finding<'t> {
         self
     }
 
+    /// The same where nothing is known yet of what is wanted.
+    pub(crate) fn or_wanting(self, form: &'static str) -> Finding<'t> {
+        if self.is_wanting() {
+            self
+        } else {
+            self.wanting(form)
+        }
+    }
+
+    pub(crate) fn is_wanting(&self) -> bool {
+        match self.wanted {
+            Wanted::Form(form) => !form.is_empty(),
+            Wanted::Names | Wanted::Starts => true,
+        }
+    }
+
     /// The number that the sentence has as `$`.
     pub(crate) fn with_number(mut self, number: u64) -> Finding<'t> {
         self.sentence.number = number;

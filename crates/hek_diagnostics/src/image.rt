@@ -1,5 +1,7 @@
 //! The fault of a schedule image: the field with its bytes, what is wrong and what is wanted.
-use crate::image_field::{Field, Kind, end_of_steps, field_at, header_number, number_in, row_with_key, txn_with_name};
+use crate::image_field::{
+    Field, Kind, end_of_steps, field_at, header_number, number_in, row_with_key, txn_with_name,
+};
 use crate::names::RESERVED;
 use crate::place::part;
 use crate::sentence::Sentence;
@@ -79,7 +81,10 @@ pub fn explain_image<'t>(
         LoadFault::BadVersion => no_version(found),
         LoadFault::Short => cut(field, image),
         LoadFault::Trailing => {
-            Problem::new("a byte follows the last step", "nothing after the last step")
+            Problem::new(
+                "a byte follows the last step",
+                "nothing after the last step",
+            )
         }
         _ => bad_field(field, image, found),
     };
@@ -101,7 +106,10 @@ fn no_magic<'t>(image: &'t [u8]) -> Problem<'t> {
         problem.instead = "put `--text` before the file";
         return problem;
     }
-    Problem::new("the first four bytes are not those of a schedule image", wanted)
+    Problem::new(
+        "the first four bytes are not those of a schedule image",
+        wanted,
+    )
 }
 
 /// Whether a text may have the byte.
@@ -235,8 +243,11 @@ fn bad_level<'t>(field: Field, image: &[u8], value: u64) -> Problem<'t> {
     } else {
         "1 serializable, 2 repeatable or 3 snapshot"
     };
-    Problem::new("transaction % is at level `$`, and no level has that byte", wanted)
-        .numbers(value, field.item)
+    Problem::new(
+        "transaction % is at level `$`, and no level has that byte",
+        wanted,
+    )
+    .numbers(value, field.item)
 }
 
 fn bad_name<'t>(field: Field, image: &[u8], found: &'t [u8]) -> Problem<'t> {
@@ -253,7 +264,10 @@ fn bad_name<'t>(field: Field, image: &[u8], found: &'t [u8]) -> Problem<'t> {
             "a name other than buckets, row, txn and detect",
         )
     } else if found.iter().any(|byte| byte.is_ascii_uppercase()) {
-        Problem::new("the name @ of transaction % has a capital letter in it", NAME)
+        Problem::new(
+            "the name @ of transaction % has a capital letter in it",
+            NAME,
+        )
     } else {
         Problem::new("the name @ of transaction % is not a name", NAME)
     };
@@ -310,16 +324,23 @@ fn bad_txn<'t>(field: Field, image: &[u8], kind: EventKind, value: u64) -> Probl
             "1, as one transaction is declared",
         )
     } else {
-        Problem::new("step % is of transaction `$`, and no such one is declared", "1 to $").up_to(txns)
+        Problem::new(
+            "step % is of transaction `$`, and no such one is declared",
+            "1 to $",
+        )
+        .up_to(txns)
     };
     problem.numbers(value, field.item)
 }
 
 fn bad_bucket<'t>(field: Field, image: &[u8], value: u64) -> Problem<'t> {
     let last = header_number(image, 6).saturating_sub(1);
-    Problem::new("step % scans bucket `$`, and there is no such bucket", "0 to $")
-        .numbers(value, field.item)
-        .up_to(last)
+    Problem::new(
+        "step % scans bucket `$`, and there is no such bucket",
+        "0 to $",
+    )
+    .numbers(value, field.item)
+    .up_to(last)
 }
 
 /// The most bytes of a field that are shown.

@@ -18,6 +18,8 @@ pub(crate) enum Kind {
     Opcode,
     Txn,
     First,
+    /// The first operand of a scan.
+    Bucket,
     Second,
     End,
 }
@@ -182,7 +184,9 @@ pub(crate) fn end_of_steps(image: &[u8]) -> usize {
 /// The row before this one (from 1) that has the same key, if there is one.
 pub(crate) fn row_with_key(image: &[u8], key: &[u8], before: u64) -> Option<u64> {
     for item in 1..before {
-        let at = HEADER_SIZE.saturating_add((item as usize).saturating_sub(1).saturating_mul(ROW_SIZE));
+        let at = HEADER_SIZE.saturating_add(
+            (item as usize).saturating_sub(1).saturating_mul(ROW_SIZE),
+        );
         if part(image, at, at.saturating_add(8)) == key {
             return Some(item);
         }

@@ -26,6 +26,8 @@ pub(crate) struct Known<'t> {
     pub(crate) steps: u64,
     /// Whether later lines can't be judged.
     pub(crate) is_over: bool,
+    /// A name that a line declares whose first word is mistyped, and that line.
+    pub(crate) pending: Option<(&'t [u8], u64)>,
     names: HashMap<&'t [u8], u64>,
     pub(crate) list: Vec<&'t [u8]>,
     keys: HashMap<u64, Row<'t>>,
@@ -44,6 +46,7 @@ impl<'t> Known<'t> {
             txns: 0,
             steps: 0,
             is_over: false,
+            pending: None,
             names: HashMap::new(alloc),
             list: Vec::new(alloc),
             keys: HashMap::new(alloc),

@@ -21,6 +21,9 @@ pub(crate) fn judge<'t>(
     at: u64,
 ) -> Result<Option<Finding<'t>>, NoMemory> {
     read_words(line, words)?;
+    if let Some((name, line)) = known.pending.take() {
+        known.declare(name, line)?;
+    }
     if let Some(finding) = not_ascii(known, words.as_slice(), line) {
         return Ok(Some(finding));
     }
@@ -120,7 +123,7 @@ fn judge_body<'t>(
         return Ok(judge_detect(known, first, rest, at));
     }
     if is_misspelled(known.alloc, known, first, rest) {
-        return misspelled(known, first, rest, at);
+        return Ok(Some(misspelled(known, first, rest, at)));
     }
     Ok(judge_step(known, first, rest, line, at))
 }
@@ -168,7 +171,11 @@ fn judge_row<'t>(
 
 /// A row after a transaction or a step.
 fn late_row<'t>(known: &Known<'t>, first: Word<'t>) -> Option<Finding<'t>> {
-    let wanted = if known.first_step == 0 { "`txn`, a step or `detect`" } else { STEP };
+    let wanted = if known.first_step == 0 {
+        "`txn`, a step or `detect`"
+    } else {
+        STEP
+    };
     if known.first_txn > 0 {
         let form = "@ comes too late: rows are before the first transaction, which is in line $";
         return Some(
@@ -242,9 +249,7 @@ fn judge_txn<'t>(
             return Ok(Some(Finding::at(*more, form).wanting(TXN)));
         }
         _ => {
-            return Ok(Some(
-                Finding::at(first, "@ wants a name and a level after it").wanting(TXN),
-            ));
+            return Ok(Some(Finding::at(first, "@ wants a name and a level after it").wanting(TXN)));
         }
     };
     if known.first_step > 0 {
@@ -314,12 +319,7 @@ fn no_level(level: Word<'_>) -> Finding<'_> {
 const STARTS: &[&str] = &["row", "txn", "detect"];
 
 /// Whether a line begins with a mistyped `row`, `txn` or `detect`, or with no known word and nothing after it.
-fn is_misspelled<'t>(
-    alloc: Global,
-    known: &Known<'t>,
-    first: Word<'t>,
-    rest: &[Word<'t>],
-) -> bool {
+fn is_misspelled<'t>(alloc: Global, known: &Known<'t>, first: Word<'t>, rest: &[Word<'t>]) -> bool {
     if known.has_name(first.text) {
         return false;
     }
@@ -342,16 +342,19 @@ fn misspelled<'t>(
     first: Word<'t>,
     rest: &[Word<'t>],
     at: u64,
-) -> Result<Option<Finding<'t>>, NoMemory> {
+) -> Finding<'t> {
     if meant_start(known.alloc, first) == Some("txn") {
-        declare(known, rest, at)?;
+        known.pending = match rest {
+            [name, ..] if name_ok(name.text) => Some((name.text, at)),
+            _ => None,
+        };
     }
     let form = if first.has_capitals_of(STARTS) {
         "no line begins with @: words are in lower case"
     } else {
         "no line begins with @"
     };
-    Ok(Some(Finding::at(first, form).wanting_starts()))
+    Finding::at(first, form).wanting_starts()
 }
 
 /// What is wanted at a word of a line, by the line's first word and the place of the word.

@@ -19,9 +19,12 @@ pub(crate) fn other_input<'t>(first: Word<'t>, line: &'t [u8]) -> Option<Finding
     if first.text.starts_with(b"HKSC") {
         let magic = Word::new(part(first.text, 0, 4), first.start);
         return Some(
-            Finding::at(magic, "this looks like a schedule image, and a text is wanted here")
-                .wanting("a schedule text")
-                .with_instead("leave out `--text`"),
+            Finding::at(
+                magic,
+                "this looks like a schedule image, and a text is wanted here",
+            )
+            .wanting("a schedule text")
+            .with_instead("leave out `--text`"),
         );
     }
     let form = form_of(first, line)?;
@@ -98,9 +101,7 @@ impl Display for OtherBytes<'_> {
             Looks::WideText => {
                 "  | this looks like UTF-16, and a text in UTF-8 is wanted here\n  | wanted: a text in UTF-8\n"
             }
-            Looks::Bytes => {
-                "  | some of its bytes are not UTF-8\n  | wanted: a text in UTF-8\n"
-            }
+            Looks::Bytes => { "  | some of its bytes are not UTF-8\n  | wanted: a text in UTF-8\n" }
         })
     }
 }

@@ -63,7 +63,11 @@ pub(crate) fn meant_name(alloc: Global, bytes: &[u8]) -> Result<Option<String>, 
         return Ok(None);
     };
     for mark in text.chars() {
-        let mark = if mark == '-' { '_' } else { mark.to_ascii_lowercase() };
+        let mark = if mark == '-' {
+            '_'
+        } else {
+            mark.to_ascii_lowercase()
+        };
         name.push(mark)?;
     }
     if name_ok(name.as_str().as_bytes()) {
@@ -72,4 +76,3 @@ pub(crate) fn meant_name(alloc: Global, bytes: &[u8]) -> Result<Option<String>, 
         Ok(None)
     }
 }
-

@@ -29,10 +29,12 @@ const REPLIES: &[&str] = &[
     "refused",
 ];
 
-const REPLY_WORDS: &str = "began found absent rows done exists ready waiting precommitted released nothing committed failed stamped left over no victim aborted refused";
+const REPLY_WORDS: &str =
+    "began found absent rows done exists ready waiting precommitted released nothing committed failed stamped left over no victim aborted refused";
 
 /// The replies with their operands.
-const FORMS: &str = "a reply: began T, found V, absent, rows KEY=VALUE.., done, exists, ready, waiting N, precommitted T, released .., nothing, committed, waiting commits N, failed, stamped .., left V, over, no cycle, victim T cycle U.., aborted CAUSE or refused N NAME";
+const FORMS: &str =
+    "a reply: began T, found V, absent, rows KEY=VALUE.., done, exists, ready, waiting N, precommitted T, released .., nothing, committed, waiting commits N, failed, stamped .., left V, over, no cycle, victim T cycle U.., aborted CAUSE or refused N NAME";
 
 /// The replies that have one number.
 const COUNTED: &[&str] = &["began", "found", "precommitted", "left"];
@@ -69,17 +71,20 @@ const REFUSALS: &[&str] = &[
     "ClockFull",
 ];
 
-const REFUSED: &str = "1 UnknownTxn, 2 NotBegun, 3 BegunTwice, 4 Ended, 5 WrongPhase or 6 ClockFull";
+const REFUSED: &str =
+    "1 UnknownTxn, 2 NotBegun, 3 BegunTwice, 4 Ended, 5 WrongPhase or 6 ClockFull";
 
 /// What is wrong with the reply at the end of a line; otherwise the last word.
 pub(crate) fn judge_reply<'t>(tokens: &mut Tokens<'t>) -> Result<Word<'t>, Finding<'t>> {
     let first = tokens
         .word("the line ends where a reply is wanted")
-        .map_err(|finding| finding.wanting(FORMS))?;
+        .map_err(|finding| finding.or_wanting(FORMS))?;
     if !first.is_one_of(REPLIES) {
-        return Err(Finding::at(first, "no reply begins with @")
-            .wanting(REPLY_WORDS)
-            .hinting(Hint::Among(REPLIES)));
+        return Err(
+            Finding::at(first, "no reply begins with @")
+                .wanting(REPLY_WORDS)
+                .hinting(Hint::Among(REPLIES)),
+        );
     }
     let last = judge_rest(tokens, first)?;
     tokens.end(last)?;
@@ -122,7 +127,11 @@ fn judge_rest<'t>(tokens: &mut Tokens<'t>, first: Word<'t>) -> Result<Word<'t>, 
 /// A number after a word.
 fn judge_count<'t>(tokens: &mut Tokens<'t>, first: Word<'t>) -> Result<Word<'t>, Finding<'t>> {
     let word = tokens.word("the line ends where a number is wanted")?;
-    let role = if first.is("found") { Role::Value } else { Role::Other };
+    let role = if first.is("found") {
+        Role::Value
+    } else {
+        Role::Other
+    };
     trace_number(word, role)?;
     Ok(word)
 }
@@ -135,13 +144,15 @@ fn one_of<'t>(
 ) -> Result<Word<'t>, Finding<'t>> {
     let word = tokens
         .word("the line ends inside its reply")
-        .map_err(|finding| finding.wanting(wanted))?;
+        .map_err(|finding| finding.or_wanting(wanted))?;
     if word.is_one_of(words) {
         return Ok(word);
     }
-    Err(Finding::at(word, "no reply goes on with @")
-        .wanting(wanted)
-        .hinting(Hint::Among(words)))
+    Err(
+        Finding::at(word, "no reply goes on with @")
+            .wanting(wanted)
+            .hinting(Hint::Among(words)),
+    )
 }
 
 fn judge_rows<'t>(tokens: &mut Tokens<'t>, first: Word<'t>) -> Result<Word<'t>, Finding<'t>> {
@@ -191,19 +202,21 @@ fn judge_cause<'t>(tokens: &mut Tokens<'t>) -> Result<Word<'t>, Finding<'t>> {
     let wanted = "cascade conflict no-more-reads readers-full no-more-waits deadlock asked";
     let word = tokens
         .word("the line ends where a cause is wanted")
-        .map_err(|finding| finding.wanting(wanted))?;
+        .map_err(|finding| finding.or_wanting(wanted))?;
     if word.is_one_of(CAUSES) {
         return Ok(word);
     }
-    Err(Finding::at(word, "no transaction is aborted for @")
-        .wanting(wanted)
-        .hinting(Hint::Among(CAUSES)))
+    Err(
+        Finding::at(word, "no transaction is aborted for @")
+            .wanting(wanted)
+            .hinting(Hint::Among(CAUSES)),
+    )
 }
 
 fn judge_refusal<'t>(tokens: &mut Tokens<'t>) -> Result<Word<'t>, Finding<'t>> {
     let word = tokens
         .word("the line ends where a refusal is wanted")
-        .map_err(|finding| finding.wanting(REFUSED))?;
+        .map_err(|finding| finding.or_wanting(REFUSED))?;
     if word.is_one_of(REFUSALS) {
         return Err(Finding::at(word, "`refused` wants a number before @").wanting(REFUSED));
     }
@@ -213,7 +226,7 @@ fn judge_refusal<'t>(tokens: &mut Tokens<'t>) -> Result<Word<'t>, Finding<'t>> {
     };
     let name = tokens
         .word("the line ends where the name of a refusal is wanted")
-        .map_err(|finding| finding.wanting(wanted))?;
+        .map_err(|finding| finding.or_wanting(wanted))?;
     if name.is(wanted) {
         return Ok(name);
     }

@@ -1,12 +1,12 @@
 //! Sentences with words and numbers of a text in them.
-use std::fmt;
 use std::fmt::{Display, Formatter};
-use std::str;
+use std::{fmt, str};
 
 /// How many characters of a word a sentence shows.
 const SHOWN: usize = 60;
 
-/// A sentence. In its form `@` stands for a word, `&` for another, `$` for a number and `%` for another.
+/// A sentence. In its form `@` stands for a word between back-ticks, `~` for the same word without them, `&` for another
+/// word, and `$`, `%` and `^` for numbers.
 #[derive(Clone, Copy)]
 pub(crate) struct Sentence<'t> {
     form: &'static str,
@@ -14,6 +14,7 @@ pub(crate) struct Sentence<'t> {
     pub(crate) other: &'t [u8],
     pub(crate) number: u64,
     pub(crate) more: u64,
+    pub(crate) third: u64,
 }
 
 impl<'t> Sentence<'t> {
@@ -24,6 +25,7 @@ impl<'t> Sentence<'t> {
             other: b"",
             number: 0,
             more: 0,
+            third: 0,
         }
     }
 
@@ -38,9 +40,11 @@ impl Display for Sentence<'_> {
         for mark in self.form.chars() {
             match mark {
                 '@' => write_quoted(f, self.word)?,
+                '~' => write_word(f, self.word)?,
                 '&' => write_quoted(f, self.other)?,
                 '$' => write_number(f, self.number)?,
                 '%' => write_number(f, self.more)?,
+                '^' => write_number(f, self.third)?,
                 _ => f.write_char(mark)?,
             }
         }
@@ -52,9 +56,14 @@ fn write_number<W: fmt::Write>(f: &mut Formatter<W>, number: u64) -> fmt::Result
     write!(f, "{number}")
 }
 
-/// Writes a word between back-ticks, and no more than its first characters.
 fn write_quoted<W: fmt::Write>(f: &mut Formatter<W>, word: &[u8]) -> fmt::Result {
     f.write_char('`')?;
+    write_word(f, word)?;
+    f.write_char('`')
+}
+
+/// Writes the first characters of a word.
+fn write_word<W: fmt::Write>(f: &mut Formatter<W>, word: &[u8]) -> fmt::Result {
     let text = str::from_utf8(word).unwrap_or("?");
     for (place, mark) in text.chars().enumerate() {
         if place == SHOWN {
@@ -63,7 +72,7 @@ fn write_quoted<W: fmt::Write>(f: &mut Formatter<W>, word: &[u8]) -> fmt::Result
         }
         write_visible(f, mark)?;
     }
-    f.write_char('`')
+    Ok(())
 }
 
 /// Writes a character, and a control character as its escape.

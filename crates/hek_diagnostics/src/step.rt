@@ -10,7 +10,8 @@ use hek_rules::{EventKind, number};
 const TOO_MANY_STEPS: u64 = 1_000_001;
 
 /// The words that name events.
-pub(crate) const EVENT_WORDS: &str = "begin read scan insert update delete finish precommit release commit fail stamp end";
+pub(crate) const EVENT_WORDS: &str =
+    "begin read scan insert update delete finish precommit release commit fail stamp end";
 
 /// A line `detect`.
 pub(crate) fn judge_detect<'t>(
@@ -22,10 +23,11 @@ pub(crate) fn judge_detect<'t>(
     note_step(known, at);
     match rest {
         [] => one_too_many(known, first),
-        [more, ..] => Some(
-            Finding::at(*more, "`detect` takes nothing after it, and @ is one word too many")
-                .wanting(DETECT),
-        ),
+        [more, ..] => Some(Finding::at(
+            *more,
+            "`detect` takes nothing after it, and @ is one word too many",
+        )
+        .wanting(DETECT)),
     }
 }
 
@@ -214,13 +216,13 @@ fn form_of(kind: EventKind) -> &'static str {
 }
 
 /// The operands of an event, of which there are as many as it takes.
-fn judge_operands<'t>(
-    buckets: u64,
-    kind: EventKind,
-    operands: &[Word<'t>],
-) -> Option<Finding<'t>> {
+fn judge_operands<'t>(buckets: u64, kind: EventKind, operands: &[Word<'t>]) -> Option<Finding<'t>> {
     let first = operands.first()?;
-    let role = if kind.is_scan() { Role::Other } else { Role::Key };
+    let role = if kind.is_scan() {
+        Role::Other
+    } else {
+        Role::Key
+    };
     let Some(bucket) = number(first.text) else {
         return Some(no_number(*first, role));
     };

@@ -44,7 +44,10 @@ impl<'t> Tokens<'t> {
         if !word.text.is_empty() {
             return Ok(word);
         }
-        let blank = Word::new(part(self.line, word.start, word.start.saturating_add(1)), word.start);
+        let blank = Word::new(
+            part(self.line, word.start, word.start.saturating_add(1)),
+            word.start,
+        );
         let form = if blank.text.is_empty() {
             "the line ends with a space"
         } else {
@@ -60,9 +63,11 @@ impl<'t> Tokens<'t> {
         }
         let word = self.word("")?;
         let form = "nothing comes after &, and @ is one word too many";
-        Err(Finding::at(word, form)
-            .with_other(last.text)
-            .wanting("the end of the line"))
+        Err(
+            Finding::at(word, form)
+                .with_other(last.text)
+                .wanting("the end of the line"),
+        )
     }
 }
 
@@ -88,9 +93,11 @@ pub(crate) fn trace_number<'t>(word: Word<'t>, role: Role) -> Result<u64, Findin
             Role::Version => "the version @ begins with a zero",
             Role::Other => "the number @ begins with a zero",
         };
-        return Err(Finding::at(word, form)
-            .wanting("a number without leading zeros")
-            .hinting(Hint::Count(value)));
+        return Err(
+            Finding::at(word, form)
+                .wanting("a number without leading zeros")
+                .hinting(Hint::Count(value)),
+        );
     }
     Ok(value)
 }
@@ -110,9 +117,11 @@ pub(crate) fn trace_pair<'t>(pair: Word<'t>) -> Result<(), Finding<'t>> {
             return Ok(());
         }
     }
-    Err(Finding::at(pair, "the pair @ has no `=`")
-        .wanting("`KEY=VALUE` for each pair")
-        .hinting(Hint::Pair))
+    Err(
+        Finding::at(pair, "the pair @ has no `=`")
+            .wanting("`KEY=VALUE` for each pair")
+            .hinting(Hint::Pair),
+    )
 }
 
 /// The pair that bytes mean which have another character in place of `=`.

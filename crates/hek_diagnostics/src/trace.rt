@@ -57,12 +57,7 @@ fn is_cut(text: &[u8], line: u64) -> bool {
 }
 
 /// What is wrong with a line.
-fn judge<'t>(
-    schedule: &Schedule,
-    line: &'t [u8],
-    number: u64,
-    is_cut: bool,
-) -> Finding<'t> {
+fn judge<'t>(schedule: &Schedule, line: &'t [u8], number: u64, is_cut: bool) -> Finding<'t> {
     let mut tokens = Tokens::new(line);
     if let Some(finding) = not_an_event(line, number) {
         return finding;
@@ -89,9 +84,12 @@ fn judge<'t>(
 fn returned(line: &[u8]) -> Finding<'_> {
     let start = line.len().saturating_sub(1);
     let found = Word::new(part(line, start, line.len()), start);
-    Finding::at(found, "the line ends with a carriage return and a line feed")
-        .wanting("a line feed right after the reply")
-        .with_instead("tr -d '\\r'")
+    Finding::at(
+        found,
+        "the line ends with a carriage return and a line feed",
+    )
+    .wanting("a line feed right after the reply")
+    .with_instead("tr -d '\\r'")
 }
 
 /// A line that is no event: of other output, of a schedule, a comment, or an empty one.
@@ -127,7 +125,10 @@ fn other_line<'t>(first: Word<'t>, number: u64) -> Option<Finding<'t>> {
         return None;
     }
     let form = "this is a line of `--state`, and a trace has none";
-    Some(Finding::at(first, form).wanting_number("the line of event $, or the end of the trace", number))
+    Some(Finding::at(first, form).wanting_number(
+        "the line of event $, or the end of the trace",
+        number,
+    ))
 }
 
 fn wanting_event<'t>(finding: Finding<'t>, number: u64) -> Finding<'t> {
@@ -150,15 +151,20 @@ fn judge_words<'t>(
 fn judge_number<'t>(tokens: &mut Tokens<'t>, wanted: u64) -> Result<(), Finding<'t>> {
     let word = tokens.word("the line is empty")?;
     if is_digits(word.text) && word.text.starts_with(b"0") && word.text.len() > 1 {
-        return Err(no_event_number(word, "the number @ begins with a zero", wanted)
-            .hinting(Hint::Count(wanted)));
+        return Err(no_event_number(word, "the number @ begins with a zero", wanted).hinting(
+            Hint::Count(wanted),
+        ));
     }
     match number(word.text) {
         Some(found) if found == wanted => Ok(()),
-        Some(_) if wanted == 1 => Err(no_event_number(word, "the first event has number @", wanted)
-            .hinting(Hint::Count(wanted))),
-        Some(_) => Err(no_event_number(word, "the event after $ has number @", wanted)
-            .hinting(Hint::Count(wanted))),
+        Some(_) if wanted == 1 => Err(no_event_number(
+            word,
+            "the first event has number @",
+            wanted,
+        ).hinting(Hint::Count(wanted))),
+        Some(_) => Err(no_event_number(word, "the event after $ has number @", wanted).hinting(
+            Hint::Count(wanted),
+        )),
         None => {
             let form = "the line begins with @, and the number of its event is wanted before it";
             Err(no_event_number(word, form, wanted))
@@ -173,13 +179,8 @@ fn no_event_number<'t>(word: Word<'t>, form: &'static str, wanted: u64) -> Findi
 }
 
 /// The transaction and the event of a line.
-fn judge_event<'t>(
-    schedule: &Schedule,
-    tokens: &mut Tokens<'t>,
-) -> Result<EventKind, Finding<'t>> {
-    let name = tokens
-        .word("the line ends where a transaction is wanted")
-        .map_err(|finding| finding.wanting_names())?;
+fn judge_event<'t>(schedule: &Schedule, tokens: &mut Tokens<'t>) -> Result<EventKind, Finding<'t>> {
+    let name = tokens.word("the line ends where a transaction is wanted")?;
     if name.is("detect") {
         return Ok(EventKind::Detect);
     }
@@ -188,8 +189,9 @@ fn judge_event<'t>(
     }
     let event = tokens.word("the line ends where an event is wanted")?;
     match EventKind::named(event.text) {
-        Some(EventKind::Detect) => Err(Finding::at(event, "@ has no transaction before it")
-            .wanting("`detect` alone")),
+        Some(EventKind::Detect) => Err(Finding::at(event, "@ has no transaction before it").wanting(
+            "`detect` alone",
+        )),
         Some(kind) => Ok(kind),
         None => Err(unknown_event(event, false).wanting(EVENT_WORDS)),
     }
@@ -225,14 +227,18 @@ fn judge_arrow<'t>(tokens: &mut Tokens<'t>, kind: EventKind) -> Result<(), Findi
         return Ok(());
     }
     if is_digits(word.text) {
-        return Err(Finding::at(word, too_many(kind))
-            .with_other(kind.word().as_bytes())
-            .wanting("->"));
+        return Err(
+            Finding::at(word, too_many(kind))
+                .with_other(kind.word().as_bytes())
+                .wanting("->"),
+        );
     }
     if is_like_arrow(word.text) {
-        return Err(Finding::at(word, "there is @ where an arrow is wanted")
-            .wanting("->")
-            .hinting(Hint::Word("->")));
+        return Err(
+            Finding::at(word, "there is @ where an arrow is wanted")
+                .wanting("->")
+                .hinting(Hint::Word("->")),
+        );
     }
     Err(Finding::at(word, "there is no arrow before @").wanting("->"))
 }
