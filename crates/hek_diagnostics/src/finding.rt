@@ -10,6 +10,8 @@ pub(crate) struct Finding<'t> {
     pub(crate) sentence: Sentence<'t>,
     pub(crate) wanted: Wanted<'t>,
     pub(crate) hint: Hint,
+    /// Whether the first line with words is one of a schedule, but not that with the buckets.
+    pub(crate) is_plain: bool,
     /// What to do instead.
     pub(crate) instead: Sentence<'t>,
 }
@@ -51,6 +53,7 @@ impl<'t> Finding<'t> {
             sentence: Sentence::new(form, word.text),
             wanted: Wanted::Form(Sentence::new("", b"")),
             hint: Hint::None,
+            is_plain: false,
             instead: Sentence::new("", b""),
         }
     }
@@ -99,6 +102,12 @@ impl<'t> Finding<'t> {
             Wanted::Form(form) => !form.is_empty(),
             Wanted::Names | Wanted::Starts => true,
         }
+    }
+
+    /// The same with another sentence about the word.
+    pub(crate) fn saying(mut self, form: &'static str) -> Finding<'t> {
+        self.sentence = Sentence::new(form, self.sentence.word);
+        self
     }
 
     /// The number that the sentence has as `$`.

@@ -45,6 +45,12 @@ impl<'t> Problem<'t> {
         self
     }
 
+    /// The number that the sentence has as `^`.
+    fn third(mut self, number: u64) -> Problem<'t> {
+        self.sentence.third = number;
+        self
+    }
+
     /// The word that the sentence has as `@`.
     fn word(mut self, word: &'t [u8]) -> Problem<'t> {
         let mut sentence = self.sentence;
@@ -74,7 +80,7 @@ pub fn explain_image<'t>(
         LoadFault::BadField(at) => usize::try_from(at).unwrap_or(0),
         LoadFault::Read | LoadFault::NoMemory => return None,
     };
-    let field = field_at(image, at);
+    let field = with_bucket(field_at(image, at), image);
     let found = field.bytes(image);
     let problem = match fault {
         LoadFault::BadMagic => no_magic(image),
@@ -94,6 +100,14 @@ pub fn explain_image<'t>(
         found,
         problem,
     })
+}
+
+/// A field, with the first operand of a scan as its bucket.
+fn with_bucket(mut field: Field, image: &[u8]) -> Field {
+    if field.kind == Kind::First && kind_of(field, image) == Some(EventKind::Scan) {
+        field.kind = Kind::Bucket;
+    }
+    field
 }
 
 /// An image that doesn't begin as one.
@@ -162,6 +176,7 @@ fn cut_form(kind: Kind) -> &'static str {
         Kind::Name => "the image ends inside the name of transaction $",
         Kind::Opcode => "the image ends before the opcode of step $",
         Kind::Txn => "the image ends inside the transaction of step $",
+        Kind::Bucket => "the image ends inside the bucket of step $",
         Kind::First => "the image ends inside the first operand of step $",
         Kind::Second => "the image ends inside the second operand of step $",
         Kind::End => "the image ends too early",
@@ -220,13 +235,12 @@ fn few_or_many<'t>(
 
 fn bad_key<'t>(field: Field, image: &[u8], found: &[u8]) -> Problem<'t> {
     let other = row_with_key(image, found, field.item).unwrap_or(0);
-    let mut problem = Problem::new(
-        "the key of row % is also that of row $",
+    Problem::new(
+        "the key `$` of row % is also that of row ^",
         "a key that no earlier row has",
     )
-    .numbers(other, field.item);
-    problem.sentence.number = other;
-    problem
+    .numbers(number_in(found), field.item)
+    .third(other)
 }
 
 fn bad_level<'t>(field: Field, image: &[u8], value: u64) -> Problem<'t> {
@@ -281,7 +295,7 @@ const NAME: &str = "lower-case letters, digits and `_`, a letter first";
 fn kind_of(field: Field, image: &[u8]) -> Option<EventKind> {
     let back = match field.kind {
         Kind::Txn => 1,
-        Kind::First => 5,
+        Kind::First | Kind::Bucket => 5,
         _ => 13,
     };
     let at = field.at.saturating_sub(back);
@@ -301,7 +315,7 @@ fn bad_step<'t>(field: Field, image: &[u8], value: u64) -> Problem<'t> {
     if field.kind == Kind::Txn {
         return bad_txn(field, image, kind, value);
     }
-    if kind.is_scan() && field.kind == Kind::First {
+    if field.kind == Kind::Bucket {
         return bad_bucket(field, image, value);
     }
     let form = if field.kind == Kind::First {
@@ -334,13 +348,15 @@ fn bad_txn<'t>(field: Field, image: &[u8], kind: EventKind, value: u64) -> Probl
 }
 
 fn bad_bucket<'t>(field: Field, image: &[u8], value: u64) -> Problem<'t> {
-    let last = header_number(image, 6).saturating_sub(1);
-    Problem::new(
-        "step % scans bucket `$`, and there is no such bucket",
-        "0 to $",
-    )
-    .numbers(value, field.item)
-    .up_to(last)
+    let buckets = header_number(image, 6);
+    let form = match buckets {
+        1 => "step % scans bucket `$`, and the only bucket is 0",
+        _ => "step % scans bucket `$`, and there are ^ buckets",
+    };
+    Problem::new(form, "0 to $")
+        .numbers(value, field.item)
+        .third(buckets)
+        .up_to(buckets.saturating_sub(1))
 }
 
 /// The most bytes of a field that are shown.
@@ -391,6 +407,7 @@ fn field_name(kind: Kind) -> &'static str {
         Kind::Opcode => "opcode of step ",
         Kind::Txn => "transaction of step ",
         Kind::First => "first operand of step ",
+        Kind::Bucket => "bucket of step ",
         Kind::Second => "second operand of step ",
         Kind::End => "end",
     }

@@ -3,7 +3,7 @@ use crate::finding::{Finding, Hint};
 use crate::foreign::not_ascii;
 use crate::known::{Known, Row};
 use crate::looks::other_input;
-use crate::names::{NAME, no_name};
+use crate::names::{NAME, RESERVED, no_name};
 use crate::nearest::nearest_word;
 use crate::numbers::{Role, has_byte, no_number};
 use crate::place::part;
@@ -93,9 +93,11 @@ fn no_buckets<'t>(first: Word<'t>, line: &'t [u8]) -> Finding<'t> {
     } else {
         "the text begins with @, and its first line gives the number of buckets"
     };
-    Finding::at(first, form)
+    let mut finding = Finding::at(first, form)
         .wanting("buckets")
-        .hinting(Hint::Among(HEAD))
+        .hinting(Hint::Among(HEAD));
+    finding.is_plain = first.is_one_of(RESERVED);
+    finding
 }
 
 /// A line after the first with words.

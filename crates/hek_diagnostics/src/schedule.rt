@@ -9,7 +9,7 @@ use crate::numbers::has_byte;
 use crate::place::{Lines, Place};
 use crate::words::Word;
 use hek_asm::AsmKind;
-use hek_rules::NoMemory;
+use hek_rules::{NoMemory, next_word, same_bytes};
 use std::alloc::Global;
 
 /// The most faults that are shown beside the first.
@@ -34,7 +34,7 @@ pub fn explain_text<'t>(
         return Ok(None);
     };
     let finding = match judge(&mut known, &mut words, place.line, place.number)? {
-        Some(finding) => finding,
+        Some(finding) => late_buckets(finding, text, kind),
         None => unexplained(&mut known, words.as_slice(), text, kind),
     };
     let mut found = Diagnostics {
@@ -44,6 +44,31 @@ pub fn explain_text<'t>(
     };
     find_others(&mut known, &mut lines, &mut words, name, &mut found)?;
     Ok(Some(found))
+}
+
+/// The finding of a text that doesn't begin with `buckets`, with the line that does so later, if there is one.
+fn late_buckets<'t>(finding: Finding<'t>, text: &'t [u8], kind: AsmKind) -> Finding<'t> {
+    if kind != AsmKind::NoBuckets || !finding.is_plain {
+        return finding;
+    }
+    let mut lines = Lines::new(text);
+    for _ in 0..u64::MAX {
+        let Some(place) = lines.next() else {
+            break;
+        };
+        if begins_with_buckets(place.line) {
+            let sentence = "the text begins with @, and `buckets` in line $ comes too late";
+            return finding.saying(sentence).with_number(place.number);
+        }
+    }
+    finding
+}
+
+fn begins_with_buckets(line: &[u8]) -> bool {
+    match next_word(line) {
+        Some((word, _)) => same_bytes(word, b"buckets"),
+        None => false,
+    }
 }
 
 /// The line of this number, after all lines before it.
