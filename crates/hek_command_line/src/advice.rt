@@ -1,7 +1,7 @@
-//! What is wrong with a bad argument and what is wanted in its place, for a reader at a terminal.
-use crate::nearest::nearest;
+//! What is wrong with a bad argument and what is wanted in its place, for a reader at a terminal, or with `--explain`.
 use clap::ArgMatches;
 use hek_asm::level_named;
+use hek_diagnostics::nearest_word;
 use hek_permute::Form;
 use hek_permute_command::part_of;
 use hek_rules::number;
@@ -127,7 +127,7 @@ pub fn advice_of<'a>(alloc: Global, command: &str, found: &ArgMatches<'a>) -> Op
     }
     match found.get_str("level") {
         Some(value) if level_named(value.as_bytes()).is_none() => {
-            let wrong = Wrong::NoLevel(nearest(alloc, value, LEVELS));
+            let wrong = Wrong::NoLevel(nearest_word(alloc, value, LEVELS));
             return Some(Advice::new("level", value, wrong));
         }
         _ => {}
@@ -140,7 +140,7 @@ pub fn advice_of<'a>(alloc: Global, command: &str, found: &ArgMatches<'a>) -> Op
     }
     match found.get_str("grain") {
         Some(value) if Form::named(value).is_none() => {
-            let wrong = Wrong::NoGrain(nearest(alloc, value, GRAINS));
+            let wrong = Wrong::NoGrain(nearest_word(alloc, value, GRAINS));
             return Some(Advice::new("grain", value, wrong));
         }
         _ => {}
@@ -150,7 +150,7 @@ pub fn advice_of<'a>(alloc: Global, command: &str, found: &ArgMatches<'a>) -> Op
     }
     let value = found.get_str("order")?;
     let wrong = if command == "history" {
-        Wrong::NoKind(nearest(alloc, value, KINDS))
+        Wrong::NoKind(nearest_word(alloc, value, KINDS))
     } else {
         Wrong::NoOrder
     };

@@ -1,6 +1,6 @@
 //! The words of the command line: the commands, their arguments and help.
-use crate::nearest::nearest;
 use clap::{Arg, ArgAction, ArgMatches, Command, Error};
+use hek_diagnostics::nearest_word;
 use std::alloc::{AllocError, Global};
 use std::convert::AsStr;
 
@@ -54,6 +54,12 @@ const TEXT: ArgumentText = ArgumentText {
 const IMAGE: ArgumentText = ArgumentText {
     name: "image",
     help: "FILE is a schedule image, whatever its name",
+    form: Form::Flag,
+};
+
+const EXPLAIN: ArgumentText = ArgumentText {
+    name: "explain",
+    help: "says of each fault what is wrong, what is wanted and what is meant, as at a terminal",
     form: Form::Flag,
 };
 
@@ -144,6 +150,7 @@ Where first.hek has the line `buckets 1`, first.img gets the 22 bytes of its ima
             help: "the image that is written, or - for standard output",
             form: Form::Word,
         },
+        EXPLAIN,
     ],
 };
 
@@ -154,7 +161,7 @@ const DIS: CommandText = CommandText {
   hek dis first.img
 Where first.img is the image of a schedule with one bucket and nothing else, it prints
   buckets 1",
-    arguments: &[FILE, TEXT, IMAGE],
+    arguments: &[FILE, TEXT, IMAGE, EXPLAIN],
 };
 
 const RUN: CommandText = CommandText {
@@ -176,6 +183,7 @@ it prints
         FILE,
         TEXT,
         IMAGE,
+        EXPLAIN,
         ArgumentText {
             name: "state",
             help: "prints the state of the machine after the trace",
@@ -241,6 +249,7 @@ are answered with
         FILE,
         TEXT,
         IMAGE,
+        EXPLAIN,
         WHY,
         CHANGES,
         ArgumentText {
@@ -274,6 +283,7 @@ with the number of the first event at fault, and status 1. Each transaction is j
         },
         TEXT,
         IMAGE,
+        EXPLAIN,
         LEVEL,
         ArgumentText {
             name: "why",
@@ -335,6 +345,7 @@ are answered with
         },
         TEXT,
         IMAGE,
+        EXPLAIN,
     ],
 };
 
@@ -353,6 +364,7 @@ it prints the trace of a whole run of a, from begin to end. What it prints is a 
         FILE,
         TEXT,
         IMAGE,
+        EXPLAIN,
         ArgumentText {
             name: "turns",
             help: "how many times a waiting transaction tries again, 0 to 1000000",
@@ -392,6 +404,7 @@ The verdict takes all transactions as serializable. `hek permute two.hek --order
         FILE,
         TEXT,
         IMAGE,
+        EXPLAIN,
         LEVEL,
         ArgumentText {
             name: "split",
@@ -449,6 +462,7 @@ The page shows each step with its reply, and the versions, waits and lock words 
         FILE,
         TEXT,
         IMAGE,
+        EXPLAIN,
         ArgumentText {
             name: "from",
             help: "begins at step N, by default the first",
@@ -520,6 +534,7 @@ The status is 0 if there is an order, 1 if there is none, and 3 if the search en
             help: "a log, or - for standard input",
             form: Form::Word,
         },
+        EXPLAIN,
         LEVEL,
         ArgumentText {
             name: "order",
@@ -575,7 +590,7 @@ pub fn meant_command(alloc: Global, word: &str) -> Option<&'static str> {
             return None;
         }
     }
-    nearest(alloc, word, names.as_slice())
+    nearest_word(alloc, word, names.as_slice())
 }
 
 fn push_names(texts: &[CommandText], names: &mut Vec<&'static str>) -> Result<(), AllocError> {

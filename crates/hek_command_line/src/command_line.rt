@@ -1,8 +1,9 @@
 //! The command line: its words, and what the program does for them.
-use crate::advice::advice_of;
 use crate::arguments::{RULES, meant_command, read_words};
 use crate::disk::{Disk, LateFile, open};
+use crate::explain::explained;
 use crate::json::{check_as_json, drive_as, permute_as, threads_as, wants_json};
+use crate::kept::{Kept, KeptDisk, KeptReader};
 use crate::log::history;
 use crate::output::NotedOutput;
 use crate::schedule::{schedule_file, schedule_text};
@@ -85,8 +86,11 @@ pub fn answer<S: AsStr, D: Disk, I: Read + IsTerminal + Drop, W: Write, E: Write
     let mut out = NotedOutput::new(out);
     let ran = match read_words(alloc, words) {
         Ok(matches) => {
-            let ran = run(alloc, &matches, disk, input, &mut out, faults);
-            advised(alloc, ran, &matches, faults)
+            let kept = Kept::new(alloc, &matches, faults.is_terminal());
+            let disk = KeptDisk::new(disk, &kept);
+            let input = KeptReader::new(input, INPUT, &kept);
+            let ran = run(alloc, &matches, &disk, input, &mut out, faults);
+            explained(alloc, ran, &matches, &kept, faults)
         }
         Err(error) => {
             let refused = refuse(&error, &mut out, faults);
@@ -109,13 +113,16 @@ pub fn answer_in_threads<
     let mut out = NotedOutput::new(out);
     let ran = match read_words(alloc, words) {
         Ok(matches) => {
+            let kept = Kept::new(alloc, &matches, faults.is_terminal());
+            let disk = KeptDisk::new(disk, &kept);
+            let input = KeptReader::new(input, INPUT, &kept);
             let ran = match matches.subcommand() {
                 Some(("threads", found)) => {
-                    threads(system, alloc, found, disk, input, &mut out, faults)
+                    threads(system, alloc, found, &disk, input, &mut out, faults)
                 }
-                _ => run(alloc, &matches, disk, input, &mut out, faults),
+                _ => run(alloc, &matches, &disk, input, &mut out, faults),
             };
-            advised(alloc, ran, &matches, faults)
+            explained(alloc, ran, &matches, &kept, faults)
         }
         Err(error) => {
             let refused = refuse(&error, &mut out, faults);
@@ -124,28 +131,6 @@ pub fn answer_in_threads<
         }
     };
     status_of(ran, &out, faults)
-}
-
-/// What came of a command. A bad argument is reported here if standard error is a terminal, with what is wrong and what
-/// is wanted.
-fn advised<'a, E: Write + IsTerminal>(
-    alloc: Global,
-    ran: Result<u8, HekFault<'a>>,
-    matches: &ArgMatches<'_>,
-    faults: &mut E,
-) -> Result<u8, HekFault<'a>> {
-    match ran {
-        Err(HekFault::BadArgument) if faults.is_terminal() => {
-            let status = report(HekFault::BadArgument, faults);
-            if let Some((command, found)) = matches.subcommand() {
-                if let Some(advice) = advice_of(alloc, command, found) {
-                    let _ = write!(faults, "{advice}");
-                }
-            }
-            Ok(status)
-        }
-        ran => ran,
-    }
 }
 
 /// The exit status after a command, whose fault is reported. That its output's reader has left is no fault.
@@ -180,14 +165,15 @@ fn refuse<'a, W: Write, E: Write>(
     }
 }
 
-/// At a terminal, names the command that a mistyped one means.
+/// At a terminal or with `--explain`, names the command that a mistyped one means.
 fn suggest<S: AsStr, E: Write + IsTerminal>(
     alloc: Global,
     error: &Error,
     words: &[S],
     faults: &mut E,
 ) {
-    if error.kind() != ClapKind::InvalidSubcommand || !faults.is_terminal() {
+    let explains = faults.is_terminal() || words.iter().any(|word| word.as_str() == "--explain");
+    if error.kind() != ClapKind::InvalidSubcommand || !explains {
         return;
     }
     if let Some(word) = words.get(1) {
@@ -359,7 +345,7 @@ fn debug<'a, D: Disk, I: Read + IsTerminal + Drop, W: Write, E: Write + IsTermin
 ) -> Result<u8, HekFault<'a>> {
     let manner = Manner {
         prompts: input.is_terminal(),
-        explains: faults.is_terminal(),
+        explains: faults.is_terminal() || found.get_flag("explain"),
     };
     let mut input = Some(input);
     let file = schedule_file(alloc, found, disk, &mut input)?;

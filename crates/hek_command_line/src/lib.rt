@@ -5,9 +5,11 @@ mod advice;
 mod arguments;
 mod command_line;
 mod disk;
+mod explain;
 mod json;
+mod kept;
 mod log;
-mod nearest;
+mod notes;
 mod output;
 mod schedule;
 

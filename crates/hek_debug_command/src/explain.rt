@@ -4,7 +4,7 @@ use crate::mistake::{Meant, Medium, Mistake, Wanted, mistake_of};
 use crate::name::{NAMES, NameText, Place};
 use crate::stop_text::put_text;
 use hek_commands::{HekFault, ScheduleFile, report, schedule_in};
-use hek_diagnostics::nearest;
+use hek_diagnostics::nearest_word;
 use hek_rules::{NoMemory, Schedule, TxnId, next_line};
 use std::alloc::Global;
 use std::io::{Read, Write};
@@ -309,7 +309,7 @@ fn put_nearest(
     };
     let mut words = Vec::new(alloc);
     gather(schedule, mistake.wanted, &mut words)?;
-    match nearest(alloc, word, words.as_slice()) {
+    match nearest_word(alloc, word, words.as_slice()) {
         None => Ok(()),
         Some(meant) => {
             put_text("  | did you mean `", lines)?;

@@ -1,6 +1,31 @@
-//! The words that mistyped ones mean.
+//! What is wrong at the place of a fault, what is wanted there, and what is meant: the lines that may follow the one line
+//! of a fault.
 #![tactic(auto)]
 
-mod near;
+mod diagnostic;
+mod finding;
+mod foreign;
+mod image;
+mod image_field;
+mod known;
+mod line;
+mod looks;
+mod names;
+mod nearest;
+mod numbers;
+mod place;
+mod reply;
+mod schedule;
+mod sentence;
+mod step;
+mod token;
+mod trace;
+mod words;
 
-pub use near::nearest;
+pub use diagnostic::{Diagnostic, Diagnostics};
+pub use image::{ImageDiagnostic, explain_image};
+pub use looks::{OtherBytes, explain_bytes};
+pub use nearest::nearest_word;
+pub use place::Place;
+pub use schedule::explain_text;
+pub use trace::explain_trace;

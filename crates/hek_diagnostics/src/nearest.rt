@@ -7,7 +7,7 @@ const MOST_EDITS: usize = 2;
 
 /// The nearest of these words to another, whose capitals count as small letters: at most two edits away, and at most half
 /// as many as the longer of both has characters. None if two are equally near, or if memory runs out.
-pub fn nearest<'w>(alloc: Global, word: &str, words: &[&'w str]) -> Option<&'w str> {
+pub fn nearest_word<'w>(alloc: Global, word: &str, words: &[&'w str]) -> Option<&'w str> {
     if word.len() > 100 {
         return None;
     }
@@ -18,7 +18,7 @@ pub fn nearest<'w>(alloc: Global, word: &str, words: &[&'w str]) -> Option<&'w s
 }
 
 /// A text with small letters in place of capitals.
-fn lower_case(alloc: Global, text: &str) -> Result<String, AllocError> {
+pub(crate) fn lower_case(alloc: Global, text: &str) -> Result<String, AllocError> {
     let mut lower = String::new(alloc);
     for mark in text.chars() {
         lower.push(mark.to_ascii_lowercase())?;

@@ -1,0 +1,146 @@
+//! What follows the line of a fault where standard error is a terminal, or with `--explain`: what is wrong, what is wanted
+//! and what is meant.
+use crate::advice::advice_of;
+use crate::kept::Kept;
+use crate::notes::note;
+use clap::ArgMatches;
+use hek_commands::{HekFault, INPUT, ScheduleFile, report, schedule_in};
+use hek_diagnostics::{explain_bytes, explain_image, explain_text, explain_trace};
+use hek_image::LoadFault;
+use hek_rules::Schedule;
+use std::alloc::Global;
+use std::io::{Cursor, Write};
+use std::str;
+
+/// The byte order mark, which a schedule text may begin with.
+const BYTE_ORDER_MARK: &[u8] = b"\xEF\xBB\xBF";
+
+/// What came of a command. If faults are explained, its fault is reported here, and explained.
+pub fn explained<'a, E: Write>(
+    alloc: Global,
+    ran: Result<u8, HekFault<'a>>,
+    matches: &ArgMatches<'_>,
+    kept: &Kept<'_>,
+    faults: &mut E,
+) -> Result<u8, HekFault<'a>> {
+    if !kept.explains {
+        return ran;
+    }
+    match ran {
+        Err(HekFault::CannotWrite) => ran,
+        Err(fault) => {
+            let status = report(fault, faults);
+            explain(alloc, fault, matches, kept, faults);
+            Ok(status)
+        }
+        Ok(0) => {
+            if let Some((command, found)) = matches.subcommand() {
+                note(alloc, command, found, kept, faults);
+            }
+            Ok(0)
+        }
+        Ok(status) => Ok(status),
+    }
+}
+
+/// Explains a fault, as far as something is known of it. What can't be written is left out.
+fn explain<E: Write>(
+    alloc: Global,
+    fault: HekFault<'_>,
+    matches: &ArgMatches<'_>,
+    kept: &Kept<'_>,
+    faults: &mut E,
+) {
+    match fault {
+        HekFault::BadArgument => advise(alloc, matches, faults),
+        HekFault::Line { line, kind } => {
+            let bytes = kept.file_bytes(alloc);
+            let name = kept.file.unwrap_or("");
+            let text = schedule_bytes(bytes.as_slice());
+            if let Ok(Some(found)) = explain_text(alloc, name, text, line, kind) {
+                let _ = write!(faults, "{found}");
+            }
+        }
+        HekFault::Image(fault) => image(alloc, fault, kept, faults),
+        HekFault::TraceLine(line) => trace(alloc, line, kept, faults),
+        HekFault::NotText => not_text(alloc, kept, faults),
+        HekFault::CannotRead(INPUT) => input_twice(kept, faults),
+        _ => {}
+    }
+}
+
+/// Says what is wrong with an argument.
+fn advise<E: Write>(alloc: Global, matches: &ArgMatches<'_>, faults: &mut E) {
+    if let Some((command, found)) = matches.subcommand() {
+        if let Some(advice) = advice_of(alloc, command, found) {
+            let _ = write!(faults, "{advice}");
+        }
+    }
+}
+
+/// The bytes of a schedule text, without a byte order mark.
+fn schedule_bytes(bytes: &[u8]) -> &[u8] {
+    match bytes.strip_prefix(BYTE_ORDER_MARK) {
+        Some(text) => text,
+        None => bytes,
+    }
+}
+
+fn image<E: Write>(alloc: Global, fault: LoadFault, kept: &Kept<'_>, faults: &mut E) {
+    let bytes = kept.file_bytes(alloc);
+    let name = kept.file.unwrap_or("");
+    if let Some(found) = explain_image(name, bytes.as_slice(), fault) {
+        let _ = write!(faults, "{found}");
+    }
+}
+
+/// The schedule of the bytes of FILE, which a command has read without a fault.
+pub fn schedule_of(alloc: Global, bytes: Vec<u8>) -> Option<Schedule> {
+    let file = if bytes.starts_with(b"HKSC") {
+        ScheduleFile::Image(Cursor::new(bytes))
+    } else {
+        let mut text = Vec::new(alloc);
+        text.extend_from_slice(schedule_bytes(bytes.as_slice()))
+            .ok()?;
+        ScheduleFile::Text(text)
+    };
+    schedule_in(alloc, file).ok()
+}
+
+fn trace<E: Write>(alloc: Global, line: u64, kept: &Kept<'_>, faults: &mut E) {
+    let Some(schedule) = schedule_of(alloc, kept.file_bytes(alloc)) else {
+        return;
+    };
+    let bytes = kept.other_bytes(alloc);
+    let name = kept.other.unwrap_or("");
+    if let Ok(Some(found)) = explain_trace(alloc, name, &schedule, bytes.as_slice(), line) {
+        let _ = write!(faults, "{found}");
+    }
+}
+
+/// Says what the file looks like that is not a text.
+fn not_text<E: Write>(alloc: Global, kept: &Kept<'_>, faults: &mut E) {
+    let other = kept.other_bytes(alloc);
+    if let Some(name) = kept.other {
+        if str::from_utf8(other.as_slice()).is_err() {
+            let found = explain_bytes(name, other.as_slice());
+            let _ = write!(faults, "{found}");
+            return;
+        }
+    }
+    let bytes = kept.file_bytes(alloc);
+    if let Some(name) = kept.file {
+        let found = explain_bytes(name, bytes.as_slice());
+        let _ = write!(faults, "{found}");
+    }
+}
+
+/// Says that standard input can be read once, if the words name it twice.
+fn input_twice<E: Write>(kept: &Kept<'_>, faults: &mut E) {
+    if kept.file == Some(INPUT) && kept.other == Some(INPUT) {
+        let _ = writeln!(
+            faults,
+            "  | `-` is given twice, and standard input can be read once"
+        );
+    }
+}

@@ -1,0 +1,80 @@
+//! Notes on words that a command takes without a fault though they come to nothing.
+use crate::explain::schedule_of;
+use crate::kept::Kept;
+use clap::ArgMatches;
+use hek_rules::{next_line, next_word, number};
+use std::alloc::Global;
+use std::io::Write;
+
+/// Notes what comes to nothing in a command that had no fault.
+pub fn note<E: Write>(
+    alloc: Global,
+    command: &str,
+    found: &ArgMatches<'_>,
+    kept: &Kept<'_>,
+    faults: &mut E,
+) {
+    match command {
+        "debug" => note_breaks(alloc, kept, faults),
+        "page" => note_part(found, faults),
+        _ => {}
+    }
+}
+
+/// A page without steps, since it ends before it begins.
+fn note_part<E: Write>(found: &ArgMatches<'_>, faults: &mut E) {
+    let from = step_of(found, "from");
+    let to = step_of(found, "to");
+    if let (Some(from), Some(to)) = (from, to) {
+        if from > to {
+            let _ = writeln!(
+                faults,
+                "hek: note: the page shows no step: --from {from} is after --to {to}"
+            );
+        }
+    }
+}
+
+/// The number of an option, if the words have it.
+fn step_of(found: &ArgMatches<'_>, name: &str) -> Option<u64> {
+    number(found.get_str(name)?.as_bytes())
+}
+
+/// The breakpoints of COMMANDS that are past the last step.
+fn note_breaks<E: Write>(alloc: Global, kept: &Kept<'_>, faults: &mut E) {
+    if kept.other.is_none() {
+        return;
+    }
+    let Some(schedule) = schedule_of(alloc, kept.file_bytes(alloc)) else {
+        return;
+    };
+    let steps = schedule.steps().len() as u64;
+    let commands = kept.other_bytes(alloc);
+    let mut rest = commands.as_slice();
+    for line_number in 1..u64::MAX {
+        let Some((line, after)) = next_line(rest) else {
+            return;
+        };
+        rest = after;
+        match break_of(line) {
+            Some(step) if step > steps => {
+                let _ = writeln!(
+                    faults,
+                    "hek: note: command line {line_number}: step {step} is past the last, {steps}"
+                );
+            }
+            _ => {}
+        }
+    }
+}
+
+/// The step of a line `break at N`.
+fn break_of(line: &[u8]) -> Option<u64> {
+    let (first, rest) = next_word(line)?;
+    let (second, rest) = next_word(rest)?;
+    let (third, _) = next_word(rest)?;
+    if first == b"break".as_slice() && second == b"at".as_slice() {
+        return number(third);
+    }
+    None
+}

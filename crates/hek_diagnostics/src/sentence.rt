@@ -1,0 +1,92 @@
+//! Sentences with words and numbers of a text in them.
+use std::fmt::{Display, Formatter};
+use std::{fmt, str};
+
+/// How many characters of a word a sentence shows.
+const SHOWN: usize = 60;
+
+/// A sentence. In its form `@` stands for a word between back-ticks, `~` for the same word without them, `&` for another
+/// word, and `$`, `%` and `^` for numbers.
+#[derive(Clone, Copy)]
+pub(crate) struct Sentence<'t> {
+    form: &'static str,
+    pub(crate) word: &'t [u8],
+    pub(crate) other: &'t [u8],
+    pub(crate) number: u64,
+    pub(crate) more: u64,
+    pub(crate) third: u64,
+}
+
+impl<'t> Sentence<'t> {
+    pub(crate) fn new(form: &'static str, word: &'t [u8]) -> Sentence<'t> {
+        Sentence {
+            form,
+            word,
+            other: b"",
+            number: 0,
+            more: 0,
+            third: 0,
+        }
+    }
+
+    /// Whether nothing is said.
+    pub(crate) fn is_empty(&self) -> bool {
+        self.form.is_empty()
+    }
+}
+
+impl Display for Sentence<'_> {
+    fn fmt<W: fmt::Write>(&self, f: &mut Formatter<W>) -> fmt::Result {
+        for mark in self.form.chars() {
+            match mark {
+                '@' => write_quoted(f, self.word)?,
+                '~' => write_word(f, self.word)?,
+                '&' => write_quoted(f, self.other)?,
+                '$' => write_number(f, self.number)?,
+                '%' => write_number(f, self.more)?,
+                '^' => write_number(f, self.third)?,
+                _ => f.write_char(mark)?,
+            }
+        }
+        Ok(())
+    }
+}
+
+fn write_number<W: fmt::Write>(f: &mut Formatter<W>, number: u64) -> fmt::Result {
+    write!(f, "{number}")
+}
+
+fn write_quoted<W: fmt::Write>(f: &mut Formatter<W>, word: &[u8]) -> fmt::Result {
+    f.write_char('`')?;
+    write_word(f, word)?;
+    f.write_char('`')
+}
+
+/// Writes the first characters of a word.
+fn write_word<W: fmt::Write>(f: &mut Formatter<W>, word: &[u8]) -> fmt::Result {
+    let text = str::from_utf8(word).unwrap_or("?");
+    for (place, mark) in text.chars().enumerate() {
+        if place == SHOWN {
+            f.write_str("..")?;
+            break;
+        }
+        write_visible(f, mark)?;
+    }
+    Ok(())
+}
+
+/// Writes a character, and a control character as its escape.
+fn write_visible<W: fmt::Write>(f: &mut Formatter<W>, mark: char) -> fmt::Result {
+    match mark {
+        '\0' => f.write_str("\\0"),
+        '\t' => f.write_str("\\t"),
+        '\n' => f.write_str("\\n"),
+        '\r' => f.write_str("\\r"),
+        '\x0C' => f.write_str("\\f"),
+        _ if mark.is_control() => {
+            let code = u32::from(mark);
+            write!(f, "\\x{code:02X}")
+        }
+        _ => f.write_char(mark),
+    }
+}
