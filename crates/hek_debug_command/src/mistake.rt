@@ -1,5 +1,5 @@
 //! What is wrong with a line that is not a command.
-use crate::name::{Meaning, Name, NameText, Place, meaning, name_of};
+use crate::name::{Meaning, Name, NameText, Place, meant_by, name_of};
 use crate::operand::{BREAKS, FILE_BREAKS, Operand, SHOWS, WATCHES, operand_mistake};
 use hek_rules::{EventKind, Schedule, next_word, number};
 
@@ -110,7 +110,7 @@ pub(crate) fn mistake_of<'t>(
 ) -> Option<Mistake<'t>> {
     let word = nth_word(line, 0)?;
     let named = match medium {
-        Medium::Session => meaning(word.text),
+        Medium::Session => meant_by(word.text),
         Medium::File => in_file(word.text),
     };
     let Meaning::One(text) = named else {
@@ -146,7 +146,7 @@ fn for_sessions(place: Place) -> &'static str {
 /// What is wrong with a first word that is no command's.
 fn no_name<'t>(schedule: &Schedule, word: Word<'t>, medium: Medium) -> Mistake<'t> {
     let commands = Wanted::Commands(medium);
-    let short = meaning(word.text);
+    let short = meant_by(word.text);
     if medium == Medium::File {
         if let Meaning::One(text) = short {
             return short_in_file(word, text);

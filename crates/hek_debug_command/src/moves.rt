@@ -152,7 +152,8 @@ impl Moves {
         alloc: Global,
         out: &mut W,
     ) -> Result<(), HekFault<'a>> {
-        match self.last_fit_before(self.debugger.at())? {
+        let at = self.debugger.at();
+        match self.last_fit_before(at)? {
             None => self.stop(alloc, Command::Back(u64::MAX), Reason::Back, out),
             Some((place, index)) => {
                 let count = self.debugger.at().saturating_sub(place);

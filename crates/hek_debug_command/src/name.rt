@@ -155,7 +155,7 @@ pub(crate) fn name_of(word: &[u8]) -> Option<NameText> {
 }
 
 /// The name that a first word of a session's line is, or is short for.
-pub(crate) fn meaning(word: &[u8]) -> Meaning {
+pub(crate) fn meant_by(word: &[u8]) -> Meaning {
     if let Some(text) = name_of(habit(word)) {
         return Meaning::One(text);
     }

@@ -225,9 +225,10 @@ fn put_held(
     match held {
         Held::Gone => Ok(()),
         Held::OnReply(kind) => {
+            let (first, second) = kind.words();
             put_number(index, lines)?;
-            put_named(" break reply ", kind.first, lines)?;
-            put_second(kind.second, lines)?;
+            put_named(" break reply ", first, lines)?;
+            put_second(second, lines)?;
             put_text("\n", lines)
         }
         Held::Mark => match debugger.mark(index) {

@@ -1,12 +1,10 @@
 //! Kinds of replies, as `break reply` names them: by the first word of the printed reply, or by its first two.
 use hek_rules::Reply;
 
-/// A kind of replies: the first word of a reply as it is printed, and the second word. If the second is empty, every
-/// reply with this first word is of the kind.
+/// A kind of replies: its place in `KINDS`.
 #[derive(Clone, Copy)]
 pub(crate) struct ReplyKind {
-    pub(crate) first: &'static str,
-    pub(crate) second: &'static str,
+    place: usize,
 }
 
 /// The words with which replies begin.
@@ -33,15 +31,35 @@ pub(crate) const FIRSTS: &[&str] = &[
     "refused",
 ];
 
-/// Second words of replies that are no numbers, each with the first word before it.
-const PAIRS: &[(&str, &str)] = &[
+/// Each kind: the first word of a reply as it is printed, and the second. If the second is empty, every reply with this
+/// first word is of the kind.
+const KINDS: &[(&str, &str)] = &[
+    ("began", ""),
+    ("found", ""),
+    ("absent", ""),
+    ("rows", ""),
+    ("done", ""),
+    ("exists", ""),
+    ("ready", ""),
+    ("waiting", ""),
     ("waiting", "commits"),
+    ("precommitted", ""),
+    ("released", ""),
     ("released", "read"),
     ("released", "bucket"),
     ("released", "waiter"),
+    ("nothing", ""),
+    ("committed", ""),
+    ("failed", ""),
+    ("stamped", ""),
     ("stamped", "begin"),
     ("stamped", "end"),
+    ("left", ""),
+    ("over", ""),
+    ("no", ""),
     ("no", "cycle"),
+    ("victim", ""),
+    ("aborted", ""),
     ("aborted", "cascade"),
     ("aborted", "conflict"),
     ("aborted", "no-more-reads"),
@@ -49,36 +67,18 @@ const PAIRS: &[(&str, &str)] = &[
     ("aborted", "no-more-waits"),
     ("aborted", "deadlock"),
     ("aborted", "asked"),
+    ("refused", ""),
 ];
-
-/// The word of replies that these bytes are.
-fn first_named(word: &[u8]) -> Option<&'static str> {
-    for first in FIRSTS {
-        if word == first.as_bytes() {
-            return Some(*first);
-        }
-    }
-    None
-}
-
-/// The second word that these bytes are after a first word of replies.
-fn second_named(first: &str, word: &[u8]) -> Option<&'static str> {
-    for pair in PAIRS {
-        if pair.0 == first && word == pair.1.as_bytes() {
-            return Some(pair.1);
-        }
-    }
-    None
-}
 
 /// The kind of replies that begin with a word, or with two.
 pub(crate) fn kind_named(word: &[u8], second: Option<&[u8]>) -> Option<ReplyKind> {
-    let first = first_named(word)?;
-    let second = match second {
-        Some(word) => second_named(first, word)?,
-        None => "",
-    };
-    Some(ReplyKind { first, second })
+    let second = second.unwrap_or(b"");
+    for (place, pair) in KINDS.iter().enumerate() {
+        if word == pair.0.as_bytes() && second == pair.1.as_bytes() {
+            return Some(ReplyKind { place });
+        }
+    }
+    None
 }
 
 /// The first two words of a reply as it is printed. A second word that is a number is left out.
@@ -112,9 +112,18 @@ fn words_of(reply: &Reply) -> (&'static str, &'static str) {
 }
 
 impl ReplyKind {
+    /// The words of the kind; the second is empty if it has one alone.
+    pub(crate) fn words(self) -> (&'static str, &'static str) {
+        match KINDS.get(self.place) {
+            Some(pair) => *pair,
+            None => ("", ""),
+        }
+    }
+
     /// Whether a reply is of the kind.
     pub(crate) fn has(self, reply: &Reply) -> bool {
-        let (first, second) = words_of(reply);
-        self.first == first && (self.second.is_empty() || self.second == second)
+        let (first, second) = self.words();
+        let (word, next) = words_of(reply);
+        first == word && (second.is_empty() || second == next)
     }
 }

@@ -150,17 +150,66 @@ fn answer_line<'a, W: Write, E: Write>(
     faults: &mut E,
 ) -> Result<Onward, HekFault<'a>> {
     let typed = read_typed(alloc, session.moves.debugger.schedule(), line)?;
-    let onward = match typed {
-        Typed::Empty => again(alloc, session, line, out)?,
-        Typed::Unknown => return Ok(Onward::Unknown),
-        Typed::Question(question) => answer_question(alloc, &session.moves, question, out)?,
-        typed => carry_out(alloc, session, typed, out)?,
-    };
+    let noted = typed;
+    let onward = carry_out(alloc, session, typed, line, out)?;
     if out.flush().is_err() {
         return Err(HekFault::CannotWrite);
     }
-    note_place(session, typed, faults);
+    note_place(session, noted, faults);
     Ok(onward)
+}
+
+/// Does what a line asks for.
+fn carry_out<'a, W: Write>(
+    alloc: Global,
+    session: &mut Session,
+    typed: Typed,
+    line: &[u8],
+    out: &mut W,
+) -> Result<Onward, HekFault<'a>> {
+    match typed {
+        Typed::Empty => again(alloc, session, line, out),
+        Typed::Command(command) => do_command(alloc, session, command, out),
+        Typed::Goto(to) => next_after(session.moves.goto(alloc, to, out)),
+        Typed::Reverse => next_after(session.moves.reverse(alloc, out)),
+        Typed::BreakReply(kind) => next_after(session.moves.break_reply(alloc, kind, out)),
+        Typed::Delete(index) => delete(alloc, session, index, out),
+        Typed::Question(question) => answer_question(alloc, &session.moves, question, out),
+        Typed::Unknown => Ok(Onward::Unknown),
+    }
+}
+
+/// The session goes on after what was done.
+fn next_after<'a>(done: Result<(), HekFault<'a>>) -> Result<Onward, HekFault<'a>> {
+    match done {
+        Ok(()) => Ok(Onward::Next),
+        Err(fault) => Err(fault),
+    }
+}
+
+/// Does a command of the debugger.
+fn do_command<'a, W: Write>(
+    alloc: Global,
+    session: &mut Session,
+    command: Command,
+    out: &mut W,
+) -> Result<Onward, HekFault<'a>> {
+    let noted = command;
+    session.last_step = step_after(session.last_step, noted);
+    next_after(session.moves.command(alloc, command, out))
+}
+
+/// Takes a breakpoint or watch away, if there is one with this index.
+fn delete<'a, W: Write>(
+    alloc: Global,
+    session: &mut Session,
+    index: u64,
+    out: &mut W,
+) -> Result<Onward, HekFault<'a>> {
+    if !is_held(session.moves.held.as_slice(), index) {
+        return Ok(Onward::Unknown);
+    }
+    next_after(session.moves.delete(alloc, index, out))
 }
 
 /// At a terminal an empty line does the last `step` again. A line with a comment does nothing.
@@ -183,32 +232,6 @@ fn again<'a, W: Write>(
 fn is_blank(line: &[u8]) -> bool {
     line.iter()
         .all(|byte| matches!(*byte, b' ' | b'\t' | b'\r'))
-}
-
-/// Does a command.
-fn carry_out<'a, W: Write>(
-    alloc: Global,
-    session: &mut Session,
-    typed: Typed,
-    out: &mut W,
-) -> Result<Onward, HekFault<'a>> {
-    match typed {
-        Typed::Command(command) => {
-            session.last_step = step_after(session.last_step, command);
-            session.moves.command(alloc, command, out)?;
-        }
-        Typed::Goto(to) => session.moves.goto(alloc, to, out)?,
-        Typed::Reverse => session.moves.reverse(alloc, out)?,
-        Typed::BreakReply(kind) => session.moves.break_reply(alloc, kind, out)?,
-        Typed::Delete(index) => {
-            if !is_held(session.moves.held.as_slice(), index) {
-                return Ok(Onward::Unknown);
-            }
-            session.moves.delete(alloc, index, out)?;
-        }
-        Typed::Empty | Typed::Question(_) | Typed::Unknown => {}
-    }
-    Ok(Onward::Next)
 }
 
 /// How many steps an empty line is to do after a command.
@@ -242,17 +265,13 @@ fn answer_question<'a, W: Write>(
     question: Question,
     out: &mut W,
 ) -> Result<Onward, HekFault<'a>> {
+    let asked = question;
     if is_quit(question) {
         return Ok(Onward::Over);
     }
     let mut lines = Vec::new(alloc);
-    put_answer(
-        alloc,
-        &moves.debugger,
-        moves.held.as_slice(),
-        question,
-        &mut lines,
-    )?;
+    let held = moves.held.as_slice();
+    put_answer(alloc, &moves.debugger, held, asked, &mut lines)?;
     send(&mut lines, out)?;
     Ok(Onward::Next)
 }

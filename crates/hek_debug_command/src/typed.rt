@@ -1,5 +1,5 @@
 //! Lines of a session: short words, and commands that only a session has.
-use crate::name::{Meaning, Name, NameText, meaning};
+use crate::name::{Meaning, Name, NameText, meant_by};
 use crate::question::{Question, read_question};
 use crate::reply_kind::{ReplyKind, kind_named};
 use hek_debug::{Command, CommandLine, read_command};
@@ -34,7 +34,7 @@ pub(crate) fn read_typed(
     let Some((word, rest)) = next_word(line) else {
         return Ok(Typed::Empty);
     };
-    let Meaning::One(text) = meaning(word) else {
+    let Meaning::One(text) = meant_by(word) else {
         return Ok(Typed::Unknown);
     };
     match own(text.name, rest) {
