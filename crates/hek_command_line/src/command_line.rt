@@ -6,6 +6,7 @@ use crate::kept::{Kept, KeptDisk, KeptReader};
 use crate::log::history;
 use crate::output::NotedOutput;
 use crate::schedule::{schedule_file, schedule_text};
+use crate::words::advise_sign;
 use clap::error::ErrorKind as ClapKind;
 use clap::{ArgMatches, Error};
 use hek_asm::level_named;
@@ -162,7 +163,7 @@ fn refuse<'a, W: Write, E: Write>(
     }
 }
 
-/// At a terminal or with `--explain`, names the command that a mistyped one means.
+/// At a terminal or with `--explain`, names the command that a mistyped one means, or says that a number has a sign.
 fn suggest<S: AsStr, E: Write + IsTerminal>(
     alloc: Global,
     error: &Error,
@@ -170,6 +171,9 @@ fn suggest<S: AsStr, E: Write + IsTerminal>(
     faults: &mut E,
 ) {
     let explains = faults.is_terminal() || words.iter().any(|word| word.as_str() == "--explain");
+    if explains && error.kind() == ClapKind::UnknownArgument {
+        advise_sign(words, faults);
+    }
     if error.kind() != ClapKind::InvalidSubcommand || !explains {
         return;
     }
