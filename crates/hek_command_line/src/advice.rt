@@ -170,6 +170,16 @@ fn on_count<'a>(found: &ArgMatches<'a>, count: &'static Count) -> Option<Advice<
     Some(Advice::new(count.option, value, wrong))
 }
 
+/// Whether the value of an option is a number.
+pub fn is_count(option: &str) -> bool {
+    for count in COUNTS {
+        if count.option == option {
+            return true;
+        }
+    }
+    false
+}
+
 /// Whether a text has decimal digits alone, at least one.
 fn is_digits(text: &str) -> bool {
     !text.is_empty() && text.as_bytes().iter().all(|byte| byte.is_ascii_digit())

@@ -7,6 +7,7 @@ use crate::kept::{Kept, KeptDisk, KeptReader};
 use crate::log::history;
 use crate::output::NotedOutput;
 use crate::schedule::{schedule_file, schedule_text};
+use crate::words::advise_sign;
 use clap::error::ErrorKind as ClapKind;
 use clap::{ArgMatches, Error};
 use hek_asm::level_named;
@@ -165,7 +166,7 @@ fn refuse<'a, W: Write, E: Write>(
     }
 }
 
-/// At a terminal or with `--explain`, names the command that a mistyped one means.
+/// At a terminal or with `--explain`, names the command that a mistyped one means, or says that a number has a sign.
 fn suggest<S: AsStr, E: Write + IsTerminal>(
     alloc: Global,
     error: &Error,
@@ -173,6 +174,9 @@ fn suggest<S: AsStr, E: Write + IsTerminal>(
     faults: &mut E,
 ) {
     let explains = faults.is_terminal() || words.iter().any(|word| word.as_str() == "--explain");
+    if explains && error.kind() == ClapKind::UnknownArgument {
+        advise_sign(words, faults);
+    }
     if error.kind() != ClapKind::InvalidSubcommand || !explains {
         return;
     }

@@ -3,6 +3,7 @@
 use crate::advice::advice_of;
 use crate::kept::Kept;
 use crate::notes::note;
+use crate::words::advise_words;
 use clap::ArgMatches;
 use hek_commands::{HekFault, INPUT, ScheduleFile, report, schedule_in};
 use hek_diagnostics::{explain_bytes, explain_image, explain_text, explain_trace};
@@ -75,6 +76,7 @@ fn advise<E: Write>(alloc: Global, matches: &ArgMatches<'_>, faults: &mut E) {
         if let Some(advice) = advice_of(alloc, command, found) {
             let _ = write!(faults, "{advice}");
         }
+        advise_words(command, found, faults);
     }
 }
 

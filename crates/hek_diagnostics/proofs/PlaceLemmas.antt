@@ -1,5 +1,5 @@
 -- The lines of a text, one after another.
-use Rattle.std.proofs.Common.{◌≡◌, ℕ, zero, suc, ◌+◌, ◌-◌, List, [], ◌∷◌, ◌++◌, drop, slice_get, Some, refl, sym, ap, ◌∙◌, add-one, arith}
+use Rattle.std.proofs.Common.{◌≡◌, ℕ, zero, suc, ◌+◌, ◌-◌, List, [], ◌∷◌, ◌++◌, drop, length, slice_get, Some, refl, sym, ap, ◌∙◌, add-one, arith}
 use Rattle.hek_rules.specs.Text.{lines_of}
 use Rattle.hek_diagnostics.specs.Places.{lines_and_end}
 
@@ -36,6 +36,10 @@ pub next_lines_left : (text rest after line : List ℕ) (n : ℕ) → drop n (li
 next_lines_left text rest after line n left first =
     rest_left (lines_and_end text) (lines_and_end after) n line (lines_by_first text rest after line n left first)
 
+pub without_elements : (xs : List ℕ) → length xs ≡ 0 → xs ≡ []
+without_elements [] h = refl
+without_elements (x ∷ xs) h = absurd (omega (arith, h))
+
 -- the line after the last one
-pub end_is_line : (text rest : List ℕ) (n : ℕ) → drop n (lines_and_end text) ≡ lines_and_end rest → rest ≡ [] → slice_get (lines_and_end text) (n + 1 - 1) ≡ Some rest
-end_is_line text rest n left empty = rw empty (place_of_number (lines_and_end text) n [] (first_left (lines_and_end text) [] n [] (left ∙ ap lines_and_end empty)))
+pub end_is_line : (text rest : List ℕ) (n : ℕ) → drop n (lines_and_end text) ≡ lines_and_end rest → length rest ≡ 0 → slice_get (lines_and_end text) (n + 1 - 1) ≡ Some rest
+end_is_line text rest n left none = let empty = without_elements rest none in rw empty (place_of_number (lines_and_end text) n [] (first_left (lines_and_end text) [] n [] (left ∙ ap lines_and_end empty)))

@@ -45,7 +45,7 @@ impl<'t> Problem<'t> {
         self
     }
 
-    /// The number that the sentence has as `^`.
+    /// The number that the sentence has as `*`.
     fn third(mut self, number: u64) -> Problem<'t> {
         self.sentence.third = number;
         self
@@ -236,7 +236,7 @@ fn few_or_many<'t>(
 fn bad_key<'t>(field: Field, image: &[u8], found: &[u8]) -> Problem<'t> {
     let other = row_with_key(image, found, field.item).unwrap_or(0);
     Problem::new(
-        "the key `$` of row % is also that of row ^",
+        "the key `$` of row % is also that of row *",
         "a key that no earlier row has",
     )
     .numbers(number_in(found), field.item)
@@ -351,7 +351,7 @@ fn bad_bucket<'t>(field: Field, image: &[u8], value: u64) -> Problem<'t> {
     let buckets = header_number(image, 6);
     let form = match buckets {
         1 => "step % scans bucket `$`, and the only bucket is 0",
-        _ => "step % scans bucket `$`, and there are ^ buckets",
+        _ => "step % scans bucket `$`, and there are * buckets",
     };
     Problem::new(form, "0 to $")
         .numbers(value, field.item)

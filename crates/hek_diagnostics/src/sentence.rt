@@ -6,7 +6,7 @@ use std::{fmt, str};
 const SHOWN: usize = 60;
 
 /// A sentence. In its form `@` stands for a word between back-ticks, `~` for the same word without them, `&` for another
-/// word, and `$`, `%` and `^` for numbers.
+/// word, and `$`, `%` and `*` for numbers.
 #[derive(Clone, Copy)]
 pub(crate) struct Sentence<'t> {
     form: &'static str,
@@ -44,7 +44,7 @@ impl Display for Sentence<'_> {
                 '&' => write_quoted(f, self.other)?,
                 '$' => write_number(f, self.number)?,
                 '%' => write_number(f, self.more)?,
-                '^' => write_number(f, self.third)?,
+                '*' => write_number(f, self.third)?,
                 _ => f.write_char(mark)?,
             }
         }
