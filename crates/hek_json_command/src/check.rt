@@ -49,8 +49,9 @@ pub fn check_json<'a, R: Read + Drop, W: Write>(
     let verdict = verdict_of(alloc, &transcript, asked.level)?;
     let judged = judged_of(alloc, text)?;
     let mut lines = verdict_lines(alloc, &schedule, &transcript, asked, verdict, judged)?;
+    let status = status_of(verdict);
     send(&mut lines, out)?;
-    Ok(status_of(verdict))
+    Ok(status)
 }
 
 /// How much of a trace is judged.

@@ -141,7 +141,7 @@ fn outcomes_of<'a, T: Threads + Wait + Sync, E: Write>(
     let mut outcomes = BTreeMap::new(alloc);
     for _ in 0..times {
         let report = report_of(rt, alloc, schedule, turns)?;
-        let outcome = ended(alloc, schedule, report)?;
+        let outcome = outcome_of(alloc, schedule, report)?;
         count_one(alloc, schedule, &mut outcomes, outcome)?;
         progress.count();
     }
@@ -149,7 +149,7 @@ fn outcomes_of<'a, T: Threads + Wait + Sync, E: Write>(
 }
 
 /// The outcome of a run.
-fn ended(alloc: Global, schedule: &Schedule, report: Report) -> Result<Ended, NoMemory> {
+fn outcome_of(alloc: Global, schedule: &Schedule, report: Report) -> Result<Ended, NoMemory> {
     let Report {
         machine,
         history,
