@@ -1,0 +1,2 @@
+//! Similar worlds behave alike: laws, as contracts of functions with empty bodies.
+#![tactic(auto)]
