@@ -1,2 +1,4 @@
 pub mod Lists
 pub mod Alike
+pub mod Checks
+pub mod Counts
