@@ -2,3 +2,5 @@ pub mod Lists
 pub mod Alike
 pub mod Checks
 pub mod Counts
+pub mod Agree
+pub mod Phases
