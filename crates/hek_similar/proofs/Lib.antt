@@ -4,3 +4,5 @@ pub mod Checks
 pub mod Counts
 pub mod Agree
 pub mod Phases
+pub mod Sights
+pub mod Judged
