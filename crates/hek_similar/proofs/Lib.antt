@@ -6,3 +6,5 @@ pub mod Agree
 pub mod Phases
 pub mod Sights
 pub mod Judged
+pub mod Effects
+pub mod Data
