@@ -154,7 +154,7 @@ clock-made c time b h =
 comes : BeginRecord → Bool
 comes c = nat_lt (made_time c) infinity
 
-comes-timeless : (c : BeginRecord) → nat_lt (made_time (timeless_creator c)) infinity ≡ nat_lt (made_time c) infinity
+pub comes-timeless : (c : BeginRecord) → nat_lt (made_time (timeless_creator c)) infinity ≡ nat_lt (made_time c) infinity
 comes-timeless (At time) = by (nat_lt time infinity)
   where
     by : (b : Bool) → nat_lt (if b then 0 else infinity) infinity ≡ b

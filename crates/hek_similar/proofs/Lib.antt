@@ -8,3 +8,5 @@ pub mod Sights
 pub mod Judged
 pub mod Effects
 pub mod Data
+pub mod Events
+pub mod Runs
