@@ -1,0 +1,12 @@
+pub mod Lists
+pub mod Alike
+pub mod Checks
+pub mod Counts
+pub mod Agree
+pub mod Phases
+pub mod Sights
+pub mod Judged
+pub mod Effects
+pub mod Data
+pub mod Events
+pub mod Runs

@@ -1,0 +1,2 @@
+pub mod Similar
+pub mod Laws
