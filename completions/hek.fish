@@ -18,6 +18,7 @@ complete -c hek -n __fish_use_subcommand -s V -l version -d 'Print version'
 complete -c hek -n '__fish_seen_subcommand_from help' -a 'run debug page permute check history drive threads word release asm dis'
 complete -c hek -n '__fish_seen_subcommand_from run' -l text -d 'FILE is a schedule text, whatever its name'
 complete -c hek -n '__fish_seen_subcommand_from run' -l image -d 'FILE is a schedule image, whatever its name'
+complete -c hek -n '__fish_seen_subcommand_from run' -l explain -d 'says of each fault what is wrong, what is wanted and what is meant, as at a terminal'
 complete -c hek -n '__fish_seen_subcommand_from run' -l state -d 'prints the state of the machine after the trace'
 complete -c hek -n '__fish_seen_subcommand_from run' -l state-at -x -d 'stops after N steps, and prints the state there'
 complete -c hek -n '__fish_seen_subcommand_from run' -l why -a 'reasons rules' -d 'prints the reasons of each reply under its line; =rules also names the definition that decided each'
@@ -29,10 +30,12 @@ complete -c hek -n '__fish_seen_subcommand_from run' -s h -l help -d 'Print help
 complete -c hek -n '__fish_seen_subcommand_from run' -F
 complete -c hek -n '__fish_seen_subcommand_from debug' -l text -d 'FILE is a schedule text, whatever its name'
 complete -c hek -n '__fish_seen_subcommand_from debug' -l image -d 'FILE is a schedule image, whatever its name'
+complete -c hek -n '__fish_seen_subcommand_from debug' -l explain -d 'says of each fault what is wrong, what is wanted and what is meant, as at a terminal'
 complete -c hek -n '__fish_seen_subcommand_from debug' -s h -l help -d 'Print help'
 complete -c hek -n '__fish_seen_subcommand_from debug' -F
 complete -c hek -n '__fish_seen_subcommand_from page' -l text -d 'FILE is a schedule text, whatever its name'
 complete -c hek -n '__fish_seen_subcommand_from page' -l image -d 'FILE is a schedule image, whatever its name'
+complete -c hek -n '__fish_seen_subcommand_from page' -l explain -d 'says of each fault what is wrong, what is wanted and what is meant, as at a terminal'
 complete -c hek -n '__fish_seen_subcommand_from page' -l from -x -d 'begins at step N, by default the first'
 complete -c hek -n '__fish_seen_subcommand_from page' -l to -x -d 'ends at step N, by default the last'
 complete -c hek -n '__fish_seen_subcommand_from page' -l title -x -d 'the page\'s title, by default the name of FILE'
@@ -47,6 +50,7 @@ complete -c hek -n '__fish_seen_subcommand_from page' -s h -l help -d 'Print hel
 complete -c hek -n '__fish_seen_subcommand_from page' -F
 complete -c hek -n '__fish_seen_subcommand_from permute' -l text -d 'FILE is a schedule text, whatever its name'
 complete -c hek -n '__fish_seen_subcommand_from permute' -l image -d 'FILE is a schedule image, whatever its name'
+complete -c hek -n '__fish_seen_subcommand_from permute' -l explain -d 'says of each fault what is wrong, what is wanted and what is meant, as at a terminal'
 complete -c hek -n '__fish_seen_subcommand_from permute' -l level -x -a 'serializable repeatable snapshot' -d 'judges or runs all transactions as serializable, repeatable or snapshot'
 complete -c hek -n '__fish_seen_subcommand_from permute' -l split -d 'makes finish and precommit a separate move'
 complete -c hek -n '__fish_seen_subcommand_from permute' -l grain -x -d 'cuts the end of a transaction into one move (move), two (split), or a move for each event (event)'
@@ -61,6 +65,7 @@ complete -c hek -n '__fish_seen_subcommand_from permute' -s h -l help -d 'Print 
 complete -c hek -n '__fish_seen_subcommand_from permute' -F
 complete -c hek -n '__fish_seen_subcommand_from check' -l text -d 'FILE is a schedule text, whatever its name'
 complete -c hek -n '__fish_seen_subcommand_from check' -l image -d 'FILE is a schedule image, whatever its name'
+complete -c hek -n '__fish_seen_subcommand_from check' -l explain -d 'says of each fault what is wrong, what is wanted and what is meant, as at a terminal'
 complete -c hek -n '__fish_seen_subcommand_from check' -l level -x -a 'serializable repeatable snapshot' -d 'judges or runs all transactions as serializable, repeatable or snapshot'
 complete -c hek -n '__fish_seen_subcommand_from check' -l why -d 'prints the reply that the first event at fault should have had'
 complete -c hek -n '__fish_seen_subcommand_from check' -l summary -d 'also prints how many transactions have committed, and how many events are judged'
@@ -68,6 +73,7 @@ complete -c hek -n '__fish_seen_subcommand_from check' -l all -d 'also prints ea
 complete -c hek -n '__fish_seen_subcommand_from check' -l json -d 'prints JSON, one object on each line'
 complete -c hek -n '__fish_seen_subcommand_from check' -s h -l help -d 'Print help'
 complete -c hek -n '__fish_seen_subcommand_from check' -F
+complete -c hek -n '__fish_seen_subcommand_from history' -l explain -d 'says of each fault what is wrong, what is wanted and what is meant, as at a terminal'
 complete -c hek -n '__fish_seen_subcommand_from history' -l level -x -a 'serializable repeatable snapshot' -d 'judges or runs all transactions as serializable, repeatable or snapshot'
 complete -c hek -n '__fish_seen_subcommand_from history' -l order -x -d 'asks for an order of a kind: any, versions, commit or real'
 complete -c hek -n '__fish_seen_subcommand_from history' -l all -d 'goes on after an anomaly, without the answers of its transactions'
@@ -77,6 +83,7 @@ complete -c hek -n '__fish_seen_subcommand_from history' -s h -l help -d 'Print 
 complete -c hek -n '__fish_seen_subcommand_from history' -F
 complete -c hek -n '__fish_seen_subcommand_from drive' -l text -d 'FILE is a schedule text, whatever its name'
 complete -c hek -n '__fish_seen_subcommand_from drive' -l image -d 'FILE is a schedule image, whatever its name'
+complete -c hek -n '__fish_seen_subcommand_from drive' -l explain -d 'says of each fault what is wrong, what is wanted and what is meant, as at a terminal'
 complete -c hek -n '__fish_seen_subcommand_from drive' -l why -a 'reasons rules' -d 'prints the reasons of each reply under its line; =rules also names the definition that decided each'
 complete -c hek -n '__fish_seen_subcommand_from drive' -l changes -d 'prints what each step changed under its line'
 complete -c hek -n '__fish_seen_subcommand_from drive' -l state -d 'prints the state of the machine after each answer'
@@ -86,6 +93,7 @@ complete -c hek -n '__fish_seen_subcommand_from drive' -s h -l help -d 'Print he
 complete -c hek -n '__fish_seen_subcommand_from drive' -F
 complete -c hek -n '__fish_seen_subcommand_from threads' -l text -d 'FILE is a schedule text, whatever its name'
 complete -c hek -n '__fish_seen_subcommand_from threads' -l image -d 'FILE is a schedule image, whatever its name'
+complete -c hek -n '__fish_seen_subcommand_from threads' -l explain -d 'says of each fault what is wrong, what is wanted and what is meant, as at a terminal'
 complete -c hek -n '__fish_seen_subcommand_from threads' -l turns -x -d 'how many times a waiting transaction tries again, 0 to 1000000'
 complete -c hek -n '__fish_seen_subcommand_from threads' -l repeat -x -d 'runs N times, 1 to 1000000, and prints the outcomes'
 complete -c hek -n '__fish_seen_subcommand_from threads' -l json -d 'prints JSON, one object on each line'
@@ -97,9 +105,11 @@ complete -c hek -n '__fish_seen_subcommand_from word' -l txns -x -d 'refuses tra
 complete -c hek -n '__fish_seen_subcommand_from word' -l readers -x -d 'refuses more than N readers'
 complete -c hek -n '__fish_seen_subcommand_from word' -s h -l help -d 'Print help'
 complete -c hek -n '__fish_seen_subcommand_from release' -s h -l help -d 'Print help'
+complete -c hek -n '__fish_seen_subcommand_from asm' -l explain -d 'says of each fault what is wrong, what is wanted and what is meant, as at a terminal'
 complete -c hek -n '__fish_seen_subcommand_from asm' -s h -l help -d 'Print help'
 complete -c hek -n '__fish_seen_subcommand_from asm' -F
 complete -c hek -n '__fish_seen_subcommand_from dis' -l text -d 'FILE is a schedule text, whatever its name'
 complete -c hek -n '__fish_seen_subcommand_from dis' -l image -d 'FILE is a schedule image, whatever its name'
+complete -c hek -n '__fish_seen_subcommand_from dis' -l explain -d 'says of each fault what is wrong, what is wanted and what is meant, as at a terminal'
 complete -c hek -n '__fish_seen_subcommand_from dis' -s h -l help -d 'Print help'
 complete -c hek -n '__fish_seen_subcommand_from dis' -F

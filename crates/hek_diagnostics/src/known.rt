@@ -65,6 +65,9 @@ impl<'t> Known<'t> {
 
     /// Whether the word is a name but for its capitals.
     pub(crate) fn has_capitals_of_name(&self, word: Word<'t>) -> bool {
+        if !word.text.iter().any(|byte| byte.is_ascii_uppercase()) {
+            return false;
+        }
         for name in &self.list {
             if word.text.eq_ignore_ascii_case(name) {
                 return true;
