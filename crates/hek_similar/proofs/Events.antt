@@ -84,5 +84,5 @@ not-full n l = ne_eqb n clock_end (λ e. omega arith)
 pub worlds-alike : SimilarWorldsAnswerAlike
 worlds-alike w x e s here there some left =
     let agree : Agree (outcome w e) (outcome x e) = subst (λ y. Agree (outcome w e) (outcome y e)) (similar-beside w x s)
-      (event-agree w x.clock x.versions x.txns (similar-alike w x s) (sound-past w here) (sound-past x there) (not-full w.clock some) (not-full x.clock left) e) in
+    (event-agree w x.clock x.versions x.txns (similar-alike w x s) (sound-past w here) (sound-past x there) (not-full w.clock some) (not-full x.clock left) e) in
     (agree.reply, agree.world)

@@ -90,8 +90,8 @@ module _ (w : World) (c : ℕ) (us : List Version) (ss : List Txn) (a : Alike w.
       let y : Txn = record (txn_in w.txns t) { state = state.Active; begin = w.clock } in
       let z : Txn = record (txn_in ss t) { state = state.Active; begin = c } in
       let ok : Alike w.versions us (set_txn w.txns t y) (set_txn ss t z) =
-        set-txn w.versions us w.txns ss a t y z (ap {A = Txn} {B = Txn} (λ b. record b { state = state.Active }) (same-at t))
-        (λ h. absurd (false≢true h)) (λ _. clock-look w.clock c w.versions us w.txns ss a.versions p q) in
+      set-txn w.versions us w.txns ss a t y z (ap {A = Txn} {B = Txn} (λ b. record b { state = state.Active }) (same-at t))
+      (λ h. absurd (false≢true h)) (λ _. clock-look w.clock c w.versions us w.txns ss a.versions p q) in
       record { reply = refl; world = beside-similar (begin w t) (c + 1) us (set_txn ss t z) ok }
 
   prepare-similar : (t : ℕ) → Past w.clock w.versions w.txns → Past c us ss → Similar (prepare w t) (prepare x t)
@@ -99,8 +99,8 @@ module _ (w : World) (c : ℕ) (us : List Version) (ss : List Txn) (a : Alike w.
       let y : Txn = record (txn_in w.txns t) { state = state.Preparing; end = w.clock } in
       let z : Txn = record (txn_in ss t) { state = state.Preparing; end = c } in
       let ok : Alike w.versions us (set_txn w.txns t y) (set_txn ss t z) =
-        close-txn w.versions us w.txns ss a t y z (ap {A = Txn} {B = Txn} (λ b. record b { state = state.Preparing }) (same-at t)) refl
-        (λ _ u _. begins-before w.clock c _ _ (p.begins u) (q.begins u)) in
+      close-txn w.versions us w.txns ss a t y z (ap {A = Txn} {B = Txn} (λ b. record b { state = state.Preparing }) (same-at t)) refl
+      (λ _ u _. begins-before w.clock c _ _ (p.begins u) (q.begins u)) in
       beside-similar (prepare w t) (c + 1) us (set_txn ss t z) ok
 
   pub precommit-agree : (t : ℕ) → Past w.clock w.versions w.txns → Past c us ss → Agree (precommit_rule w t) (precommit_rule x t)
@@ -116,8 +116,8 @@ module _ (w : World) (c : ℕ) (us : List Version) (ss : List Txn) (a : Alike w.
       let y : Txn = record (txn_in w.txns t) { no_more_waits = true } in
       let z : Txn = record (txn_in ss t) { no_more_waits = true } in
       let ok : Alike w.versions us (set_txn w.txns t y) (set_txn ss t z) =
-        close-txn w.versions us w.txns ss a t y z (ap {A = Txn} {B = Txn} (λ b. record b { no_more_waits = true }) (same-at t)) (and_right _ _ refl)
-        (λ h u l. (a.looks u l).prepared t h) in
+      close-txn w.versions us w.txns ss a t y z (ap {A = Txn} {B = Txn} (λ b. record b { no_more_waits = true }) (same-at t)) (and_right _ _ refl)
+      (λ h u l. (a.looks u l).prepared t h) in
       record { reply = refl; world = beside-similar (finish w t) c us (set_txn ss t z) ok }
 
   commit-similar : (t : ℕ) → (txn_in w.txns t).state ≡ state.Preparing → Similar (commit w t) (commit x t)
@@ -125,8 +125,8 @@ module _ (w : World) (c : ℕ) (us : List Version) (ss : List Txn) (a : Alike w.
       let y : Txn = record (txn_in w.txns t) { state = state.Committed } in
       let z : Txn = record (txn_in ss t) { state = state.Committed } in
       let ok : Alike w.versions us (set_txn w.txns t y) (set_txn ss t z) =
-        close-txn w.versions us w.txns ss a t y z (ap {A = Txn} {B = Txn} (λ b. record b { state = state.Committed }) (same-at t)) refl
-        (λ _ u l. (a.looks u l).prepared t (ap is_prepared is)) in
+      close-txn w.versions us w.txns ss a t y z (ap {A = Txn} {B = Txn} (λ b. record b { state = state.Committed }) (same-at t)) refl
+      (λ _ u l. (a.looks u l).prepared t (ap is_prepared is)) in
       beside-similar (commit w t) c us (set_txn ss t z) ok
 
   pub commit-agree : (t : ℕ) → (txn_in w.txns t).state ≡ state.Preparing → Agree (commit_rule w t) (commit_rule x t)
@@ -138,8 +138,8 @@ module _ (w : World) (c : ℕ) (us : List Version) (ss : List Txn) (a : Alike w.
       let y : Txn = record (txn_in w.txns t) { state = state.Terminated } in
       let z : Txn = record (txn_in ss t) { state = state.Terminated } in
       let ok : Alike w.versions us (set_txn w.txns t y) (set_txn ss t z) =
-        close-txn w.versions us w.txns ss a t y z (ap {A = Txn} {B = Txn} (λ b. record b { state = state.Terminated }) (same-at t)) refl
-        (λ h. absurd (false≢true h)) in
+      close-txn w.versions us w.txns ss a t y z (ap {A = Txn} {B = Txn} (λ b. record b { state = state.Terminated }) (same-at t)) refl
+      (λ h. absurd (false≢true h)) in
       record { reply = refl; world = beside-similar (end w t) c us (set_txn ss t z) ok }
 
   pub abort-similar : (t : ℕ) (cause : Cause) → Similar (abort w t cause) (abort x t cause)
@@ -147,8 +147,8 @@ module _ (w : World) (c : ℕ) (us : List Version) (ss : List Txn) (a : Alike w.
       let y : Txn = record (txn_in w.txns t) { state = state.Aborted cause } in
       let z : Txn = record (txn_in ss t) { state = state.Aborted cause } in
       let ok : Alike w.versions us (set_txn w.txns t y) (set_txn ss t z) =
-        close-txn w.versions us w.txns ss a t y z (ap {A = Txn} {B = Txn} (λ b. record b { state = state.Aborted cause }) (same-at t)) refl
-        (λ h. absurd (false≢true h)) in
+      close-txn w.versions us w.txns ss a t y z (ap {A = Txn} {B = Txn} (λ b. record b { state = state.Aborted cause }) (same-at t)) refl
+      (λ h. absurd (false≢true h)) in
       beside-similar (abort w t cause) c us (doom (set_txn ss t z) (seconds_of w.dependents t)) (doom-alike w.versions us (set_txn w.txns t y) (set_txn ss t z) (seconds_of w.dependents t) ok)
 
   pub aborted-agree : (t : ℕ) (cause : Cause) → Agree (aborted w t cause) (aborted x t cause)
@@ -175,9 +175,9 @@ module _ (w : World) (c : ℕ) (us : List Version) (ss : List Txn) (a : Alike w.
 
   read-agree : (t v : ℕ) → Agree (release_read w t v) (release_read x t v)
   read-agree t v = record {
-      reply = ap (λ o. reply.ReleasedRead v (if readers (leave w.read_locks t v) v == 0 then o else None)) (same-writer _ _ (same-ender v));
-      world = drop-similar t v;
-    }
+    reply = ap (λ o. reply.ReleasedRead v (if readers (leave w.read_locks t v) v == 0 then o else None)) (same-writer _ _ (same-ender v));
+    world = drop-similar t v;
+  }
 
   waiter-agree : (t : ℕ) (us' : List ℕ) → Agree (release_waiter w t us') (release_waiter x t us')
   waiter-agree t [] = unchanged-agree w c us ss a _ _ refl
@@ -247,9 +247,9 @@ module _ (w : World) (c : ℕ) (us : List Version) (ss : List Txn) (a : Alike w.
     undone-agree [] = unchanged-agree w c us ss a _ _ refl
     undone-agree (BeginOf v ∷ es) = record { reply = refl; world = void-begin v }
     undone-agree (EndOf v ∷ es) = record {
-        reply = ap (λ b. timeless_reply (if b then reply.StampedEnd v else reply.Left v)) (same-held t _ _ (same-ender v));
-        world = give-back v;
-      }
+      reply = ap (λ b. timeless_reply (if b then reply.StampedEnd v else reply.Left v)) (same-held t _ _ (same-ender v));
+      world = give-back v;
+    }
 
     pub stamp-agree : Agree (stamp_rule w t) (stamp_rule x t)
     stamp-agree =

@@ -30,22 +30,22 @@ use Rattle.hek_similar.proofs.Events.{worlds-alike}
 -- an event draws at most one time
 clock-next : (w : World) (e : Event) → 0 < w.buckets → IsPlaced w.buckets e → (next w e).clock ≤ w.clock + 1
 clock-next w e some placed = each_step w (λ y. y.clock ≤ w.clock + 1) some (record {
-    same = omega arith;
-    aborts = λ t cause _. omega arith;
-    begins = λ t _. omega arith;
-    walks = λ t p bucket test es _. omega (arith, (apply_all-times t w es).clock);
-    adds = λ t p bucket test es key value _. omega (arith, (apply_all-times t w es).clock);
-    finishes = λ t _. omega arith;
-    prepares = λ t _ _. omega arith;
-    drops = λ t v _. omega arith;
-    unlocks = λ t b _. omega arith;
-    frees = λ t u _. omega arith;
-    commits = λ t _ _. omega arith;
-    stamps_begin = λ t v time es _. omega arith;
-    stamps_end = λ t v es _ _. omega arith;
-    gives_back = λ t v es cause _ _. omega arith;
-    ends = λ t _ _. omega arith;
-  }) e placed
+  same = omega arith;
+  aborts = λ t cause _. omega arith;
+  begins = λ t _. omega arith;
+  walks = λ t p bucket test es _. omega (arith, (apply_all-times t w es).clock);
+  adds = λ t p bucket test es key value _. omega (arith, (apply_all-times t w es).clock);
+  finishes = λ t _. omega arith;
+  prepares = λ t _ _. omega arith;
+  drops = λ t v _. omega arith;
+  unlocks = λ t b _. omega arith;
+  frees = λ t u _. omega arith;
+  commits = λ t _ _. omega arith;
+  stamps_begin = λ t v time es _. omega arith;
+  stamps_end = λ t v es _ _. omega arith;
+  gives_back = λ t v es cause _ _. omega arith;
+  ends = λ t _ _. omega arith;
+}) e placed
 
 pub runs-alike : SimilarRunsAnswerAlike
 runs-alike w x [] s rw' rx placed some left = (refl, s)
@@ -57,9 +57,9 @@ runs-alike w x (e ∷ es) s here there placed some left =
     let k : (next w e).clock ≤ w.clock + 1 = clock-next w e (reachable-sound w here).buckets first in
     let l : (next x e).clock ≤ x.clock + 1 = clock-next x e (reachable-sound x there).buckets other in
     let one : (timeless_reply (reply w e) ≡ timeless_reply (reply x e)) × Similar (next w e) (next x e)
-        = worlds-alike w x e s (reachable-sound w here) (reachable-sound x there) (omega arith) (omega arith) in
+    = worlds-alike w x e s (reachable-sound w here) (reachable-sound x there) (omega arith) (omega arith) in
     let more : (map timeless_step (transcript (next w e) es) ≡ map timeless_step (transcript (next x e) es)) × Similar (run (next w e) es) (run (next x e) es)
-        = runs-alike (next w e) (next x e) es one.1 (next-reachable w e here first) (next-reachable x e there other) rest (omega arith) (omega arith) in
+    = runs-alike (next w e) (next x e) es one.1 (next-reachable w e here first) (next-reachable x e there other) rest (omega arith) (omega arith) in
     (ap (λ (r : Reply). (e, r) ∷ map timeless_step (transcript (next w e) es)) one.0 ∙ ap (λ l. (e, timeless_reply (reply x e)) ∷ l) more.0, more.1)
 
 -- ---- committed rows
