@@ -25,21 +25,22 @@ pub(crate) fn put_changed(
     lines: &mut Vec<u8>,
     gone: &mut Vec<u8>,
 ) -> Result<(), NoMemory> {
-    let mut last = None;
-    for change in changes {
-        let subject = subject_of(change);
-        if !is_last(last, subject) {
-            put_subject(alloc, schedule, machine, subject, lines, gone)?;
-            last = Some(subject);
+    for place in 0..changes.len() {
+        if !is_repeated(changes, place) {
+            put_change(alloc, schedule, machine, &changes[place], lines, gone)?;
         }
     }
     Ok(())
 }
 
-fn is_last(last: Option<Subject>, subject: Subject) -> bool {
-    match last {
-        Some(last) => last == subject,
-        None => false,
+/// Whether the change before the one at a place is of the same thing.
+fn is_repeated(changes: &[Change], place: usize) -> bool {
+    let Some(before) = place.checked_sub(1) else {
+        return false;
+    };
+    match (changes.get(before), changes.get(place)) {
+        (Some(before), Some(change)) => subject_of(before) == subject_of(change),
+        _ => false,
     }
 }
 
@@ -56,19 +57,23 @@ fn subject_of(change: &Change) -> Subject {
     }
 }
 
-fn put_subject(
+fn put_change(
     alloc: Global,
     schedule: &Schedule,
     machine: &Machine,
-    subject: Subject,
+    change: &Change,
     lines: &mut Vec<u8>,
     gone: &mut Vec<u8>,
 ) -> Result<(), NoMemory> {
-    match subject {
-        Subject::Clock => put_clock(alloc, machine, lines),
-        Subject::Version(v) => put_version(machine, v, lines),
-        Subject::Txn(t) => put_txn_line(schedule, machine, t, lines),
-        Subject::Bucket(bucket) => put_bucket_line(machine, bucket, lines, gone),
+    match change {
+        Change::Clock(..) => put_clock(alloc, machine, lines),
+        Change::Begin { version, .. }
+        | Change::End { version, .. }
+        | Change::NewVersion { version, .. } => put_version(machine, *version, lines),
+        Change::Txn { txn, .. } => put_txn_line(schedule, machine, *txn, lines),
+        Change::LockCount { bucket, .. } | Change::LockList { bucket, .. } => {
+            put_bucket_line(machine, *bucket, lines, gone)
+        }
     }
 }
 

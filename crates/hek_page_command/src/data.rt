@@ -140,7 +140,7 @@ fn put_step(
     put_lines(alloc, "changed", step.changed.as_slice(), members)?;
     put_lines(alloc, "gone", step.gone.as_slice(), members)?;
     put_lines(alloc, "why", step.why.as_slice(), members)?;
-    put_text(alloc, "rule", step.rule.name, members)?;
+    put_text(alloc, "rule", step.rule, members)?;
     put_lines(alloc, "sees", step.sees.as_slice(), members)?;
     put_lines_if(alloc, "waits", &step.waits, members)?;
     put_lines(alloc, "ends", step.ends.as_slice(), members)?;

@@ -7,20 +7,20 @@ use crate::sees::put_sees;
 use crate::waits::Waits;
 use hek_rules::{NoMemory, Schedule, TxnId};
 use hek_why::{Change, Dooms, Step, changes, reasons};
-use hek_why_command::{ReplyRule, put_reasons, reply_rule};
+use hek_why_command::{put_reasons, reply_rule};
 use std::alloc::Global;
 
 /// What a page says of a step: what the step changed, and these lines: `changed`, the line of each thing that it changed, as the
 /// state has it after the step; `gone`, the buckets that have no line any more; `why`, the reasons; `sees`, what the transaction
-/// saw; `waits`, all waits after the step, if they have changed; `ends`, the transactions whose wait has ended. `rule` is the row
-/// of the table of replies.
+/// saw; `waits`, all waits after the step, if they have changed; `ends`, the transactions whose wait has ended. `rule` is the
+/// name of the row of the table of replies.
 #[derive(Drop)]
 pub struct StepText {
     pub changes: Vec<Change>,
     pub changed: Vec<u8>,
     pub gone: Vec<u8>,
     pub why: Vec<u8>,
-    pub rule: &'static ReplyRule,
+    pub rule: &'static str,
     pub sees: Vec<u8>,
     pub waits: Option<Vec<u8>>,
     pub ends: Vec<u8>,
@@ -33,13 +33,6 @@ pub(crate) struct Watch {
     pub dooms: Dooms,
 }
 
-/// Why a step has its reply: the reasons, a line each, and the row of the table of replies.
-#[derive(Drop)]
-struct Because {
-    lines: Vec<u8>,
-    rule: &'static ReplyRule,
-}
-
 /// What a page says of a step.
 pub(crate) fn step_text(
     alloc: Global,
@@ -50,13 +43,12 @@ pub(crate) fn step_text(
     ensures lead { IfOk result (λ text. LeadOn step.now.before.now step.now.after.now text.changes.items) }
 {
     let list = changes(alloc, step.before, step.after)?;
-    let because = because_of(alloc, schedule, step, &watch.dooms)?;
     let mut text = StepText {
         changes: list,
         changed: Vec::new(alloc),
         gone: Vec::new(alloc),
-        why: because.lines,
-        rule: because.rule,
+        why: Vec::new(alloc),
+        rule: "",
         sees: Vec::new(alloc),
         waits: None,
         ends: Vec::new(alloc),
@@ -65,7 +57,7 @@ pub(crate) fn step_text(
     Ok(text)
 }
 
-/// Adds the lines of what changed, of what the transaction saw, and of the waits.
+/// Adds the lines of what changed, of the reasons, of what the transaction saw, and of the waits.
 fn fill(
     alloc: Global,
     schedule: &Schedule,
@@ -85,21 +77,25 @@ fn fill(
         changed,
         &mut text.gone,
     )?;
+    put_why(alloc, schedule, step, &watch.dooms, text)?;
     put_sees(alloc, schedule, step, &mut text.sees)?;
     watch.waits.changes(alloc, step.after, &mut text.waits)?;
     watch.waits.note(alloc, step, &mut text.ends)
 }
 
-fn because_of(
+/// Adds the reasons, a line each, and the name of the row of the table of replies.
+fn put_why(
     alloc: Global,
     schedule: &Schedule,
     step: &Step<'_>,
     dooms: &Dooms,
-) -> Result<Because, NoMemory> {
+    text: &mut StepText,
+) -> Result<(), NoMemory>
+    ensures kept { text.new.changes ≡ text.old.changes }
+{
     let t = step.event.txn().unwrap_or(TxnId::new(0));
     let list = reasons(alloc, step, dooms)?;
-    let mut lines = Vec::new(alloc);
-    put_reasons(schedule, step.before, t, list.as_slice(), &mut lines)?;
     let rule = reply_rule(step, list.as_slice());
-    Ok(Because { lines, rule })
+    text.rule = rule.name;
+    put_reasons(schedule, step.before, t, list.as_slice(), &mut text.why)
 }

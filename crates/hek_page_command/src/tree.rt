@@ -163,7 +163,7 @@ impl Tree {
             sees: self.add_text(alloc, step.sees.as_slice())?,
             waits,
             ends: self.add_text(alloc, step.ends.as_slice())?,
-            rule: self.add_text(alloc, step.rule.name.as_bytes())?,
+            rule: self.add_text(alloc, step.rule.as_bytes())?,
         };
         let (place, _) = self.steps.insert_full(places)?;
         Ok(place)

@@ -8,5 +8,6 @@ loop-place-preserved c =
     stands_more c.args.schedule.now c.args.steps.now c.loop-place.place e c.loop-place.machine c.pass_step.new.machine (search rules) (search rules) (search rules) c.loop-place.invariant c.in_ok-pass_step.ensures
 
 pub pass_step-requires : goal.pass_step-requires
-pass_step-requires c =
-    placed_at c.args.schedule.now c.args.steps.now c.loop-place.place c.index-steps-place.result c.loop-place.machine (search rules) (search rules) (search rules) c.loop-place.invariant
+pass_step-requires c = record {
+  placed = placed_at c.args.schedule.now c.args.steps.now c.loop-place.place c.index-steps-place.result c.loop-place.machine (search rules) (search rules) (search rules) c.loop-place.invariant;
+}
