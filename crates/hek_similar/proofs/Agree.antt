@@ -4,7 +4,7 @@ use Rattle.std.specs.Prelude.{map, if◌then◌else◌}
 use Rattle.hek_rules.specs.World.{World, Version, Txn}
 use Rattle.hek_rules.specs.Table.{Outcome, unchanged}
 use Rattle.hek_rules.specs.declared.reply.Reply.{Reply}
-use Rattle.hek_similar.specs.Similar.{Similar, timeless, timeless_reply, timeless_version, timeless_txn}
+use Rattle.hek_similar.specs.Similar.{Similar, timeless_reply, timeless_version, timeless_txn}
 use Rattle.hek_similar.proofs.Alike.{Alike}
 use Rattle.hek_similar.proofs.Counts.{beside}
 
@@ -14,10 +14,10 @@ pub record Agree (o p : Outcome) : Type 0 where
 
 pub beside-similar : (w : World) (c : ℕ) (us : List Version) (ss : List Txn) → Alike w.versions us w.txns ss → Similar w (beside w c us ss)
 beside-similar w c us ss a = record {
-    same = ap {A = List Version} {B = World} (λ l. record w { clock = 0; versions = l; txns = map timeless_txn w.txns }) a.versions
-        ∙ ap {A = List Txn} {B = World} (λ l. record w { clock = 0; versions = map timeless_version us; txns = l }) a.txns;
-    looks = a.looks;
-  }
+  same = ap {A = List Version} {B = World} (λ l. record w { clock = 0; versions = l; txns = map timeless_txn w.txns }) a.versions
+      ∙ ap {A = List Txn} {B = World} (λ l. record w { clock = 0; versions = map timeless_version us; txns = l }) a.txns;
+  looks = a.looks;
+}
 
 pub similar-alike : (w x : World) → Similar w x → Alike w.versions x.versions w.txns x.txns
 similar-alike w x s = record { versions = ap (λ y. y.versions) s.same; txns = ap (λ y. y.txns) s.same; looks = s.looks }

@@ -1,10 +1,9 @@
 -- Versions and transactions of similar worlds, and the changes that leave them similar.
-use Rattle.std.proofs.Common.{◌≡◌, ℕ, ◌+◌, ◌<◌, Bool, true, false, List, [], ◌∷◌, ◌++◌, Some, None, inl, refl, ◌∙◌, ap, sym, length, arith, ⊎_elim}
-use Rattle.std.proofs.lemmas.Bool.{false≢true, and_parts, ltb-true, lt-ltb, le-ltb}
-use Rattle.std.specs.Prelude.{map, not, nat_lt, slice_set, if◌then◌else◌, ◌⊎◌}
+use Rattle.std.proofs.Common.{◌≡◌, ℕ, ◌<◌, Bool, true, false, List, [], ◌∷◌, ◌++◌, None, inl, refl, ◌∙◌, ap, sym, length, arith, ⊎_elim}
+use Rattle.std.proofs.lemmas.Bool.{false≢true, and_parts, lt-ltb, le-ltb}
+use Rattle.std.specs.Prelude.{map, not, nat_lt, if◌then◌else◌, ◌⊎◌}
 use Rattle.hek_rules.specs.declared.event.State.{State}
 use Rattle.hek_rules.specs.declared.event.State.TheVariants as state
-use Rattle.hek_rules.specs.declared.event.Cause.{Cause}
 use Rattle.hek_rules.specs.declared.word.BeginRecord.{BeginRecord}
 use Rattle.hek_rules.specs.declared.word.BeginRecord.TheVariants.{At, By}
 use Rattle.hek_rules.specs.Words.{infinity}
@@ -31,26 +30,30 @@ open-unprepared x l p = active-unprepared x.state (and_parts _ _ (and_parts (is_
 pub closed-blind : (x : Txn) → is_open x ≡ false → looks_back x ≡ true → ⊥
 closed-blind x c l = false≢true (sym c ∙ (and_parts (is_snapshot x.level) (is_open x) l).1)
 
+-- nothing is before 0, the time of a word that has none
+pub past-zero : (r q : ℕ) → nat_lt r 0 ≡ nat_lt q 0
+past-zero r q = le-ltb r 0 (omega arith) ∙ sym (le-ltb q 0 (omega arith))
+
 module _ (vs us : List Version) (ts ss : List Txn) (a : Alike vs us ts ss) where
   -- ---- a transaction changes
   look-set : (t : ℕ) (y z : Txn) (r q : ℕ) → LookAlike vs us ts ss r q → (is_prepared y.state ≡ true → nat_lt r y.end ≡ nat_lt q z.end) → LookAlike vs us (set_txn ts t y) (set_txn ss t z) r q
   look-set t y z r q l new = record {
-      made = l.made;
-      ended = l.ended;
-      prepared = each_two_txns-set (λ u b c. is_prepared b.state ≡ true → nat_lt r b.end ≡ nat_lt q c.end) ts ss t y z (same-length timeless_txn ts ss a.txns) l.prepared new;
-    }
+    made = l.made;
+    ended = l.ended;
+    prepared = each_two_txns-set (λ u b c. is_prepared b.state ≡ true → nat_lt r b.end ≡ nat_lt q c.end) ts ss t y z (same-length timeless_txn ts ss a.txns) l.prepared new;
+  }
 
   pub set-txn : (t : ℕ) (y z : Txn) → timeless_txn y ≡ timeless_txn z →
       (is_prepared y.state ≡ true → (u : ℕ) → looks_back (txn_in ts u) ≡ true → nat_lt (txn_in ts u).begin y.end ≡ nat_lt (txn_in ss u).begin z.end) →
       (looks_back y ≡ true → LookAlike vs us ts ss y.begin z.begin) →
       Alike vs us (set_txn ts t y) (set_txn ss t z)
   set-txn t y z e ends begins = record {
-      versions = a.versions;
-      txns = set_txn-same ts ss t y z a.txns e;
-      looks = each_two_txns-set (λ u b c. looks_back b ≡ true → LookAlike vs us (set_txn ts t y) (set_txn ss t z) b.begin c.begin) ts ss t y z (same-length timeless_txn ts ss a.txns)
-          (λ u l. look-set t y z _ _ (a.looks u l) (λ p. ends p u l))
-          (λ l. look-set t y z _ _ (begins l) (λ p. absurd (open-unprepared y l p)));
-    }
+    versions = a.versions;
+    txns = set_txn-same ts ss t y z a.txns e;
+    looks = each_two_txns-set (λ u b c. looks_back b ≡ true → LookAlike vs us (set_txn ts t y) (set_txn ss t z) b.begin c.begin) ts ss t y z (same-length timeless_txn ts ss a.txns)
+        (λ u l. look-set t y z _ _ (a.looks u l) (λ p. ends p u l))
+        (λ l. look-set t y z _ _ (begins l) (λ p. absurd (open-unprepared y l p)));
+  }
 
   -- ---- a version changes
   pub set-ender : (v : ℕ) (e f : Ender) → timeless_ender e ≡ timeless_ender f →
@@ -102,9 +105,6 @@ module _ (vs us : List Version) (ts ss : List Txn) (a : Alike vs us ts ss) where
           prepared = (a.looks u l).prepared;
         };
       }
-      where
-        past-zero : (r q : ℕ) → nat_lt r 0 ≡ nat_lt q 0
-        past-zero r q = le-ltb r 0 (omega arith) ∙ sym (le-ltb q 0 (omega arith))
 
 -- ---- transactions that no longer look
 -- a transaction that reads no more: its new state may be prepared only if it was
@@ -131,16 +131,17 @@ pub record Past (c : ℕ) (vs : List Version) (ts : List Txn) : Type 0 where
 
 pub sound-past : (w : World) → Sound w → Past w.clock w.versions w.txns
 sound-past w s = record {
-    clock = s.bounded;
-    begins = s.times.begins_below;
-    ends = s.times.ends_below;
-    made = λ v. makes (version_in w.versions v).creator (s.creators v);
-    ended = λ v. ends (version_in w.versions v).ender (s.enders v);
-  }
+  clock = s.bounded;
+  begins = s.times.begins_below;
+  ends = s.times.ends_below;
+  made = λ v. makes (version_in w.versions v).creator (s.creators v);
+  ended = λ v. ends (version_in w.versions v).ender (s.enders v);
+}
   where
     makes : (c : BeginRecord) → IsSoundCreator w c → (made_time c < w.clock) ⊎ (made_time c ≡ infinity)
     makes (At time) h = h
     makes (By u) h = inl s.times.started
+
     ends : (e : Ender) → IsSoundEnder w e → ended_time e < w.clock
     ends (EndedAt time) h = h
     ends (Held writer no_more) h = s.times.started
@@ -150,9 +151,6 @@ clock-made : (c time : ℕ) → c < infinity → (time < c) ⊎ (time ≡ infini
 clock-made c time b h =
     ⊎_elim (λ l. le-ltb c time (omega arith) ∙ sym (ap not (lt-ltb time infinity (omega arith))))
     (λ e. lt-ltb c time (omega arith) ∙ sym (ap not (le-ltb time infinity (omega arith)))) h
-
-comes : BeginRecord → Bool
-comes c = nat_lt (made_time c) infinity
 
 pub comes-timeless : (c : BeginRecord) → nat_lt (made_time (timeless_creator c)) infinity ≡ nat_lt (made_time c) infinity
 comes-timeless (At time) = by (nat_lt time infinity)
@@ -167,10 +165,10 @@ same-comes c d e = sym (comes-timeless c) ∙ ap (λ b. nat_lt (made_time b) inf
 
 pub clock-look : (c d : ℕ) (vs us : List Version) (ts ss : List Txn) → map timeless_version vs ≡ map timeless_version us → Past c vs ts → Past d us ss → LookAlike vs us ts ss c d
 clock-look c d vs us ts ss e p q = record {
-    made = λ v. clock-made c _ p.clock (p.made v) ∙ ap not (same-comes _ _ (ap (λ x. x.creator) (same-version vs us e v))) ∙ sym (clock-made d _ q.clock (q.made v));
-    ended = λ v. le-ltb c _ (omega (arith, p.ended v)) ∙ sym (le-ltb d _ (omega (arith, q.ended v)));
-    prepared = λ u _. le-ltb c _ (omega (arith, p.ends u)) ∙ sym (le-ltb d _ (omega (arith, q.ends u)));
-  }
+  made = λ v. clock-made c _ p.clock (p.made v) ∙ ap not (same-comes _ _ (ap (λ x. x.creator) (same-version vs us e v))) ∙ sym (clock-made d _ q.clock (q.made v));
+  ended = λ v. le-ltb c _ (omega (arith, p.ended v)) ∙ sym (le-ltb d _ (omega (arith, q.ended v)));
+  prepared = λ u _. le-ltb c _ (omega (arith, p.ends u)) ∙ sym (le-ltb d _ (omega (arith, q.ends u)));
+}
 
 -- every begin is before the clock, and before infinity
 pub begins-before : (c d time later : ℕ) → time < c → later < d → nat_lt time c ≡ nat_lt later d

@@ -1,24 +1,22 @@
 -- Runs from similar worlds, and committed rows of similar worlds.
-use Rattle.std.proofs.Common.{◌≡◌, ℕ, ◌+◌, ◌<◌, ◌≤◌, Bool, true, false, List, [], ◌∷◌, Some, None, refl, ◌∙◌, ap, sym, subst, arith, length}
+use Rattle.std.proofs.Common.{◌≡◌, ℕ, ◌+◌, ◌<◌, ◌≤◌, [], ◌∷◌, Some, None, refl, ◌∙◌, ap, sym, subst, arith}
 use Rattle.std.proofs.lemmas.List.Elements.{All-head, All-tail}
 use Rattle.std.specs.List.{All}
-use Rattle.std.specs.Prelude.{map, not, ◌&&◌, nat_lt}
+use Rattle.std.specs.Prelude.{map, not, ◌&&◌}
 use Rattle.hek_rules.specs.declared.event.Event.{Event}
 use Rattle.hek_rules.specs.declared.reply.Reply.{Reply}
 use Rattle.hek_rules.specs.declared.word.BeginRecord.{BeginRecord}
 use Rattle.hek_rules.specs.declared.word.BeginRecord.TheVariants.{At, By}
-use Rattle.hek_rules.specs.Words.{infinity}
-use Rattle.hek_rules.specs.World.{World, Version, Txn, Ender, EndedAt, Held, txn_in, places, is_committed}
-use Rattle.hek_rules.specs.Checks.{clock_end}
+use Rattle.hek_rules.specs.World.{World, Version, Txn, Ender, EndedAt, Held, places, is_committed}
 use Rattle.hek_rules.specs.Run.{next, reply, run, transcript}
 use Rattle.hek_rules.specs.Shown.{was_made, lasts, committed_rows}
 use Rattle.hek_rules.specs.Table.{pairs_of}
-use Rattle.hek_laws.specs.Runs.{IsPlaced, IsReachable}
+use Rattle.hek_laws.specs.Runs.{IsPlaced}
 use Rattle.hek_laws.proofs.Table.Unchanged.{apply_all-times}
 use Rattle.hek_laws.proofs.Table.WorldSteps.{each_step}
 use Rattle.hek_laws.proofs.Worlds.Fixed.{fixed-next}
 use Rattle.hek_laws.proofs.Runs.Reachable.{reachable-sound, next-reachable}
-use Rattle.hek_similar.specs.Similar.{Similar, timeless, timeless_txn, timeless_version, timeless_creator, timeless_ender, timeless_step, timeless_reply, made_time}
+use Rattle.hek_similar.specs.Similar.{Similar, timeless_creator, timeless_ender, timeless_step, timeless_reply}
 use Rattle.hek_similar.specs.Laws.{SimilarRunsAnswerAlike, SimilarWorldsHaveSameRows}
 use Rattle.hek_similar.proofs.Lists.{same-txn, places-same}
 use Rattle.hek_similar.proofs.Alike.{Alike, comes-timeless}
@@ -30,22 +28,22 @@ use Rattle.hek_similar.proofs.Events.{worlds-alike}
 -- an event draws at most one time
 clock-next : (w : World) (e : Event) → 0 < w.buckets → IsPlaced w.buckets e → (next w e).clock ≤ w.clock + 1
 clock-next w e some placed = each_step w (λ y. y.clock ≤ w.clock + 1) some (record {
-    same = omega arith;
-    aborts = λ t cause _. omega arith;
-    begins = λ t _. omega arith;
-    walks = λ t p bucket test es _. omega (arith, (apply_all-times t w es).clock);
-    adds = λ t p bucket test es key value _. omega (arith, (apply_all-times t w es).clock);
-    finishes = λ t _. omega arith;
-    prepares = λ t _ _. omega arith;
-    drops = λ t v _. omega arith;
-    unlocks = λ t b _. omega arith;
-    frees = λ t u _. omega arith;
-    commits = λ t _ _. omega arith;
-    stamps_begin = λ t v time es _. omega arith;
-    stamps_end = λ t v es _ _. omega arith;
-    gives_back = λ t v es cause _ _. omega arith;
-    ends = λ t _ _. omega arith;
-  }) e placed
+  same = omega arith;
+  aborts = λ t cause _. omega arith;
+  begins = λ t _. omega arith;
+  walks = λ t p bucket test es _. omega (arith, (apply_all-times t w es).clock);
+  adds = λ t p bucket test es key value _. omega (arith, (apply_all-times t w es).clock);
+  finishes = λ t _. omega arith;
+  prepares = λ t _ _. omega arith;
+  drops = λ t v _. omega arith;
+  unlocks = λ t b _. omega arith;
+  frees = λ t u _. omega arith;
+  commits = λ t _ _. omega arith;
+  stamps_begin = λ t v time es _. omega arith;
+  stamps_end = λ t v es _ _. omega arith;
+  gives_back = λ t v es cause _ _. omega arith;
+  ends = λ t _ _. omega arith;
+}) e placed
 
 pub runs-alike : SimilarRunsAnswerAlike
 runs-alike w x [] s rw' rx placed some left = (refl, s)
@@ -57,9 +55,9 @@ runs-alike w x (e ∷ es) s here there placed some left =
     let k : (next w e).clock ≤ w.clock + 1 = clock-next w e (reachable-sound w here).buckets first in
     let l : (next x e).clock ≤ x.clock + 1 = clock-next x e (reachable-sound x there).buckets other in
     let one : (timeless_reply (reply w e) ≡ timeless_reply (reply x e)) × Similar (next w e) (next x e)
-        = worlds-alike w x e s (reachable-sound w here) (reachable-sound x there) (omega arith) (omega arith) in
+    = worlds-alike w x e s (reachable-sound w here) (reachable-sound x there) (omega arith) (omega arith) in
     let more : (map timeless_step (transcript (next w e) es) ≡ map timeless_step (transcript (next x e) es)) × Similar (run (next w e) es) (run (next x e) es)
-        = runs-alike (next w e) (next x e) es one.1 (next-reachable w e here first) (next-reachable x e there other) rest (omega arith) (omega arith) in
+    = runs-alike (next w e) (next x e) es one.1 (next-reachable w e here first) (next-reachable x e there other) rest (omega arith) (omega arith) in
     (ap (λ (r : Reply). (e, r) ∷ map timeless_step (transcript (next w e) es)) one.0 ∙ ap (λ l. (e, timeless_reply (reply x e)) ∷ l) more.0, more.1)
 
 -- ---- committed rows
