@@ -4,7 +4,7 @@ use Rattle.std.specs.Prelude.{map, if◌then◌else◌}
 use Rattle.hek_rules.specs.World.{World, Version, Txn}
 use Rattle.hek_rules.specs.Table.{Outcome, unchanged}
 use Rattle.hek_rules.specs.declared.reply.Reply.{Reply}
-use Rattle.hek_similar.specs.Similar.{Similar, timeless, timeless_reply, timeless_version, timeless_txn}
+use Rattle.hek_similar.specs.Similar.{Similar, timeless_reply, timeless_version, timeless_txn}
 use Rattle.hek_similar.proofs.Alike.{Alike}
 use Rattle.hek_similar.proofs.Counts.{beside}
 

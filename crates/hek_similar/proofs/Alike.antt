@@ -1,10 +1,9 @@
 -- Versions and transactions of similar worlds, and the changes that leave them similar.
-use Rattle.std.proofs.Common.{◌≡◌, ℕ, ◌+◌, ◌<◌, Bool, true, false, List, [], ◌∷◌, ◌++◌, Some, None, inl, refl, ◌∙◌, ap, sym, length, arith, ⊎_elim}
-use Rattle.std.proofs.lemmas.Bool.{false≢true, and_parts, ltb-true, lt-ltb, le-ltb}
-use Rattle.std.specs.Prelude.{map, not, nat_lt, slice_set, if◌then◌else◌, ◌⊎◌}
+use Rattle.std.proofs.Common.{◌≡◌, ℕ, ◌<◌, Bool, true, false, List, [], ◌∷◌, ◌++◌, None, inl, refl, ◌∙◌, ap, sym, length, arith, ⊎_elim}
+use Rattle.std.proofs.lemmas.Bool.{false≢true, and_parts, lt-ltb, le-ltb}
+use Rattle.std.specs.Prelude.{map, not, nat_lt, if◌then◌else◌, ◌⊎◌}
 use Rattle.hek_rules.specs.declared.event.State.{State}
 use Rattle.hek_rules.specs.declared.event.State.TheVariants as state
-use Rattle.hek_rules.specs.declared.event.Cause.{Cause}
 use Rattle.hek_rules.specs.declared.word.BeginRecord.{BeginRecord}
 use Rattle.hek_rules.specs.declared.word.BeginRecord.TheVariants.{At, By}
 use Rattle.hek_rules.specs.Words.{infinity}
@@ -30,6 +29,10 @@ open-unprepared x l p = active-unprepared x.state (and_parts _ _ (and_parts (is_
 
 pub closed-blind : (x : Txn) → is_open x ≡ false → looks_back x ≡ true → ⊥
 closed-blind x c l = false≢true (sym c ∙ (and_parts (is_snapshot x.level) (is_open x) l).1)
+
+-- nothing is before 0, the time of a word that has none
+pub past-zero : (r q : ℕ) → nat_lt r 0 ≡ nat_lt q 0
+past-zero r q = le-ltb r 0 (omega arith) ∙ sym (le-ltb q 0 (omega arith))
 
 module _ (vs us : List Version) (ts ss : List Txn) (a : Alike vs us ts ss) where
   -- ---- a transaction changes
@@ -102,9 +105,6 @@ module _ (vs us : List Version) (ts ss : List Txn) (a : Alike vs us ts ss) where
           prepared = (a.looks u l).prepared;
         };
       }
-    where
-      past-zero : (r q : ℕ) → nat_lt r 0 ≡ nat_lt q 0
-      past-zero r q = le-ltb r 0 (omega arith) ∙ sym (le-ltb q 0 (omega arith))
 
 -- ---- transactions that no longer look
 -- a transaction that reads no more: its new state may be prepared only if it was
@@ -151,9 +151,6 @@ clock-made : (c time : ℕ) → c < infinity → (time < c) ⊎ (time ≡ infini
 clock-made c time b h =
     ⊎_elim (λ l. le-ltb c time (omega arith) ∙ sym (ap not (lt-ltb time infinity (omega arith))))
     (λ e. lt-ltb c time (omega arith) ∙ sym (ap not (le-ltb time infinity (omega arith)))) h
-
-comes : BeginRecord → Bool
-comes c = nat_lt (made_time c) infinity
 
 pub comes-timeless : (c : BeginRecord) → nat_lt (made_time (timeless_creator c)) infinity ≡ nat_lt (made_time c) infinity
 comes-timeless (At time) = by (nat_lt time infinity)

@@ -1,5 +1,5 @@
 -- The checks before a rule come to the same in similar worlds.
-use Rattle.std.proofs.Common.{◌≡◌, ℕ, zero, suc, Bool, true, false, List, [], ◌∷◌, refl, ◌∙◌, ap, sym}
+use Rattle.std.proofs.Common.{◌≡◌, ℕ, zero, suc, Bool, false, List, [], ◌∷◌, refl, ◌∙◌, ap, sym}
 use Rattle.std.specs.Prelude.{map, slice_get, is_some, ◌==◌}
 use Rattle.hek_rules.specs.declared.event.Event.{Event}
 use Rattle.hek_rules.specs.declared.event.Event.TheVariants as event

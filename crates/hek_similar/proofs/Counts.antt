@@ -1,9 +1,9 @@
 -- What counts, and graphs of waits, of similar worlds: times don't enter them.
-use Rattle.std.proofs.Common.{◌≡◌, ℕ, ◌+◌, Bool, true, false, List, [], ◌∷◌, Some, None, Option, refl, ◌∙◌, ap, sym, length}
+use Rattle.std.proofs.Common.{◌≡◌, ℕ, ◌+◌, Bool, List, [], ◌∷◌, refl, ◌∙◌, ap, sym, length}
 use Rattle.std.specs.Prelude.{map, ◌==◌, ◌&&◌, ◌||◌, not, nat_lt}
 use Rattle.std.specs.List.{list_any}
 use Rattle.hek_rules.specs.Listing.{firsts_of, has}
-use Rattle.hek_rules.specs.World.{World, Version, Txn, Ender, EndedAt, Held, txn_in, version_in, is_held_by, is_active, ender_writer, places}
+use Rattle.hek_rules.specs.World.{World, Version, Txn, Ender, EndedAt, Held, txn_in, version_in, is_held_by, is_active}
 use Rattle.hek_rules.specs.Waits.{waits, is_waited_for, readers}
 use Rattle.hek_rules.specs.WaitGraph.{is_node, waits_by_version, is_edge, victim}
 use Rattle.hek_rules.specs.Victim.{victim_of}

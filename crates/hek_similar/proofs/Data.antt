@@ -1,14 +1,11 @@
 -- Reads, scans, inserts, updates and deletes in similar worlds.
-use Rattle.std.proofs.Common.{◌≡◌, ℕ, ◌+◌, Bool, true, false, List, [], ◌∷◌, Some, None, Option, refl, ◌∙◌, ap, sym, subst}
-use Rattle.std.specs.Prelude.{map, ◌==◌, ◌&&◌, ◌||◌, not, nat_lt, if◌then◌else◌}
-use Rattle.std.specs.List.{list_any}
+use Rattle.std.proofs.Common.{◌≡◌, ℕ, Bool, true, false, List, [], ◌∷◌, Some, None, Option, refl, ◌∙◌, ap, sym, subst}
+use Rattle.std.specs.Prelude.{map, ◌==◌, ◌&&◌, ◌||◌, not, nat_lt}
 use Rattle.hek_rules.specs.declared.event.Level.{Level}
 use Rattle.hek_rules.specs.declared.event.Level.TheVariants.{Serializable, Repeatable, Snapshot}
-use Rattle.hek_rules.specs.declared.event.State.{State}
 use Rattle.hek_rules.specs.declared.event.Cause.{Cause}
 use Rattle.hek_rules.specs.declared.event.Cause.TheVariants.{Conflict}
 use Rattle.hek_rules.specs.declared.event.Effect.{Effect}
-use Rattle.hek_rules.specs.declared.reply.Reply.{Reply}
 use Rattle.hek_rules.specs.declared.reply.Reply.TheVariants as reply
 use Rattle.hek_rules.specs.declared.word.BeginRecord.{BeginRecord}
 use Rattle.hek_rules.specs.declared.word.BeginRecord.TheVariants.{At, By}
@@ -44,7 +41,7 @@ other-timeless ts ss t (By u) e = ap (λ (y : Txn). not (u == t) && is_active y.
 same-other : (ts ss : List Txn) (t : ℕ) (c d : BeginRecord) → map timeless_txn ts ≡ map timeless_txn ss → timeless_creator c ≡ timeless_creator d → is_made_by_other ts t c ≡ is_made_by_other ss t d
 same-other ts ss t c d e s = other-timeless ts ss t c e ∙ ap (is_made_by_other ss t) s ∙ sym (other-timeless ss ss t d refl)
 
-and-same : (a b c : Bool) → (a ≡ true → b ≡ c) → (a && b) ≡ (a && c)
+pub and-same : (a b c : Bool) → (a ≡ true → b ≡ c) → (a && b) ≡ (a && c)
 and-same true b c h = h refl
 and-same false b c h = refl
 

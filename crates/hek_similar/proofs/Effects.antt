@@ -1,24 +1,20 @@
 -- The effects of a walk, and a new version, keep worlds similar.
-use Rattle.std.proofs.Common.{◌≡◌, ℕ, ◌+◌, Bool, true, false, List, [], ◌∷◌, ◌++◌, Some, None, refl, ◌∙◌, ap, sym, arith, length, subst}
-use Rattle.std.proofs.lemmas.Bool.{le-ltb}
-use Rattle.std.specs.Prelude.{map, nat_lt}
+use Rattle.std.proofs.Common.{ℕ, false, List, [], ◌∷◌, ◌++◌, Some, None, refl, ◌∙◌, ap, sym, subst}
+use Rattle.std.specs.Prelude.{nat_lt}
 use Rattle.hek_rules.specs.declared.event.Effect.{Effect}
 use Rattle.hek_rules.specs.declared.event.Effect.TheVariants.{LockBucket, DependOn, MakeWait, ReadLock, WriteLock}
-use Rattle.hek_rules.specs.declared.event.WriteEntry.TheVariants.{BeginOf, EndOf}
+use Rattle.hek_rules.specs.declared.event.WriteEntry.TheVariants.{BeginOf}
 use Rattle.hek_rules.specs.declared.word.BeginRecord.TheVariants.{By}
-use Rattle.hek_rules.specs.Listing.{join, leave, firsts_of}
+use Rattle.hek_rules.specs.Listing.{join, firsts_of}
 use Rattle.hek_rules.specs.World.{World, Version, Txn, Held, txn_in, version_in, bucket_of}
 use Rattle.hek_rules.specs.Locks.{cleared, reads_freely, set_ender, add_write, wait_for_holders, add_version}
 use Rattle.hek_rules.specs.Walk.{apply, apply_all}
 use Rattle.hek_similar.specs.Similar.{Similar, timeless_version}
 use Rattle.hek_similar.proofs.Lists.{same-length}
-use Rattle.hek_similar.proofs.Alike.{Alike, set-ender, add-one}
+use Rattle.hek_similar.proofs.Alike.{Alike, set-ender, add-one, past-zero}
 use Rattle.hek_similar.proofs.Counts.{beside}
 use Rattle.hek_similar.proofs.Agree.{beside-similar, similar-beside, similar-alike, two_tests}
 use Rattle.hek_similar.proofs.Judged.{clears, cleared-time, same-freely}
-
-past-zero : (r q : ℕ) → nat_lt r 0 ≡ nat_lt q 0
-past-zero r q = le-ltb r 0 (omega arith) ∙ sym (le-ltb q 0 (omega arith))
 
 module _ (t : ℕ) (w : World) (c : ℕ) (us : List Version) (ss : List Txn) (a : Alike w.versions us w.txns ss) where
   abbrev x : World

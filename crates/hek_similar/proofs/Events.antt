@@ -1,20 +1,17 @@
 -- Each event in similar worlds: its checks come to the same, and so does its rule.
-use Rattle.std.proofs.Common.{◌≡◌, ℕ, ◌<◌, Bool, true, false, List, refl, ◌∙◌, ap, subst, arith}
+use Rattle.std.proofs.Common.{◌≡◌, ℕ, ◌<◌, Bool, true, false, List, refl, ap, subst, arith}
 use Rattle.std.proofs.lemmas.Bool.{cond_both, not-false, ne_eqb}
-use Rattle.std.specs.Prelude.{map, not, ◌&&◌, ◌==◌}
+use Rattle.std.specs.Prelude.{not, ◌&&◌, ◌==◌}
 use Rattle.hek_rules.specs.declared.event.State.{State}
 use Rattle.hek_rules.specs.declared.event.State.TheVariants as state
 use Rattle.hek_rules.specs.declared.event.Cause.TheVariants.{Cascade, Asked}
 use Rattle.hek_rules.specs.declared.event.Event.{Event}
 use Rattle.hek_rules.specs.declared.event.Event.TheVariants as event
-use Rattle.hek_rules.specs.declared.reply.Reply.TheVariants as reply
 use Rattle.hek_rules.specs.declared.check.Check.{Check}
 use Rattle.hek_rules.specs.declared.check.Check.TheVariants.{Refused, Doomed, StillAborted, Passed}
 use Rattle.hek_rules.specs.World.{World, Version, Txn, txn_in, declared, is_not_begun, is_preparing, is_terminated, is_live}
 use Rattle.hek_rules.specs.Checks.{check_of, in_phase, missed, repeats_cause, begins, clock_end}
-use Rattle.hek_rules.specs.Table.{Outcome, outcome, checked, answered, rule, holds_nothing}
-use Rattle.hek_laws.specs.Sound.{Sound}
-use Rattle.hek_similar.specs.Similar.{Similar, timeless_txn}
+use Rattle.hek_rules.specs.Table.{outcome, checked, answered, rule, holds_nothing}
 use Rattle.hek_similar.specs.Laws.{SimilarWorldsAnswerAlike}
 use Rattle.hek_similar.proofs.Lists.{same-txn}
 use Rattle.hek_similar.proofs.Alike.{Alike, Past, sound-past}

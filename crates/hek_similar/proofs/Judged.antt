@@ -3,9 +3,7 @@ use Rattle.std.proofs.Common.{◌≡◌, ℕ, Bool, true, false, List, [], ◌�
 use Rattle.std.specs.Prelude.{map, ◌==◌, ◌&&◌, ◌||◌, not, nat_lt, if◌then◌else◌}
 use Rattle.hek_rules.specs.declared.event.Level.{Level}
 use Rattle.hek_rules.specs.declared.event.Level.TheVariants.{Serializable, Repeatable, Snapshot}
-use Rattle.hek_rules.specs.declared.event.Cause.{Cause}
 use Rattle.hek_rules.specs.declared.event.Cause.TheVariants.{ReadersFull, NoMoreWaits}
-use Rattle.hek_rules.specs.declared.event.Effect.{Effect}
 use Rattle.hek_rules.specs.declared.event.Effect.TheVariants.{DependOn, MakeWait, ReadLock, WriteLock}
 use Rattle.hek_rules.specs.declared.event.Sight.{Sight}
 use Rattle.hek_rules.specs.declared.event.Sight.TheVariants.{Seen, SeenIf, Hidden, HiddenIf, HiddenActive}
@@ -17,7 +15,7 @@ use Rattle.hek_rules.specs.Waits.{readers}
 use Rattle.hek_rules.specs.Checks.{is_open}
 use Rattle.hek_rules.specs.Locks.{cleared, read_refusal, reads_freely, no_read_lock, write_refusal, no_write_lock}
 use Rattle.hek_rules.specs.Visibility.{sight}
-use Rattle.hek_rules.specs.Walk.{Judgement, Refuse, Allow, Purpose, ToRead, ToWrite, behind, and_then, unless_refused, read_time, read_judged, lock_judged, wait_judged, version_judged, versions_judged, bucket_effects, last, seen_of, walk}
+use Rattle.hek_rules.specs.Walk.{Refuse, Allow, Purpose, ToRead, ToWrite, behind, and_then, unless_refused, read_time, read_judged, lock_judged, wait_judged, version_judged, versions_judged, bucket_effects, last, seen_of, walk}
 use Rattle.hek_similar.specs.Similar.{timeless_txn, timeless_version, timeless_creator, timeless_ender, ended_time}
 use Rattle.hek_similar.proofs.Lists.{same-txn, same-version, txn-timeless}
 use Rattle.hek_similar.proofs.Alike.{Alike, Past}

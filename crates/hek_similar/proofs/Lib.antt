@@ -10,3 +10,4 @@ pub mod Effects
 pub mod Data
 pub mod Events
 pub mod Runs
+pub mod Forms

@@ -1,9 +1,8 @@
 -- Versions and transactions with their times left out, one by one; and two worlds' lists changed alike at one place.
-use Rattle.std.proofs.Common.{◌≡◌, ℕ, zero, suc, ◌+◌, Bool, true, false, List, [], ◌∷◌, ◌++◌, Some, refl, ◌∙◌, ap, sym, length, subst}
+use Rattle.std.proofs.Common.{◌≡◌, ℕ, zero, suc, ◌+◌, Bool, List, [], ◌∷◌, ◌++◌, refl, ◌∙◌, ap, sym, length}
 use Rattle.std.proofs.lemmas.List.{map-set}
 use Rattle.std.specs.Prelude.{map, slice_get, slice_set, unwrap_or, if◌then◌else◌}
 use Rattle.hek_rules.specs.World.{Version, Txn, no_txn, no_version, txn_in, set_txn, version_in, places}
-use Rattle.hek_rules.specs.Table.{doom}
 use Rattle.hek_similar.specs.Similar.{timeless_txn, timeless_version}
 
 -- the element at an index, of a list and of what a function makes of it

@@ -1,25 +1,22 @@
 -- Begin, finish, precommit, commit, abort, release, stamp, end and detect, in similar worlds.
-use Rattle.std.proofs.Common.{◌≡◌, ℕ, ◌+◌, ◌<◌, Bool, true, false, List, [], ◌∷◌, Some, None, Option, refl, ◌∙◌, ap, sym, subst, arith, length}
+use Rattle.std.proofs.Common.{◌≡◌, ℕ, ◌+◌, ◌<◌, Bool, true, false, List, [], ◌∷◌, Some, None, Option, refl, ◌∙◌, ap, sym, subst, arith}
 use Rattle.std.proofs.lemmas.Bool.{false≢true, and_right, or_right, lt-ltb}
-use Rattle.std.specs.Prelude.{map, ◌==◌, nat_lt, slice_set, if◌then◌else◌}
-use Rattle.hek_rules.specs.declared.event.State.{State}
+use Rattle.std.specs.Prelude.{◌==◌, nat_lt, slice_set, if◌then◌else◌}
 use Rattle.hek_rules.specs.declared.event.State.TheVariants as state
 use Rattle.hek_rules.specs.declared.event.Cause.{Cause}
 use Rattle.hek_rules.specs.declared.event.Cause.TheVariants.{Deadlock}
 use Rattle.hek_rules.specs.declared.event.WriteEntry.{WriteEntry}
 use Rattle.hek_rules.specs.declared.event.WriteEntry.TheVariants.{BeginOf, EndOf}
-use Rattle.hek_rules.specs.declared.reply.Reply.{Reply}
 use Rattle.hek_rules.specs.declared.reply.Reply.TheVariants as reply
-use Rattle.hek_rules.specs.declared.word.BeginRecord.{BeginRecord}
-use Rattle.hek_rules.specs.declared.word.BeginRecord.TheVariants.{At, By}
+use Rattle.hek_rules.specs.declared.word.BeginRecord.TheVariants.{At}
 use Rattle.hek_rules.specs.Words.{infinity}
 use Rattle.hek_rules.specs.Listing.{seconds_of, leave}
-use Rattle.hek_rules.specs.World.{World, Version, Txn, Ender, EndedAt, Held, txn_in, set_txn, version_in, ender_writer, is_held_by, is_active, is_preparing, is_committed, is_prepared}
+use Rattle.hek_rules.specs.World.{World, Version, Txn, Ender, EndedAt, Held, txn_in, set_txn, version_in, ender_writer, is_committed, is_prepared}
 use Rattle.hek_rules.specs.Waits.{waits, commit_deps, readers}
 use Rattle.hek_rules.specs.WaitGraph.{victim}
 use Rattle.hek_rules.specs.Locks.{set_ender}
-use Rattle.hek_rules.specs.Table.{Outcome, unchanged, doom, without_first, abort, aborted, begin_rule, begin, finish, finish_rule, prepare, precommit_rule, commit, commit_rule, sealed, writer_left, drop_read, release_read, release_waiter, release_bucket, release_first, release_rule, entries_of, without_entry, given_back, stamp_committed, stamp_aborted, stamp_rule, end, end_rule, detect_rule}
-use Rattle.hek_similar.specs.Similar.{Similar, timeless_txn, timeless_version, timeless_ender, made_time, ended_time, looks_back, timeless_reply}
+use Rattle.hek_rules.specs.Table.{doom, abort, aborted, begin_rule, begin, finish, finish_rule, prepare, precommit_rule, commit, commit_rule, sealed, drop_read, release_read, release_waiter, release_bucket, release_first, release_rule, entries_of, without_entry, given_back, stamp_committed, stamp_aborted, stamp_rule, end, end_rule, detect_rule}
+use Rattle.hek_similar.specs.Similar.{Similar, timeless_txn, timeless_ender, ended_time, timeless_reply}
 use Rattle.hek_similar.proofs.Lists.{same-txn, same-version}
 use Rattle.hek_similar.proofs.Alike.{Alike, Past, set-txn, close-txn, set-ender, set-creator, doom-alike, clock-look, begins-before}
 use Rattle.hek_similar.proofs.Counts.{beside, same-waits, same-victim, same-held}
@@ -69,10 +66,6 @@ given-time t (Held (Some u) no_more) = by (u == t)
     by : (b : Bool) → ended_time (if b then Held None false else Held (Some u) no_more) ≡ 0
     by true = refl
     by false = refl
-
--- a reply of the aborted's stamp, by whether the version is held
-stamped-reply : ℕ → Bool → Reply
-stamped-reply v b = if b then reply.StampedEnd v else reply.Left v
 
 module _ (w : World) (c : ℕ) (us : List Version) (ss : List Txn) (a : Alike w.versions us w.txns ss) where
   abbrev x : World
@@ -179,7 +172,7 @@ module _ (w : World) (c : ℕ) (us : List Version) (ss : List Txn) (a : Alike w.
     world = drop-similar t v;
   }
 
-  waiter-agree : (t : ℕ) (us' : List ℕ) → Agree (release_waiter w t us') (release_waiter x t us')
+  waiter-agree : (t : ℕ) (l : List ℕ) → Agree (release_waiter w t l) (release_waiter x t l)
   waiter-agree t [] = unchanged-agree w c us ss a _ _ refl
   waiter-agree t (u ∷ l) = record { reply = refl; world = beside-similar (record w { waiters = leave w.waiters t u }) c us ss a }
 
@@ -196,8 +189,9 @@ module _ (w : World) (c : ℕ) (us : List Version) (ss : List Txn) (a : Alike w.
 
   -- ---- stamps
   module _ (p : Past w.clock w.versions w.txns) (q : Past c us ss) (t : ℕ) where
-    comes : (b d : ℕ) (vs : List Version) (ts : List Txn) → Past b vs ts → nat_lt (txn_in ts t).end infinity ≡ true
-    comes b d vs ts r = let before : (txn_in ts t).end < b = r.ends t in let short : b < infinity = r.clock in lt-ltb _ infinity (omega arith)
+    -- an end time comes
+    comes : (b : ℕ) (vs : List Version) (ts : List Txn) → Past b vs ts → nat_lt (txn_in ts t).end infinity ≡ true
+    comes b vs ts r = let before : (txn_in ts t).end < b = r.ends t in let short : b < infinity = r.clock in lt-ltb _ infinity (omega arith)
 
     stamp-begin : (v : ℕ) → is_prepared (txn_in w.txns t).state ≡ true →
         Similar (record w { versions = slice_set w.versions v (record (version_in w.versions v) { creator = At (txn_in w.txns t).end }); writes = without_entry w.writes t })
@@ -205,7 +199,7 @@ module _ (w : World) (c : ℕ) (us : List Version) (ss : List Txn) (a : Alike w.
     stamp-begin v is =
         beside-similar (record w { versions = slice_set w.versions v (record (version_in w.versions v) { creator = At (txn_in w.txns t).end }); writes = without_entry w.writes t }) c _ ss
         (set-creator w.versions us w.txns ss a v (At (txn_in w.txns t).end) (At (txn_in ss t).end)
-        (ap (λ b. At (if b then 0 else infinity)) (comes w.clock c w.versions w.txns p ∙ sym (comes c c us ss q)))
+        (ap (λ b. At (if b then 0 else infinity)) (comes w.clock w.versions w.txns p ∙ sym (comes c us ss q)))
         (λ u l. (a.looks u l).prepared t is))
 
     stamp-end : (v : ℕ) → is_prepared (txn_in w.txns t).state ≡ true →

@@ -1,24 +1,22 @@
 -- Runs from similar worlds, and committed rows of similar worlds.
-use Rattle.std.proofs.Common.{◌≡◌, ℕ, ◌+◌, ◌<◌, ◌≤◌, Bool, true, false, List, [], ◌∷◌, Some, None, refl, ◌∙◌, ap, sym, subst, arith, length}
+use Rattle.std.proofs.Common.{◌≡◌, ℕ, ◌+◌, ◌<◌, ◌≤◌, [], ◌∷◌, Some, None, refl, ◌∙◌, ap, sym, subst, arith}
 use Rattle.std.proofs.lemmas.List.Elements.{All-head, All-tail}
 use Rattle.std.specs.List.{All}
-use Rattle.std.specs.Prelude.{map, not, ◌&&◌, nat_lt}
+use Rattle.std.specs.Prelude.{map, not, ◌&&◌}
 use Rattle.hek_rules.specs.declared.event.Event.{Event}
 use Rattle.hek_rules.specs.declared.reply.Reply.{Reply}
 use Rattle.hek_rules.specs.declared.word.BeginRecord.{BeginRecord}
 use Rattle.hek_rules.specs.declared.word.BeginRecord.TheVariants.{At, By}
-use Rattle.hek_rules.specs.Words.{infinity}
-use Rattle.hek_rules.specs.World.{World, Version, Txn, Ender, EndedAt, Held, txn_in, places, is_committed}
-use Rattle.hek_rules.specs.Checks.{clock_end}
+use Rattle.hek_rules.specs.World.{World, Version, Txn, Ender, EndedAt, Held, places, is_committed}
 use Rattle.hek_rules.specs.Run.{next, reply, run, transcript}
 use Rattle.hek_rules.specs.Shown.{was_made, lasts, committed_rows}
 use Rattle.hek_rules.specs.Table.{pairs_of}
-use Rattle.hek_laws.specs.Runs.{IsPlaced, IsReachable}
+use Rattle.hek_laws.specs.Runs.{IsPlaced}
 use Rattle.hek_laws.proofs.Table.Unchanged.{apply_all-times}
 use Rattle.hek_laws.proofs.Table.WorldSteps.{each_step}
 use Rattle.hek_laws.proofs.Worlds.Fixed.{fixed-next}
 use Rattle.hek_laws.proofs.Runs.Reachable.{reachable-sound, next-reachable}
-use Rattle.hek_similar.specs.Similar.{Similar, timeless, timeless_txn, timeless_version, timeless_creator, timeless_ender, timeless_step, timeless_reply, made_time}
+use Rattle.hek_similar.specs.Similar.{Similar, timeless_creator, timeless_ender, timeless_step, timeless_reply}
 use Rattle.hek_similar.specs.Laws.{SimilarRunsAnswerAlike, SimilarWorldsHaveSameRows}
 use Rattle.hek_similar.proofs.Lists.{same-txn, places-same}
 use Rattle.hek_similar.proofs.Alike.{Alike, comes-timeless}

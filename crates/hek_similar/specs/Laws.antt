@@ -1,6 +1,6 @@
 -- The laws of similar worlds, each in a sentence.
 use Rattle.std.specs.List.{All}
-use Rattle.std.specs.Prelude.{ℕ, ◌≡◌, ◌<◌, ◌≤◌, ◌+◌, List, length, map}
+use Rattle.std.specs.Prelude.{◌≡◌, ◌<◌, ◌≤◌, ◌+◌, ◌↔◌, List, length, map}
 use Rattle.hek_rules.specs.declared.event.Event.{Event}
 use Rattle.hek_rules.specs.World.{World}
 use Rattle.hek_rules.specs.Checks.{clock_end}
@@ -9,6 +9,7 @@ use Rattle.hek_rules.specs.Shown.{committed_rows}
 use Rattle.hek_laws.specs.Sound.{Sound}
 use Rattle.hek_laws.specs.Runs.{IsPlaced, IsReachable}
 use Rattle.hek_similar.specs.Similar.{Similar, timeless_reply, timeless_step}
+use Rattle.hek_similar.specs.Forms.{form}
 
 -- each event is answered alike in similar worlds whose clocks are not full, and leads to similar worlds
 abbrev pub SimilarWorldsAnswerAlike : Type 0
@@ -36,7 +37,8 @@ SimilarRunsAnswerAlike =
 abbrev pub SimilarWorldsHaveSameRows : Type 0
 SimilarWorldsHaveSameRows = (w x : World) → Similar w x → committed_rows w ≡ committed_rows x
 
--- similarity is an equivalence, so that one member of a class can do for all
+-- ---- similarity
+
 abbrev pub SimilarToItself : Type 0
 SimilarToItself = (w : World) → Similar w w
 
@@ -45,3 +47,7 @@ SimilarBothWays = (w x : World) → Similar w x → Similar x w
 
 abbrev pub SimilarInTurn : Type 0
 SimilarInTurn = (w x y : World) → Similar w x → Similar x y → Similar w y
+
+-- sound worlds are similar exactly if their forms are equal
+abbrev pub FormsDecide : Type 0
+FormsDecide = (w x : World) → Sound w → Sound x → (form w ≡ form x) ↔ Similar w x

@@ -1,2 +1,3 @@
 pub mod Similar
+pub mod Forms
 pub mod Laws
