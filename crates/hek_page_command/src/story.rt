@@ -253,5 +253,6 @@ fn show_step(
     watch.dooms.note(&before, *event, &reply)?;
     put_line(alloc, schedule, number, event, &reply, &mut story.trace)?;
     story.steps.push(text)?;
-    story.transcript.push(*event, reply)
+    story.transcript.push(*event, reply)?;
+    Ok(())
 }

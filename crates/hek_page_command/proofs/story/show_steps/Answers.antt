@@ -2,8 +2,8 @@ use Rattle.std.proofs.Common.{rules}
 use Rattle.hek_page_command.proofs.Stepping.{stands_more, placed_at, told_more, count_more, told_none}
 use Rattle.hek_page_command.proofs.story.show_steps.Goals as goal
 
-pub loop-place-initial : goal.loop-place-initial
-loop-place-initial c = record {
+pub loop-place-init : goal.loop-place-init
+loop-place-init c = record {
   stands = c.requires.stands;
   told = told_none c.args.schedule.now c.args.range.done c.args.story.now.steps.items (search rules) (search rules);
   count = search rules;

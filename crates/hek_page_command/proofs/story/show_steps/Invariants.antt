@@ -7,6 +7,6 @@ use Rattle.hek_page_command.proofs.story.show_steps.Given as goal
 abbrev pub invariant-loop-place : goal.invariant-loop-place
 invariant-loop-place l = record {
   stands : StandsFor l.machine (world_at l.schedule l.place);
-  told : AreTold l.schedule l.range.done l.story.steps.items;
-  count : l.range.done + length l.story.steps.items ≡ l.place;
+  told : AreTold l.schedule l.fn.range.done l.story.steps.items;
+  count : l.fn.range.done + length l.story.steps.items ≡ l.place;
 }
