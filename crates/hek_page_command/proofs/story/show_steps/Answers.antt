@@ -24,3 +24,7 @@ loop-place-preserved c =
       told = told_more p es c.args.range.done i e m n old new (search rules) (search rules) (search rules) c.loop-place.invariant.stands c.in_ok-show_step.ensures.next c.loop-place.invariant.count c.loop-place.invariant.told c.in_ok-show_step.ensures.added;
       count = count_more c.args.range.done i m n old new c.loop-place.invariant.count c.in_ok-show_step.ensures.added;
     }
+
+pub show_step-requires-clause-placed : goal.show_step-requires-clause-placed
+show_step-requires-clause-placed c =
+    placed_at c.args.schedule.now c.args.steps.now c.loop-place.place c.index-steps-place.result c.loop-place.machine (search rules) (search rules) (search rules) c.loop-place.invariant.stands
