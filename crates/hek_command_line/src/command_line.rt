@@ -7,6 +7,7 @@ use crate::kept::{Kept, KeptDisk, KeptReader};
 use crate::log::history;
 use crate::output::NotedOutput;
 use crate::schedule::{schedule_file, schedule_text};
+use crate::typed::TypedReader;
 use crate::words::advise_sign;
 use clap::error::ErrorKind as ClapKind;
 use clap::{ArgMatches, Error};
@@ -205,7 +206,7 @@ fn run<'a, D: Disk, I: Read + IsTerminal + Drop, W: Write, E: Write + IsTerminal
         Some(("asm", found)) => asm(alloc, found, disk, input, out),
         Some(("dis", found)) => dis(alloc, found, disk, input, out),
         Some(("run", found)) => run_schedule(alloc, found, disk, input, out),
-        Some(("drive", found)) => drive(alloc, found, disk, input, out),
+        Some(("drive", found)) => drive(alloc, found, disk, input, out, faults),
         Some(("debug", found)) => debug(alloc, found, disk, input, out, faults),
         Some(("check", found)) => check(alloc, found, disk, input, out, faults),
         Some(("history", found)) => history(alloc, found, disk, input, out, faults),
@@ -309,12 +310,13 @@ fn extras_of(found: &ArgMatches<'_>) -> Extras {
     }
 }
 
-fn drive<'a, D: Disk, I: Read + IsTerminal + Drop, W: Write>(
+fn drive<'a, D: Disk, I: Read + IsTerminal + Drop, W: Write, E: Write>(
     alloc: Global,
     found: &ArgMatches<'a>,
     disk: &D,
     input: I,
     out: &mut W,
+    faults: &mut E,
 ) -> Result<u8, HekFault<'a>> {
     let driving = Driving {
         extras: extras_of(found),
@@ -325,6 +327,7 @@ fn drive<'a, D: Disk, I: Read + IsTerminal + Drop, W: Write>(
     let mut input = Some(input);
     let file = schedule_file(alloc, found, disk, &mut input)?;
     let events = open(disk, &mut input, INPUT)?;
+    let events = TypedReader::new(events, driving.prompts, faults);
     drive_as(alloc, found, file, events, driving, out)
 }
 

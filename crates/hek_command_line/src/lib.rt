@@ -12,6 +12,7 @@ mod log;
 mod notes;
 mod output;
 mod schedule;
+mod typed;
 mod words;
 
 pub use command_line::{answer, answer_in_threads, program};
