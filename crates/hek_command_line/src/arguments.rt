@@ -69,12 +69,6 @@ const LEVEL: ArgumentText = ArgumentText {
     form: Form::Value("L"),
 };
 
-const JSON: ArgumentText = ArgumentText {
-    name: "json",
-    help: "prints JSON, one object on each line",
-    form: Form::Flag,
-};
-
 const RELEASE: CommandText = CommandText {
     name: "release",
     about: "Gives up one read lock of an End word",
@@ -206,7 +200,6 @@ it prints
             help: "runs only the reads and writes of FILE, and begins and ends each transaction by itself",
             form: Form::Flag,
         },
-        JSON,
     ],
 };
 
@@ -262,7 +255,6 @@ are answered with
             help: "ends what is printed for each line with an empty line",
             form: Form::Flag,
         },
-        JSON,
     ],
 };
 
@@ -300,7 +292,6 @@ with the number of the first event at fault, and status 1. Each transaction is j
             help: "also prints each event at fault, its serial reply, and who wrote what was read",
             form: Form::Flag,
         },
-        JSON,
     ],
 };
 
@@ -375,7 +366,6 @@ it prints the trace of a whole run of a, from begin to end. What it prints is a 
             help: "runs N times, 1 to 1000000, and prints the outcomes",
             form: Form::Number,
         },
-        JSON,
     ],
 };
 
@@ -442,7 +432,6 @@ The verdict takes all transactions as serializable. `hek permute two.hek --order
             help: "prints the shortest beginning of an order in which this comes: `a aborted deadlock`, `waiting 1`, `not serial`",
             form: Form::Value("TEXT"),
         },
-        JSON,
     ],
 };
 
@@ -660,7 +649,7 @@ fn rivals_of(command: &str, name: &str) -> &'static [&'static str] {
         ("permute", "find") => &["each", "levels", "part", "order"],
         ("permute" | "page", "grain") => &["split"],
         ("permute", "levels") => &["each", "level"],
-        ("run", "history") => &["state", "state-at", "why", "changes", "json"],
+        ("run", "history") => &["state", "state-at", "why", "changes"],
         ("page", "orders") => &["from", "to"],
         ("word", "clock" | "txns" | "readers") => &["changes"],
         (_, "image") => &["text"],

@@ -2,7 +2,6 @@
 use crate::arguments::{RULES, meant_command, read_words};
 use crate::disk::{Disk, LateFile, open};
 use crate::explain::explained;
-use crate::json::{check_as_json, drive_as, permute_as, threads_as, wants_json};
 use crate::kept::{Kept, KeptDisk, KeptReader};
 use crate::log::history;
 use crate::output::NotedOutput;
@@ -19,12 +18,12 @@ use hek_commands::{
 };
 use hek_debug_command::{CommandFile, Manner, debug_command, debug_session, explained_command};
 use hek_history_command::run_log_command;
-use hek_json_command::{Asked, run_json};
 use hek_page_command::{Extent, Heading, MOST_NODES, Part, explorer_command, page_command};
 use hek_permute::Form;
-use hek_permute_command::{Choice, auto_file, part_of};
+use hek_permute_command::{Choice, auto_file, part_of, permute_command};
 use hek_rules::{Level, number};
-use hek_why_command::{Driving, Extras, Why, explain_command};
+use hek_threads_command::{Progress, repeat_command, threads_command};
+use hek_why_command::{Driving, Extras, Why, drive_command, explain_command};
 use hek_word_command::{Bounds, changes_command, word_command};
 use std::alloc::Global;
 use std::convert::AsStr;
@@ -284,9 +283,6 @@ fn run_schedule<'a, D: Disk, I: Read + Drop, W: Write>(
     if found.get_flag("history") {
         return run_log_command(alloc, file, out);
     }
-    if wants_json(found) {
-        return run_json(alloc, file, extras, limit, state, out);
-    }
     if extras.why.is_some() || extras.changes {
         return explain_command(alloc, file, extras, limit, state, out);
     }
@@ -328,7 +324,7 @@ fn drive<'a, D: Disk, I: Read + IsTerminal + Drop, W: Write, E: Write>(
     let file = schedule_file(alloc, found, disk, &mut input)?;
     let events = open(disk, &mut input, INPUT)?;
     let events = TypedReader::new(events, driving.prompts, faults);
-    drive_as(alloc, found, file, events, driving, out)
+    drive_command(alloc, file, events, driving, out)
 }
 
 /// The number that an option has, if the words have the option.
@@ -440,15 +436,6 @@ fn check<'a, D: Disk, I: Read + Drop, W: Write, E: Write + IsTerminal>(
     let trace = read_text(alloc, open(disk, &mut input, name)?, name)?;
     let why = found.get_flag("why");
     let summary = found.get_flag("summary");
-    if wants_json(found) {
-        let asked = Asked {
-            level,
-            why,
-            summary,
-            all: found.get_flag("all"),
-        };
-        return check_as_json(alloc, file, trace.as_slice(), asked, out, faults);
-    }
     if found.get_flag("all") {
         let beside = Beside {
             level,
@@ -481,7 +468,7 @@ fn permute<'a, D: Disk, I: Read + Drop, W: Write, E: Write + IsTerminal>(
     let mut input = Some(input);
     let choice = choice_of(found, faults.is_terminal())?;
     let file = schedule_file(alloc, found, disk, &mut input)?;
-    permute_as(alloc, found, file, choice, out, faults)
+    permute_command(alloc, file, choice, out, faults)
 }
 
 fn choice_of<'a>(found: &ArgMatches<'a>, progress: bool) -> Result<Choice<'a>, HekFault<'a>> {
@@ -542,7 +529,12 @@ fn threads<'a, T: Threads + Wait + Sync, D: Disk, I: Read + Drop, W: Write, E: W
         Some(text) => Some(count_from(text, 1)?),
     };
     let file = schedule_file(alloc, found, disk, &mut input)?;
-    threads_as(system, alloc, found, file, turns, times, out, faults)
+    let Some(times) = times else {
+        return threads_command(system, alloc, file, turns, out);
+    };
+    let shows = faults.is_terminal();
+    let mut progress = Progress::new(faults, shows, times);
+    repeat_command(system, alloc, file, turns, times, &mut progress, out)
 }
 
 /// The number that a text gives, from `least` to 1,000,000.
