@@ -3,6 +3,7 @@ ghost use Rattle.std.specs.Prelude.{◌≡◌, IfOk, None, length, map};
 ghost use Rattle.hek_page_command.specs.Explorers.{IsOrderStory};
 ghost use Rattle.hek_page_command.specs.Tellings.{IsStory};
 ghost use Rattle.hek_permute.specs.Leveled.{leveled};
+ghost use Rattle.hek_worker.specs.History.{Replays};
 
 use crate::prefixes::is_whole;
 use crate::story::{StepRange, Story, story_of};
@@ -56,7 +57,9 @@ fn outcome_line(
     form: Form,
     order: &[TxnId],
     play: Play,
-) -> Result<Option<Vec<u8>>, OrderFault> {
+) -> Result<Option<Vec<u8>>, OrderFault>
+    requires { Replays schedule.now play.machine play.history.items }
+{
     if !is_whole(moves, form, order) {
         return Ok(None);
     }
