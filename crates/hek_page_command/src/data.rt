@@ -2,7 +2,6 @@
 use crate::comments::Comments;
 use crate::heading::{Heading, put_heading};
 use crate::members::{Members, put_lines, put_lines_if, put_number, put_text, put_value, text_of};
-use crate::rules::put_rules;
 use crate::step_text::StepText;
 use crate::story::{StepRange, Story, story_of};
 use hek_commands::put_reply;
@@ -53,7 +52,6 @@ fn put_story(
     put_lines(alloc, "waits", story.opening.waits.as_slice(), members)?;
     put_lines(alloc, "asked", story.opening.asked.as_slice(), members)?;
     put_lines(alloc, "trace", story.trace.as_slice(), members)?;
-    put_rules(alloc, members)?;
     let steps = step_values(alloc, range, comments, story.steps.as_slice())?;
     put_value(alloc, "steps", steps, members)?;
     put_verdicts(alloc, &story.transcript, members)
@@ -140,9 +138,17 @@ fn put_step(
     put_lines(alloc, "changed", step.changed.as_slice(), members)?;
     put_lines(alloc, "gone", step.gone.as_slice(), members)?;
     put_lines(alloc, "why", step.why.as_slice(), members)?;
-    put_text(alloc, "rule", step.rule, members)?;
+    put_rule(alloc, step, members)?;
     put_lines(alloc, "sees", step.sees.as_slice(), members)?;
     put_lines_if(alloc, "waits", &step.waits, members)?;
     put_lines(alloc, "ends", step.ends.as_slice(), members)?;
     put_text(alloc, "note", note, members)
+}
+
+/// Adds the row of the table of replies: its name and its texts.
+fn put_rule(alloc: Global, step: &StepText, members: &mut Members) -> Result<(), NoMemory> {
+    put_text(alloc, "rule", step.rule, members)?;
+    put_text(alloc, "sentence", step.sentence, members)?;
+    put_text(alloc, "definition", step.definition, members)?;
+    put_text(alloc, "comes", step.comes, members)
 }

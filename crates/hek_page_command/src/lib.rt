@@ -11,7 +11,6 @@ mod members;
 mod page;
 mod played;
 mod prefixes;
-mod rules;
 mod script;
 mod sees;
 mod sheet;

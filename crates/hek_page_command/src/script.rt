@@ -58,7 +58,7 @@ function lastOf(list, position) {
 
 class Run {
   /** `opening`, `waits`, `asked`: the state before the first step, who waits there, and who has asked. `steps`: objects of `line` (event
-      and reply), `changed`, `gone`, `why`, `rule`, `sees`, `ends`, and `waits` where these have changed; all are texts. */
+      and reply), `changed`, `gone`, `why`, `rule`, `sentence`, `definition`, `comes`, `sees`, `ends`, and `waits` where these have changed; all are texts. */
   constructor({ opening, waits, asked }, steps, done) {
     this.done = done;
     this.steps = steps.map((it) => ({ ...it, ...eventOf(it.line) }));
@@ -181,8 +181,9 @@ let tree = null;
 
 function plantTree() {
   const text = (at) => data.texts[at];
-  const steps = data.steps.map(([line, changed, gone, why, sees, waits, ends, rule]) => ({
+  const steps = data.steps.map(([line, changed, gone, why, sees, waits, ends, rule, sentence, definition, comes]) => ({
     line: text(line), changed: text(changed), gone: text(gone), why: text(why), sees: text(sees), waits: waits === null ? null : text(waits), ends: text(ends), rule: text(rule),
+    sentence: text(sentence), definition: text(definition), comes: text(comes),
   }));
   const nodes = data.nodes.map(([parent, who, places, outcome, counts], index) => ({ index, parent, who: who - 1, steps: places.map((at) => steps[at]), outcome, next: [], counts }));
   for (const node of nodes.slice(1)) nodes[node.parent].next[node.who] = node.index;
@@ -256,14 +257,13 @@ function partsOf(step, position) {
 /** The step in plain English, as HTML: the sentence of its reply, by the program's table, with what the step fills in. */
 function sentenceOf(step, position) {
   const parts = partsOf(step, position);
-  return esc(data.rules[step.rule][0]).replace(/\{(\w+)\}/g, (all, name) => parts[name] ?? all).replace(/\*([^*]+)\*/g, "<b>$1</b>");
+  return esc(step.sentence).replace(/\{(\w+)\}/g, (all, name) => parts[name] ?? all).replace(/\*([^*]+)\*/g, "<b>$1</b>");
 }
 
 /** The definition that decides the step's reply, and when that reply comes, by the program's table. */
 function ruleOf(step) {
-  const [, definition, comes] = data.rules[step.rule];
   const whose = /^aborted (?!again)/.test(step.rule) ? "It comes to a transaction that " : step.rule.startsWith("refused ") ? "The event " : "";
-  return [definition, `${step.reply}: ${whose}${comes.replace(/`/g, "")}`];
+  return [step.definition, `${step.reply}: ${whose}${step.comes.replace(/`/g, "")}`];
 }
 
 /** A reason in the words of `hek run --why`, without its words in hexadecimal, the names as tags. */

@@ -13,7 +13,7 @@ use std::alloc::Global;
 /// What a page says of a step: what the step changed, and these lines: `changed`, the line of each thing that it changed, as the
 /// state has it after the step; `gone`, the buckets that have no line any more; `why`, the reasons; `sees`, what the transaction
 /// saw; `waits`, all waits after the step, if they have changed; `ends`, the transactions whose wait has ended. `rule` is the
-/// name of the row of the table of replies.
+/// name of the row of the table of replies, and `sentence`, `definition` and `comes` are its texts.
 #[derive(Drop)]
 pub struct StepText {
     pub changes: Vec<Change>,
@@ -21,6 +21,9 @@ pub struct StepText {
     pub gone: Vec<u8>,
     pub why: Vec<u8>,
     pub rule: &'static str,
+    pub sentence: &'static str,
+    pub definition: &'static str,
+    pub comes: &'static str,
     pub sees: Vec<u8>,
     pub waits: Option<Vec<u8>>,
     pub ends: Vec<u8>,
@@ -49,6 +52,9 @@ pub(crate) fn step_text(
         gone: Vec::new(alloc),
         why: Vec::new(alloc),
         rule: "",
+        sentence: "",
+        definition: "",
+        comes: "",
         sees: Vec::new(alloc),
         waits: None,
         ends: Vec::new(alloc),
@@ -83,7 +89,7 @@ fn fill(
     watch.waits.note(alloc, step, &mut text.ends)
 }
 
-/// Adds the reasons, a line each, and the name of the row of the table of replies.
+/// Adds the reasons, a line each, and the row of the table of replies.
 fn put_why(
     alloc: Global,
     schedule: &Schedule,
@@ -97,5 +103,8 @@ fn put_why(
     let list = reasons(alloc, step, dooms)?;
     let rule = reply_rule(step, list.as_slice());
     text.rule = rule.name;
+    text.sentence = rule.sentence;
+    text.definition = rule.definition;
+    text.comes = rule.comes;
     put_reasons(schedule, step.before, t, list.as_slice(), &mut text.why)
 }

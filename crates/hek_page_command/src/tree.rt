@@ -47,6 +47,9 @@ pub(crate) struct StepPlaces {
     pub waits: Option<usize>,
     pub ends: usize,
     pub rule: usize,
+    pub sentence: usize,
+    pub definition: usize,
+    pub comes: usize,
 }
 
 /// The tree of these prefixes.
@@ -164,6 +167,9 @@ impl Tree {
             waits,
             ends: self.add_text(alloc, step.ends.as_slice())?,
             rule: self.add_text(alloc, step.rule.as_bytes())?,
+            sentence: self.add_text(alloc, step.sentence.as_bytes())?,
+            definition: self.add_text(alloc, step.definition.as_bytes())?,
+            comes: self.add_text(alloc, step.comes.as_bytes())?,
         };
         let (place, _) = self.steps.insert_full(places)?;
         Ok(place)

@@ -4,7 +4,6 @@ use crate::heading::{Heading, put_heading};
 use crate::members::{
     Members, number_value, put_lines, put_number, put_text, put_value, text_of, text_value,
 };
-use crate::rules::put_rules;
 use crate::tree::{Node, StepPlaces, Tree};
 use hek_permute::{Form, Moves};
 use hek_rules::{Event, NoMemory, Schedule, TxnId};
@@ -62,7 +61,6 @@ fn put_moves(
 
 /// Adds the nodes and what they name by place.
 fn put_tree(alloc: Global, tree: &Tree, members: &mut Members) -> Result<(), NoMemory> {
-    put_rules(alloc, members)?;
     let outcomes = text_values(alloc, &tree.outcomes)?;
     put_value(alloc, "outcomes", outcomes, members)?;
     let texts = text_values(alloc, &tree.texts)?;
@@ -178,6 +176,9 @@ fn step_value(alloc: Global, step: &StepPlaces) -> Result<Value, NoMemory> {
         step.waits,
         Some(step.ends),
         Some(step.rule),
+        Some(step.sentence),
+        Some(step.definition),
+        Some(step.comes),
     ];
     let mut values = Vec::new(alloc);
     for place in &places {

@@ -56,7 +56,7 @@ function lastOf(list, position) {
 
 class Run {
   /** `opening`, `waits`, `asked`: the state before the first step, who waits there, and who has asked. `steps`: objects of `line` (event
-      and reply), `changed`, `gone`, `why`, `rule`, `sees`, `ends`, and `waits` where these have changed; all are texts. */
+      and reply), `changed`, `gone`, `why`, `rule`, `sentence`, `definition`, `comes`, `sees`, `ends`, and `waits` where these have changed; all are texts. */
   constructor({ opening, waits, asked }, steps, done) {
     this.done = done;
     this.steps = steps.map((it) => ({ ...it, ...eventOf(it.line) }));

@@ -28,14 +28,13 @@ function partsOf(step, position) {
 /** The step in plain English, as HTML: the sentence of its reply, by the program's table, with what the step fills in. */
 function sentenceOf(step, position) {
   const parts = partsOf(step, position);
-  return esc(data.rules[step.rule][0]).replace(/\{(\w+)\}/g, (all, name) => parts[name] ?? all).replace(/\*([^*]+)\*/g, "<b>$1</b>");
+  return esc(step.sentence).replace(/\{(\w+)\}/g, (all, name) => parts[name] ?? all).replace(/\*([^*]+)\*/g, "<b>$1</b>");
 }
 
 /** The definition that decides the step's reply, and when that reply comes, by the program's table. */
 function ruleOf(step) {
-  const [, definition, comes] = data.rules[step.rule];
   const whose = /^aborted (?!again)/.test(step.rule) ? "It comes to a transaction that " : step.rule.startsWith("refused ") ? "The event " : "";
-  return [definition, `${step.reply}: ${whose}${comes.replace(/`/g, "")}`];
+  return [step.definition, `${step.reply}: ${whose}${step.comes.replace(/`/g, "")}`];
 }
 
 /** A reason in the words of `hek run --why`, without its words in hexadecimal, the names as tags. */

@@ -5,8 +5,9 @@ let tree = null;
 
 function plantTree() {
   const text = (at) => data.texts[at];
-  const steps = data.steps.map(([line, changed, gone, why, sees, waits, ends, rule]) => ({
+  const steps = data.steps.map(([line, changed, gone, why, sees, waits, ends, rule, sentence, definition, comes]) => ({
     line: text(line), changed: text(changed), gone: text(gone), why: text(why), sees: text(sees), waits: waits === null ? null : text(waits), ends: text(ends), rule: text(rule),
+    sentence: text(sentence), definition: text(definition), comes: text(comes),
   }));
   const nodes = data.nodes.map(([parent, who, places, outcome, counts], index) => ({ index, parent, who: who - 1, steps: places.map((at) => steps[at]), outcome, next: [], counts }));
   for (const node of nodes.slice(1)) nodes[node.parent].next[node.who] = node.index;
