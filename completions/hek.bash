@@ -48,14 +48,14 @@ _hek() {
         return
     fi
     case "$command" in
-    run) words="--text --image --explain --state --state-at --why --changes --history --auto --json --help" files=yes ;;
+    run) words="--text --image --explain --state --state-at --why --changes --history --auto --help" files=yes ;;
     debug) words="--text --image --explain --help" files=yes ;;
     page) words="--text --image --explain --from --to --title --lesson --previous --next --orders --split --grain --limit --help" files=yes ;;
-    permute) words="--text --image --explain --level --split --grain --limit --part --each --order --levels --find --json --help" files=yes ;;
-    check) words="--text --image --explain --level --why --summary --all --json --help" files=yes ;;
+    permute) words="--text --image --explain --level --split --grain --limit --part --each --order --levels --find --help" files=yes ;;
+    check) words="--text --image --explain --level --why --summary --all --help" files=yes ;;
     history) words="--explain --level --order --all --order-out --json --help" files=yes ;;
-    drive) words="--text --image --explain --why --changes --state --ends --json --help" files=yes ;;
-    threads) words="--text --image --explain --turns --repeat --json --help" files=yes ;;
+    drive) words="--text --image --explain --why --changes --state --ends --help" files=yes ;;
+    threads) words="--text --image --explain --turns --repeat --help" files=yes ;;
     word) words="--changes --clock --txns --readers --help" ;;
     release) words="--help" ;;
     asm) words="--explain --help" files=yes ;;
