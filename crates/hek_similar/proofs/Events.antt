@@ -75,7 +75,7 @@ module _ (w : World) (c : ℕ) (us : List Version) (ss : List Txn) (a : Alike w.
   event-agree (event.End t) = checked-agree t (event.End t) (λ _. end-agree w c us ss a t)
   event-agree event.Detect = detect-agree w c us ss a
 
-not-full : (n : ℕ) → n < clock_end → (n == clock_end) ≡ false
+pub not-full : (n : ℕ) → n < clock_end → (n == clock_end) ≡ false
 not-full n l = ne_eqb n clock_end (λ e. omega arith)
 
 pub worlds-alike : SimilarWorldsAnswerAlike

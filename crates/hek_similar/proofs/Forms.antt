@@ -39,7 +39,7 @@ similar-in_turn w x y s r = record {
 
 -- ---- lists of answers
 -- two lists give equal answers, if each two elements do
-answers-from : {X Y : Type 0} (f g : X → Y) (none : X) (xs ys : List X) → length xs ≡ length ys →
+pub answers-from : {X Y : Type 0} (f g : X → Y) (none : X) (xs ys : List X) → length xs ≡ length ys →
     ((i : ℕ) → f (unwrap_or (slice_get xs i) none) ≡ g (unwrap_or (slice_get ys i) none)) → map f xs ≡ map g ys
 answers-from f g none [] [] e h = refl
 answers-from f g none [] (b ∷ bs) e h = cc
@@ -82,7 +82,7 @@ module _ (w x : World) where
       (λ n. cond-false _ (Some (after w.versions w.txns (txn_in w.txns t).begin)) None n ∙ sym (cond-false _ (Some (after x.versions x.txns (txn_in x.txns t).begin)) None (sym b ∙ n)))
       (cases_Bool (looks_back (txn_in w.txns t)))
 
-  same-form : Similar w x → form w ≡ form x
+  pub same-form : Similar w x → form w ≡ form x
   same-form s =
       let looks : map (look w.versions w.txns) w.txns ≡ map (look x.versions x.txns) x.txns
       = answers-from (look w.versions w.txns) (look x.versions x.txns) no_txn w.txns x.txns (same-length timeless_txn w.txns x.txns (ap (λ y. y.txns) s.same)) (λ i. same-look s (suc i)) in
@@ -108,7 +108,7 @@ module _ (w x : World) where
           let there : is_prepared (txn_in x.txns (suc i)).state ≡ true = sym (ap (λ y. is_prepared y.state) (same-txn w.txns x.txns txns (suc i))) ∙ p in
           sym (ap (λ b. b && nat_lt r (txn_in w.txns (suc i)).end) p) ∙ here ∙ ap (λ b. b && nat_lt q (txn_in x.txns (suc i)).end) there
 
-  form-similar : Sound w → Sound x → form w ≡ form x → Similar w x
+  pub form-similar : Sound w → Sound x → form w ≡ form x → Similar w x
   form-similar here there e = record { same = ap (λ f. f.world) e; looks = looks-at }
     where
       looks-at : (t : ℕ) → looks_back (txn_in w.txns t) ≡ true → LookAlike w.versions x.versions w.txns x.txns (txn_in w.txns t).begin (txn_in x.txns t).begin

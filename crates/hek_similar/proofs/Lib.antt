@@ -11,3 +11,9 @@ pub mod Data
 pub mod Events
 pub mod Runs
 pub mod Forms
+pub mod Judging
+pub mod Ended
+pub mod Told
+pub mod Verdicts
+pub mod Places
+pub mod Holdings

@@ -26,7 +26,7 @@ use Rattle.hek_similar.proofs.Events.{worlds-alike}
 
 -- ---- runs
 -- an event draws at most one time
-clock-next : (w : World) (e : Event) → 0 < w.buckets → IsPlaced w.buckets e → (next w e).clock ≤ w.clock + 1
+pub clock-next : (w : World) (e : Event) → 0 < w.buckets → IsPlaced w.buckets e → (next w e).clock ≤ w.clock + 1
 clock-next w e some placed = each_step w (λ y. y.clock ≤ w.clock + 1) some (record {
   same = omega arith;
   aborts = λ t cause _. omega arith;

@@ -1,0 +1,15 @@
+pub mod Rising
+pub mod Renumbered
+pub mod Ordered
+pub mod Judged
+pub mod Effects
+pub mod Counts
+pub mod Events
+pub mod Kept
+pub mod Runs
+pub mod Inverse
+pub mod Sound
+pub mod Alike
+pub mod Grouped
+pub mod Canonical
+pub mod Told
