@@ -2,6 +2,14 @@ pub mod Successors
 pub mod Tallies
 pub mod Plays
 pub mod Totals
+pub mod Begun
+pub mod Ways
+pub mod Growth
+pub mod Numbered
+pub mod Counting
 pub mod Walks
+pub mod Ranges
 pub mod Searches
 pub mod Grown
+pub mod Sums
+pub mod Joins

@@ -23,7 +23,7 @@ use Rattle.hek_permute.specs.Moves.{Work, move_count}
 use Rattle.hek_permute.specs.Orders.{name_count}
 use Rattle.hek_permute.specs.Tallies.{one_if}
 use Rattle.hek_permute.specs.Plays.{Standing, at_start, before_work, before_precommit, may_go, gives_up, due, IsDue, IsAtRest, Makes, Walks, AllStand, IsPlay}
-use Rattle.hek_permute.specs.Places.{first_place, standing_of, due_at, entry_of, IsResting, IsMade, HasGone, HasCome, AreAt, AllRest, RestBut, IsMoveCounted, IsLater, HasMoved, MovesAreCounted}
+use Rattle.hek_permute.specs.Places.{first_place, standing_of, due_at, entry_of, IsResting, IsMade, HasGone, HasCome, AreAt, AllRest, RestBut, IsMoveCounted, WalkOn, IsLater, HasMoved, MovesAreCounted}
 
 lt_more : (i n : ℕ) → IsTrue (nat_lt i n) → IsTrue (nat_lt i (n + 1))
 lt_more i n h = grind (arith, nat_tests)
@@ -217,23 +217,60 @@ moves_kept places k i p q r gp same gr (inl e) =
     (p, ap (slice_get places) e ∙ gp, ap (λ (z : Place). z.moves) r_is ∙ same)
 moves_kept places k i p q r gp same gr (inr n) = (r, set_other places k i q r n gr, refl)
 
-pub came_later : (form : Form) (t k : ℕ) (w : Work) (p q : Place) (places : List Place) (old new : List Entry) → slice_get places k ≡ Some p → HasCome form t w p q old new
-    → IsLater places old (slice_set places k q) new
-came_later form t k w p q places old new gp come = record {
-  more = map (entry_of t) come.gone.made;
+walk_come : (form : Form) (works : List Work) (k i : ℕ) (w v : Work) (p q r z : Place) (places : List Place) (made : List (Event × Reply)) → slice_get works k ≡ Some w
+    → slice_get places k ≡ Some p → q.moves ≡ p.moves → Walks form (k + 1) w p.moves (standing_of p) made (standing_of q) → slice_get works i ≡ Some v → slice_get places i ≡ Some z
+    → slice_get (slice_set places k q) i ≡ Some r → (i ≡ k) ⊎ (i ≡ k → ⊥) → Walks form (i + 1) v r.moves (standing_of z) (part_of (i + 1) (map (entry_of (k + 1)) made)) (standing_of r)
+walk_come form works k i w v p q r z places made gw gp same walk gv gz gr (inl e) =
+    let v_is : w ≡ v = same_some (slice_get works k) w v gw (subst (λ (j : ℕ). slice_get works j ≡ Some v) e gv) in
+    let z_is : p ≡ z = same_some (slice_get places k) p z gp (subst (λ (j : ℕ). slice_get places j ≡ Some z) e gz) in
+    let r_is : q ≡ r = sym (set_here places k p q r gp (subst (λ (j : ℕ). slice_get (slice_set places k q) j ≡ Some r) e gr)) in
+    let here : Walks form (k + 1) w q.moves (standing_of p) (part_of (k + 1) (map (entry_of (k + 1)) made)) (standing_of q) =
+    subst (λ (xs : List (Event × Reply)). Walks form (k + 1) w q.moves (standing_of p) xs (standing_of q)) (sym (part_own (k + 1) made))
+    (subst (λ (n : ℕ). Walks form (k + 1) w n (standing_of p) made (standing_of q)) (sym same) walk) in
+    subst (λ (j : ℕ). Walks form (j + 1) v r.moves (standing_of z) (part_of (j + 1) (map (entry_of (k + 1)) made)) (standing_of r)) (sym e)
+    (subst (λ (y : Place). Walks form (k + 1) v y.moves (standing_of z) (part_of (k + 1) (map (entry_of (k + 1)) made)) (standing_of y)) r_is
+    (subst (λ (y : Place). Walks form (k + 1) v q.moves (standing_of y) (part_of (k + 1) (map (entry_of (k + 1)) made)) (standing_of q)) z_is
+    (subst (λ (y : Work). Walks form (k + 1) y q.moves (standing_of p) (part_of (k + 1) (map (entry_of (k + 1)) made)) (standing_of q)) v_is here)))
+walk_come form works k i w v p q r z places made gw gp same walk gv gz gr (inr n) =
+    subst (λ (xs : List (Event × Reply)). Walks form (i + 1) v r.moves (standing_of z) xs (standing_of r)) (sym (part_other (k + 1) (i + 1) made (λ e. n (omega arith))))
+    (ap standing_of (same_some (slice_get places i) z r gz (set_other places k i q r n gr)))
+
+came_after : (form : Form) (works : List Work) (k : ℕ) (w : Work) (p q : Place) (places : List Place) (old new : List Entry) → slice_get works k ≡ Some w → slice_get places k ≡ Some p
+    → HasCome form (k + 1) w p q old new → IsLater form works places old (slice_set places k q) new
+came_after form works k w p q places old new gw gp come = record {
+  more = map (entry_of (k + 1)) come.gone.made;
   grown = come.gone.grown;
   moves = λ i r gr. moves_kept places k i p q r gp come.gone.moves gr (same_or_not i k);
+  walks = λ i v z r gv gz gr. walk_come form works k i w v p q r z places come.gone.made gw gp come.gone.moves come.gone.walk gv gz gr (same_or_not i k);
 }
 
--- IsLater is reflexive and transitive
-pub later_none : (places : List Place) (h : List Entry) → IsLater places h places h
-later_none places h = record { more = []; grown = sym (append-nil h); moves = λ i p g. (p, g, refl) }
+pub came_later : (form : Form) (works : List Work) (t k : ℕ) (w : Work) (p q : Place) (places : List Place) (old new : List Entry) → t ≡ k + 1 → slice_get works k ≡ Some w
+    → slice_get places k ≡ Some p → HasCome form t w p q old new → IsLater form works places old (slice_set places k q) new
+came_later form works t k w p q places old new is gw gp come = came_after form works k w p q places old new gw gp (subst (λ (u : ℕ). HasCome form u w p q old new) is come)
 
-pub later_on : (ps qs rs : List Place) (x y z : List Entry) → IsLater ps x qs y → IsLater qs y rs z → IsLater ps x rs z
-later_on ps qs rs x y z h g = record {
+-- IsLater is reflexive and transitive
+pub later_none : (form : Form) (works : List Work) (places : List Place) (h : List Entry) → IsLater form works places h places h
+later_none form works places h = record {
+  more = [];
+  grown = sym (append-nil h);
+  moves = λ i p g. (p, g, refl);
+  walks = λ i w p q gw gp gq. ap standing_of (same_some (slice_get places i) p q gp gq);
+}
+
+walk_further : (form : Form) (works : List Work) (ps qs rs : List Place) (xs ys : List Entry) (i : ℕ) (w : Work) (p q r : Place) → WalkOn form works ps qs xs → WalkOn form works qs rs ys
+    → r.moves ≡ q.moves → slice_get works i ≡ Some w → slice_get ps i ≡ Some p → slice_get qs i ≡ Some q → slice_get rs i ≡ Some r
+    → Walks form (i + 1) w r.moves (standing_of p) (part_of (i + 1) (xs ++ ys)) (standing_of r)
+walk_further form works ps qs rs xs ys i w p q r a b same gw gp gq gr =
+    subst (λ (zs : List (Event × Reply)). Walks form (i + 1) w r.moves (standing_of p) zs (standing_of r)) (sym (part_append (i + 1) xs ys))
+    (walk_on form (i + 1) w r.moves (standing_of p) (standing_of q) (standing_of r) (part_of (i + 1) xs) (part_of (i + 1) ys)
+    (subst (λ (n : ℕ). Walks form (i + 1) w n (standing_of p) (part_of (i + 1) xs) (standing_of q)) (sym same) (a i w p q gw gp gq)) (b i w q r gw gq gr))
+
+pub later_on : (form : Form) (works : List Work) (ps qs rs : List Place) (x y z : List Entry) → IsLater form works ps x qs y → IsLater form works qs y rs z → IsLater form works ps x rs z
+later_on form works ps qs rs x y z h g = record {
   more = h.more ++ g.more;
   grown = g.grown ∙ ap (λ (l : List Entry). l ++ g.more) h.grown ∙ append_assoc x h.more g.more;
   moves = λ i p e. let b = g.moves i p e in let a = h.moves i b.0 b.1 in (a.0, a.1, b.2 ∙ a.2);
+  walks = λ i w p r gw gp gr. let b = g.moves i r gr in walk_further form works ps qs rs h.more g.more i w p b.0 r h.walks g.walks b.2 gw gp b.1 gr;
 }
 
 -- a search for a deadlock moves no transaction
@@ -254,8 +291,15 @@ looked form works u r places old new is all = record {
   rest = all.rest;
 }
 
-pub looked_later : (u : ℕ) (r : Reply) (places : List Place) (old new : List Entry) → new ≡ old ++ entry_of u (Detect, r) ∷ [] → IsLater places old places new
-looked_later u r places old new is = record { more = entry_of u (Detect, r) ∷ []; grown = is; moves = λ i p g. (p, g, refl) }
+pub looked_later : (form : Form) (works : List Work) (u : ℕ) (r : Reply) (places : List Place) (old new : List Entry) → new ≡ old ++ entry_of u (Detect, r) ∷ []
+    → IsLater form works places old places new
+looked_later form works u r places old new is = record {
+  more = entry_of u (Detect, r) ∷ [];
+  grown = is;
+  moves = λ i p g. (p, g, refl);
+  walks = λ i w p q gw gp gq. subst (λ (z : Place). Walks form (i + 1) w z.moves (standing_of p) (part_of (i + 1) (entry_of u (Detect, r) ∷ [])) (standing_of z))
+      (same_some (slice_get places i) p q gp gq) (look_part form u (i + 1) w p.moves (standing_of p) r (u == i + 1) refl);
+}
 
 count_there : (form : Form) (works : List Work) (k i : ℕ) (v : Work) (p r : Place) (places : List Place) (h : List Entry) → AreAt form works places h
     → slice_get places k ≡ Some p → slice_get works i ≡ Some v → slice_get (slice_set places k (record p { moves = p.moves + 1 })) i ≡ Some r
@@ -310,20 +354,35 @@ counted_moves t i r old new c gr =
     (counted_there c.place i c.was r old c.is
     (subst (λ (ps : List Place). slice_get ps i ≡ Some r) c.counted gr) (same_or_not i c.place))
 
+-- a move that has come leaves each transaction where it stands
+counted_stands : (k i : ℕ) (p z r : Place) (places : List Place) → slice_get places k ≡ Some p → slice_get places i ≡ Some z
+    → slice_get (slice_set places k (record p { moves = p.moves + 1 })) i ≡ Some r → (i ≡ k) ⊎ (i ≡ k → ⊥) → standing_of z ≡ standing_of r
+counted_stands k i p z r places gp gz gr (inl e) =
+    let more : Place = record p { moves = p.moves + 1 } in
+    let z_is : z ≡ p = same_some (slice_get places k) z p (subst (λ (j : ℕ). slice_get places j ≡ Some z) e gz) gp in
+    let r_is : r ≡ more = set_here places k p more r gp (subst (λ (j : ℕ). slice_get (slice_set places k more) j ≡ Some r) e gr) in
+    ap standing_of z_is ∙ sym (ap standing_of r_is)
+counted_stands k i p z r places gp gz gr (inr n) = ap standing_of (same_some (slice_get places i) z r gz (set_other places k i (record p { moves = p.moves + 1 }) r n gr))
+
 -- a move came, and then events were made
-pub moved : (t : ℕ) (ps qs rs : List Place) (h now : List Entry) → IsMoveCounted t ps qs → IsLater qs h rs now → HasMoved t ps h rs now
-moved t ps qs rs h now c later = record {
+pub moved : (form : Form) (works : List Work) (t : ℕ) (ps qs rs : List Place) (h now : List Entry) → IsMoveCounted t ps qs → IsLater form works qs h rs now
+    → HasMoved form works t ps h rs now
+moved form works t ps qs rs h now c later = record {
   more = later.more;
   grown = later.grown;
   moves = λ i r gr. let q = later.moves i r gr in let p = counted_moves t i q.0 ps qs c q.1 in (p.0, p.1, q.2 ∙ p.2);
+  walks = λ i w p r gw gp gr. let q = later.moves i r gr in
+      let same : standing_of p ≡ standing_of q.0 = counted_stands c.place i c.was p q.0 ps c.is gp (subst (λ (xs : List Place). slice_get xs i ≡ Some q.0) c.counted q.1) (same_or_not i c.place) in
+      subst (λ (s : Standing). Walks form (i + 1) w r.moves s (part_of (i + 1) later.more) (standing_of r)) (sym same) (later.walks i w q.0 r gw q.1 gr);
 }
 
 -- the play of one more move
 pub times_more : (t u : ℕ) (us : List ℕ) → name_count t (u ∷ us) ≡ one_if (u == t) + name_count t us
 times_more t u us = sum_by-cons (λ x. one_if (x == t)) u us
 
-pub counted_more : (t : ℕ) (ps rs : List Place) (h now : List Entry) (past : List ℕ) → MovesAreCounted ps past → HasMoved t ps h rs now → MovesAreCounted rs (t ∷ past)
-counted_more t ps rs h now past c m = λ i r gr. let p = m.moves i r gr in
+pub counted_more : (form : Form) (works : List Work) (t : ℕ) (ps rs : List Place) (h now : List Entry) (past : List ℕ) → MovesAreCounted ps past
+    → HasMoved form works t ps h rs now → MovesAreCounted rs (t ∷ past)
+counted_more form works t ps rs h now past c m = λ i r gr. let p = m.moves i r gr in
     p.2 ∙ ap (λ (n : ℕ). one_if (t == i + 1) + n) (c i p.0 p.1) ∙ sym (times_more (i + 1) t past)
 
 some_at : {X : Type 0} (xs : List X) (i : ℕ) → i < length xs → (x : X) × (slice_get xs i ≡ Some x)
@@ -351,9 +410,9 @@ pub record IsSoFar (form : Form) (works : List Work) (past : List ℕ) (places :
   pub play : IsPlay form works past h
 
 pub on_and_on : (form : Form) (works : List Work) (t : ℕ) (past : List ℕ) (ps rs : List Place) (h now : List Entry) → IsSoFar form works past ps h → AllRest form works rs now
-    → HasMoved t ps h rs now → IsSoFar form works (t ∷ past) rs now
+    → HasMoved form works t ps h rs now → IsSoFar form works (t ∷ past) rs now
 on_and_on form works t past ps rs h now so all m =
-    let c : MovesAreCounted rs (t ∷ past) = counted_more t ps rs h now past so.counted m in
+    let c : MovesAreCounted rs (t ∷ past) = counted_more form works t ps rs h now past so.counted m in
     record {
       rest = all;
       counted = c;
@@ -391,10 +450,10 @@ back_more xs i d h = ap (λ (n : ℕ). reverse (take n xs)) (add-one i) ∙ ap r
 pub came_to : (form : Form) (t : ℕ) (w : Work) (p q : Place) (old new : List Entry) → HasGone form t w p q old new → IsResting form w q → HasCome form t w p q old new
 came_to form t w p q old new gone rest = record { gone = gone; rest = rest }
 
-pub moved_if : {A E : Type 0} (r : Result A E) (t : ℕ) (ps qs rs ss : List Place) (h now last : List Entry) → IsMoveCounted t ps qs → IsLater qs h rs now
-    → OnOk r (IsLater rs now ss last) → OnOk r (HasMoved t ps h ss last)
-moved_if (Ok x) t ps qs rs ss h now last c later g = moved t ps qs ss h last c (later_on qs rs ss h now last later g)
-moved_if (Err e) t ps qs rs ss h now last c later g = tt
+pub moved_if : {A E : Type 0} (r : Result A E) (form : Form) (works : List Work) (t : ℕ) (ps qs rs ss : List Place) (h now last : List Entry) → IsMoveCounted t ps qs
+    → IsLater form works qs h rs now → OnOk r (IsLater form works rs now ss last) → OnOk r (HasMoved form works t ps h ss last)
+moved_if (Ok x) form works t ps qs rs ss h now last c later g = moved form works t ps qs ss h last c (later_on form works qs rs ss h now last later g)
+moved_if (Err e) form works t ps qs rs ss h now last c later g = tt
 
 pub got : {X : Type 0} (xs : List X) (k : ℕ) (x : X) → k < length xs → x ≡ get_or xs k x → slice_get xs k ≡ Some x
 got [] k x h e = absurd (omega arith)

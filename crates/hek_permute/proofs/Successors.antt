@@ -26,7 +26,7 @@ is_itself u = grind (arith, nat_tests)
 abbrev pub one_if : Bool → ℕ
 one_if b = cond b 1 0
 
-times_cons : (t x : ℕ) (xs : List ℕ) → name_count t (x ∷ xs) ≡ one_if (x == t) + name_count t xs
+pub times_cons : (t x : ℕ) (xs : List ℕ) → name_count t (x ∷ xs) ≡ one_if (x == t) + name_count t xs
 times_cons t x xs = sum_by-cons (λ u. one_if (u == t)) x xs
 
 found_here : (z x : ℕ) (xs : List ℕ) (b : Bool) → (x == z) ≡ b → 0 < one_if b + name_count z xs → (0 < name_count z xs → IsIn z xs) → IsIn z (x ∷ xs)
@@ -158,7 +158,7 @@ set_falls_here tail x j i k f h low within (inr e) (inr g) =
     let falls : slice_index tail k ≤ slice_index tail i = f i k (omega arith) low within in
     omega arith
 
-same_or_not : (i j : ℕ) → (i ≡ j) ⊎ (i ≡ j → ⊥)
+pub same_or_not : (i j : ℕ) → (i ≡ j) ⊎ (i ≡ j → ⊥)
 same_or_not zero zero = inl refl
 same_or_not zero (suc j) = inr (λ e. omega arith)
 same_or_not (suc i) zero = inr (λ e. omega arith)

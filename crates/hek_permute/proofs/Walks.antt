@@ -1,16 +1,10 @@
 -- All orders of a schedule's moves, played one after another.
-use Rattle.std.proofs.Common.{◌≡◌, ℕ, suc, zero, ◌+◌, ◌<◌, ◌≤◌, Bool, true, false, List, [], ◌∷◌, ◌++◌, length, refl, ap, sym, subst, ◌∙◌, inl, inr, arith, replicate, take}
-use Rattle.std.specs.Prelude.{◌⊎◌, ◌-◌, min, slice_index}
+use Rattle.std.proofs.Common.{◌≡◌, ℕ, suc, zero, ◌+◌, ◌<◌, ◌≤◌, List, [], ◌∷◌, ◌++◌, length, refl, ap, sym, subst, ◌∙◌, inl, inr, arith, replicate}
+use Rattle.std.specs.Prelude.{◌⊎◌, slice_index}
 use Rattle.std.specs.List.{AllByRecursion}
-use Rattle.hek_rules.specs.Plan.{Plan}
-use Rattle.hek_permute.specs.declared.moves.Form.{Form}
-use Rattle.hek_permute.specs.Found.{Line}
-use Rattle.hek_permute.specs.Moves.{Work, AreMoves, counts_of, first_order_from}
+use Rattle.hek_permute.specs.Moves.{first_order_from}
 use Rattle.hek_permute.specs.Orders.{IsBelow, AreAlike, IsNext, IsLast, IsAmong, AreFalling, AreAll}
-use Rattle.hek_permute.specs.Tallies.{Goes, IsTally, is_between, total, one_if}
-use Rattle.hek_permute.specs.Wholes.{IsWhole, first_in}
 use Rattle.hek_permute.proofs.Successors.{least}
-use Rattle.hek_permute.proofs.Totals.{noted_total, next_total, none_yet}
 
 pub below_trans : (a b c : List ℕ) → IsBelow a b → IsBelow b c → IsBelow a c
 below_trans [] [] c h g = absurd h
@@ -121,69 +115,3 @@ walk-last first order past h last = record {
   falling = (h.below, h.falling);
   complete = λ q a. here_or_before first order past q h.complete a (λ behind. last.none q (alike_to first order q h.alike a) behind) (compared q order);
 }
-
--- the orders before one, and the tally of those in the part
-pub record IsSoFar (p : Plan) (form : Form) (from to number : ℕ) (moves : List Work) (order : List ℕ) (rows : List Line) : Type 0 where
-  pub are : AreMoves p moves
-  pub past : List (List ℕ)
-  pub count : length past ≡ number
-  pub walk : IsWalk (first_in form moves) order past
-  pub tally : IsTally p form moves from to past rows
-  pub total : total rows ≡ min to number - from
-
-pub at_first : (p : Plan) (form : Form) (from to : ℕ) (moves : List Work) (order : List ℕ) (rows : List Line) → AreMoves p moves
-    → order ≡ first_in form moves → rows ≡ [] → IsSoFar p form from to 0 moves order rows
-at_first p form from to moves order rows are is none = record {
-  are = are;
-  past = [];
-  count = refl;
-  walk = walk-first (counts_of form moves) order is;
-  tally = none;
-  total = ap total none ∙ none_yet from to;
-}
-
-goes_at : (p : Plan) (form : Form) (works : List Work) (from to m n : ℕ) (order : List ℕ) (was rows : List Line) → m ≡ n → Goes p form works (is_between from to n) order was rows → Goes p form works (is_between from to m) order was rows
-goes_at p form works from to m n order was rows e g = subst (λ (k : ℕ). Goes p form works (is_between from to k) order was rows) (sym e) g
-
-goes_total : (p : Plan) (form : Form) (works : List Work) (part : Bool) (order : List ℕ) (was rows : List Line) → Goes p form works part order was rows → total rows ≡ total was + one_if part
-goes_total p form works true order was rows g = noted_total was rows g.0 order g.2
-goes_total p form works false order was rows g = omega (arith, ap total g)
-
-pub at_next : (p : Plan) (form : Form) (from to number : ℕ) (moves : List Work) (order new : List ℕ) (was rows : List Line) → IsSoFar p form from to number moves order was
-    → Goes p form moves (is_between from to number) order was rows → IsNext order new → IsSoFar p form from to (number + 1) moves new rows
-at_next p form from to number moves order new was rows h g next = record {
-  are = h.are;
-  past = order ∷ h.past;
-  count = omega (arith, h.count);
-  walk = walk-next (first_in form moves) order new h.past h.walk next;
-  tally = (was, h.tally, goes_at p form moves from to (length h.past) number order was rows h.count g);
-  total = next_total from to number (total was) (total rows) h.total (goes_total p form moves (is_between from to number) order was rows g);
-}
-
-one_longer : (order : List ℕ) (past : List (List ℕ)) (number : ℕ) → length past ≡ number → number + 1 ≡ length (order ∷ past)
-one_longer order past number h = omega arith
-
-pub at_last : (p : Plan) (form : Form) (from to number : ℕ) (moves : List Work) (order : List ℕ) (was rows : List Line) → IsSoFar p form from to number moves order was
-    → Goes p form moves (is_between from to number) order was rows → IsLast order → IsWhole p form from to rows
-at_last p form from to number moves order was rows h g last = record {
-  moves = moves;
-  are = h.are;
-  orders = order ∷ h.past;
-  all = walk-last (first_in form moves) order h.past h.walk last;
-  tally = (was, h.tally, goes_at p form moves from to (length h.past) number order was rows h.count g);
-  count = next_total from to number (total was) (total rows) h.total (goes_total p form moves (is_between from to number) order was rows g)
-      ∙ ap (λ (n : ℕ). min to n - from) (one_longer order h.past number h.count);
-}
-
-pub front_of : (new rest : List ℕ) (n : ℕ) → n ≡ length new → take n (new ++ rest) ≡ new
-front_of [] rest zero e = refl
-front_of [] rest (suc n) e = absurd (omega arith)
-front_of (x ∷ new) rest zero e = absurd (omega arith)
-front_of (x ∷ new) rest (suc n) e = ap (λ (l : List ℕ). x ∷ l) (front_of new rest n (omega arith))
-
--- what the loop did with an order, by the test and the slices that it was given
-pub goes_with : (p : Plan) (form : Form) (works moves : List Work) (from to number : ℕ) (part : Bool) (order slice : List ℕ) (was rows : List Line) → moves ≡ works
-    → part ≡ is_between from to number → slice ≡ order → Goes p form moves part slice was rows → Goes p form works (is_between from to number) order was rows
-goes_with p form works moves from to number part order slice was rows same e is g =
-    subst (λ (ws : List Work). Goes p form ws (is_between from to number) order was rows) same
-    (subst (λ (b : Bool). Goes p form moves b order was rows) e (subst (λ (o : List ℕ). Goes p form moves part o was rows) is g))

@@ -5,7 +5,9 @@ pub mod Found
 pub mod Outcomes
 pub mod Plays
 pub mod Tallies
+pub mod Sums
 pub mod Places
+pub mod Numbers
 pub mod Wholes
 pub mod Searches
 pub mod Leveled

@@ -75,18 +75,26 @@ pub record IsMoveCounted (t : ℕ) (old new : List Place) : Type 0 where
   pub is : slice_get old place ≡ Some was
   pub counted : new ≡ slice_set old place (record was { moves = was.moves + 1 })
 
+-- these events lead each transaction from its place to its later one
+abbrev pub WalkOn : Form → List Work → List Place → List Place → List Entry → Type 0
+WalkOn form works places later more =
+    (i : ℕ) (w : Work) (p q : Place) → slice_get works i ≡ Some w → slice_get places i ≡ Some p → slice_get later i ≡ Some q
+    → Walks form (i + 1) w q.moves (standing_of p) (part_of (i + 1) more) (standing_of q)
+
 -- events were made after the history h, and no move has come
-pub record IsLater (places : List Place) (h : List Entry) (later : List Place) (now : List Entry) : Type 0 where
+pub record IsLater (form : Form) (works : List Work) (places : List Place) (h : List Entry) (later : List Place) (now : List Entry) : Type 0 where
   pub more : List Entry
   pub grown : now ≡ h ++ more
   pub moves : (i : ℕ) (p : Place) → slice_get later i ≡ Some p → (q : Place) × (slice_get places i ≡ Some q) × (p.moves ≡ q.moves)
+  pub walks : WalkOn form works places later more
 
 -- one move of t has come, and events were made after the history h
-pub record HasMoved (t : ℕ) (places : List Place) (h : List Entry) (later : List Place) (now : List Entry) : Type 0 where
+pub record HasMoved (form : Form) (works : List Work) (t : ℕ) (places : List Place) (h : List Entry) (later : List Place) (now : List Entry) : Type 0 where
   pub more : List Entry
   pub grown : now ≡ h ++ more
   pub moves : (i : ℕ) (p : Place) → slice_get later i ≡ Some p
       → (q : Place) × (slice_get places i ≡ Some q) × (p.moves ≡ one_if (t == i + 1) + q.moves)
+  pub walks : WalkOn form works places later more
 
 -- as many moves of each transaction have come as it has among these names
 abbrev pub MovesAreCounted : List Place → List ℕ → Type 0

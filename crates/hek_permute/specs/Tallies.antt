@@ -1,5 +1,5 @@
 -- How often each outcome occurred.
-use Rattle.std.specs.Prelude.{ℕ, ◌≡◌, ◌+◌, ◌<◌, ◌⊎◌, Bool, true, false, ◌&&◌, cond, nat_le, nat_lt, List, [], ◌∷◌, ◌++◌, length, reverse, slice_get, slice_set, Some, sum_by}
+use Rattle.std.specs.Prelude.{ℕ, ◌≡◌, ◌+◌, ◌<◌, ◌⊎◌, Bool, true, false, ◌&&◌, cond, if◌then◌else◌, nat_le, nat_lt, List, [], ◌∷◌, ◌++◌, length, reverse, slice_get, slice_set, Some, sum_by}
 use Rattle.hek_rules.specs.Plan.{Plan}
 use Rattle.hek_worker.specs.declared.entry.Entry.{Entry}
 use Rattle.hek_worker.specs.History.{IsHistory, history_events, replies_in}
@@ -49,6 +49,29 @@ pub record IsAdded (old new : List Line) (o : Found) (order : List ℕ) : Type 0
 -- an order with this outcome was noted
 abbrev pub IsNoted : List Line → List Line → Found → List ℕ → Type 0
 IsNoted old new o order = IsCounted old new o ⊎ IsAdded old new o order
+
+-- a row that counts n more orders, which have all waited or none of them
+abbrev pub many_more : Line → ℕ → Bool → Line
+many_more r n waited = record r { orders = r.orders + n; waited = r.waited + (if waited then n else 0) }
+
+-- a row for n orders with a new outcome
+abbrev pub row_for : Found → ℕ → List ℕ → Line
+row_for o n first = record { outcome = o; orders = n; waited = if o.waited then n else 0; first = first }
+
+-- the row of the outcome counts n more orders
+pub record AreCounted (old new : List Line) (o : Found) (n : ℕ) : Type 0 where
+  pub place : ℕ
+  pub found : IsFirstSame old o place
+  pub counted : new ≡ slice_set old place (many_more found.row n o.waited)
+
+-- the tally had no row of the outcome, and has one of n orders now
+pub record AreAdded (old new : List Line) (o : Found) (n : ℕ) (first : List ℕ) : Type 0 where
+  pub none : NoneSame old o
+  pub added : new ≡ old ++ row_for o n first ∷ []
+
+-- n orders with this outcome were noted
+abbrev pub AreNoted : List Line → List Line → Found → ℕ → List ℕ → Type 0
+AreNoted old new o n first = AreCounted old new o n ⊎ AreAdded old new o n first
 
 -- how many orders were noted
 abbrev pub total : List Line → ℕ

@@ -157,17 +157,3 @@ pub fn move_count(of_one: &Moves, form: Form) -> usize
 {
     of_one.work().len() + form.other_moves()
 }
-
-/// How many orders there are; None if the number, or a product on the way to it, is 2^64 or more.
-pub fn order_count(moves: &[Moves], form: Form) -> Option<u64> {
-    let mut count = 1u64;
-    let mut length = 0u64;
-    for of_one in moves {
-        let many = move_count(of_one, form) as u64;
-        for place in 1..=many {
-            length = length.checked_add(1)?;
-            count = count.checked_mul(length)? / place;
-        }
-    }
-    Some(count)
-}

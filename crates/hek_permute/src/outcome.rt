@@ -128,7 +128,7 @@ fn ends_of(alloc: Global, count: usize, history: &[Entry]) -> Result<Vec<Ending>
 }
 
 /// How a transaction ended.
-fn end_of(txn: TxnId, history: &[Entry]) -> Ending
+pub fn end_of(txn: TxnId, history: &[Entry]) -> Ending
     ensures { result ≡ end_in txn history.now }
 {
     let mut rest = history;
@@ -147,7 +147,7 @@ fn end_of(txn: TxnId, history: &[Entry]) -> Ending
 }
 
 /// Whether a transaction had to wait.
-fn some_waited(history: &[Entry]) -> bool
+pub fn some_waited(history: &[Entry]) -> bool
     ensures { result ≡ has_wait history.now }
 {
     let mut rest = history;

@@ -20,11 +20,11 @@ pub struct Play {
 }
 
 /// Where a transaction is: what it does next, how many of its moves have come, and whether it had to wait.
-#[derive(Clone, Copy)]
-struct Place {
-    stage: Stage,
-    moves: usize,
-    waits: bool,
+#[derive(Clone, Copy, Debug, PartialEq, Eq)]
+pub struct Place {
+    pub stage: Stage,
+    pub moves: usize,
+    pub waits: bool,
 }
 
 impl Place {
@@ -157,14 +157,14 @@ fn play_in(
     ensures plan { book.new.plan ≡ book.old.plan }
     ensures play { OnOk result (IsPlay form moves.now (reverse order.now) book.new.history) }
 {
-    let mut places = at_start(alloc, moves)?;
+    let mut places = first_places(alloc, moves)?;
     for &mover in order {
         move_in(book, moves, form, &mut places, mover)?;
     }
     Ok(())
 }
 
-/// `one_move` with the places in a vector.
+/// `make_move` with the places in a vector.
 fn move_in(
     book: &mut Book<'_>,
     moves: &[Moves],
@@ -175,13 +175,13 @@ fn move_in(
     requires { AllRest form moves.now places.old.items book.old.history }
     ensures plan { book.new.plan ≡ book.old.plan }
     ensures rest { OnOk result (AllRest form moves.now places.new.items book.new.history) }
-    ensures moved { OnOk result (HasMoved mover places.old.items book.old.history places.new.items book.new.history) }
+    ensures moved { OnOk result (HasMoved form moves.now mover places.old.items book.old.history places.new.items book.new.history) }
 {
-    one_move(book, moves, form, places.as_mut_slice(), mover)
+    make_move(book, moves, form, places.as_mut_slice(), mover)
 }
 
 /// The places of all transactions before their first event.
-fn at_start(alloc: Global, moves: &[Moves]) -> Result<Vec<Place>, NoMemory>
+pub fn first_places(alloc: Global, moves: &[Moves]) -> Result<Vec<Place>, NoMemory>
     ensures { IfOk result (λ places. places.items ≡ replicate (length moves.now) first_place) }
 {
     let mut places = Vec::with_capacity(alloc, moves.len())?;
@@ -208,8 +208,9 @@ fn place_of(txn: TxnId) -> Result<usize, OrderFault>
     }
 }
 
-/// Makes a move of a transaction, and everything that the move sets off.
-fn one_move(
+/// Makes a move of a transaction on a book, and everything that the move sets off. `places` has where each transaction
+/// is after the book's history, and afterwards where it is then.
+pub fn make_move(
     book: &mut Book<'_>,
     moves: &[Moves],
     form: Form,
@@ -219,7 +220,7 @@ fn one_move(
     requires { AllRest form moves.now places.old book.old.history }
     ensures plan { book.new.plan ≡ book.old.plan }
     ensures rest { OnOk result (AllRest form moves.now places.new book.new.history) }
-    ensures moved { OnOk result (HasMoved mover places.old book.old.history places.new book.new.history) }
+    ensures moved { OnOk result (HasMoved form moves.now mover places.old book.old.history places.new book.new.history) }
 {
     let runs = count_move(places, mover)?;
     let _got_on = go_on(book, moves, form, places, mover)?;
@@ -265,7 +266,7 @@ fn go_on(
     requires { RestBut form moves.now txn places.old book.old.history }
     ensures plan { book.new.plan ≡ book.old.plan }
     ensures rest { OnOk result (AllRest form moves.now places.new book.new.history) }
-    ensures later { OnOk result (IsLater places.old book.old.history places.new book.new.history) }
+    ensures later { OnOk result (IsLater form moves.now places.old book.old.history places.new book.new.history) }
 {
     let at = place_of(txn)?;
     let (Some(of_one), Some(place)) = (moves.get(at), places.get(at)) else {
@@ -337,6 +338,7 @@ fn one_event(
 }
 
 /// After a move: tries each waiting transaction again, and looks for a deadlock when all wait, until none gets on.
+#[tactic(auto, using(crate::proofs::Plays::later_on))]
 fn settle(
     book: &mut Book<'_>,
     moves: &[Moves],
@@ -347,7 +349,7 @@ fn settle(
     requires { AllRest form moves.now places.old book.old.history }
     ensures plan { book.new.plan ≡ book.old.plan }
     ensures rest { OnOk result (AllRest form moves.now places.new book.new.history) }
-    ensures later { OnOk result (IsLater places.old book.old.history places.new book.new.history) }
+    ensures later { OnOk result (IsLater form moves.now places.old book.old.history places.new book.new.history) }
 {
     let mut asked = Some(mover);
     for _ in 0..u64::MAX {
@@ -361,6 +363,7 @@ fn settle(
 }
 
 /// Tries each waiting transaction again, except the one that was just tried. Answers whether one of them got on.
+#[tactic(auto, using(crate::proofs::Plays::later_on))]
 fn ask_again(
     book: &mut Book<'_>,
     moves: &[Moves],
@@ -371,7 +374,7 @@ fn ask_again(
     requires { AllRest form moves.now places.old book.old.history }
     ensures plan { book.new.plan ≡ book.old.plan }
     ensures rest { OnOk result (AllRest form moves.now places.new book.new.history) }
-    ensures later { OnOk result (IsLater places.old book.old.history places.new book.new.history) }
+    ensures later { OnOk result (IsLater form moves.now places.old book.old.history places.new book.new.history) }
 {
     let mut got_on = false;
     for place in 0..places.len() {
@@ -403,7 +406,7 @@ fn break_deadlock(
     requires { AllRest form moves.now places.old book.old.history }
     ensures plan { book.new.plan ≡ book.old.plan }
     ensures rest { OnOk result (AllRest form moves.now places.new book.new.history) }
-    ensures later { OnOk result (IsLater places.old book.old.history places.new book.new.history) }
+    ensures later { OnOk result (IsLater form moves.now places.old book.old.history places.new book.new.history) }
 {
     if !all_wait(places) {
         return Ok(false);

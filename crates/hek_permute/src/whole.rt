@@ -1,11 +1,12 @@
 //! All orders of a schedule's moves, played one after another.
 ghost use Rattle.std.specs.Prelude.{◌≡◌, IfOk, OnOk};
 ghost use Rattle.hek_permute.specs.Found.{Found};
-ghost use Rattle.hek_permute.specs.Tallies.{Goes, IsNoted, IsPlayed, is_between};
+ghost use Rattle.hek_permute.specs.Tallies.{IsNoted, IsPlayed};
 ghost use Rattle.hek_permute.specs.Wholes.{IsWhole};
 
 use crate::fault::OrderFault;
-use crate::moves::{Form, Moves, first_order, moves_of};
+use crate::moves::{Form, Moves, moves_of};
+use crate::number::order_at;
 use crate::order::advance;
 use crate::outcome::{Outcome, outcome_of};
 use crate::play::play_order;
@@ -20,7 +21,7 @@ pub trait Watch {
 }
 
 /// Plays all orders of a schedule's moves with a number from `from` on and below `to`, each on a new machine. The first
-/// order in a dictionary has the number 0.
+/// order in a dictionary has the number 0. If there are too many orders to count, none is played.
 pub fn play_all<W: Watch>(
     alloc: Global,
     schedule: &Schedule,
@@ -32,16 +33,16 @@ pub fn play_all<W: Watch>(
     ensures { IfOk result (IsWhole schedule.now form from to) }
 {
     let moves = moves_of(alloc, schedule)?;
-    let mut order = first_order(alloc, moves.as_slice(), form)?;
     let mut tally = Tally::new(alloc);
-    for number in 0..u64::MAX {
-        let part = is_between(from, to, number);
-        play_if(
+    let Some(mut order) = order_at(alloc, moves.as_slice(), form, from)? else {
+        return Ok(tally);
+    };
+    for _ in from..to {
+        play_one(
             alloc,
             schedule,
             moves.as_slice(),
             form,
-            part,
             order.as_slice(),
             &mut tally,
             watch,
@@ -50,34 +51,7 @@ pub fn play_all<W: Watch>(
             return Ok(tally);
         }
     }
-    Err(OrderFault::TooMany)
-}
-
-/// Whether a number is in a range.
-fn is_between(from: u64, to: u64, number: u64) -> bool
-    ensures { result ≡ is_between from to number }
-{
-    from <= number && number < to
-}
-
-/// Plays an order and notes its outcome, if the order is in the part.
-fn play_if<W: Watch>(
-    alloc: Global,
-    schedule: &Schedule,
-    moves: &[Moves],
-    form: Form,
-    part: bool,
-    order: &[TxnId],
-    tally: &mut Tally,
-    watch: &mut W,
-) -> Result<(), OrderFault>
-    ensures { OnOk result (Goes schedule.now form moves.now part order.now tally.old tally.new) }
-{
-    if part {
-        play_one(alloc, schedule, moves, form, order, tally, watch)
-    } else {
-        Ok(())
-    }
+    Ok(tally)
 }
 
 /// Plays an order and notes its outcome.

@@ -19,6 +19,8 @@ mod lists;
 #[cfg(test)]
 mod orders;
 #[cfg(test)]
+mod parts;
+#[cfg(test)]
 mod refusals;
 #[cfg(test)]
 mod replies;

@@ -9,7 +9,8 @@ fn add_row(rt: &impl Abort, schedule: &mut Schedule, key: u64) {
     holds(rt, schedule.add_row(key, key).is_ok());
 }
 
-fn add_txn(rt: &impl Abort, alloc: Global, schedule: &mut Schedule, number: u64) {
+/// Declares a transaction with the name `t` and a number.
+pub(crate) fn add_txn(rt: &impl Abort, alloc: Global, schedule: &mut Schedule, number: u64) {
     let name = format!(in alloc; "t{number}").expect(rt, "no memory");
     holds(rt, schedule.txn_fits(name.as_str()));
     let added = schedule.add_txn(name.as_str(), Level::Repeatable);

@@ -6,5 +6,5 @@ abbrev pub invariant-loop : goal.invariant-loop
 invariant-loop l = record {
   plan : l.book.plan ≡ l.fn.book.plan;
   rest : AllRest l.form l.moves l.places l.book.history;
-  later : IsLater l.fn.places l.fn.book.history l.places l.book.history;
+  later : IsLater l.form l.moves l.fn.places l.fn.book.history l.places l.book.history;
 }
