@@ -13,7 +13,7 @@ use std::{fs, io};
 const LEVELS: Choice<'static> = Choice {
     level: None,
     form: Form::Whole,
-    limit: 1_000,
+    limit: None,
     part: (1, 1),
     each: false,
     order: None,

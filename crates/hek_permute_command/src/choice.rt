@@ -8,8 +8,8 @@ pub struct Choice<'a> {
     /// The level of all transactions, if not each one's own.
     pub level: Option<Level>,
     pub form: Form,
-    /// The most orders that are played.
-    pub limit: u64,
+    /// The most orders that are played, or the most states that they lead to, if not 100,000 and 1,000,000.
+    pub limit: Option<u64>,
     /// The number of a part, from 1, and how many parts there are.
     pub part: (u64, u64),
     /// Whether to write a line for each order.
@@ -22,6 +22,37 @@ pub struct Choice<'a> {
     pub find: Option<&'a str>,
     /// Whether standard error is a terminal, on which the number of orders that have been played is shown.
     pub progress: bool,
+}
+
+/// The most orders that are played, if a choice has no limit.
+const MOST_ORDERS: u64 = 100_000;
+
+/// The most states that orders lead to, if a choice has no limit.
+const MOST_STATES: u64 = 1_000_000;
+
+impl Choice<'_> {
+    /// Whether each order is played by itself: to be written, to look for something, or since a part is asked for.
+    pub(crate) fn plays_each(&self) -> bool {
+        let (_, many) = self.part;
+        self.each || self.find.is_some() || many != 1
+    }
+
+    pub(crate) fn most_orders(&self) -> u64 {
+        self.limit.unwrap_or(MOST_ORDERS)
+    }
+
+    pub(crate) fn most_states(&self) -> u64 {
+        self.limit.unwrap_or(MOST_STATES)
+    }
+}
+
+/// How outcomes are counted.
+#[derive(Clone, Copy)]
+pub enum Extent {
+    /// Each order is played: those from a number on, and below another.
+    Orders(u64, u64),
+    /// Orders that lead to the same state are counted together; there are at most so many states.
+    States(u64),
 }
 
 /// The part that a text such as `2/8` names: its number, from 1, and the number of parts.

@@ -4,6 +4,7 @@
 mod auto;
 mod choice;
 mod find;
+mod jobs;
 mod lines;
 mod one;
 mod permute;
@@ -11,10 +12,11 @@ mod progress;
 mod table;
 
 pub use auto::auto_file;
-pub use choice::{Choice, part_of};
+pub use choice::{Choice, Extent, part_of};
 pub use find::find_played;
+pub use jobs::permute_in_threads;
 pub use lines::put_outcome;
 pub use one::{Played, fault_of, leveled, one_order};
-pub use permute::{most_plays, permute_command, range, tallies_of, tally_of};
+pub use permute::{extent_of, most_plays, permute_command, put_too_many, tallies_of, tally_of};
 pub use progress::Progress;
 pub use table::{count_of, is_first};

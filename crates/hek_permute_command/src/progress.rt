@@ -12,12 +12,13 @@ pub struct Progress<'e, E: Write> {
     terminal: &'e mut E,
     shows: bool,
     done: u64,
-    most: u64,
+    most: Option<u64>,
 }
 
 impl<'e, E: Write> Progress<'e, E> {
-    /// The progress of `most` orders, none of which has been played. Without `shows` it writes nothing.
-    pub fn new(terminal: &'e mut E, shows: bool, most: u64) -> Progress<'e, E> {
+    /// The progress of `most` orders, if it is known how many there are, none of which has been played. Without `shows` it
+    /// writes nothing.
+    pub fn new(terminal: &'e mut E, shows: bool, most: Option<u64>) -> Progress<'e, E> {
         Progress {
             terminal,
             shows,
@@ -30,7 +31,8 @@ impl<'e, E: Write> Progress<'e, E> {
     pub fn count(&mut self) {
         self.done = self.done.saturating_add(1);
         if self.shows && self.done % PACE == 0 {
-            let (done, most) = (self.done, self.most);
+            let done = self.done;
+            let most = self.most.unwrap_or(done);
             let _ = write!(self.terminal, "\rhek: permute: {done} of {most} orders");
             let _ = self.terminal.flush();
         }

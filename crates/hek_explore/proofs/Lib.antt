@@ -1,0 +1,13 @@
+pub mod Bare
+pub mod Grown
+pub mod Extended
+pub mod Outcomes
+pub mod Ranks
+pub mod Taken
+pub mod Keys
+pub mod Sorted
+pub mod Shapes
+pub mod Steps
+pub mod Counting
+pub mod Classes
+pub mod Rows

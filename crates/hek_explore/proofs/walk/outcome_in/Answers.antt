@@ -1,0 +1,8 @@
+use Rattle.hek_explore.proofs.Classes.{class-ends}
+use Rattle.hek_explore.proofs.walk.outcome_in.Goals as goal
+
+pub returns : goal.returns
+returns c =
+    class-ends c.args.schedule.now c.in_ok-book.book.plan c.args.form c.args.moves.now c.args.class.now c.in_ok-book._places.items c.in_ok-book.book.history
+    c.into_parts-machine.result.1.items c.into_parts-machine.result.0 c.in_ok-outcome_of.field-0 c.requires c.in_ok-book.ensures c.into_parts-machine.ensures.replays
+    c.into_parts-machine.ensures.history c.in_ok-outcome_of.ensures

@@ -1,0 +1,7 @@
+pub mod Twins
+pub mod Keys
+pub mod Numbers
+pub mod Steps
+pub mod Laws
+pub mod Counts
+pub mod Deals

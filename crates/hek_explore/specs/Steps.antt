@@ -1,0 +1,38 @@
+-- How a move leads from one key to another.
+use Rattle.std.specs.Prelude.{ℕ, ◌≡◌, ◌+◌, ◌<◌, ◌≤◌, List, ◌∷◌, length, reverse}
+use Rattle.hek_rules.specs.Checks.{clock_end}
+use Rattle.hek_rules.specs.Plan.{Plan}
+use Rattle.hek_worker.specs.declared.entry.Entry.{Entry}
+use Rattle.hek_permute.specs.declared.moves.Form.{Form}
+use Rattle.hek_permute.specs.declared.play.Place.{Place}
+use Rattle.hek_permute.specs.Found.{Found}
+use Rattle.hek_permute.specs.Moves.{Work}
+use Rattle.hek_permute.specs.Places.{AllRest, MovesAreCounted}
+use Rattle.hek_permute.specs.Plays.{IsPlay}
+use Rattle.hek_permute.specs.Tallies.{IsPlayed}
+use Rattle.hek_explore.specs.Keys.{Shape, shape_of}
+use Rattle.hek_explore.specs.Twins.{HasPlayed}
+
+-- the history is a play of these moves, the last one first; it has led to these places, where no transaction goes further
+pub record HasCome (form : Form) (works : List Work) (past : List ℕ) (places : List Place) (h : List Entry) : Type 0 where
+  pub rest : AllRest form works places h
+  pub counted : MovesAreCounted places past
+  pub play : IsPlay form works past h
+
+-- a play of these moves has the key, and no more events than this
+pub record HasKey (p : Plan) (form : Form) (works : List Work) (past : List ℕ) (key : Shape) (longest : ℕ) : Type 0 where
+  pub history : List Entry
+  pub places : List Place
+  pub played : HasPlayed p form works past places history
+  pub is : shape_of p places history ≡ key
+  pub short : length history ≤ longest
+
+-- Moves with a play of the first key have, with one more move of t, a play of the second key, at most so many events
+-- longer, unless the clock comes to its end.
+abbrev pub LeadsBy : Plan → Form → List Work → ℕ → Shape → Shape → ℕ → Type 0
+LeadsBy p form works t key next more =
+    (past : List ℕ) (longest : ℕ) → HasKey p form works past key longest → longest + more < clock_end → HasKey p form works (t ∷ past) next (longest + more)
+
+-- each order with a play of this key has the outcome
+abbrev pub EndsWith : Plan → Form → List Work → Shape → Found → Type 0
+EndsWith p form works key o = (past : List ℕ) (longest : ℕ) → HasKey p form works past key longest → IsPlayed p form works (reverse past) o
