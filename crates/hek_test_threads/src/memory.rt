@@ -23,6 +23,8 @@ impl Gate for Counts {
             count.store(nth, Ordering::SeqCst);
         }
     }
+
+    fn leave(&self, _worker: TxnId) {}
 }
 
 impl Counts {

@@ -66,6 +66,8 @@ pub struct Open;
 
 impl Gate for Open {
     fn before(&self, _worker: TxnId, _nth: u64) {}
+
+    fn leave(&self, _worker: TxnId) {}
 }
 
 /// The checker finds no fault with the history.

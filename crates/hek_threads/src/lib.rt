@@ -1,6 +1,7 @@
 //! One thread for each transaction. Each event is one hold of one lock, which also keeps the history.
 #![tactic(auto)]
 
+mod lottery;
 mod parts;
 mod runner;
 mod shared;
@@ -11,6 +12,7 @@ pub use hek_worker::{
     is_work, none_refused, reads_and_writes_in_order, transcript_of, transcripts_are_lawful,
     transcripts_have_three_forms, waits_use_turns,
 };
+pub use lottery::Lottery;
 pub use parts::compare;
 pub use runner::{Report, run_workers};
 pub use shared::Shared;

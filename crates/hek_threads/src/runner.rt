@@ -68,10 +68,20 @@ fn start_all<'s, E, S: Steps + Sync, G: Gate + Sync, R: Threads + Wait + Sync>(
         { work(rt, alloc, shared, TxnId::new(number), steps, turns, gate) };
         match scope.spawn_with(promise, run) {
             Ok(handle) => handles.push_reserved(handle),
-            Err(_) => return Err(handles),
+            Err(_) => {
+                leave_from(gate, number, schedule.txn_count() as u64);
+                return Err(handles);
+            }
         }
     }
     Ok(handles)
+}
+
+// The workers from a number on have no thread, so they leave the gate.
+fn leave_from<G: Gate>(gate: &G, first: u64, last: u64) {
+    for number in first..=last {
+        gate.leave(TxnId::new(number));
+    }
 }
 
 // The fault of two that counts: NoMemory first, otherwise the earlier one.

@@ -8,11 +8,14 @@ use hek_worker::{Part, Position, Stage, ThreadFault, is_work};
 use std::alloc::Global;
 use std::sync::Wait;
 
-/// Holds workers back, for tests. No contract says when a gate is called, nor with what: tests alone show it.
+/// Holds workers back. No contract says when a gate is called, nor with what: tests alone show it.
 pub trait Gate {
     /// A worker calls this before each of its events, outside the lock. `nth` counts that worker's events from 1,
     /// `detect` too.
     fn before(&self, worker: TxnId, nth: u64);
+
+    /// A worker calls this once, after its last event. For a worker without a thread `run_workers` calls it.
+    fn leave(&self, worker: TxnId);
 }
 
 // The reads and writes of one transaction.
@@ -28,8 +31,25 @@ fn own_work(alloc: Global, worker: TxnId, steps: &[Event]) -> Result<Vec<Event>,
     )
 }
 
-/// Runs one transaction to its end.
+/// Runs one transaction to its end, and leaves the gate.
 pub(crate) fn work<S: Steps, G: Gate, R: Wait>(
+    rt: &R,
+    alloc: Global,
+    shared: &S,
+    worker: TxnId,
+    steps: &[Event],
+    turns: u64,
+    gate: &G,
+) -> Result<Part, ThreadFault>
+    ensures { IfOk result (λ p. IsTranscript worker (work_of worker steps.now) turns p) }
+{
+    let part = work_through(rt, alloc, shared, worker, steps, turns, gate);
+    gate.leave(worker);
+    part
+}
+
+/// Runs one transaction to its end.
+fn work_through<S: Steps, G: Gate, R: Wait>(
     rt: &R,
     alloc: Global,
     shared: &S,

@@ -8,5 +8,5 @@ mod threads;
 
 pub use outcome::end_of;
 pub use progress::Progress;
-pub use repeat::repeat_command;
-pub use threads::{report_of, threads_command};
+pub use repeat::{nth, repeat_command};
+pub use threads::{Pace, report_of, threads_command};

@@ -5,7 +5,7 @@ ghost use Rattle.hek_threads_command.specs.Threaded.{IsRunFault, IsThreadsStop, 
 
 use crate::outcome::outcome_text;
 use crate::progress::Progress;
-use crate::threads::report_of;
+use crate::threads::{Pace, report_of};
 use hek_commands::{HekFault, ScheduleFile, schedule_in, send};
 use hek_rules::{NoMemory, Schedule};
 use std::alloc::Global;
@@ -19,14 +19,15 @@ use std::thread::Threads;
 type Outcomes = BTreeMap<Vec<u8>, u64>;
 
 /// Runs the transactions of the schedule in a file `times` times. Writes how many different outcomes there were, and
-/// each outcome with how often it occurred. Answers the exit status. Nothing is written before the last run is over.
+/// each outcome with how often it occurred. The seed of each run is one more than that of the run before. Answers the
+/// exit status. Nothing is written before the last run is over.
 /// `progress` counts the runs.
 #[tactic(auto, using(crate::proofs::Histories::stop_fails))]
 pub fn repeat_command<'a, T: Threads + Wait + Sync, R: Read + Drop, W: Write, E: Write>(
     rt: &T,
     alloc: Global,
     file: ScheduleFile<R>,
-    turns: u64,
+    pace: Pace,
     times: u64,
     progress: &mut Progress<'_, E>,
     out: &mut W,
@@ -34,7 +35,7 @@ pub fn repeat_command<'a, T: Threads + Wait + Sync, R: Read + Drop, W: Write, E:
     ensures { MatchResult result (λ status. (status ≡ 0) × ((plan : _) × FileGives R.remaining file plan)) (ThreadsFail R.remaining file) }
 {
     let schedule = schedule_in(alloc, file)?;
-    write_outcomes(rt, alloc, &schedule, turns, times, progress, out)?;
+    write_outcomes(rt, alloc, &schedule, pace, times, progress, out)?;
     Ok(0)
 }
 
@@ -43,14 +44,14 @@ fn write_outcomes<'a, T: Threads + Wait + Sync, W: Write, E: Write>(
     rt: &T,
     alloc: Global,
     schedule: &Schedule,
-    turns: u64,
+    pace: Pace,
     times: u64,
     progress: &mut Progress<'_, E>,
     out: &mut W,
 ) -> Result<(), HekFault<'a>>
     ensures { IfErr result IsThreadsStop }
 {
-    let outcomes = outcomes_of(rt, alloc, schedule, turns, times, progress);
+    let outcomes = outcomes_of(rt, alloc, schedule, pace, times, progress);
     progress.clear();
     let outcomes = outcomes?;
     let mut text = outcome_lines(alloc, &outcomes, times)?;
@@ -62,20 +63,31 @@ fn outcomes_of<'a, T: Threads + Wait + Sync, E: Write>(
     rt: &T,
     alloc: Global,
     schedule: &Schedule,
-    turns: u64,
+    pace: Pace,
     times: u64,
     progress: &mut Progress<'_, E>,
 ) -> Result<Outcomes, HekFault<'a>>
     ensures { IfErr result IsRunFault }
 {
     let mut outcomes = BTreeMap::new(alloc);
-    for _ in 0..times {
-        let report = report_of(rt, alloc, schedule, turns)?;
+    for run in 0..times {
+        let report = report_of(rt, alloc, schedule, nth(pace, run))?;
         let outcome = outcome_text(alloc, schedule, report)?;
         count_one(&mut outcomes, outcome)?;
         progress.count();
     }
     Ok(outcomes)
+}
+
+/// The pace of a run with this number, from 0: each run draws by a seed of its own.
+pub fn nth(pace: Pace, run: u64) -> Pace {
+    Pace {
+        turns: pace.turns,
+        seed: match pace.seed {
+            Some(seed) => Some(seed.wrapping_add(run)),
+            None => None,
+        },
+    }
 }
 
 /// Counts one more run with this outcome.

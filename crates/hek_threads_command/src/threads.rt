@@ -8,26 +8,35 @@ ghost use Rattle.hek_threads_command.specs.Threaded.{HasRun, IsRunFault, IsThrea
 use hek_asm::write_trace;
 use hek_commands::{HekFault, ScheduleFile, schedule_in, send};
 use hek_rules::{Event, FromWrite, NoMemory, Reply, Schedule, TxnId};
-use hek_threads::{Entry, Gate, Report, ThreadFault, run_workers};
+use hek_threads::{Entry, Gate, Lottery, Report, ThreadFault, run_workers};
 use std::alloc::Global;
 use std::io::{Read, Write};
 use std::sync::Wait;
 use std::thread::Threads;
 
-/// Runs each transaction of the schedule in a file in its own thread, and writes the history as a trace. A worker may
-/// wait as often as it has turns, `turns` times. Answers the exit status. Nothing is written before the run is over.
+/// How the threads of a run get on.
+#[derive(Clone, Copy)]
+pub struct Pace {
+    /// How often a waiting worker may try again.
+    pub turns: u64,
+    /// The seed by which it is drawn which worker makes the next event; without one, the system decides.
+    pub seed: Option<u64>,
+}
+
+/// Runs each transaction of the schedule in a file in its own thread, and writes the history as a trace. Answers the
+/// exit status. Nothing is written before the run is over.
 #[tactic(auto, using(crate::proofs::Histories::stop_fails))]
 pub fn threads_command<'a, T: Threads + Wait + Sync, R: Read + Drop, W: Write>(
     rt: &T,
     alloc: Global,
     file: ScheduleFile<R>,
-    turns: u64,
+    pace: Pace,
     out: &mut W,
 ) -> Result<u8, HekFault<'a>>
     ensures { MatchResult result (λ status. (status ≡ 0) × RunsInThreads R.remaining file (W.contents out.old) (W.contents out.new)) (ThreadsFail R.remaining file) }
 {
     let schedule = schedule_in(alloc, file)?;
-    write_history(rt, alloc, &schedule, turns, out)?;
+    write_history(rt, alloc, &schedule, pace, out)?;
     Ok(0)
 }
 
@@ -36,13 +45,13 @@ fn write_history<'a, T: Threads + Wait + Sync, W: Write>(
     rt: &T,
     alloc: Global,
     schedule: &Schedule,
-    turns: u64,
+    pace: Pace,
     out: &mut W,
 ) -> Result<(), HekFault<'a>>
     ensures written { OnOk result (ShowsHistory schedule.now (W.contents out.old) (W.contents out.new)) }
     ensures stops { IfErr result IsThreadsStop }
 {
-    let history = history_of(rt, alloc, schedule, turns)?;
+    let history = history_of(rt, alloc, schedule, pace)?;
     let mut text = trace_text(alloc, schedule, history)?;
     send(&mut text, out)
 }
@@ -52,6 +61,8 @@ struct Open;
 
 impl Gate for Open {
     fn before(&self, _worker: TxnId, _nth: u64) {}
+
+    fn leave(&self, _worker: TxnId) {}
 }
 
 /// The report of a run in threads.
@@ -59,12 +70,32 @@ pub fn report_of<'a, T: Threads + Wait + Sync>(
     rt: &T,
     alloc: Global,
     schedule: &Schedule,
-    turns: u64,
+    pace: Pace,
 ) -> Result<Report, HekFault<'a>>
     ensures run { IfOk result (λ report. HasRun schedule.now report.history.items) }
     ensures stops { IfErr result IsRunFault }
 {
-    match run_workers(rt, alloc, schedule, turns, &Open) {
+    match pace.seed {
+        None => report_at(rt, alloc, schedule, pace.turns, &Open),
+        Some(seed) => {
+            let lottery = Lottery::new(rt, alloc, schedule.txn_count(), seed)?;
+            report_at(rt, alloc, schedule, pace.turns, &lottery)
+        }
+    }
+}
+
+/// The report of a run in threads that a gate holds back.
+fn report_at<'a, T: Threads + Wait + Sync, G: Gate + Sync>(
+    rt: &T,
+    alloc: Global,
+    schedule: &Schedule,
+    turns: u64,
+    gate: &G,
+) -> Result<Report, HekFault<'a>>
+    ensures run { IfOk result (λ report. HasRun schedule.now report.history.items) }
+    ensures stops { IfErr result IsRunFault }
+{
+    match run_workers(rt, alloc, schedule, turns, gate) {
         Ok(report) => Ok(report),
         Err(fault) => Err(fault_of(fault)),
     }
@@ -75,7 +106,7 @@ fn history_of<'a, T: Threads + Wait + Sync>(
     rt: &T,
     alloc: Global,
     schedule: &Schedule,
-    turns: u64,
+    pace: Pace,
 ) -> Result<Vec<Entry>, HekFault<'a>>
     ensures run { IfOk result (λ history. HasRun schedule.now history.items) }
     ensures stops { IfErr result IsRunFault }
@@ -84,7 +115,7 @@ fn history_of<'a, T: Threads + Wait + Sync>(
         machine: _,
         history,
         transcripts: _,
-    } = report_of(rt, alloc, schedule, turns)?;
+    } = report_of(rt, alloc, schedule, pace)?;
     Ok(history)
 }
 
