@@ -30,6 +30,7 @@ _hek() {
     "permute --grain") return ;;
     "permute --limit") return ;;
     "permute --part") return ;;
+    "permute --jobs") return ;;
     "permute --order") return ;;
     "permute --find") return ;;
     "check --level") words="serializable repeatable snapshot" ;;
@@ -39,6 +40,7 @@ _hek() {
     "drive --why=") words="reasons rules" ;;
     "threads --turns") return ;;
     "threads --repeat") return ;;
+    "threads --seed") return ;;
     "word --clock") return ;;
     "word --txns") return ;;
     "word --readers") return ;;
@@ -48,14 +50,14 @@ _hek() {
         return
     fi
     case "$command" in
-    run) words="--text --image --explain --state --state-at --why --changes --history --auto --help" files=yes ;;
+    run) words="--text --image --explain --state --state-at --why --changes --history --auto --json --help" files=yes ;;
     debug) words="--text --image --explain --help" files=yes ;;
     page) words="--text --image --explain --from --to --title --lesson --previous --next --orders --split --grain --limit --help" files=yes ;;
-    permute) words="--text --image --explain --level --split --grain --limit --part --each --order --levels --find --help" files=yes ;;
-    check) words="--text --image --explain --level --why --summary --all --help" files=yes ;;
+    permute) words="--text --image --explain --level --split --grain --limit --part --jobs --each --order --levels --find --json --help" files=yes ;;
+    check) words="--text --image --explain --level --why --summary --all --json --help" files=yes ;;
     history) words="--explain --level --order --all --order-out --json --help" files=yes ;;
-    drive) words="--text --image --explain --why --changes --state --ends --help" files=yes ;;
-    threads) words="--text --image --explain --turns --repeat --help" files=yes ;;
+    drive) words="--text --image --explain --why --changes --state --ends --json --help" files=yes ;;
+    threads) words="--text --image --explain --turns --repeat --seed --json --help" files=yes ;;
     word) words="--changes --clock --txns --readers --help" ;;
     release) words="--help" ;;
     asm) words="--explain --help" files=yes ;;

@@ -25,6 +25,7 @@ complete -c hek -n '__fish_seen_subcommand_from run' -l why -a 'reasons rules' -
 complete -c hek -n '__fish_seen_subcommand_from run' -l changes -d 'prints what each step changed under its line'
 complete -c hek -n '__fish_seen_subcommand_from run' -l history -d 'prints the run as a log for hek history, in place of its trace'
 complete -c hek -n '__fish_seen_subcommand_from run' -l auto -d 'runs only the reads and writes of FILE, and begins and ends each transaction by itself'
+complete -c hek -n '__fish_seen_subcommand_from run' -l json -d 'prints JSON, one object on each line'
 complete -c hek -n '__fish_seen_subcommand_from run' -s h -l help -d 'Print help'
 complete -c hek -n '__fish_seen_subcommand_from run' -F
 complete -c hek -n '__fish_seen_subcommand_from debug' -l text -d 'FILE is a schedule text, whatever its name'
@@ -53,12 +54,14 @@ complete -c hek -n '__fish_seen_subcommand_from permute' -l explain -d 'says of 
 complete -c hek -n '__fish_seen_subcommand_from permute' -l level -x -a 'serializable repeatable snapshot' -d 'judges or runs all transactions as serializable, repeatable or snapshot'
 complete -c hek -n '__fish_seen_subcommand_from permute' -l split -d 'makes finish and precommit a separate move'
 complete -c hek -n '__fish_seen_subcommand_from permute' -l grain -x -d 'cuts the end of a transaction into one move (move), two (split), or a move for each event (event)'
-complete -c hek -n '__fish_seen_subcommand_from permute' -l limit -x -d 'plays nothing if there are more than N orders (100000)'
+complete -c hek -n '__fish_seen_subcommand_from permute' -l limit -x -d 'counts nothing if there are more than N states (1000000); with --each, --part or --find, more than N orders (100000)'
 complete -c hek -n '__fish_seen_subcommand_from permute' -l part -x -d 'plays the Kth of N equal parts of the orders'
+complete -c hek -n '__fish_seen_subcommand_from permute' -l jobs -x -d 'with --part: plays the orders with N threads, 1 to 1000'
 complete -c hek -n '__fish_seen_subcommand_from permute' -l each -d 'prints a line for each order'
 complete -c hek -n '__fish_seen_subcommand_from permute' -l order -x -d 'prints the events of one order as a schedule: a name for each move'
 complete -c hek -n '__fish_seen_subcommand_from permute' -l levels -d 'prints the outcomes at each level, side by side'
 complete -c hek -n '__fish_seen_subcommand_from permute' -l find -x -d 'prints the shortest beginning of an order in which this comes: `a aborted deadlock`, `waiting 1`, `not serial`'
+complete -c hek -n '__fish_seen_subcommand_from permute' -l json -d 'prints JSON, one object on each line'
 complete -c hek -n '__fish_seen_subcommand_from permute' -s h -l help -d 'Print help'
 complete -c hek -n '__fish_seen_subcommand_from permute' -F
 complete -c hek -n '__fish_seen_subcommand_from check' -l text -d 'FILE is a schedule text, whatever its name'
@@ -68,6 +71,7 @@ complete -c hek -n '__fish_seen_subcommand_from check' -l level -x -a 'serializa
 complete -c hek -n '__fish_seen_subcommand_from check' -l why -d 'prints the reply that the first event at fault should have had'
 complete -c hek -n '__fish_seen_subcommand_from check' -l summary -d 'also prints how many transactions have committed, and how many events are judged'
 complete -c hek -n '__fish_seen_subcommand_from check' -l all -d 'also prints each event at fault, its serial reply, and who wrote what was read'
+complete -c hek -n '__fish_seen_subcommand_from check' -l json -d 'prints JSON, one object on each line'
 complete -c hek -n '__fish_seen_subcommand_from check' -s h -l help -d 'Print help'
 complete -c hek -n '__fish_seen_subcommand_from check' -F
 complete -c hek -n '__fish_seen_subcommand_from history' -l explain -d 'says of each fault what is wrong, what is wanted and what is meant, as at a terminal'
@@ -85,6 +89,7 @@ complete -c hek -n '__fish_seen_subcommand_from drive' -l why -a 'reasons rules'
 complete -c hek -n '__fish_seen_subcommand_from drive' -l changes -d 'prints what each step changed under its line'
 complete -c hek -n '__fish_seen_subcommand_from drive' -l state -d 'prints the state of the machine after each answer'
 complete -c hek -n '__fish_seen_subcommand_from drive' -l ends -d 'ends what is printed for each line with an empty line'
+complete -c hek -n '__fish_seen_subcommand_from drive' -l json -d 'prints JSON, one object on each line'
 complete -c hek -n '__fish_seen_subcommand_from drive' -s h -l help -d 'Print help'
 complete -c hek -n '__fish_seen_subcommand_from drive' -F
 complete -c hek -n '__fish_seen_subcommand_from threads' -l text -d 'FILE is a schedule text, whatever its name'
@@ -92,6 +97,8 @@ complete -c hek -n '__fish_seen_subcommand_from threads' -l image -d 'FILE is a 
 complete -c hek -n '__fish_seen_subcommand_from threads' -l explain -d 'says of each fault what is wrong, what is wanted and what is meant, as at a terminal'
 complete -c hek -n '__fish_seen_subcommand_from threads' -l turns -x -d 'how many times a waiting transaction tries again, 0 to 1000000'
 complete -c hek -n '__fish_seen_subcommand_from threads' -l repeat -x -d 'runs N times, 1 to 1000000, and prints the outcomes'
+complete -c hek -n '__fish_seen_subcommand_from threads' -l seed -x -d 'draws by this number whose turn it is, so that a run can be repeated'
+complete -c hek -n '__fish_seen_subcommand_from threads' -l json -d 'prints JSON, one object on each line'
 complete -c hek -n '__fish_seen_subcommand_from threads' -s h -l help -d 'Print help'
 complete -c hek -n '__fish_seen_subcommand_from threads' -F
 complete -c hek -n '__fish_seen_subcommand_from word' -l changes -d 'reads exchanges, lines OLD NEW TXN or WORD OLD NEW TXN, and names the change that leads from OLD to NEW'

@@ -34,6 +34,13 @@ const COUNTS: &[Count] = &[
         below: "",
     },
     Count {
+        option: "jobs",
+        what: "a number of threads",
+        least: 1,
+        most: 1_000,
+        below: "",
+    },
+    Count {
         option: "turns",
         what: "a number of turns",
         least: 0,
@@ -45,6 +52,13 @@ const COUNTS: &[Count] = &[
         what: "a number of runs",
         least: 1,
         most: 1_000_000,
+        below: "",
+    },
+    Count {
+        option: "seed",
+        what: "a number",
+        least: 0,
+        most: u64::MAX,
         below: "",
     },
     Count {

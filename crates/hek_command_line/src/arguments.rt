@@ -69,6 +69,12 @@ const LEVEL: ArgumentText = ArgumentText {
     form: Form::Value("L"),
 };
 
+const JSON: ArgumentText = ArgumentText {
+    name: "json",
+    help: "prints JSON, one object on each line",
+    form: Form::Flag,
+};
+
 const RELEASE: CommandText = CommandText {
     name: "release",
     about: "Gives up one read lock of an End word",
@@ -200,6 +206,7 @@ it prints
             help: "runs only the reads and writes of FILE, and begins and ends each transaction by itself",
             form: Form::Flag,
         },
+        JSON,
     ],
 };
 
@@ -255,6 +262,7 @@ are answered with
             help: "ends what is printed for each line with an empty line",
             form: Form::Flag,
         },
+        JSON,
     ],
 };
 
@@ -292,6 +300,7 @@ with the number of the first event at fault, and status 1. Each transaction is j
             help: "also prints each event at fault, its serial reply, and who wrote what was read",
             form: Form::Flag,
         },
+        JSON,
     ],
 };
 
@@ -366,6 +375,12 @@ it prints the trace of a whole run of a, from begin to end. What it prints is a 
             help: "runs N times, 1 to 1000000, and prints the outcomes",
             form: Form::Number,
         },
+        ArgumentText {
+            name: "seed",
+            help: "draws by this number whose turn it is, so that a run can be repeated",
+            form: Form::Number,
+        },
+        JSON,
     ],
 };
 
@@ -404,13 +419,18 @@ The verdict takes all transactions as serializable. `hek permute two.hek --order
         GRAIN,
         ArgumentText {
             name: "limit",
-            help: "plays nothing if there are more than N orders (100000)",
+            help: "counts nothing if there are more than N states (1000000); with --each, --part or --find, more than N orders (100000)",
             form: Form::Number,
         },
         ArgumentText {
             name: "part",
             help: "plays the Kth of N equal parts of the orders",
             form: Form::Value("K/N"),
+        },
+        ArgumentText {
+            name: "jobs",
+            help: "with --part: plays the orders with N threads, 1 to 1000",
+            form: Form::Number,
         },
         ArgumentText {
             name: "each",
@@ -432,6 +452,7 @@ The verdict takes all transactions as serializable. `hek permute two.hek --order
             help: "prints the shortest beginning of an order in which this comes: `a aborted deadlock`, `waiting 1`, `not serial`",
             form: Form::Value("TEXT"),
         },
+        JSON,
     ],
 };
 
@@ -649,7 +670,7 @@ fn rivals_of(command: &str, name: &str) -> &'static [&'static str] {
         ("permute", "find") => &["each", "levels", "part", "order"],
         ("permute" | "page", "grain") => &["split"],
         ("permute", "levels") => &["each", "level"],
-        ("run", "history") => &["state", "state-at", "why", "changes"],
+        ("run", "history") => &["state", "state-at", "why", "changes", "json"],
         ("page", "orders") => &["from", "to"],
         ("word", "clock" | "txns" | "readers") => &["changes"],
         (_, "image") => &["text"],

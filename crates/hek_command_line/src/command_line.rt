@@ -2,6 +2,7 @@
 use crate::arguments::{RULES, meant_command, read_words};
 use crate::disk::{Disk, LateFile, open};
 use crate::explain::explained;
+use crate::json::{check_as_json, drive_as, permute_as, threads_as, wants_json};
 use crate::kept::{Kept, KeptDisk, KeptReader};
 use crate::log::history;
 use crate::output::NotedOutput;
@@ -18,12 +19,13 @@ use hek_commands::{
 };
 use hek_debug_command::{CommandFile, Manner, debug_command, debug_session, explained_command};
 use hek_history_command::run_log_command;
+use hek_json_command::{Asked, run_json};
 use hek_page_command::{Extent, Heading, MOST_NODES, Part, explorer_command, page_command};
 use hek_permute::Form;
-use hek_permute_command::{Choice, auto_file, part_of, permute_command};
+use hek_permute_command::{Choice, auto_file, part_of, permute_in_threads};
 use hek_rules::{Level, number};
-use hek_threads_command::{Progress, repeat_command, threads_command};
-use hek_why_command::{Driving, Extras, Why, drive_command, explain_command};
+use hek_threads_command::Pace;
+use hek_why_command::{Driving, Extras, Why, explain_command};
 use hek_word_command::{Bounds, changes_command, word_command};
 use std::alloc::Global;
 use std::convert::AsStr;
@@ -121,6 +123,9 @@ pub fn answer_in_threads<
                 Some(("threads", found)) => {
                     threads(system, alloc, found, &disk, input, &mut out, faults)
                 }
+                Some(("permute", found)) => {
+                    permute_jobs(system, alloc, found, &disk, input, &mut out, faults)
+                }
                 _ => run(alloc, &matches, &disk, input, &mut out, faults),
             };
             explained(alloc, ran, &matches, &kept, faults)
@@ -209,7 +214,10 @@ fn run<'a, D: Disk, I: Read + IsTerminal + Drop, W: Write, E: Write + IsTerminal
         Some(("debug", found)) => debug(alloc, found, disk, input, out, faults),
         Some(("check", found)) => check(alloc, found, disk, input, out, faults),
         Some(("history", found)) => history(alloc, found, disk, input, out, faults),
-        Some(("permute", found)) => permute(alloc, found, disk, input, out, faults),
+        Some(("permute", found)) => {
+            let _jobs = jobs_of(found)?;
+            permute(alloc, found, disk, input, out, faults)
+        }
         Some(("page", found)) => page(alloc, found, disk, input, out, faults),
         Some(("threads", _)) => Err(HekFault::NoWorker),
         _ => Err(HekFault::BadArgument),
@@ -283,6 +291,9 @@ fn run_schedule<'a, D: Disk, I: Read + Drop, W: Write>(
     if found.get_flag("history") {
         return run_log_command(alloc, file, out);
     }
+    if wants_json(found) {
+        return run_json(alloc, file, extras, limit, state, out);
+    }
     if extras.why.is_some() || extras.changes {
         return explain_command(alloc, file, extras, limit, state, out);
     }
@@ -324,7 +335,7 @@ fn drive<'a, D: Disk, I: Read + IsTerminal + Drop, W: Write, E: Write>(
     let file = schedule_file(alloc, found, disk, &mut input)?;
     let events = open(disk, &mut input, INPUT)?;
     let events = TypedReader::new(events, driving.prompts, faults);
-    drive_command(alloc, file, events, driving, out)
+    drive_as(alloc, found, file, events, driving, out)
 }
 
 /// The number that an option has, if the words have the option.
@@ -436,6 +447,15 @@ fn check<'a, D: Disk, I: Read + Drop, W: Write, E: Write + IsTerminal>(
     let trace = read_text(alloc, open(disk, &mut input, name)?, name)?;
     let why = found.get_flag("why");
     let summary = found.get_flag("summary");
+    if wants_json(found) {
+        let asked = Asked {
+            level,
+            why,
+            summary,
+            all: found.get_flag("all"),
+        };
+        return check_as_json(alloc, file, trace.as_slice(), asked, out, faults);
+    }
     if found.get_flag("all") {
         let beside = Beside {
             level,
@@ -454,9 +474,6 @@ fn check<'a, D: Disk, I: Read + Drop, W: Write, E: Write + IsTerminal>(
     Ok(status)
 }
 
-/// How many orders are played at most, if the words give no limit.
-const MOST_ORDERS: u64 = 100_000;
-
 fn permute<'a, D: Disk, I: Read + Drop, W: Write, E: Write + IsTerminal>(
     alloc: Global,
     found: &ArgMatches<'a>,
@@ -468,14 +485,14 @@ fn permute<'a, D: Disk, I: Read + Drop, W: Write, E: Write + IsTerminal>(
     let mut input = Some(input);
     let choice = choice_of(found, faults.is_terminal())?;
     let file = schedule_file(alloc, found, disk, &mut input)?;
-    permute_command(alloc, file, choice, out, faults)
+    permute_as(alloc, found, file, choice, out, faults)
 }
 
 fn choice_of<'a>(found: &ArgMatches<'a>, progress: bool) -> Result<Choice<'a>, HekFault<'a>> {
     Ok(Choice {
         level: level_of(found)?,
         form: form_of(found)?,
-        limit: limit_of(found)?,
+        limit: number_of(found, "limit")?,
         part: parts_of(found)?,
         each: found.get_flag("each"),
         order: found.get_str("order"),
@@ -496,17 +513,47 @@ fn level_of<'a>(found: &ArgMatches<'a>) -> Result<Option<Level>, HekFault<'a>> {
     }
 }
 
-fn limit_of<'a>(found: &ArgMatches<'a>) -> Result<u64, HekFault<'a>> {
-    match found.get_str("limit") {
-        None => Ok(MOST_ORDERS),
-        Some(word) => number(word.as_bytes()).ok_or(HekFault::BadArgument),
-    }
-}
-
 fn parts_of<'a>(found: &ArgMatches<'a>) -> Result<(u64, u64), HekFault<'a>> {
     match found.get_str("part") {
         None => Ok((1, 1)),
         Some(word) => part_of(word).ok_or(HekFault::BadArgument),
+    }
+}
+
+/// As `permute`, with as many threads of the system as the words ask for, where the outcomes of a part are counted.
+fn permute_jobs<'a, T: Threads + Sync, D: Disk, I: Read + Drop, W: Write, E: Write + IsTerminal>(
+    system: &T,
+    alloc: Global,
+    found: &ArgMatches<'a>,
+    disk: &D,
+    input: I,
+    out: &mut W,
+    faults: &mut E,
+) -> Result<u8, HekFault<'a>> {
+    let jobs = jobs_of(found)?;
+    if jobs == 1 || !counts_a_part(found) {
+        return permute(alloc, found, disk, input, out, faults);
+    }
+    let mut input = Some(input);
+    let choice = choice_of(found, false)?;
+    let file = schedule_file(alloc, found, disk, &mut input)?;
+    permute_in_threads(system, jobs, alloc, file, choice, out, faults)
+}
+
+/// Whether the words ask for the outcomes of a part, as text.
+fn counts_a_part(found: &ArgMatches<'_>) -> bool {
+    let is_part = found.get_str("part").is_some();
+    is_part && !found.get_flag("each") && !found.get_flag("levels") && !wants_json(found)
+}
+
+/// The greatest number of threads that play orders.
+const MOST_JOBS: u64 = 1_000;
+
+fn jobs_of<'a>(found: &ArgMatches<'a>) -> Result<u64, HekFault<'a>> {
+    match number_of(found, "jobs")? {
+        None => Ok(1),
+        Some(jobs) if 1 <= jobs && jobs <= MOST_JOBS => Ok(jobs),
+        Some(_) => Err(HekFault::BadArgument),
     }
 }
 
@@ -523,18 +570,16 @@ fn threads<'a, T: Threads + Wait + Sync, D: Disk, I: Read + Drop, W: Write, E: W
     faults: &mut E,
 ) -> Result<u8, HekFault<'a>> {
     let mut input = Some(input);
-    let turns = count_from(text(found, "turns")?, 0)?;
+    let pace = Pace {
+        turns: count_from(text(found, "turns")?, 0)?,
+        seed: number_of(found, "seed")?,
+    };
     let times = match found.get_str("repeat") {
         None => None,
         Some(text) => Some(count_from(text, 1)?),
     };
     let file = schedule_file(alloc, found, disk, &mut input)?;
-    let Some(times) = times else {
-        return threads_command(system, alloc, file, turns, out);
-    };
-    let shows = faults.is_terminal();
-    let mut progress = Progress::new(faults, shows, times);
-    repeat_command(system, alloc, file, turns, times, &mut progress, out)
+    threads_as(system, alloc, found, file, pace, times, out, faults)
 }
 
 /// The number that a text gives, from `least` to 1,000,000.

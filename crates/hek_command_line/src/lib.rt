@@ -6,6 +6,7 @@ mod arguments;
 mod command_line;
 mod disk;
 mod explain;
+mod json;
 mod kept;
 mod log;
 mod notes;
