@@ -1,4 +1,4 @@
-//! Random small histories with the verdicts of a search through all of their explanations, as lines that hek_gate_history reads.
+//! Random small histories with the verdicts of a search through all of their explanations, as lines that the gate's histories are written in.
 //!
 //!     brute_histories COUNT SEED [--unique]
 //!

@@ -3,6 +3,6 @@ use std::sync::Wait;
 use std::thread::Threads;
 
 /// A system that prints, and that has memory and threads.
-pub(crate) trait System: AllocGlobal + Print + Threads + Wait + Sync + Drop {}
+pub trait System: AllocGlobal + Print + Threads + Wait + Sync + Drop {}
 
 impl<R: AllocGlobal + Print + Threads + Wait + Sync + Drop> System for R {}

@@ -16,7 +16,11 @@ use std::alloc::Global;
 use std::io;
 
 /// Makes the calls of a file, block by block. A block begins with the line `buckets N` of a schedule, the first at the head.
-pub(crate) fn play_file(rt: &HostRuntime, file: &str, text: &str) -> io::Result<Tally> {
+pub(crate) fn play_file<R: Print + AllocGlobal>(
+    rt: &R,
+    file: &str,
+    text: &str,
+) -> io::Result<Tally> {
     let mut lines = Vec::new(rt.alloc());
     for line in text.lines() {
         lines.push(line)?;
@@ -36,8 +40,8 @@ pub(crate) fn play_file(rt: &HostRuntime, file: &str, text: &str) -> io::Result<
 }
 
 /// Makes the calls of a block of lines, of which the first is at a place. Its schedule ends before the line `scene KIND`.
-fn play_block(
-    rt: &HostRuntime,
+fn play_block<R: Print + AllocGlobal>(
+    rt: &R,
     first: Place<'_>,
     lines: &[&str],
     tally: &mut Tally,
@@ -77,8 +81,8 @@ fn push_line(text: &mut String, line: &str) -> io::Result<()> {
 }
 
 /// Each line that says something is wrong: no line `scene` follows.
-fn tell_all(
-    rt: &HostRuntime,
+fn tell_all<R: Print>(
+    rt: &R,
     first: Place<'_>,
     lines: &[&str],
     tally: &mut Tally,
@@ -102,7 +106,7 @@ struct Scene<'t> {
 
 impl Scene<'_> {
     /// The calls are made on what the kind of the scene says.
-    fn play(self, rt: &HostRuntime, tally: &mut Tally) -> io::Result<()> {
+    fn play<R: Print + AllocGlobal>(self, rt: &R, tally: &mut Tally) -> io::Result<()> {
         let (alloc, text) = (rt.alloc(), self.opening);
         let (kind, count) = kind_and_number(self.kind);
         match kind {
@@ -114,14 +118,14 @@ impl Scene<'_> {
             "machine" => self.play_on(rt, MachineScene::open(alloc, text, count), tally),
             "history" => self.play_on(rt, History::open(alloc, text), tally),
             "debugger" => self.play_on(rt, Session::open(alloc, text, count), tally),
-            _ => self.play_on::<WordCalls>(rt, Err(LineFault::Unread), tally),
+            _ => tally.tell(rt, self.place, self.kind, LineFault::Unread.text()),
         }
     }
 
     /// Makes the calls on a stage, if it could be opened.
-    fn play_on<S: Stage + Drop>(
+    fn play_on<R: Print + AllocGlobal, S: Stage + Drop>(
         self,
-        rt: &HostRuntime,
+        rt: &R,
         stage: Result<S, LineFault>,
         tally: &mut Tally,
     ) -> io::Result<()> {

@@ -41,8 +41,8 @@ fn wrong<S: Stage>(
 }
 
 /// Makes the call of a line. Its answer is a case where the line has an arrow, and what is wrong is printed.
-fn play_line<S: Stage>(
-    rt: &HostRuntime,
+fn play_line<R: Print + AllocGlobal, S: Stage>(
+    rt: &R,
     stage: &mut S,
     place: Place<'_>,
     line: &str,
@@ -58,8 +58,8 @@ fn play_line<S: Stage>(
 }
 
 /// Makes the call of a line with each of its numbers.
-fn play_each<S: Stage>(
-    rt: &HostRuntime,
+fn play_each<R: Print + AllocGlobal, S: Stage>(
+    rt: &R,
     stage: &mut S,
     place: Place<'_>,
     repeated: Repeated<'_>,
@@ -73,8 +73,8 @@ fn play_each<S: Stage>(
 }
 
 /// Makes the calls of the lines, one after another.
-pub(crate) fn play<S: Stage>(
-    rt: &HostRuntime,
+pub(crate) fn play<R: Print + AllocGlobal, S: Stage>(
+    rt: &R,
     stage: &mut S,
     first: Place<'_>,
     lines: &[&str],

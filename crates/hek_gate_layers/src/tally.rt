@@ -43,9 +43,9 @@ impl Tally {
     }
 
     /// A line is wrong: it says this, and got that.
-    pub(crate) fn tell(
+    pub(crate) fn tell<R: Print>(
         &mut self,
-        rt: &HostRuntime,
+        rt: &R,
         place: Place<'_>,
         line: &str,
         got: &str,

@@ -7,6 +7,7 @@ use hek_compare::Fault;
 use hek_permute::Form;
 use hek_permute_command::{Choice, permute_command};
 use std::alloc::Global;
+use std::rt::Files;
 use std::{fs, io};
 
 /// What `hek permute --levels` asks for.
@@ -24,7 +25,11 @@ const LEVELS: Choice<'static> = Choice {
 
 /// Plays all orders of each schedule of a folder, in the order of SUMMARY, compares their outcomes by level with what is stored,
 /// and prints a line for each.
-pub fn compare_anomalies(rt: &HostRuntime, folder: &str, count: &mut Count) -> Result<(), Fault> {
+pub fn compare_anomalies<R: Files + Print + AllocGlobal>(
+    rt: &R,
+    folder: &str,
+    count: &mut Count,
+) -> Result<(), Fault> {
     let path = format!(in rt.alloc(); "{folder}/SUMMARY")?;
     let names = fs::read_to_string(rt, path.as_str())?;
     for name in names.as_str().lines() {
@@ -36,7 +41,7 @@ pub fn compare_anomalies(rt: &HostRuntime, folder: &str, count: &mut Count) -> R
     Ok(())
 }
 
-fn agrees(rt: &HostRuntime, folder: &str, name: &str) -> io::Result<bool> {
+fn agrees<R: Files + AllocGlobal>(rt: &R, folder: &str, name: &str) -> io::Result<bool> {
     let schedule = read(rt, folder, name, "hek")?;
     let stored = read(rt, folder, name, "levels")?;
     let printed = printed(rt.alloc(), schedule);

@@ -5,13 +5,14 @@ use hek_why_command::{Extras, explain_command};
 use std::alloc::{AllocError, Global};
 use std::collections::BTreeMap;
 use std::fs;
+use std::rt::Files;
 
 /// Each field of a state by its name, as `txn 1 a waits`.
 type Fields = BTreeMap<String, String>;
 
 /// Lays the changes of each run of a folder over its opening state, prints for how many runs they come to the state, and
 /// answers whether that holds of all.
-pub fn lay_folder(rt: &HostRuntime, folder: &str) -> Result<bool, Fault> {
+pub fn lay_folder<R: Files + Print + AllocGlobal>(rt: &R, folder: &str) -> Result<bool, Fault> {
     let path = format!(in rt.alloc(); "{folder}/SUMMARY")?;
     let lines = fs::read_to_string(rt, path.as_str())?;
     let mut agree = 0u64;

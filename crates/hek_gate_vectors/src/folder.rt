@@ -1,6 +1,7 @@
 //! A folder of vectors: NAME.hek, NAME.trace and, for some, NAME.img for each line of its SUMMARY.
 use hek_compare::{Difference, Fault, Stored, Summary, compare};
 use std::io::ErrorKind;
+use std::rt::Files;
 use std::{fmt, fs, io};
 
 /// How many vectors were compared, and how many of them differ.
@@ -33,7 +34,11 @@ impl fmt::Display for Count {
 }
 
 /// Compares each vector of a folder, in the order of SUMMARY, and prints a line for each.
-pub fn compare_folder(rt: &HostRuntime, folder: &str, count: &mut Count) -> Result<(), Fault> {
+pub fn compare_runs<R: Files + Print + AllocGlobal>(
+    rt: &R,
+    folder: &str,
+    count: &mut Count,
+) -> Result<(), Fault> {
     let path = format!(in rt.alloc(); "{folder}/SUMMARY")?;
     let lines = fs::read_to_string(rt, path.as_str())?;
     let mut number = 0usize;
@@ -46,7 +51,11 @@ pub fn compare_folder(rt: &HostRuntime, folder: &str, count: &mut Count) -> Resu
 }
 
 /// Compares a vector, prints its line, and answers whether it differs.
-fn compare_vector(rt: &HostRuntime, folder: &str, summary: &Summary) -> io::Result<bool> {
+fn compare_vector<R: Files + Print + AllocGlobal>(
+    rt: &R,
+    folder: &str,
+    summary: &Summary,
+) -> io::Result<bool> {
     let name = summary.name;
     match judge(rt, folder, summary) {
         Ok(Judgement::Agrees { image }) => {
@@ -71,7 +80,11 @@ enum Judgement {
     Differs(Difference),
 }
 
-fn judge(rt: &HostRuntime, folder: &str, summary: &Summary) -> Result<Judgement, Fault> {
+fn judge<R: Files + AllocGlobal>(
+    rt: &R,
+    folder: &str,
+    summary: &Summary,
+) -> Result<Judgement, Fault> {
     let stored = read_stored(rt, folder, summary.name)?;
     let image = stored.image.is_some();
     Ok(match compare(rt.alloc(), summary, &stored)? {
@@ -80,7 +93,7 @@ fn judge(rt: &HostRuntime, folder: &str, summary: &Summary) -> Result<Judgement,
     })
 }
 
-fn read_stored(rt: &HostRuntime, folder: &str, name: &str) -> Result<Stored, Fault> {
+fn read_stored<R: Files + AllocGlobal>(rt: &R, folder: &str, name: &str) -> Result<Stored, Fault> {
     let text = format!(in rt.alloc(); "{folder}/{name}.hek")?;
     let trace = format!(in rt.alloc(); "{folder}/{name}.trace")?;
     let image = format!(in rt.alloc(); "{folder}/{name}.img")?;
@@ -92,7 +105,7 @@ fn read_stored(rt: &HostRuntime, folder: &str, name: &str) -> Result<Stored, Fau
 }
 
 /// The bytes of a file, or None where there is no such file.
-fn read_if_there(rt: &HostRuntime, path: &str) -> io::Result<Option<Vec<u8>>> {
+fn read_if_there<R: Files + AllocGlobal>(rt: &R, path: &str) -> io::Result<Option<Vec<u8>>> {
     match fs::read(rt, path) {
         Ok(bytes) => Ok(Some(bytes)),
         Err(error) if error.kind() == ErrorKind::NotFound => Ok(None),

@@ -4,11 +4,16 @@ use hek_commands::{ScheduleFile, report};
 use hek_compare::Fault;
 use hek_debug_command::debug_command;
 use std::alloc::Global;
+use std::rt::Files;
 use std::{fs, io};
 
 /// Holds each session of a folder, in the order of SUMMARY, compares what is printed and told among the faults, and prints a
 /// line for each.
-pub fn compare_sessions(rt: &HostRuntime, folder: &str, count: &mut Count) -> Result<(), Fault> {
+pub fn compare_sessions<R: Files + Print + AllocGlobal>(
+    rt: &R,
+    folder: &str,
+    count: &mut Count,
+) -> Result<(), Fault> {
     let path = format!(in rt.alloc(); "{folder}/SUMMARY")?;
     let names = fs::read_to_string(rt, path.as_str())?;
     for name in names.as_str().lines() {
@@ -21,7 +26,7 @@ pub fn compare_sessions(rt: &HostRuntime, folder: &str, count: &mut Count) -> Re
 }
 
 /// Whether the commands of a session come to what is stored of it.
-fn agrees(rt: &HostRuntime, folder: &str, name: &str) -> io::Result<bool> {
+fn agrees<R: Files + AllocGlobal>(rt: &R, folder: &str, name: &str) -> io::Result<bool> {
     let schedule = read(rt, folder, name, "hek")?;
     let commands = read(rt, folder, name, "commands")?;
     let (out, faults) = printed(rt.alloc(), schedule, commands.as_slice());
@@ -31,7 +36,12 @@ fn agrees(rt: &HostRuntime, folder: &str, name: &str) -> io::Result<bool> {
 }
 
 /// The content of a file of a folder.
-pub fn read(rt: &HostRuntime, folder: &str, name: &str, ending: &str) -> io::Result<Vec<u8>> {
+pub fn read<R: Files + AllocGlobal>(
+    rt: &R,
+    folder: &str,
+    name: &str,
+    ending: &str,
+) -> io::Result<Vec<u8>> {
     let path = format!(in rt.alloc(); "{folder}/{name}.{ending}")?;
     fs::read(rt, path.as_str())
 }

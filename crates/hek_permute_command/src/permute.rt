@@ -114,6 +114,11 @@ pub fn extent_of<'a, E: Write>(
         let part = range(alloc, schedule, choice, faults)?;
         return Ok(part.map(|(from, to)| Extent::Orders(from, to)));
     }
+    let moves = moves_of(alloc, schedule)?;
+    if order_count(moves.as_slice(), choice.form).is_none() {
+        let _ = writeln!(faults, "hek: permute: too many orders to count");
+        return Ok(None);
+    }
     Ok(Some(Extent::States(choice.most_states())))
 }
 

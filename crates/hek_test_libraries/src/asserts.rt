@@ -25,3 +25,8 @@ pub(crate) fn holds(rt: &impl Abort, fact: bool)
 {
     assert!(rt; fact);
 }
+
+/// Reports that a call answered NoMemory. `tools/refused_growths` wants one such line for each growth that it refuses.
+pub(crate) fn refused(rt: &impl Eprint, call: &str) {
+    let _ = eprintln!(rt; "refused: {call}");
+}

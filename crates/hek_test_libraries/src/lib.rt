@@ -1,5 +1,5 @@
-//! Tests that neither the lines of hek_gate_layers nor the cases of hek_gate_commands can say: devices and memory that fail, library
-//! calls that no line or command makes, and models beside which a layer is held.
+//! Tests that neither the lines of hek_gate_layers nor the cases of hek_gate_commands can say: devices and memory that fail, each call
+//! that takes memory, library calls that no line or command makes, and models beside which a layer is held.
 #![tactic(auto)]
 
 #[cfg(test)]
@@ -13,6 +13,8 @@ mod faults;
 #[cfg(test)]
 mod flat;
 #[cfg(test)]
+mod histories;
+#[cfg(test)]
 mod images;
 #[cfg(test)]
 mod lists;
@@ -22,6 +24,8 @@ mod orders;
 mod parts;
 #[cfg(test)]
 mod refusals;
+#[cfg(test)]
+mod refused;
 #[cfg(test)]
 mod replies;
 #[cfg(test)]

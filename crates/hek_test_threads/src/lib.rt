@@ -1,10 +1,12 @@
-//! Tests of workers in threads.
+//! Tests with threads: workers, and lock words that change without a lock round them.
 #![tactic(auto)]
 
 #[cfg(test)]
 mod books;
 #[cfg(test)]
 mod crowds;
+#[cfg(test)]
+mod live;
 #[cfg(test)]
 mod memory;
 #[cfg(test)]

@@ -1,0 +1,46 @@
+//! The gate's histories: each history of a file is judged, for each order of which its verdict is stored, and the verdicts are
+//! compared.
+#![tactic(auto)]
+
+mod case;
+mod fault;
+mod tally;
+
+use case::{Case, compare_orders};
+use fault::Fault;
+use std::rt::Files;
+use std::{fs, io};
+use tally::Tally;
+
+/// Judges the histories of each file that the `SUMMARY` of a folder names, prints each verdict that is another than the stored one, a
+/// line for each file and one for all, and answers whether each verdict is the stored one.
+pub fn judge_folder<R: Files + Print + AllocGlobal>(rt: &R, folder: &str) -> io::Result<bool> {
+    let path = format!(in rt.alloc(); "{folder}/SUMMARY")?;
+    let names = fs::read_to_string(rt, path.as_str())?;
+    let mut all = Tally::new();
+    for name in names.as_str().lines() {
+        let path = format!(in rt.alloc(); "{folder}/{name}")?;
+        match judge_file(rt, path.as_str()) {
+            Ok(tally) => {
+                println!(rt; "{path}: {tally}")?;
+                all.add(tally);
+            }
+            Err(fault) => {
+                println!(rt; "{path}: {fault}")?;
+                all.wrong = all.wrong.saturating_add(1);
+            }
+        }
+    }
+    println!(rt; "{folder}: {all}")?;
+    Ok(all.wrong == 0 && all.unknown == 0)
+}
+
+fn judge_file<R: Files + Print + AllocGlobal>(rt: &R, path: &str) -> Result<Tally, Fault> {
+    let text = fs::read_to_string(rt, path)?;
+    let mut tally = Tally::new();
+    for line in text.as_str().lines() {
+        let case = Case::read(rt.alloc(), line)?;
+        compare_orders(rt, &case, &mut tally)?;
+    }
+    Ok(tally)
+}
