@@ -56,6 +56,11 @@ impl Lines {
         self.text.len()
     }
 
+    /// Whether no line has ended.
+    pub fn is_empty(&self) -> bool {
+        self.text.is_empty()
+    }
+
     /// Whether memory sufficed so far.
     pub fn is_whole(&self) -> bool {
         !self.is_short

@@ -1,15 +1,16 @@
 //! `hek check --json`.
-ghost use Rattle.std.specs.Prelude.{◌≡◌, MatchResult, IfOk};
+ghost use Rattle.std.specs.Prelude.{◌≡◌, MatchResult, IfErr, IfOk};
 ghost use Rattle.hek_asm.specs.Reading.{IsTraceOf};
-ghost use Rattle.hek_commands.specs.Commands.{CheckFails, TraceTextFails, judged_as, verdict_status};
+ghost use Rattle.hek_commands.specs.Commands.{CheckFails, IsStop, TraceTextFails, judged_as, verdict_status};
 ghost use Rattle.hek_rules.specs.Faults.{IsVerdict};
 ghost use Rattle.hek_json_command.specs.Statuses.{HasStatusOf};
 
+use crate::sending::send_lines;
 use hek_asm::read_trace;
 use hek_check_command::{Fault, Judged, Source, faults_of, pairs_of, source_of};
-use hek_commands::{HekFault, ScheduleFile, schedule_in, send};
+use hek_commands::{HekFault, ScheduleFile, schedule_in};
 use hek_json::{Lines, put_event, put_maybe_reply, put_reply};
-use hek_rules::{Event, Level, NoMemory, Reply, Schedule, Transcript, Verdict};
+use hek_rules::{Level, NoMemory, Reply, Schedule, Transcript, Verdict};
 use hek_serial::{check, check_at, serial_reply, serial_reply_at};
 use std::alloc::Global;
 use std::io::{Read, Write};
@@ -46,20 +47,30 @@ pub fn check_json<'a, R: Read + Drop, W: Write>(
     let schedule = schedule_in(alloc, file)?;
     let transcript = transcript_of_text(alloc, &schedule, text)?;
     let verdict = verdict_of(alloc, &transcript, asked.level)?;
+    let status = status_of(verdict);
+    write_verdict(alloc, text, &schedule, &transcript, asked, verdict, out)?;
+    Ok(status)
+}
+
+/// Writes the object of the verdict on the transcript whose trace a text is, and those of the events at fault if they are
+/// asked for.
+fn write_verdict<'a, W: Write>(
+    alloc: Global,
+    text: &str,
+    schedule: &Schedule,
+    transcript: &Transcript,
+    asked: Asked,
+    verdict: Verdict,
+    out: &mut W,
+) -> Result<(), HekFault<'a>>
+    ensures { IfErr result IsStop }
+{
     let judged = judged_of(alloc, text)?;
     let mut lines = Lines::new(alloc);
     put_verdict(
-        alloc,
-        &schedule,
-        &transcript,
-        asked,
-        verdict,
-        judged,
-        &mut lines,
+        alloc, schedule, transcript, asked, verdict, judged, &mut lines,
     )?;
-    let status = status_of(verdict);
-    send(&mut lines.take()?, out)?;
-    Ok(status)
+    send_lines(&mut lines, out)
 }
 
 /// How much of a trace is judged.

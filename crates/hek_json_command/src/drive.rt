@@ -2,9 +2,10 @@
 ghost use Rattle.std.specs.Prelude.{◌≡◌, ◌≤◌, length, IfOk};
 ghost use Rattle.hek_rules.specs.Plan.{IsStep};
 
+use crate::sending::send_lines;
 use crate::told::{Telling, tell_step};
 use hek_asm::AsmKind;
-use hek_commands::{HekFault, INPUT, ScheduleFile, buffered, read_fault, schedule_in, send};
+use hek_commands::{HekFault, INPUT, ScheduleFile, buffered, read_fault, schedule_in};
 use hek_json::{Lines, put_state};
 use hek_machine::Machine;
 use hek_rules::{Event, NoMemory, next_line};
@@ -79,7 +80,7 @@ fn status_after(status: u8, is_fault: bool) -> u8
 
 /// Writes an answer, and flushes it.
 fn write_answer<'a, W: Write>(lines: &mut Lines, out: &mut W) -> Result<(), HekFault<'a>> {
-    send(&mut lines.take()?, out)?;
+    send_lines(lines, out)?;
     match out.flush() {
         Ok(()) => Ok(()),
         Err(_) => Err(HekFault::CannotWrite),
@@ -98,7 +99,7 @@ fn put_answer(
     lines: &mut Lines,
 ) -> Result<bool, NoMemory> {
     let is_fault = put_told(alloc, telling, machine, number, line, lines)?;
-    if driven.state && lines.len() > 0 {
+    if driven.state && !lines.is_empty() {
         put_state(telling.schedule, machine, lines);
     }
     if driven.ends {

@@ -1,7 +1,8 @@
 //! `hek permute --json`.
 use crate::orders::{put_leveled, put_moves, put_none, put_order, put_tally};
 use crate::run::put_run;
-use hek_commands::{HekFault, ScheduleFile, schedule_in, send};
+use crate::sending::send_lines;
+use hek_commands::{HekFault, ScheduleFile, schedule_in};
 use hek_json::Lines;
 use hek_permute::{Form, Outcome, Tally, Watch, play_all};
 use hek_permute_command::{
@@ -25,18 +26,30 @@ pub fn permute_json<'a, R: Read + Drop, W: Write, E: Write>(
     if let Some(names) = choice.order {
         return write_one(alloc, &schedule, choice, names, out);
     }
-    let Some(extent) = extent_of(alloc, &schedule, choice, faults)? else {
-        return Ok(1);
-    };
+    match extent_of(alloc, &schedule, choice, faults)? {
+        Some(extent) => write_asked(alloc, &schedule, choice, extent, out, faults),
+        None => Ok(1),
+    }
+}
+
+/// Plays orders, and writes what the choice asks for. Answers the exit status.
+fn write_asked<'a, W: Write, E: Write>(
+    alloc: Global,
+    schedule: &Schedule,
+    choice: Choice<'_>,
+    extent: Extent,
+    out: &mut W,
+    faults: &mut E,
+) -> Result<u8, HekFault<'a>> {
     let mut progress = Progress::new(faults, choice.progress, most_plays(choice, extent));
     let mut lines = Lines::new(alloc);
-    let played = put_asked(alloc, &schedule, choice, extent, &mut progress, &mut lines);
+    let played = put_asked(alloc, schedule, choice, extent, &mut progress, &mut lines);
     progress.clear();
     let status = played?;
     if status.is_none() {
         put_too_many(choice, faults);
     }
-    send(&mut lines.take()?, out)?;
+    send_lines(&mut lines, out)?;
     Ok(status.unwrap_or(1))
 }
 
@@ -56,7 +69,7 @@ fn write_one<'a, W: Write>(
     };
     let mut lines = Lines::new(alloc);
     put_played(alloc, &played, extras, &mut lines)?;
-    send(&mut lines.take()?, out)?;
+    send_lines(&mut lines, out)?;
     Ok(0)
 }
 

@@ -3,8 +3,9 @@ ghost use Rattle.std.specs.Prelude.{◌≡◌, length, IfOk};
 ghost use Rattle.std.specs.List.{All};
 ghost use Rattle.hek_laws.specs.Runs.{IsPlaced};
 
+use crate::sending::send_lines;
 use crate::told::{Telling, tell_step};
-use hek_commands::{HekFault, ScheduleFile, schedule_in, send};
+use hek_commands::{HekFault, ScheduleFile, schedule_in};
 use hek_json::{Lines, put_state};
 use hek_machine::Machine;
 use hek_rules::{Event, NoMemory, Schedule};
@@ -58,7 +59,7 @@ fn write_run<'a, W: Write>(
     if state {
         put_state(schedule, &machine, &mut lines);
     }
-    send(&mut lines.take()?, out)
+    send_lines(&mut lines, out)
 }
 
 /// Does steps on a machine, as many as `limit` or all of them, and writes the object of each.
@@ -80,10 +81,10 @@ fn write_steps<'a, W: Write>(
         }
         tell_step(alloc, telling, machine, &steps[place], &mut lines)?;
         if lines.len() >= MANY {
-            send(&mut lines.take()?, out)?;
+            send_lines(&mut lines, out)?;
         }
     }
-    send(&mut lines.take()?, out)
+    send_lines(&mut lines, out)
 }
 
 /// Appends the object of each step of a schedule.

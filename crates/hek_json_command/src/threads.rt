@@ -4,7 +4,8 @@ ghost use Rattle.hek_commands.specs.Commands.{FileGives};
 ghost use Rattle.hek_threads_command.specs.Threaded.{IsRunFault, IsThreadsStop, ThreadsFail};
 
 use crate::outcome::put_ends;
-use hek_commands::{HekFault, ScheduleFile, schedule_in, send};
+use crate::sending::send_lines;
+use hek_commands::{HekFault, ScheduleFile, schedule_in};
 use hek_json::{Lines, put_plain};
 use hek_permute::Ending;
 use hek_rules::{NoMemory, Pairs, Reply, Schedule, Verdict};
@@ -63,7 +64,7 @@ fn write_history<'a, T: Threads + Wait + Sync, W: Write>(
 {
     let report = report_of(rt, alloc, schedule, pace)?;
     let mut lines = history_lines(alloc, schedule, report);
-    send(&mut lines.take()?, out)
+    send_lines(&mut lines, out)
 }
 
 /// The object of each entry of a history.
@@ -116,7 +117,7 @@ fn write_outcomes<'a, T: Threads + Wait + Sync, W: Write, E: Write>(
     progress.clear();
     let outcomes = outcomes?;
     let mut lines = outcome_lines(alloc, schedule, &outcomes, times);
-    send(&mut lines.take()?, out)
+    send_lines(&mut lines, out)
 }
 
 /// The outcomes of `times` runs.
