@@ -1,33 +1,25 @@
 //! Events.
-use crate::members::{put_name, put_null, put_number, put_text};
+use crate::lines::Lines;
 use hek_rules::{Event, Schedule};
-use serde::Serializer;
 
 /// The name of an event's transaction, or null, and the event: its kind and its operands.
-pub fn put_event<S: Serializer>(
-    schedule: &Schedule,
-    event: &Event,
-    out: &mut S,
-) -> Result<(), S::Error> {
-    match event.txn() {
-        Some(txn) => put_name("txn", schedule, txn, out)?,
-        None => put_null("txn", out)?,
-    }
-    out.key("event")?;
-    out.begin_map(None)?;
-    put_text("kind", event.kind().word(), out)?;
-    put_operands(event, out)?;
-    out.end_map()
+pub fn put_event(schedule: &Schedule, event: &Event, out: &mut Lines) {
+    out.put_maybe_name("txn", schedule, event.txn());
+    out.put_key("event");
+    out.begin_object();
+    out.put_text("kind", event.kind().word());
+    put_operands(event, out);
+    out.end_object();
 }
 
-fn put_operands<S: Serializer>(event: &Event, out: &mut S) -> Result<(), S::Error> {
+fn put_operands(event: &Event, out: &mut Lines) {
     match *event {
-        Event::Read(_, key) | Event::Delete(_, key) => put_number("key", key, out),
-        Event::Scan(_, bucket) => put_number("bucket", bucket, out),
+        Event::Read(_, key) | Event::Delete(_, key) => out.put_number("key", key),
+        Event::Scan(_, bucket) => out.put_number("bucket", bucket),
         Event::Insert(_, key, value) | Event::Update(_, key, value) => {
-            put_number("key", key, out)?;
-            put_number("value", value, out)
+            out.put_number("key", key);
+            out.put_number("value", value);
         }
-        _ => Ok(()),
+        _ => (),
     }
 }

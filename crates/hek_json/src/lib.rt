@@ -3,7 +3,7 @@
 
 mod change;
 mod event;
-mod line;
+mod lines;
 mod members;
 mod party;
 mod phase;
@@ -15,9 +15,7 @@ mod txn_change;
 mod word;
 
 pub use event::put_event;
-pub use line::put_object;
-pub use members::{put_flag, put_name, put_names, put_null, put_number, put_rows, put_text};
-pub use phase::StateText;
+pub use lines::Lines;
 pub use reply::{put_maybe_reply, put_reply};
 pub use state::put_state;
 pub use step::{Beside, put_plain, put_step};

@@ -1,24 +1,23 @@
 //! Transactions that a reason names, with their states.
-use crate::members::{put_name, put_shown, put_time};
+use crate::lines::Lines;
 use crate::phase::StateText;
 use hek_machine::Machine;
 use hek_rules::{Schedule, TxnId};
-use serde::Serializer;
 
 /// A transaction with its state and its end time. One that is not declared has neither.
-pub(crate) fn put_party<S: Serializer>(
+pub(crate) fn put_party(
     name: &str,
     schedule: &Schedule,
     machine: &Machine,
     txn: TxnId,
-    out: &mut S,
-) -> Result<(), S::Error> {
-    out.key(name)?;
-    out.begin_map(None)?;
-    put_name("txn", schedule, txn, out)?;
+    out: &mut Lines,
+) {
+    out.put_key(name);
+    out.begin_object();
+    out.put_name("txn", schedule, txn);
     if machine.is_declared(txn) {
-        put_shown("state", &StateText(machine.state(txn)), out)?;
-        put_time("end", machine.end_time(txn), out)?;
+        out.put_shown("state", &StateText(machine.state(txn)));
+        out.put_time("end", machine.end_time(txn));
     }
-    out.end_map()
+    out.end_object();
 }

@@ -5,21 +5,22 @@ use std::fmt;
 
 /// The state of a transaction, as texts have it; of an aborted one with the cause.
 #[derive(Clone, Copy)]
-pub struct StateText(pub State);
+pub(crate) struct StateText(pub(crate) State);
 
 impl fmt::Display for StateText {
     fn fmt<W: fmt::Write>(&self, f: &mut fmt::Formatter<W>) -> fmt::Result {
-        match self.0 {
-            State::NotBegun => f.write_str("not begun"),
-            State::Active => f.write_str("active"),
-            State::Preparing => f.write_str("preparing"),
-            State::Committed => f.write_str("committed"),
-            State::Terminated => f.write_str("terminated"),
+        let word = match self.0 {
+            State::NotBegun => "not begun",
+            State::Active => "active",
+            State::Preparing => "preparing",
+            State::Committed => "committed",
+            State::Terminated => "terminated",
             State::Aborted(cause) => {
-                let cause = cause.word();
-                write!(f, "aborted {cause}")
+                f.write_str("aborted ")?;
+                cause.word()
             }
-        }
+        };
+        f.write_str(word)
     }
 }
 

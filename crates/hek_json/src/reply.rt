@@ -1,131 +1,95 @@
 //! Replies.
-use crate::members::{put_name, put_names, put_null, put_number, put_rows, put_text};
-use hek_rules::{Refusal, Reply, Schedule, TxnId};
-use serde::Serializer;
+use crate::lines::Lines;
+use hek_rules::{Refusal, Reply, Schedule};
 
 /// A reply: its kind, as a trace has it, and its other words.
-pub fn put_reply<S: Serializer>(
-    name: &str,
-    schedule: &Schedule,
-    reply: &Reply,
-    out: &mut S,
-) -> Result<(), S::Error> {
-    out.key(name)?;
-    out.begin_map(None)?;
-    put_words(schedule, reply, out)?;
-    out.end_map()
+pub fn put_reply(name: &str, schedule: &Schedule, reply: &Reply, out: &mut Lines) {
+    out.put_key(name);
+    out.begin_object();
+    out.put_text("kind", kind_of(reply));
+    put_words(schedule, reply, out);
+    out.end_object();
 }
 
 /// A reply, or null.
-pub fn put_maybe_reply<S: Serializer>(
-    name: &str,
-    schedule: &Schedule,
-    reply: Option<&Reply>,
-    out: &mut S,
-) -> Result<(), S::Error> {
+pub fn put_maybe_reply(name: &str, schedule: &Schedule, reply: Option<&Reply>, out: &mut Lines) {
     match reply {
         Some(reply) => put_reply(name, schedule, reply, out),
-        None => put_null(name, out),
+        None => out.put_null(name),
     }
 }
 
-fn put_words<S: Serializer>(
-    schedule: &Schedule,
-    reply: &Reply,
-    out: &mut S,
-) -> Result<(), S::Error> {
+/// The kind of a reply, as a trace has it.
+fn kind_of(reply: &Reply) -> &'static str {
     match reply {
-        Reply::Began(time) => put_counted("began", "time", time.number(), out),
-        Reply::Found(value) => put_counted("found", "value", *value, out),
-        Reply::Absent => put_text("kind", "absent", out),
-        Reply::Rows(pairs) => {
-            put_text("kind", "rows", out)?;
-            put_rows(pairs.items(), out)
-        }
-        Reply::Done => put_text("kind", "done", out),
-        Reply::Exists => put_text("kind", "exists", out),
-        Reply::Ready => put_text("kind", "ready", out),
-        Reply::Waiting(count) => put_counted("waiting", "count", *count, out),
-        Reply::Precommitted(time) => put_counted("precommitted", "time", time.number(), out),
-        Reply::Nothing => put_text("kind", "nothing", out),
-        Reply::Committed => put_text("kind", "committed", out),
-        Reply::WaitingCommits(count) => put_counted("waiting commits", "count", *count, out),
-        Reply::Failed => put_text("kind", "failed", out),
-        _ => put_late_words(schedule, reply, out),
+        Reply::Began(_) => "began",
+        Reply::Found(_) => "found",
+        Reply::Absent => "absent",
+        Reply::Rows(_) => "rows",
+        Reply::Done => "done",
+        Reply::Exists => "exists",
+        Reply::Ready => "ready",
+        Reply::Waiting(_) => "waiting",
+        Reply::Precommitted(_) => "precommitted",
+        Reply::ReleasedRead(_, _) => "released read",
+        Reply::ReleasedBucket(_) => "released bucket",
+        Reply::ReleasedWaiter(_) => "released waiter",
+        Reply::Nothing => "nothing",
+        Reply::Committed => "committed",
+        Reply::WaitingCommits(_) => "waiting commits",
+        Reply::Failed => "failed",
+        Reply::StampedBegin(_) => "stamped begin",
+        Reply::StampedEnd(_) => "stamped end",
+        Reply::Left(_) => "left",
+        Reply::Over => "over",
+        Reply::NoCycle => "no cycle",
+        Reply::Victim(_, _) => "victim",
+        Reply::Aborted(_) => "aborted",
+        Reply::Refused(_) => "refused",
     }
 }
 
-/// What a release, a stamp, a detection, an abort or a refusal replies. Any other reply has no words here.
-fn put_late_words<S: Serializer>(
-    schedule: &Schedule,
-    reply: &Reply,
-    out: &mut S,
-) -> Result<(), S::Error> {
+/// The words of a reply beside its kind.
+fn put_words(schedule: &Schedule, reply: &Reply, out: &mut Lines) {
     match reply {
+        Reply::Rows(pairs) => out.put_rows(pairs.items()),
         Reply::ReleasedRead(version, writer) => {
-            put_released(schedule, version.index(), *writer, out)
+            out.put_number("version", version.index());
+            out.put_maybe_name("writer", schedule, *writer);
         }
-        Reply::ReleasedBucket(bucket) => put_counted("released bucket", "bucket", *bucket, out),
-        Reply::ReleasedWaiter(txn) => {
-            put_text("kind", "released waiter", out)?;
-            put_name("txn", schedule, *txn, out)
+        Reply::ReleasedWaiter(txn) => out.put_name("txn", schedule, *txn),
+        Reply::Victim(txn, members) => {
+            out.put_name("txn", schedule, *txn);
+            out.put_names("cycle", schedule, members.items());
         }
-        Reply::StampedBegin(version) => {
-            put_counted("stamped begin", "version", version.index(), out)
-        }
-        Reply::StampedEnd(version) => put_counted("stamped end", "version", version.index(), out),
-        Reply::Left(version) => put_counted("left", "version", version.index(), out),
-        Reply::Over => put_text("kind", "over", out),
-        Reply::NoCycle => put_text("kind", "no cycle", out),
-        Reply::Victim(txn, members) => put_victim(schedule, *txn, members.items(), out),
-        Reply::Aborted(cause) => {
-            put_text("kind", "aborted", out)?;
-            put_text("cause", (*cause).word(), out)
-        }
+        Reply::Aborted(cause) => out.put_text("cause", (*cause).word()),
         Reply::Refused(refusal) => put_refusal(*refusal, out),
-        _ => Ok(()),
+        _ => {
+            if let Some((name, number)) = number_of(reply) {
+                out.put_number(name, number);
+            }
+        }
     }
 }
 
-fn put_counted<S: Serializer>(
-    kind: &str,
-    name: &str,
-    number: u64,
-    out: &mut S,
-) -> Result<(), S::Error> {
-    put_text("kind", kind, out)?;
-    put_number(name, number, out)
-}
-
-/// A version whose read lock was given up, and its writer or null.
-fn put_released<S: Serializer>(
-    schedule: &Schedule,
-    version: u64,
-    writer: Option<TxnId>,
-    out: &mut S,
-) -> Result<(), S::Error> {
-    put_counted("released read", "version", version, out)?;
-    match writer {
-        Some(txn) => put_name("writer", schedule, txn, out),
-        None => put_null("writer", out),
+/// The number of a reply that has nothing else beside its kind, with the number's name.
+fn number_of(reply: &Reply) -> Option<(&'static str, u64)> {
+    match reply {
+        Reply::Began(time) | Reply::Precommitted(time) => Some(("time", time.number())),
+        Reply::Found(value) => Some(("value", *value)),
+        Reply::Waiting(count) | Reply::WaitingCommits(count) => Some(("count", *count)),
+        Reply::ReleasedBucket(bucket) => Some(("bucket", *bucket)),
+        Reply::StampedBegin(version) | Reply::StampedEnd(version) | Reply::Left(version) => {
+            Some(("version", version.index()))
+        }
+        _ => None,
     }
 }
 
-fn put_victim<S: Serializer>(
-    schedule: &Schedule,
-    txn: TxnId,
-    members: &[TxnId],
-    out: &mut S,
-) -> Result<(), S::Error> {
-    put_text("kind", "victim", out)?;
-    put_name("txn", schedule, txn, out)?;
-    put_names("cycle", schedule, members, out)
-}
-
-fn put_refusal<S: Serializer>(refusal: Refusal, out: &mut S) -> Result<(), S::Error> {
+fn put_refusal(refusal: Refusal, out: &mut Lines) {
     let (code, name) = named(refusal);
-    put_counted("refused", "code", code, out)?;
-    put_text("refusal", name, out)
+    out.put_number("code", code);
+    out.put_text("refusal", name);
 }
 
 /// The number and the name of a refusal.

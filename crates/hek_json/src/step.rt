@@ -1,62 +1,24 @@
 //! One step of a run.
 use crate::change::put_changes;
 use crate::event::put_event;
-use crate::line::put_object;
-use crate::members::put_number;
-use crate::reason::{Reasons, put_reasons};
+use crate::lines::Lines;
+use crate::reason::put_reasons;
 use crate::reply::put_reply;
-use hek_rules::{Event, NoMemory, Reply, Schedule};
+use hek_rules::{Event, Reply, Schedule};
 use hek_why::{Change, Reason, Step};
-use serde::{Described, Serialize, Serializer};
-use std::alloc::Global;
-
-/// A step: its number, event and reply, and with them the reasons and the changes, if they are asked for.
-#[derive(Clone, Copy)]
-struct StepLine<'a> {
-    schedule: &'a Schedule,
-    number: u64,
-    event: Event,
-    reply: &'a Reply,
-    why: Option<Reasons<'a>>,
-    changes: Option<&'a [Change]>,
-}
-
-impl Described for StepLine<'_> {}
-
-impl Serialize for StepLine<'_> {
-    fn serialize<S: Serializer>(&self, out: &mut S) -> Result<(), S::Error> {
-        out.begin_map(None)?;
-        put_number("step", self.number, out)?;
-        put_event(self.schedule, &self.event, out)?;
-        put_reply("reply", self.schedule, self.reply, out)?;
-        if let Some(why) = self.why {
-            put_reasons(why, out)?;
-        }
-        if let Some(list) = self.changes {
-            put_changes(self.schedule, list, out)?;
-        }
-        out.end_map()
-    }
-}
 
 /// Appends the object of a step without reasons and changes.
-pub fn put_plain<'x>(
-    alloc: Global,
-    schedule: &'x Schedule,
-    number: u64,
-    event: Event,
-    reply: &'x Reply,
-    lines: &mut Vec<u8>,
-) -> Result<(), NoMemory> {
-    let line = StepLine {
-        schedule,
-        number,
-        event,
-        reply,
-        why: None,
-        changes: None,
-    };
-    put_object(alloc, &line, lines)
+pub fn put_plain(schedule: &Schedule, number: u64, event: &Event, reply: &Reply, out: &mut Lines) {
+    begin_step(schedule, number, event, reply, out);
+    out.end_line();
+}
+
+/// Begins the line of a step, with its number, event and reply.
+fn begin_step(schedule: &Schedule, number: u64, event: &Event, reply: &Reply, out: &mut Lines) {
+    out.begin_line();
+    out.put_number("step", number);
+    put_event(schedule, event, out);
+    put_reply("reply", schedule, reply, out);
 }
 
 /// What the object of a step has beside its event and reply, if it is asked for.
@@ -71,30 +33,19 @@ pub struct Beside<'a> {
 }
 
 /// Appends the object of a step, with the reasons and the changes that are given.
-pub fn put_step<'x>(
-    alloc: Global,
-    schedule: &'x Schedule,
+pub fn put_step(
+    schedule: &Schedule,
     number: u64,
-    step: &'x Step<'x>,
-    beside: Beside<'x>,
-    lines: &mut Vec<u8>,
-) -> Result<(), NoMemory> {
-    let why = match beside.why {
-        Some(list) => Some(Reasons {
-            schedule,
-            step,
-            list,
-            ruled: beside.ruled,
-        }),
-        None => None,
-    };
-    let line = StepLine {
-        schedule,
-        number,
-        event: step.event,
-        reply: step.reply,
-        why,
-        changes: beside.changes,
-    };
-    put_object(alloc, &line, lines)
+    step: &Step<'_>,
+    beside: Beside<'_>,
+    out: &mut Lines,
+) {
+    begin_step(schedule, number, &step.event, step.reply, out);
+    if let Some(list) = beside.why {
+        put_reasons(schedule, step, list, beside.ruled, out);
+    }
+    if let Some(list) = beside.changes {
+        put_changes(schedule, list, out);
+    }
+    out.end_line();
 }

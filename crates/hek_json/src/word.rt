@@ -1,8 +1,7 @@
 //! Begin and End words: their bits, and what they say.
-use crate::members::{put_flag, put_name, put_null, put_number, put_shown, put_text};
+use crate::lines::Lines;
 use hek_rules::{BeginRecord, EndRecord, Schedule, Time, TxnId};
 use hek_word::{BeginWord, EndWord};
-use serde::Serializer;
 use std::fmt;
 
 /// The bits of a word, as 16 hexadecimal digits.
@@ -17,68 +16,72 @@ impl fmt::Display for Bits {
 }
 
 /// A Begin word: its bits, and the time or the transaction that it holds.
-pub(crate) fn put_begin<S: Serializer>(
-    name: &str,
-    schedule: &Schedule,
-    word: BeginWord,
-    out: &mut S,
-) -> Result<(), S::Error> {
-    out.key(name)?;
-    out.begin_map(None)?;
-    put_shown("word", &Bits(word.bits()), out)?;
+pub(crate) fn put_begin(name: &str, schedule: &Schedule, word: BeginWord, out: &mut Lines) {
+    out.put_key(name);
+    out.begin_object();
+    out.put_shown("word", &Bits(word.bits()));
     match word.content() {
-        BeginRecord::At(time) => put_end_time(time, out)?,
+        BeginRecord::At(time) => put_end_time(time, out),
         BeginRecord::By(txn) => {
-            put_text("kind", "txn", out)?;
-            put_name("txn", schedule, txn, out)?;
+            out.put_text("kind", "txn");
+            out.put_name("txn", schedule, txn);
         }
     }
-    out.end_map()
+    out.end_object();
+}
+
+/// A Begin word before and after a step.
+pub(crate) fn put_begins(
+    schedule: &Schedule,
+    before: BeginWord,
+    after: BeginWord,
+    out: &mut Lines,
+) {
+    put_begin("before", schedule, before, out);
+    put_begin("after", schedule, after, out);
+}
+
+/// An End word before and after a step.
+pub(crate) fn put_ends(schedule: &Schedule, before: EndWord, after: EndWord, out: &mut Lines) {
+    put_end("before", schedule, before, out);
+    put_end("after", schedule, after, out);
 }
 
 /// An End word: its bits, and the time or the lock that it holds.
-pub(crate) fn put_end<S: Serializer>(
-    name: &str,
-    schedule: &Schedule,
-    word: EndWord,
-    out: &mut S,
-) -> Result<(), S::Error> {
-    out.key(name)?;
-    out.begin_map(None)?;
-    put_shown("word", &Bits(word.bits()), out)?;
+pub(crate) fn put_end(name: &str, schedule: &Schedule, word: EndWord, out: &mut Lines) {
+    out.put_key(name);
+    out.begin_object();
+    out.put_shown("word", &Bits(word.bits()));
     match word.content() {
-        EndRecord::Until(time) => put_end_time(time, out)?,
+        EndRecord::Until(time) => put_end_time(time, out),
         EndRecord::Lock {
             readers,
             writer,
             no_more,
-        } => put_lock(schedule, readers, writer, no_more, out)?,
+        } => put_lock(schedule, readers, writer, no_more, out),
     }
-    out.end_map()
+    out.end_object();
 }
 
-fn put_end_time<S: Serializer>(time: Time, out: &mut S) -> Result<(), S::Error> {
+fn put_end_time(time: Time, out: &mut Lines) {
     match time.number() {
-        Time::INFINITY => put_text("kind", "infinity", out),
+        Time::INFINITY => out.put_text("kind", "infinity"),
         ticks => {
-            put_text("kind", "time", out)?;
-            put_number("time", ticks, out)
+            out.put_text("kind", "time");
+            out.put_number("time", ticks);
         }
     }
 }
 
-fn put_lock<S: Serializer>(
+fn put_lock(
     schedule: &Schedule,
     readers: u8,
     writer: Option<TxnId>,
     no_more: bool,
-    out: &mut S,
-) -> Result<(), S::Error> {
-    put_text("kind", "lock", out)?;
-    put_number("readers", u64::from(readers), out)?;
-    match writer {
-        Some(txn) => put_name("writer", schedule, txn, out)?,
-        None => put_null("writer", out)?,
-    }
-    put_flag("no_more_reads", no_more, out)
+    out: &mut Lines,
+) {
+    out.put_text("kind", "lock");
+    out.put_number("readers", u64::from(readers));
+    out.put_maybe_name("writer", schedule, writer);
+    out.put_flag("no_more_reads", no_more);
 }

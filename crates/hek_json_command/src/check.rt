@@ -1,17 +1,17 @@
 //! `hek check --json`.
-ghost use Rattle.std.specs.Prelude.{◌≡◌, MatchResult, IfOk};
+ghost use Rattle.std.specs.Prelude.{◌≡◌, MatchResult, IfErr, IfOk};
 ghost use Rattle.hek_asm.specs.Reading.{IsTraceOf};
-ghost use Rattle.hek_commands.specs.Commands.{CheckFails, TraceTextFails, judged_as, verdict_status};
+ghost use Rattle.hek_commands.specs.Commands.{CheckFails, IsStop, TraceTextFails, judged_as, verdict_status};
 ghost use Rattle.hek_rules.specs.Faults.{IsVerdict};
 ghost use Rattle.hek_json_command.specs.Statuses.{HasStatusOf};
 
+use crate::sending::send_lines;
 use hek_asm::read_trace;
 use hek_check_command::{Fault, Judged, Source, faults_of, pairs_of, source_of};
-use hek_commands::{HekFault, ScheduleFile, schedule_in, send};
-use hek_json::{put_event, put_maybe_reply, put_name, put_number, put_object, put_reply, put_text};
-use hek_rules::{Event, Level, NoMemory, Reply, Schedule, Transcript, Verdict};
+use hek_commands::{HekFault, ScheduleFile, schedule_in};
+use hek_json::{Lines, put_event, put_maybe_reply, put_reply};
+use hek_rules::{Level, NoMemory, Reply, Schedule, Transcript, Verdict};
 use hek_serial::{check, check_at, serial_reply, serial_reply_at};
-use serde::{Described, Serialize, Serializer};
 use std::alloc::Global;
 use std::io::{Read, Write};
 use std::str;
@@ -47,11 +47,30 @@ pub fn check_json<'a, R: Read + Drop, W: Write>(
     let schedule = schedule_in(alloc, file)?;
     let transcript = transcript_of_text(alloc, &schedule, text)?;
     let verdict = verdict_of(alloc, &transcript, asked.level)?;
-    let judged = judged_of(alloc, text)?;
-    let mut lines = verdict_lines(alloc, &schedule, &transcript, asked, verdict, judged)?;
     let status = status_of(verdict);
-    send(&mut lines, out)?;
+    write_verdict(alloc, text, &schedule, &transcript, asked, verdict, out)?;
     Ok(status)
+}
+
+/// Writes the object of the verdict on the transcript whose trace a text is, and those of the events at fault if they are
+/// asked for.
+fn write_verdict<'a, W: Write>(
+    alloc: Global,
+    text: &str,
+    schedule: &Schedule,
+    transcript: &Transcript,
+    asked: Asked,
+    verdict: Verdict,
+    out: &mut W,
+) -> Result<(), HekFault<'a>>
+    ensures { IfErr result IsStop }
+{
+    let judged = judged_of(alloc, text)?;
+    let mut lines = Lines::new(alloc);
+    put_verdict(
+        alloc, schedule, transcript, asked, verdict, judged, &mut lines,
+    )?;
+    send_lines(&mut lines, out)
 }
 
 /// How much of a trace is judged.
@@ -101,75 +120,68 @@ fn status_of(verdict: Verdict) -> u8
     }
 }
 
-/// The lines of a verdict, and of the events at fault if they are asked for.
-fn verdict_lines(
+/// Appends the line of a verdict, and those of the events at fault if they are asked for.
+fn put_verdict(
     alloc: Global,
     schedule: &Schedule,
     transcript: &Transcript,
     asked: Asked,
     verdict: Verdict,
     judged: Judged,
-) -> Result<Vec<u8>, NoMemory> {
-    let judged = if asked.summary { Some(judged) } else { None };
-    let mut lines = Vec::new(alloc);
+    lines: &mut Lines,
+) -> Result<(), NoMemory> {
     match verdict {
         Verdict::Serial => {
-            put_verdict(alloc, schedule, verdict, None, false, judged, &mut lines)?;
+            lines.begin_line();
+            lines.put_text("verdict", "serial");
+            end_verdict(asked, judged, lines);
+            Ok(())
         }
-        Verdict::NotSerial(number) => put_not_serial(
-            alloc, schedule, transcript, asked, number, judged, &mut lines,
-        )?,
+        Verdict::NotSerial(number) => {
+            put_not_serial(alloc, schedule, transcript, asked, number, lines)?;
+            end_verdict(asked, judged, lines);
+            put_faults(alloc, schedule, transcript, asked, place_of(number), lines)
+        }
     }
-    Ok(lines)
 }
 
-/// Appends the line of a verdict, with the serial reply of the first event at fault if `why` asks for it.
-fn put_verdict<'x>(
-    alloc: Global,
-    schedule: &'x Schedule,
-    verdict: Verdict,
-    serial: Option<&'x Reply>,
-    why: bool,
-    judged: Option<Judged>,
-    lines: &mut Vec<u8>,
-) -> Result<(), NoMemory> {
-    let line = VerdictLine {
-        schedule,
-        verdict,
-        serial,
-        why,
-        judged,
-    };
-    put_object(alloc, &line, lines)
+/// Ends the line of a verdict, with how much is judged if that is asked for.
+fn end_verdict(asked: Asked, judged: Judged, lines: &mut Lines) {
+    if asked.summary {
+        lines.put_number("committed", judged.committed as u64);
+        lines.put_number("judged", judged.events as u64);
+    }
+    lines.end_line();
 }
 
-/// Appends the line of the verdict that the event with a number is the first at fault, and the lines of all events at
-/// fault if they are asked for.
+/// Begins the line of the verdict that the event with a number is the first at fault, with its serial reply if `why` asks
+/// for it.
 fn put_not_serial(
     alloc: Global,
     schedule: &Schedule,
     transcript: &Transcript,
     asked: Asked,
     number: u64,
-    judged: Option<Judged>,
-    lines: &mut Vec<u8>,
+    lines: &mut Lines,
 ) -> Result<(), NoMemory> {
-    let place = number.saturating_sub(1) as usize;
-    let serial = serial_at(alloc, transcript, asked.level, place)?;
-    let verdict = Verdict::NotSerial(number);
-    put_verdict(
-        alloc,
-        schedule,
-        verdict,
-        serial.as_ref(),
-        asked.why,
-        judged,
-        lines,
-    )?;
-    if asked.all {
-        return put_faults(alloc, schedule, transcript, asked.level, place, lines);
+    lines.begin_line();
+    lines.put_text("verdict", "not serial");
+    lines.put_number("step", number);
+    if asked.why {
+        let serial = serial_at(alloc, transcript, asked.level, place_of(number))?;
+        put_maybe_reply("serial_reply", schedule, serial.as_ref(), lines);
     }
     Ok(())
+}
+
+/// The place of the event with a number.
+fn place_of(number: u64) -> usize {
+    number.saturating_sub(1) as usize
+}
+
+/// The number of the event at a place.
+fn number_of(place: usize) -> u64 {
+    (place as u64).saturating_add(1)
 }
 
 /// The reply that an event would have had in the serial order.
@@ -185,167 +197,110 @@ fn serial_at(
     }
 }
 
-/// A verdict: the number of the first event at fault, its serial reply, and how much is judged, if they are asked for.
-#[derive(Clone, Copy)]
-struct VerdictLine<'a> {
-    schedule: &'a Schedule,
-    verdict: Verdict,
-    serial: Option<&'a Reply>,
-    why: bool,
-    judged: Option<Judged>,
-}
-
-impl Described for VerdictLine<'_> {}
-
-impl Serialize for VerdictLine<'_> {
-    fn serialize<S: Serializer>(&self, out: &mut S) -> Result<(), S::Error> {
-        out.begin_map(None)?;
-        match self.verdict {
-            Verdict::Serial => put_text("verdict", "serial", out)?,
-            Verdict::NotSerial(number) => {
-                put_text("verdict", "not serial", out)?;
-                put_number("step", number, out)?;
-                if self.why {
-                    put_maybe_reply("serial_reply", self.schedule, self.serial, out)?;
-                }
-            }
-        }
-        if let Some(judged) = self.judged {
-            put_number("committed", judged.committed as u64, out)?;
-            put_number("judged", judged.events as u64, out)?;
-        }
-        out.end_map()
-    }
-}
-
-/// Appends the lines of all events at fault, the first of which is at a place.
+/// Appends the lines of all events at fault, the first of which is at a place, if they are asked for.
 fn put_faults(
     alloc: Global,
     schedule: &Schedule,
     transcript: &Transcript,
-    level: Option<Level>,
+    asked: Asked,
     place: usize,
-    lines: &mut Vec<u8>,
+    lines: &mut Lines,
 ) -> Result<(), NoMemory> {
-    let faults = faults_of(alloc, transcript, level, place, true)?;
+    if !asked.all {
+        return Ok(());
+    }
+    let faults = faults_of(alloc, transcript, asked.level, place, true)?;
     for fault in faults.as_slice() {
         put_fault(alloc, schedule, transcript, fault, lines)?;
     }
     Ok(())
 }
 
-fn put_fault<'x>(
+/// Appends the line of an event at fault: its step, its serial reply, and the pairs of the one reply that the other lacks.
+fn put_fault(
     alloc: Global,
-    schedule: &'x Schedule,
-    transcript: &'x Transcript,
-    fault: &'x Fault,
-    lines: &mut Vec<u8>,
+    schedule: &Schedule,
+    transcript: &Transcript,
+    fault: &Fault,
+    lines: &mut Lines,
 ) -> Result<(), NoMemory> {
+    let place = fault.place;
+    let serial = fault.serial.as_ref();
     let (Some(event), Some(reply)) = (
-        transcript.events().get(fault.place),
-        transcript.replies().get(fault.place),
+        transcript.events().get(place),
+        transcript.replies().get(place),
     ) else {
         return Ok(());
     };
+    lines.begin_line();
+    lines.put_number("step", number_of(place));
+    put_event(schedule, event, lines);
+    put_reply("reply", schedule, reply, lines);
+    put_maybe_reply("serial_reply", schedule, serial, lines);
     let had = pairs_of(alloc, *event, Some(reply))?;
-    let wanted = pairs_of(alloc, *event, fault.serial.as_ref())?;
-    let line = FaultLine {
+    let wanted = pairs_of(alloc, *event, serial)?;
+    let at = Place {
         schedule,
         transcript,
-        place: fault.place,
-        event: *event,
-        reply,
-        serial: fault.serial.as_ref(),
-        had: had.as_slice(),
-        wanted: wanted.as_slice(),
+        place,
     };
-    put_object(alloc, &line, lines)
+    put_missing("read", at, had.as_slice(), wanted.as_slice(), lines);
+    put_missing("missed", at, wanted.as_slice(), had.as_slice(), lines);
+    lines.end_line();
+    Ok(())
 }
 
-/// An event at fault: its step, its serial reply, and the pairs of the one reply that the other lacks.
+/// A place of a transcript over a schedule.
 #[derive(Clone, Copy)]
-struct FaultLine<'a> {
+struct Place<'a> {
     schedule: &'a Schedule,
     transcript: &'a Transcript,
     place: usize,
-    event: Event,
-    reply: &'a Reply,
-    serial: Option<&'a Reply>,
-    had: &'a [(u64, u64)],
-    wanted: &'a [(u64, u64)],
 }
 
-impl Described for FaultLine<'_> {}
-
-impl Serialize for FaultLine<'_> {
-    fn serialize<S: Serializer>(&self, out: &mut S) -> Result<(), S::Error> {
-        out.begin_map(None)?;
-        put_number("step", (self.place as u64).saturating_add(1), out)?;
-        put_event(self.schedule, &self.event, out)?;
-        put_reply("reply", self.schedule, self.reply, out)?;
-        put_maybe_reply("serial_reply", self.schedule, self.serial, out)?;
-        put_missing("read", self, self.had, self.wanted, out)?;
-        put_missing("missed", self, self.wanted, self.had, out)?;
-        out.end_map()
-    }
-}
-
-/// Each of some pairs that others lack, with its source.
-fn put_missing<S: Serializer>(
+/// Each of some pairs that others lack, with its source, as the event at a place can see it.
+fn put_missing(
     name: &str,
-    line: &FaultLine<'_>,
+    at: Place<'_>,
     pairs: &[(u64, u64)],
     others: &[(u64, u64)],
-    out: &mut S,
-) -> Result<(), S::Error> {
-    out.key(name)?;
-    out.begin_seq(None)?;
+    lines: &mut Lines,
+) {
+    lines.put_key(name);
+    lines.begin_array();
     for pair in pairs {
         if !others.contains(pair) {
-            write_pair(line, *pair, out)?;
+            put_pair(at, *pair, lines);
         }
     }
-    out.end_seq()
+    lines.end_array();
 }
 
-fn write_pair<S: Serializer>(
-    line: &FaultLine<'_>,
-    pair: (u64, u64),
-    out: &mut S,
-) -> Result<(), S::Error> {
-    let (key, value) = pair;
-    out.begin_map(None)?;
-    put_number("key", key, out)?;
-    put_number("value", value, out)?;
-    put_source(line, source_of(line.transcript, line.place, pair), out)?;
-    out.end_map()
+fn put_pair(at: Place<'_>, pair: (u64, u64), lines: &mut Lines) {
+    lines.begin_object();
+    lines.put_number("key", pair.0);
+    lines.put_number("value", pair.1);
+    put_source(at, source_of(at.transcript, at.place, pair), lines);
+    lines.end_object();
 }
 
-fn put_source<S: Serializer>(
-    line: &FaultLine<'_>,
-    source: Source,
-    out: &mut S,
-) -> Result<(), S::Error> {
+fn put_source(at: Place<'_>, source: Source, lines: &mut Lines) {
     match source {
-        Source::Loaded => put_text("source", "loaded", out),
-        Source::Nowhere => put_text("source", "none", out),
+        Source::Loaded => lines.put_text("source", "loaded"),
+        Source::Nowhere => lines.put_text("source", "none"),
         Source::Write(place) => {
-            put_text("source", "write", out)?;
-            put_writer(line, place, out)
+            lines.put_text("source", "write");
+            put_writer(at.schedule, at.transcript, place, lines);
         }
     }
 }
 
 /// The transaction and the number of a write.
-fn put_writer<S: Serializer>(
-    line: &FaultLine<'_>,
-    place: usize,
-    out: &mut S,
-) -> Result<(), S::Error> {
-    if let Some(event) = line.transcript.events().get(place) {
+fn put_writer(schedule: &Schedule, transcript: &Transcript, place: usize, lines: &mut Lines) {
+    if let Some(event) = transcript.events().get(place) {
         if let Some(txn) = event.txn() {
-            put_name("txn", line.schedule, txn, out)?;
+            lines.put_name("txn", schedule, txn);
         }
     }
-    put_number("step", (place as u64).saturating_add(1), out)
+    lines.put_number("step", number_of(place));
 }

@@ -2,14 +2,14 @@
 ghost use Rattle.std.specs.Prelude.{◌≡◌, ◌≤◌, length, IfOk};
 ghost use Rattle.hek_rules.specs.Plan.{IsStep};
 
+use crate::sending::send_lines;
 use crate::told::{Telling, tell_step};
 use hek_asm::AsmKind;
-use hek_commands::{HekFault, INPUT, ScheduleFile, buffered, read_fault, schedule_in, send};
-use hek_json::{put_number, put_object, put_state, put_text};
+use hek_commands::{HekFault, INPUT, ScheduleFile, buffered, read_fault, schedule_in};
+use hek_json::{Lines, put_state};
 use hek_machine::Machine;
 use hek_rules::{Event, NoMemory, next_line};
 use hek_why_command::{Extras, read_event};
-use serde::{Described, Serialize, Serializer};
 use std::alloc::Global;
 use std::io::{BufRead, Read, Write};
 
@@ -62,7 +62,7 @@ fn drive<'a, B: BufRead, W: Write>(
         let Some((text, _)) = next_line(line.as_slice()) else {
             return Ok(status);
         };
-        let mut lines = Vec::new(alloc);
+        let mut lines = Lines::new(alloc);
         let is_fault = put_answer(alloc, telling, machine, driven, number, text, &mut lines)?;
         status = status_after(status, is_fault);
         write_answer(&mut lines, out)?;
@@ -79,8 +79,8 @@ fn status_after(status: u8, is_fault: bool) -> u8
 }
 
 /// Writes an answer, and flushes it.
-fn write_answer<'a, W: Write>(lines: &mut Vec<u8>, out: &mut W) -> Result<(), HekFault<'a>> {
-    send(lines, out)?;
+fn write_answer<'a, W: Write>(lines: &mut Lines, out: &mut W) -> Result<(), HekFault<'a>> {
+    send_lines(lines, out)?;
     match out.flush() {
         Ok(()) => Ok(()),
         Err(_) => Err(HekFault::CannotWrite),
@@ -96,14 +96,14 @@ fn put_answer(
     driven: Driven,
     number: u64,
     line: &[u8],
-    lines: &mut Vec<u8>,
+    lines: &mut Lines,
 ) -> Result<bool, NoMemory> {
     let is_fault = put_told(alloc, telling, machine, number, line, lines)?;
     if driven.state && !lines.is_empty() {
-        put_state(alloc, telling.schedule, machine, lines)?;
+        put_state(telling.schedule, machine, lines);
     }
     if driven.ends {
-        lines.push(b'\n')?;
+        lines.put_empty_line();
     }
     Ok(is_fault)
 }
@@ -115,7 +115,7 @@ fn put_told(
     machine: &mut Machine,
     number: u64,
     line: &[u8],
-    lines: &mut Vec<u8>,
+    lines: &mut Lines,
 ) -> Result<bool, NoMemory> {
     match read_event(telling.schedule, line) {
         Ok(None) => Ok(false),
@@ -124,7 +124,7 @@ fn put_told(
             Ok(false)
         }
         Err(kind) => {
-            put_object(alloc, &FaultLine { number, kind }, lines)?;
+            put_fault(number, kind, lines);
             Ok(true)
         }
     }
@@ -136,7 +136,7 @@ fn tell_placed(
     telling: &mut Telling<'_>,
     machine: &mut Machine,
     event: &Event,
-    lines: &mut Vec<u8>,
+    lines: &mut Lines,
 ) -> Result<(), NoMemory>
     requires { IsStep telling.old.schedule.now.buckets (length telling.old.schedule.now.txns) event.now }
 {
@@ -148,24 +148,14 @@ fn tell_placed(
     tell_step(alloc, telling, machine, event, lines)
 }
 
-/// A line of the input that is no event: its number, and what is wrong with it.
-#[derive(Clone, Copy)]
-struct FaultLine {
-    number: u64,
-    kind: AsmKind,
-}
-
-impl Described for FaultLine {}
-
-impl Serialize for FaultLine {
-    fn serialize<S: Serializer>(&self, out: &mut S) -> Result<(), S::Error> {
-        let (code, name) = named(self.kind);
-        out.begin_map(None)?;
-        put_number("line", self.number, out)?;
-        put_number("code", code, out)?;
-        put_text("fault", name, out)?;
-        out.end_map()
-    }
+/// Appends the object of a line of the input that is no event: its number, and what is wrong with it.
+fn put_fault(number: u64, kind: AsmKind, lines: &mut Lines) {
+    let (code, name) = named(kind);
+    lines.begin_line();
+    lines.put_number("line", number);
+    lines.put_number("code", code);
+    lines.put_text("fault", name);
+    lines.end_line();
 }
 
 /// The number and the name of a fault.

@@ -7,6 +7,7 @@ mod orders;
 mod outcome;
 mod permute;
 mod run;
+mod sending;
 mod threads;
 mod told;
 

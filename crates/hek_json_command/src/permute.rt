@@ -1,7 +1,9 @@
 //! `hek permute --json`.
 use crate::orders::{put_leveled, put_moves, put_none, put_order, put_tally};
 use crate::run::put_run;
-use hek_commands::{HekFault, ScheduleFile, schedule_in, send};
+use crate::sending::send_lines;
+use hek_commands::{HekFault, ScheduleFile, schedule_in};
+use hek_json::Lines;
 use hek_permute::{Form, Outcome, Tally, Watch, play_all};
 use hek_permute_command::{
     Choice, Extent, Played, Progress, extent_of, fault_of, find_played, is_first, leveled,
@@ -24,18 +26,30 @@ pub fn permute_json<'a, R: Read + Drop, W: Write, E: Write>(
     if let Some(names) = choice.order {
         return write_one(alloc, &schedule, choice, names, out);
     }
-    let Some(extent) = extent_of(alloc, &schedule, choice, faults)? else {
-        return Ok(1);
-    };
+    match extent_of(alloc, &schedule, choice, faults)? {
+        Some(extent) => write_asked(alloc, &schedule, choice, extent, out, faults),
+        None => Ok(1),
+    }
+}
+
+/// Plays orders, and writes what the choice asks for. Answers the exit status.
+fn write_asked<'a, W: Write, E: Write>(
+    alloc: Global,
+    schedule: &Schedule,
+    choice: Choice<'_>,
+    extent: Extent,
+    out: &mut W,
+    faults: &mut E,
+) -> Result<u8, HekFault<'a>> {
     let mut progress = Progress::new(faults, choice.progress, most_plays(choice, extent));
-    let mut lines = Vec::new(alloc);
-    let played = put_asked(alloc, &schedule, choice, extent, &mut progress, &mut lines);
+    let mut lines = Lines::new(alloc);
+    let played = put_asked(alloc, schedule, choice, extent, &mut progress, &mut lines);
     progress.clear();
     let status = played?;
     if status.is_none() {
         put_too_many(choice, faults);
     }
-    send(&mut lines, out)?;
+    send_lines(&mut lines, out)?;
     Ok(status.unwrap_or(1))
 }
 
@@ -53,9 +67,9 @@ fn write_one<'a, W: Write>(
         why: None,
         changes: false,
     };
-    let mut lines = Vec::new(alloc);
+    let mut lines = Lines::new(alloc);
     put_played(alloc, &played, extras, &mut lines)?;
-    send(&mut lines, out)?;
+    send_lines(&mut lines, out)?;
     Ok(0)
 }
 
@@ -64,10 +78,10 @@ fn put_played(
     alloc: Global,
     played: &Played,
     extras: Extras,
-    lines: &mut Vec<u8>,
+    lines: &mut Lines,
 ) -> Result<(), NoMemory> {
     let schedule = &played.schedule;
-    put_moves(alloc, schedule, played.moves.as_slice(), played.most, lines)?;
+    put_moves(schedule, played.moves.as_slice(), played.most, lines);
     put_run(alloc, schedule, extras, lines)
 }
 
@@ -79,7 +93,7 @@ fn put_asked<'a, E: Write>(
     choice: Choice<'_>,
     extent: Extent,
     progress: &mut Progress<'_, E>,
-    lines: &mut Vec<u8>,
+    lines: &mut Lines,
 ) -> Result<Option<u8>, HekFault<'a>> {
     if choice.levels {
         return put_all_levels(alloc, schedule, choice.form, extent, progress, lines);
@@ -100,12 +114,12 @@ fn put_all_levels<'a, E: Write>(
     form: Form,
     extent: Extent,
     progress: &mut Progress<'_, E>,
-    lines: &mut Vec<u8>,
+    lines: &mut Lines,
 ) -> Result<Option<u8>, HekFault<'a>> {
     let Some(tallies) = tallies_of(alloc, schedule, form, extent, progress)? else {
         return Ok(None);
     };
-    put_levels(alloc, schedule, tallies.as_slice(), lines)?;
+    put_levels(schedule, tallies.as_slice(), lines);
     Ok(Some(0))
 }
 
@@ -116,12 +130,12 @@ fn put_counts<'a, E: Write>(
     form: Form,
     extent: Extent,
     progress: &mut Progress<'_, E>,
-    lines: &mut Vec<u8>,
+    lines: &mut Lines,
 ) -> Result<Option<u8>, HekFault<'a>> {
     let Some(tally) = tally_of(alloc, schedule, form, extent, progress)? else {
         return Ok(None);
     };
-    put_tally(alloc, schedule, &tally, lines)?;
+    put_tally(schedule, &tally, lines);
     Ok(Some(0))
 }
 
@@ -132,7 +146,7 @@ fn put_orders<'a, E: Write>(
     choice: Choice<'_>,
     part: (u64, u64),
     progress: &mut Progress<'_, E>,
-    lines: &mut Vec<u8>,
+    lines: &mut Lines,
 ) -> Result<u8, HekFault<'a>> {
     if let Some(wanted) = choice.find {
         return put_search(
@@ -158,7 +172,7 @@ fn put_search<'a, E: Write>(
     wanted: &str,
     count: u64,
     progress: &mut Progress<'_, E>,
-    lines: &mut Vec<u8>,
+    lines: &mut Lines,
 ) -> Result<u8, HekFault<'a>> {
     match find_played(alloc, schedule, form, wanted, progress)? {
         Some(played) => {
@@ -170,7 +184,7 @@ fn put_search<'a, E: Write>(
             Ok(0)
         }
         None => {
-            put_none(alloc, count, lines)?;
+            put_none(count, lines);
             Ok(1)
         }
     }
@@ -178,48 +192,40 @@ fn put_search<'a, E: Write>(
 
 /// Appends each outcome, with the number of orders that have it at each level. There is one tally for each level, in the
 /// order of the levels.
-fn put_levels(
-    alloc: Global,
-    schedule: &Schedule,
-    tallies: &[Tally],
-    lines: &mut Vec<u8>,
-) -> Result<(), NoMemory> {
+fn put_levels(schedule: &Schedule, tallies: &[Tally], lines: &mut Lines) {
     for (column, tally) in tallies.iter().enumerate() {
-        put_firsts(alloc, schedule, tallies, column, tally, lines)?;
+        put_firsts(schedule, tallies, column, tally, lines);
     }
-    Ok(())
 }
 
 /// Appends the outcomes of a tally that no tally before it has.
 fn put_firsts(
-    alloc: Global,
     schedule: &Schedule,
     tallies: &[Tally],
     column: usize,
     tally: &Tally,
-    lines: &mut Vec<u8>,
-) -> Result<(), NoMemory> {
+    lines: &mut Lines,
+) {
     for row in tally.rows() {
         if is_first(tallies, column, row.outcome()) {
-            put_leveled(alloc, schedule, tallies, row.outcome(), lines)?;
+            put_leveled(schedule, tallies, row.outcome(), lines);
         }
     }
-    Ok(())
 }
 
 /// A watcher that gathers the object of each order.
 #[derive(Drop)]
-struct Objects<'s, 'p, 'e, E: Write> {
-    alloc: Global,
+struct Objects<'s, 'p, 'e, 'l, E: Write> {
     schedule: &'s Schedule,
     progress: &'p mut Progress<'e, E>,
-    lines: Vec<u8>,
+    lines: &'l mut Lines,
 }
 
-impl<E: Write> Watch for Objects<'_, '_, '_, E> {
+impl<E: Write> Watch for Objects<'_, '_, '_, '_, E> {
     fn see(&mut self, order: &[TxnId], outcome: &Outcome) -> bool {
         self.progress.count();
-        put_order(self.alloc, self.schedule, order, outcome, &mut self.lines).is_ok()
+        put_order(self.schedule, order, outcome, self.lines);
+        self.lines.is_whole()
     }
 }
 
@@ -230,19 +236,15 @@ fn put_each<'a, E: Write>(
     form: Form,
     part: (u64, u64),
     progress: &mut Progress<'_, E>,
-    lines: &mut Vec<u8>,
+    lines: &mut Lines,
 ) -> Result<(), HekFault<'a>> {
     let mut objects = Objects {
-        alloc,
         schedule,
         progress,
-        lines: Vec::new(alloc),
+        lines,
     };
-    if let Err(fault) = play_all(alloc, schedule, form, part.0, part.1, &mut objects) {
-        return Err(fault_of(fault));
-    }
-    match lines.extend_from_slice(objects.lines.as_slice()) {
-        Ok(()) => Ok(()),
-        Err(_) => Err(HekFault::NoMemory),
+    match play_all(alloc, schedule, form, part.0, part.1, &mut objects) {
+        Ok(_) => Ok(()),
+        Err(fault) => Err(fault_of(fault)),
     }
 }

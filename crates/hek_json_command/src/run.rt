@@ -3,9 +3,10 @@ ghost use Rattle.std.specs.Prelude.{◌≡◌, length, IfOk};
 ghost use Rattle.std.specs.List.{All};
 ghost use Rattle.hek_laws.specs.Runs.{IsPlaced};
 
+use crate::sending::send_lines;
 use crate::told::{Telling, tell_step};
-use hek_commands::{HekFault, ScheduleFile, schedule_in, send};
-use hek_json::put_state;
+use hek_commands::{HekFault, ScheduleFile, schedule_in};
+use hek_json::{Lines, put_state};
 use hek_machine::Machine;
 use hek_rules::{Event, NoMemory, Schedule};
 use hek_why_command::Extras;
@@ -54,11 +55,11 @@ fn write_run<'a, W: Write>(
         limit,
         out,
     )?;
-    let mut lines = Vec::new(alloc);
+    let mut lines = Lines::new(alloc);
     if state {
-        put_state(alloc, schedule, &machine, &mut lines)?;
+        put_state(schedule, &machine, &mut lines);
     }
-    send(&mut lines, out)
+    send_lines(&mut lines, out)
 }
 
 /// Does steps on a machine, as many as `limit` or all of them, and writes the object of each.
@@ -72,7 +73,7 @@ fn write_steps<'a, W: Write>(
 ) -> Result<(), HekFault<'a>>
     requires { All (IsPlaced (length machine.old.buckets)) steps.now }
 {
-    let mut lines = Vec::new(alloc);
+    let mut lines = Lines::new(alloc);
     let last = limit.unwrap_or(u64::MAX);
     for place in 0..steps.len() {
         if place as u64 >= last {
@@ -80,10 +81,10 @@ fn write_steps<'a, W: Write>(
         }
         tell_step(alloc, telling, machine, &steps[place], &mut lines)?;
         if lines.len() >= MANY {
-            send(&mut lines, out)?;
+            send_lines(&mut lines, out)?;
         }
     }
-    send(&mut lines, out)
+    send_lines(&mut lines, out)
 }
 
 /// Appends the object of each step of a schedule.
@@ -92,7 +93,7 @@ pub(crate) fn put_run(
     alloc: Global,
     schedule: &Schedule,
     extras: Extras,
-    lines: &mut Vec<u8>,
+    lines: &mut Lines,
 ) -> Result<(), NoMemory> {
     // `known` gives that the schedule has a bucket, and that each of its steps is well formed.
     schedule.known();
@@ -106,7 +107,7 @@ fn put_steps(
     telling: &mut Telling<'_>,
     machine: &mut Machine,
     steps: &[Event],
-    lines: &mut Vec<u8>,
+    lines: &mut Lines,
 ) -> Result<(), NoMemory>
     requires { All (IsPlaced (length machine.old.buckets)) steps.now }
 {

@@ -4,14 +4,14 @@ ghost use Rattle.hek_commands.specs.Commands.{FileGives};
 ghost use Rattle.hek_threads_command.specs.Threaded.{IsRunFault, IsThreadsStop, ThreadsFail};
 
 use crate::outcome::put_ends;
-use hek_commands::{HekFault, ScheduleFile, schedule_in, send};
-use hek_json::{put_flag, put_number, put_object, put_plain, put_rows};
+use crate::sending::send_lines;
+use hek_commands::{HekFault, ScheduleFile, schedule_in};
+use hek_json::{Lines, put_plain};
 use hek_permute::Ending;
 use hek_rules::{NoMemory, Pairs, Reply, Schedule, Verdict};
 use hek_serial::check;
 use hek_threads::{Part, Report, transcript_of};
 use hek_threads_command::{Pace, Progress, end_of, nth, report_of};
-use serde::{Described, Serialize, Serializer};
 use std::alloc::Global;
 use std::collections::BTreeMap;
 use std::io::{Read, Write};
@@ -63,31 +63,24 @@ fn write_history<'a, T: Threads + Wait + Sync, W: Write>(
     ensures { IfErr result IsThreadsStop }
 {
     let report = report_of(rt, alloc, schedule, pace)?;
-    let mut lines = history_lines(alloc, schedule, report)?;
-    send(&mut lines, out)
+    let mut lines = history_lines(alloc, schedule, report);
+    send_lines(&mut lines, out)
 }
 
 /// The object of each entry of a history.
-fn history_lines(alloc: Global, schedule: &Schedule, report: Report) -> Result<Vec<u8>, NoMemory> {
+fn history_lines(alloc: Global, schedule: &Schedule, report: Report) -> Lines {
     let Report {
         machine: _,
         history,
         transcripts: _,
     } = report;
-    let mut lines = Vec::new(alloc);
+    let mut lines = Lines::new(alloc);
     let mut number = 0u64;
     for entry in history.as_slice() {
         number = number.saturating_add(1);
-        put_plain(
-            alloc,
-            schedule,
-            number,
-            entry.event,
-            &entry.reply,
-            &mut lines,
-        )?;
+        put_plain(schedule, number, &entry.event, &entry.reply, &mut lines);
     }
-    Ok(lines)
+    lines
 }
 
 /// Does what `repeat_command` does, and writes objects. Answers the same exit status.
@@ -123,8 +116,8 @@ fn write_outcomes<'a, T: Threads + Wait + Sync, W: Write, E: Write>(
     let outcomes = outcomes_of(rt, alloc, schedule, pace, times, progress);
     progress.clear();
     let outcomes = outcomes?;
-    let mut lines = outcome_lines(alloc, schedule, &outcomes, times)?;
-    send(&mut lines, out)
+    let mut lines = outcome_lines(alloc, schedule, &outcomes, times);
+    send_lines(&mut lines, out)
 }
 
 /// The outcomes of `times` runs.
@@ -188,9 +181,9 @@ fn count_one(
     outcomes: &mut Outcomes,
     outcome: Ended,
 ) -> Result<(), NoMemory> {
-    let mut key = Vec::new(alloc);
-    put_object(alloc, &RunLine::new(schedule, 0, &outcome), &mut key)?;
-    match outcomes.entry(key) {
+    let mut key = Lines::new(alloc);
+    put_ended(schedule, 0, &outcome, &mut key);
+    match outcomes.entry(key.take()?) {
         Ok(entry) => {
             let seen = entry.or_insert(Seen { runs: 0, outcome });
             seen.runs = seen.runs.saturating_add(1);
@@ -200,72 +193,25 @@ fn count_one(
     }
 }
 
-/// How many outcomes there are, and a line for each.
-fn outcome_lines<'x>(
-    alloc: Global,
-    schedule: &'x Schedule,
-    outcomes: &'x Outcomes,
-    times: u64,
-) -> Result<Vec<u8>, NoMemory> {
-    let mut lines = Vec::new(alloc);
-    let count = outcomes.len() as u64;
-    let counted = CountLine {
-        runs: times,
-        outcomes: count,
-    };
-    put_object(alloc, &counted, &mut lines)?;
+/// How many runs there were and how many outcomes they had, then a line for each outcome.
+fn outcome_lines(alloc: Global, schedule: &Schedule, outcomes: &Outcomes, times: u64) -> Lines {
+    let mut lines = Lines::new(alloc);
+    lines.begin_line();
+    lines.put_number("runs", times);
+    lines.put_number("outcomes", outcomes.len() as u64);
+    lines.end_line();
     for (_, seen) in outcomes.iter() {
-        let line = RunLine::new(schedule, seen.runs, &seen.outcome);
-        put_object(alloc, &line, &mut lines)?;
+        put_ended(schedule, seen.runs, &seen.outcome, &mut lines);
     }
-    Ok(lines)
+    lines
 }
 
-/// How many runs there were, and how many outcomes they had.
-#[derive(Clone, Copy)]
-struct CountLine {
-    runs: u64,
-    outcomes: u64,
-}
-
-impl Described for CountLine {}
-
-impl Serialize for CountLine {
-    fn serialize<S: Serializer>(&self, out: &mut S) -> Result<(), S::Error> {
-        out.begin_map(None)?;
-        put_number("runs", self.runs, out)?;
-        put_number("outcomes", self.outcomes, out)?;
-        out.end_map()
-    }
-}
-
-/// An outcome, and how many runs had it.
-#[derive(Clone, Copy)]
-struct RunLine<'a> {
-    schedule: &'a Schedule,
-    runs: u64,
-    outcome: &'a Ended,
-}
-
-impl<'a> RunLine<'a> {
-    fn new(schedule: &'a Schedule, runs: u64, outcome: &'a Ended) -> RunLine<'a> {
-        RunLine {
-            schedule,
-            runs,
-            outcome,
-        }
-    }
-}
-
-impl Described for RunLine<'_> {}
-
-impl Serialize for RunLine<'_> {
-    fn serialize<S: Serializer>(&self, out: &mut S) -> Result<(), S::Error> {
-        out.begin_map(None)?;
-        put_number("runs", self.runs, out)?;
-        put_ends(self.schedule, self.outcome.ends.as_slice(), out)?;
-        put_rows(self.outcome.rows.items(), out)?;
-        put_flag("serial", self.outcome.serial, out)?;
-        out.end_map()
-    }
+/// Appends the line of an outcome, and of how many runs had it.
+fn put_ended(schedule: &Schedule, runs: u64, outcome: &Ended, lines: &mut Lines) {
+    lines.begin_line();
+    lines.put_number("runs", runs);
+    put_ends(schedule, outcome.ends.as_slice(), lines);
+    lines.put_rows(outcome.rows.items());
+    lines.put_flag("serial", outcome.serial);
+    lines.end_line();
 }

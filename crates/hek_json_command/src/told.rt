@@ -2,7 +2,7 @@
 ghost use Rattle.std.specs.Prelude.{◌≡◌, length};
 ghost use Rattle.hek_laws.specs.Runs.{IsPlaced};
 
-use hek_json::{Beside, put_plain, put_step};
+use hek_json::{Beside, Lines, put_plain, put_step};
 use hek_machine::Machine;
 use hek_rules::{Event, NoMemory, Schedule};
 use hek_why::{Dooms, Step, changes, reasons};
@@ -39,7 +39,7 @@ pub(crate) fn tell_step(
     telling: &mut Telling<'_>,
     machine: &mut Machine,
     event: &Event,
-    lines: &mut Vec<u8>,
+    out: &mut Lines,
 ) -> Result<(), NoMemory>
     requires placed { IsPlaced (length machine.old.buckets) event.now }
     ensures buckets { length machine.new.buckets ≡ length machine.old.buckets }
@@ -47,11 +47,12 @@ pub(crate) fn tell_step(
 {
     if telling.extras.why.is_some() || telling.extras.changes {
         let before = machine.copy()?;
-        return tell_from(alloc, telling, &before, machine, event, lines);
+        return tell_from(alloc, telling, &before, machine, event, out);
     }
     let reply = machine.step(*event)?;
     telling.done = telling.done.saturating_add(1);
-    put_plain(alloc, telling.schedule, telling.done, *event, &reply, lines)
+    put_plain(telling.schedule, telling.done, event, &reply, out);
+    Ok(())
 }
 
 /// Does an event on the machine, given a copy of it from before. Appends the line of its object, with what is asked for.
@@ -61,7 +62,7 @@ fn tell_from(
     before: &Machine,
     machine: &mut Machine,
     event: &Event,
-    lines: &mut Vec<u8>,
+    out: &mut Lines,
 ) -> Result<(), NoMemory>
     requires placed { IsPlaced (length machine.old.buckets) event.now }
     ensures buckets { length machine.new.buckets ≡ length machine.old.buckets }
@@ -75,7 +76,7 @@ fn tell_from(
         reply: &reply,
         after: machine,
     };
-    put_full(alloc, telling, &step, lines)?;
+    put_full(alloc, telling, &step, out)?;
     telling.dooms.note(before, *event, &reply)
 }
 
@@ -84,7 +85,7 @@ fn put_full(
     alloc: Global,
     telling: &Telling<'_>,
     step: &Step<'_>,
-    lines: &mut Vec<u8>,
+    out: &mut Lines,
 ) -> Result<(), NoMemory> {
     let Extras {
         why,
@@ -112,5 +113,6 @@ fn put_full(
             None
         },
     };
-    put_step(alloc, telling.schedule, telling.done, step, beside, lines)
+    put_step(telling.schedule, telling.done, step, beside, out);
+    Ok(())
 }
