@@ -159,7 +159,7 @@ impl Known<'_> {
             if let Some(before) = self.clock.last_before(tick) {
                 let first = self.clock.node(before);
                 let second = self.clock.node(place);
-                let _fact = self.begin_with(first, second, Rule::Later)?;
+                self.begin_with(first, second, Rule::Later)?;
             }
         }
         Ok(())
@@ -177,11 +177,13 @@ impl Known<'_> {
 
     /// A point is after the last tick before its time.
     fn leave_tick(&mut self, timed: Timed) -> Result<(), NoMemory> {
-        if let Some(before) = self.clock.last_before(timed.tick) {
-            let first = self.clock.node(before);
-            let _fact = self.begin_with(first, timed.node, Rule::Leave(timed.tick.0))?;
+        match self.clock.last_before(timed.tick) {
+            Some(before) => {
+                let first = self.clock.node(before);
+                self.begin_with(first, timed.node, Rule::Leave(timed.tick.0))
+            }
+            None => Ok(()),
         }
-        Ok(())
     }
 
     /// The points of a transaction that takes place are before the ticks of their times.
@@ -197,13 +199,11 @@ impl Known<'_> {
     /// A point of a transaction is before the tick of its time.
     fn enter_tick(&mut self, t: usize, timed: Timed) -> Result<(), Stop> {
         let node = self.clock.node(self.clock.place_of(timed.tick));
-        if self.taken_by(t).is_some() {
-            self.cite_taken(t)?;
-            let _fact = self.force(timed.node, node, Rule::Enter, 0)?;
-        } else {
-            let _fact = self.begin_with(timed.node, node, Rule::Enter)?;
+        if self.taken_by(t).is_none() {
+            return Ok(self.begin_with(timed.node, node, Rule::Enter)?);
         }
-        Ok(())
+        self.cite_taken(t)?;
+        self.force(timed.node, node, Rule::Enter, 0)
     }
 
     /// What the order that is asked for says of those who are known to have committed.

@@ -114,6 +114,11 @@ impl Facts {
         self.facts.len()
     }
 
+    /// The fact that was added last.
+    pub(crate) fn last(&self) -> usize {
+        self.facts.len().saturating_sub(1)
+    }
+
     pub(crate) fn get(&self, place: usize) -> Fact {
         at(self.facts.as_slice(), place, NOTHING)
     }

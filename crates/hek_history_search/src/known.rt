@@ -154,12 +154,12 @@ impl Known<'_> {
         first: usize,
         second: usize,
         rule: Rule,
-    ) -> Result<usize, NoMemory> {
+    ) -> Result<(), NoMemory> {
         let fact = self.facts.add(Says::Before { first, second }, rule, 0)?;
-        if first != OPENING {
-            self.graph.link(first, second, fact)?;
+        if first == OPENING {
+            return Ok(());
         }
-        Ok(fact)
+        self.graph.link(first, second, fact)
     }
 
     /// Notes that a fact is to be taken back with the decision of its level.
@@ -217,26 +217,30 @@ impl Known<'_> {
         self.graph.make_room(first, second)
     }
 
-    /// Adds that a moment is before another, which follows from what was cited. Answers the fact.
+    /// Adds that a moment is before another, which follows from what was cited.
     pub(crate) fn force(
         &mut self,
         first: usize,
         second: usize,
         rule: Rule,
         least: usize,
-    ) -> Result<usize, Stop> {
+    ) -> Result<(), Stop> {
         let fact = self.facts.add(Says::Before { first, second }, rule, least)?;
         if self.is_forbidden(first, second)? {
             self.cite_path()?;
             self.facts.cite(fact)?;
-            let conflict = self.facts.add(Says::Contradiction, Rule::Cycle, 0)?;
-            return Err(Stop::Conflict(conflict));
+            return self.contradict(Rule::Cycle);
         }
-        if first != OPENING {
-            self.graph.link(first, second, fact)?;
-            self.note(fact)?;
+        Ok(self.link_noted(first, second, fact)?)
+    }
+
+    /// Adds the edge of a fact, unless it is from the opening, and notes that it is to be taken back with the decision of its level.
+    fn link_noted(&mut self, first: usize, second: usize, fact: usize) -> Result<(), NoMemory> {
+        if first == OPENING {
+            return Ok(());
         }
-        Ok(fact)
+        self.graph.link(first, second, fact)?;
+        self.note(fact)
     }
 
     /// Adds a fact that follows from what was cited, and notes that it is to be taken back with the decision of its level.
@@ -267,7 +271,7 @@ impl Known<'_> {
             return Ok(true);
         }
         let level = self.open_decision(violation)?;
-        let _fact = self.force(first, second, Rule::Assumed, level)?;
+        self.force(first, second, Rule::Assumed, level)?;
         Ok(false)
     }
 
@@ -308,23 +312,23 @@ impl Known<'_> {
         let commit = self.nodes.of_source(self.problem, source);
         let begin = self.nodes.begin(reader);
         self.facts.cite(settled)?;
-        let read = self.force(commit, begin, Rule::Read(reading), 0)?;
-        Ok(self.take(source, read, reader)?)
+        self.force(commit, begin, Rule::Read(reading), 0)?;
+        Ok(self.take(source, reader)?)
     }
 
-    /// Adds that the transaction of a source takes place, since it is before a reader that does.
-    pub(crate) fn take(
-        &mut self,
-        source: Source,
-        read: usize,
-        reader: usize,
-    ) -> Result<(), NoMemory> {
-        let Some(t) = self.problem.transaction_of(source) else {
-            return Ok(());
-        };
-        if self.is_present(t) {
-            return Ok(());
+    /// Adds that the transaction of a source takes place, since by the last fact it is before a reader that does.
+    pub(crate) fn take(&mut self, source: Source, reader: usize) -> Result<(), NoMemory> {
+        if let Some(t) = self.problem.transaction_of(source) {
+            if !self.is_present(t) {
+                return self.add_taken(t, reader);
+            }
         }
+        Ok(())
+    }
+
+    /// Adds that a transaction takes place, since by the last fact it is before a reader that does.
+    fn add_taken(&mut self, t: usize, reader: usize) -> Result<(), NoMemory> {
+        let read = self.facts.last();
         self.facts.cite(read)?;
         self.cite_taken(reader)?;
         let fact = self.add_noted(Says::Taken(t), Rule::Inside, 0)?;

@@ -191,7 +191,10 @@ impl Problem<'_> {
 
     /// The transaction of a row.
     pub(crate) fn writer_of(&self, row: usize) -> Option<usize> {
-        Some(self.table.get(row)?.writer)
+        match self.table.get(row) {
+            Some(left) => Some(left.writer),
+            None => None,
+        }
     }
 
     /// The transaction of a source, if it isn't the opening.

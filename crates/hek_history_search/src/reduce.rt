@@ -290,8 +290,10 @@ impl Problem<'_> {
         self.table
             .sort_unstable_by_key(|row| (row.key, row.value, row.writer));
         for place in 0..self.table.len() {
-            let key = self.table[place].key;
-            self.begin_rows(key, place)?;
+            if let Some(row) = self.table.get(place) {
+                let key = row.key;
+                self.begin_rows(key, place)?;
+            }
         }
         let keys = self.keys.len();
         let rows = self.table.len();

@@ -21,8 +21,7 @@ impl Known<'_> {
     fn follow(&mut self, way: Way) -> Result<(), Stop> {
         self.facts.cite_option(way.source)?;
         self.cite_path()?;
-        let _fact = self.force(way.first, way.second, way.rule, 0)?;
-        Ok(())
+        self.force(way.first, way.second, way.rule, 0)
     }
 
     /// One of two ways holds: the other, if a path forbids one, or else the one to try first.

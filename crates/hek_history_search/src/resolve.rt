@@ -70,13 +70,10 @@ impl Known<'_> {
         self.undo(level)?;
         let rule = Rule::Case { decision, conflict };
         match self.facts.get(decision).says {
-            Says::Before { first, second } => {
-                let _fact = self.force(second, first, rule, level)?;
-            }
-            Says::Source { reading, source } => self.exclude(reading, source, rule, level)?,
-            Says::Not { .. } | Says::Taken(_) | Says::Contradiction => {}
+            Says::Before { first, second } => self.force(second, first, rule, level),
+            Says::Source { reading, source } => Ok(self.exclude(reading, source, rule, level)?),
+            Says::Not { .. } | Says::Taken(_) | Says::Contradiction => Ok(()),
         }
-        Ok(())
     }
 
     /// Resolves a conflict. Answers the one that rests on no decision, if it comes to that: then there is no explanation.

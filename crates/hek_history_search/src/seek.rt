@@ -20,15 +20,6 @@ pub(crate) enum Outcome {
     Unknown(usize),
 }
 
-/// What a step comes to.
-#[derive(Clone, Copy)]
-enum Stepped {
-    Done,
-    /// A decision was turned to its contrary.
-    Turned,
-    Refuted(usize),
-}
-
 /// What is left to do: violations to repair, the last one first, and how many repairs may still be made, one for which many nodes
 /// are looked at counting as several.
 #[derive(Drop)]
@@ -69,26 +60,33 @@ impl Known<'_> {
         self.activate_pending()
     }
 
-    /// Repairs the last violation. After a conflict it is still to be repaired, and so are those whose repairs were taken back.
-    fn step(&mut self, work: &mut Work) -> Result<Stepped, NoMemory> {
+    /// Repairs the last violation. Answers a conflict that rests on no decision, if it comes to that.
+    fn step(&mut self, work: &mut Work) -> Result<Option<usize>, NoMemory> {
         let next = work.replay.failed.pop();
         let before = self.graph.looked_at;
         let outcome = self.repair_one(next);
         work.spend(self.graph.looked_at.saturating_sub(before));
-        let conflict = match outcome {
-            Ok(()) => return Ok(Stepped::Done),
-            Err(Stop::NoMemory) => return Err(NoMemory),
-            Err(Stop::Conflict(conflict)) => conflict,
-        };
-        if let Some(last) = self.resolve(conflict)? {
-            return Ok(Stepped::Refuted(last));
+        match outcome {
+            Ok(()) => Ok(None),
+            Err(Stop::NoMemory) => Err(NoMemory),
+            Err(Stop::Conflict(conflict)) => self.turn_back(conflict, next, work),
         }
+    }
+
+    /// Resolves a conflict. The violation is still to be repaired, and so are those whose repairs were taken back.
+    fn turn_back(
+        &mut self,
+        conflict: usize,
+        next: Option<Violation>,
+        work: &mut Work,
+    ) -> Result<Option<usize>, NoMemory> {
+        let refuted = self.resolve(conflict)?;
         if let Some(violation) = next {
             add(&mut work.replay.failed, violation)?;
         }
         work.replay.failed.extend_from_slice(self.again.as_slice())?;
         self.again.clear();
-        Ok(Stepped::Turned)
+        Ok(refuted)
     }
 
     /// Repairs violations until none is left, or nothing is left of the effort. Answers a conflict that rests on no decision.
@@ -98,7 +96,7 @@ impl Known<'_> {
             if is_done || work.effort == 0 {
                 break;
             }
-            if let Stepped::Refuted(conflict) = self.step(work)? {
+            if let Some(conflict) = self.step(work)? {
                 return Ok(Some(conflict));
             }
         }

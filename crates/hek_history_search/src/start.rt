@@ -126,7 +126,7 @@ impl Known<'_> {
             let begin = self.nodes.begin(t);
             let commit = self.nodes.commit(t);
             if begin != commit {
-                let _fact = self.begin_with(begin, commit, Rule::Own)?;
+                self.begin_with(begin, commit, Rule::Own)?;
             }
         }
         Ok(())
@@ -144,8 +144,8 @@ impl Known<'_> {
             Choice::One(source) => {
                 let commit = self.nodes.of_source(self.problem, source);
                 let begin = self.nodes.begin(reader);
-                let read = self.begin_with(commit, begin, Rule::Read(place))?;
-                Ok(self.take(source, read, reader)?)
+                self.begin_with(commit, begin, Rule::Read(place))?;
+                Ok(self.take(source, reader)?)
             }
         }
     }
