@@ -99,6 +99,20 @@ pub(crate) struct Counts {
     pub of_one_key: bool,
 }
 
+/// The counts of no edge.
+pub(crate) const NO_COUNTS: Counts = Counts {
+    reads: 0,
+    overwritten: 0,
+    versions: 0,
+    winners: 0,
+    times: 0,
+    real: 0,
+    cases: 0,
+    missed: 0,
+    transactions: 0,
+    of_one_key: true,
+};
+
 impl Counts {
     /// Counts an edge.
     pub(crate) fn add(&mut self, kind: EdgeKind) {

@@ -1,20 +1,20 @@
 //! The cause of a conflict: its name, and the cycle that shows it.
-use crate::anomalies::{Anomaly, Cause, Counts, CycleEdge, EdgeKind};
+use crate::anomalies::{Anomaly, Cause, Counts, CycleEdge, EdgeKind, NO_COUNTS};
 use crate::facts::{Rule, Says};
 use crate::known::Known;
-use crate::lists::part;
-use crate::problem::{Reading, Source};
+use crate::lists::add;
+use crate::problem::Reading;
 use hek_history::{Need, Operation, Order, Status, Writer};
 use hek_rules::NoMemory;
 
-/// A cycle as it is gathered.
-#[derive(Drop)]
-struct Gathered<'a, 'b> {
-    known: &'a Known<'b>,
-    edges: Vec<CycleEdge>,
+/// What is counted while a cycle is gathered.
+#[derive(Clone, Copy)]
+struct Gathered {
     counts: Counts,
+    /// The key of the last edge that has one.
+    key: Option<u64>,
     /// From whom the way along the clock comes.
-    entered: Writer,
+    entered: Option<usize>,
 }
 
 /// Whether two writers are one.
@@ -26,8 +26,8 @@ fn is_same(first: Writer, second: Writer) -> bool {
     }
 }
 
-/// Whether an operation writes the value of a need at a key.
-fn writes_value(operation: &Operation, key: u64, need: Need) -> bool {
+/// Whether an operation writes a value at a key.
+fn writes_value(operation: &Operation, key: u64, wanted: u64) -> bool {
     let (name, value, done) = match operation {
         Operation::Put(name, value) => (*name, *value, true),
         Operation::Insert(name, value, done) | Operation::Update(name, value, done) => {
@@ -35,103 +35,120 @@ fn writes_value(operation: &Operation, key: u64, need: Need) -> bool {
         }
         _ => return false,
     };
-    match need {
-        Need::Value(wanted) => done && name == key && value == wanted,
-        _ => false,
+    done && name == key && value == wanted
+}
+
+/// Whether one of these operations writes a value at a key.
+fn write_value(operations: &[Operation], key: u64, wanted: u64) -> bool {
+    for operation in operations {
+        if writes_value(operation, key, wanted) {
+            return true;
+        }
+    }
+    false
+}
+
+/// A transaction as a writer, or the opening.
+fn writer_of(transaction: Option<usize>) -> Writer {
+    match transaction {
+        Some(t) => Writer::Transaction(t),
+        None => Writer::Opening,
     }
 }
 
 impl Known<'_> {
-    /// The transaction of a node, or the opening.
-    fn writer_at(&self, node: usize) -> Writer {
-        match self.nodes.transaction(node) {
-            Some(t) => Writer::Transaction(t),
-            None => Writer::Opening,
-        }
-    }
-
-    /// What a writer left at a key.
-    fn value_left(&self, writer: Writer, key: usize) -> Option<u64> {
+    /// What a transaction, or the opening, left at a key.
+    fn value_left(&self, writer: Option<usize>, key: usize) -> Option<u64> {
         match writer {
-            Writer::Opening => self.problem.opening_at(key),
-            Writer::Transaction(t) => self.problem.left_at(t, key)?.value,
+            None => self.problem.opening_at(key),
+            Some(t) => self.problem.left_at(t, key)?.value,
         }
     }
 
-    /// An edge without a key.
-    fn plain_edge(&self, kind: EdgeKind, first: Writer, second: Writer) -> CycleEdge {
-        CycleEdge {
+    /// An edge, which may be by a key, and by what was read.
+    fn edge(
+        &self,
+        kind: EdgeKind,
+        between: (Option<usize>, Option<usize>),
+        by: Option<usize>,
+        read: Option<Need>,
+    ) -> CycleEdge {
+        let (first, second) = between;
+        let mut edge = CycleEdge {
             kind,
-            first,
-            second,
+            first: writer_of(first),
+            second: writer_of(second),
             key: None,
-            read: None,
+            read,
             written: None,
+        };
+        if let Some(key) = by {
+            let writer = match kind {
+                EdgeKind::Overwritten => second,
+                _ => first,
+            };
+            edge.key = Some(self.problem.keys.name(key));
+            edge.written = Some(self.value_left(writer, key));
         }
+        edge
     }
 
-    /// An edge by a key.
-    fn key_edge(&self, kind: EdgeKind, first: Writer, second: Writer, key: usize) -> CycleEdge {
-        CycleEdge {
-            key: Some(self.problem.keys.name(key)),
-            written: Some(self.value_left(first, key)),
-            ..self.plain_edge(kind, first, second)
-        }
-    }
-
-    /// An edge by a reading.
-    fn read_edge(&self, kind: EdgeKind, first: Writer, second: Writer, place: usize) -> CycleEdge {
-        let reading = self.problem.reading(place);
-        let edge = self.key_edge(kind, first, second, reading.key);
-        match kind {
-            EdgeKind::Overwritten => CycleEdge {
-                read: Some(reading.need),
-                written: Some(self.value_left(second, reading.key)),
-                ..edge
-            },
-            EdgeKind::Read => CycleEdge {
-                read: Some(reading.need),
-                ..edge
-            },
-            _ => edge,
-        }
-    }
-
-    /// The edge of a fact, if it says more than that a transaction begins before it commits.
-    fn edge_of(&self, rule: Rule, first: Writer, second: Writer) -> Option<CycleEdge> {
+    /// The kind of the edge of a fact, if it says more than that a transaction begins before it commits.
+    fn kind_of(&self, rule: Rule) -> Option<EdgeKind> {
         match rule {
-            Rule::Read(reading) => Some(self.read_edge(EdgeKind::Read, first, second, reading)),
-            Rule::After(reading) => {
-                Some(self.read_edge(EdgeKind::Overwritten, first, second, reading))
-            }
-            Rule::Precedes(reading) => {
-                Some(self.read_edge(EdgeKind::Version, first, second, reading))
-            }
-            Rule::Winner { key, .. } => {
-                Some(self.key_edge(EdgeKind::FirstCommitter, first, second, key))
-            }
-            Rule::Case { .. } => Some(self.plain_edge(EdgeKind::Cases, first, second)),
-            Rule::Leave(key) => Some(match self.problem.order {
-                Order::Versions => self.key_edge(EdgeKind::Version, first, second, key),
-                Order::Times => self.plain_edge(EdgeKind::Time, first, second),
-                Order::Any | Order::Real => self.plain_edge(EdgeKind::RealTime, first, second),
+            Rule::Read(_) => Some(EdgeKind::Read),
+            Rule::After(_) => Some(EdgeKind::Overwritten),
+            Rule::Precedes(_) => Some(EdgeKind::Version),
+            Rule::Winner { .. } => Some(EdgeKind::FirstCommitter),
+            Rule::Case { .. } => Some(EdgeKind::Cases),
+            Rule::Leave(_) => Some(match self.problem.order {
+                Order::Versions => EdgeKind::Version,
+                Order::Times => EdgeKind::Time,
+                Order::Any | Order::Real => EdgeKind::RealTime,
             }),
+            _ => None,
+        }
+    }
+
+    /// The key by which a fact is.
+    fn key_of(&self, rule: Rule) -> Option<usize> {
+        match rule {
+            Rule::Read(reading) | Rule::After(reading) | Rule::Precedes(reading) => {
+                Some(self.problem.reading(reading).key)
+            }
+            Rule::Winner { key, .. } => Some(key),
+            Rule::Leave(key) => {
+                if self.problem.order == Order::Versions {
+                    Some(key)
+                } else {
+                    None
+                }
+            }
+            _ => None,
+        }
+    }
+
+    /// What was read, where a fact is by a read.
+    fn read_by(&self, rule: Rule) -> Option<Need> {
+        match rule {
+            Rule::Read(reading) | Rule::After(reading) => Some(self.problem.reading(reading).need),
             _ => None,
         }
     }
 
     /// Who wrote the value of a reading and left something else, or aborted: the transaction, with the anomaly.
     fn hidden_writer(&self, reading: Reading) -> Option<(usize, Anomaly)> {
+        let Need::Value(wanted) = reading.need else {
+            return None;
+        };
         let key = self.problem.keys.name(reading.key);
         for (t, transaction) in self.problem.history.transactions.iter().enumerate() {
-            for operation in &transaction.operations {
-                if writes_value(operation, key, reading.need) {
-                    if transaction.status == Status::Aborted {
-                        return Some((t, Anomaly::AbortedRead));
-                    }
-                    if t != reading.reader {
-                        return Some((t, Anomaly::IntermediateRead));
-                    }
+            if write_value(transaction.operations.as_slice(), key, wanted) {
+                if transaction.status == Status::Aborted {
+                    return Some((t, Anomaly::AbortedRead));
+                }
+                if t != reading.reader {
+                    return Some((t, Anomaly::IntermediateRead));
                 }
             }
         }
@@ -140,21 +157,16 @@ impl Known<'_> {
 
     /// The edge by which a candidate is excluded, if another wrote the key between it and the reader.
     fn covered_edge(&self, fact: usize) -> Option<CycleEdge> {
-        let found = self.facts.get(fact);
-        let (Says::Not { reading, source }, Rule::NotCovered(count)) = (found.says, found.rule)
-        else {
+        let Rule::NotCovered(count) = self.facts.get(fact).rule else {
             return None;
         };
-        let last = part(self.facts.premises(fact), 0, count).last()?;
-        let Says::Before { second, .. } = self.facts.get(*last).says else {
+        let Says::Not { reading, source } = self.facts.get(fact).says else {
             return None;
         };
-        let writer = match source {
-            Source::Opening => Writer::Opening,
-            Source::Row(row) => Writer::Transaction(self.problem.writer_of(row)?),
-        };
+        let first = self.problem.transaction_of(source);
+        let second = self.nodes.transaction(self.facts.path_end(fact, count));
         let key = self.problem.reading(reading).key;
-        Some(self.key_edge(EdgeKind::Version, writer, self.writer_at(second), key))
+        Some(self.edge(EdgeKind::Version, (first, second), Some(key), None))
     }
 
     /// Whether a conflict rests on a fact that excludes a source.
@@ -168,101 +180,102 @@ impl Known<'_> {
     }
 
     /// A reading without a source: the reading first, and then the candidates that another wrote over before it.
-    fn cause_of_reading(&self, conflict: usize, place: usize) -> Result<Cause, NoMemory> {
+    fn explain_reading(
+        &self,
+        conflict: usize,
+        place: usize,
+        cause: &mut Cause,
+    ) -> Result<(), NoMemory> {
         let reading = self.problem.reading(place);
-        let mut cycle = Vec::new(self.alloc);
-        let mut edge = self.plain_edge(
-            EdgeKind::Read,
-            Writer::Opening,
-            Writer::Transaction(reading.reader),
-        );
-        edge.key = Some(self.problem.keys.name(reading.key));
-        edge.read = Some(reading.need);
-        let mut anomaly = Anomaly::NoSource;
+        let mut writer = None;
+        cause.anomaly = Anomaly::NoSource;
         if !self.is_excluded_from(conflict) {
-            anomaly = Anomaly::UnwrittenRead;
+            cause.anomaly = Anomaly::UnwrittenRead;
             if let Some((t, name)) = self.hidden_writer(reading) {
-                anomaly = name;
-                edge.first = Writer::Transaction(t);
+                cause.anomaly = name;
+                writer = Some(t);
             }
         }
-        cycle.push(edge)?;
+        let read = CycleEdge {
+            key: Some(self.problem.keys.name(reading.key)),
+            ..self.edge(
+                EdgeKind::Read,
+                (writer, Some(reading.reader)),
+                None,
+                Some(reading.need),
+            )
+        };
+        add(&mut cause.cycle, read)?;
         for premise in self.facts.premises(conflict) {
             if let Some(covered) = self.covered_edge(*premise) {
-                cycle.push(covered)?;
+                add(&mut cause.cycle, covered)?;
             }
         }
-        Ok(Cause { anomaly, cycle })
+        Ok(())
     }
 
     /// What a conflict is called, with its cycle.
     pub(crate) fn cause_of(&self, conflict: usize) -> Result<Cause, NoMemory> {
+        let mut cause = Cause {
+            anomaly: Anomaly::NoOrder,
+            cycle: Vec::new(self.alloc),
+        };
+        self.explain(conflict, &mut cause)?;
+        Ok(cause)
+    }
+
+    /// Names a conflict, and gathers its cycle.
+    fn explain(&self, conflict: usize, cause: &mut Cause) -> Result<(), NoMemory> {
         match self.facts.get(conflict).rule {
-            Rule::NoSource(reading) => self.cause_of_reading(conflict, reading),
-            Rule::OwnAnswers(transaction) => {
-                let mut cycle = Vec::new(self.alloc);
-                let t = Writer::Transaction(transaction);
-                cycle.push(self.plain_edge(EdgeKind::Cases, t, t))?;
-                let anomaly = match self.problem.fault_of(transaction) {
-                    Some(fault) => Anomaly::OwnAnswers(fault),
-                    None => Anomaly::NoOrder,
-                };
-                Ok(Cause { anomaly, cycle })
+            Rule::NoSource(reading) => self.explain_reading(conflict, reading, cause),
+            Rule::OwnAnswers(t) => {
+                if let Some(fault) = self.problem.fault_of(t) {
+                    cause.anomaly = Anomaly::OwnAnswers(fault);
+                }
+                let edge = self.edge(EdgeKind::Cases, (Some(t), Some(t)), None, None);
+                add(&mut cause.cycle, edge)
             }
-            _ => self.cause_of_cycle(conflict),
+            _ => self.explain_cycle(conflict, cause),
         }
     }
 
-    /// A cycle by name, with its edges.
-    fn cause_of_cycle(&self, conflict: usize) -> Result<Cause, NoMemory> {
+    /// Names a cycle, and gathers its edges.
+    fn explain_cycle(&self, conflict: usize, cause: &mut Cause) -> Result<(), NoMemory> {
         let mut gathered = Gathered {
-            known: self,
-            edges: Vec::new(self.alloc),
-            counts: Counts {
-                reads: 0,
-                overwritten: 0,
-                versions: 0,
-                winners: 0,
-                times: 0,
-                real: 0,
-                cases: 0,
-                missed: 0,
-                transactions: 0,
-                of_one_key: true,
-            },
-            entered: Writer::Opening,
+            counts: NO_COUNTS,
+            key: None,
+            entered: None,
         };
-        for fact in &self.facts.turned_cycle(self.alloc, conflict)? {
-            gathered.take(*fact)?;
+        let start = self.facts.cycle_start(conflict);
+        for turn in 0..self.facts.premises(conflict).len() {
+            let fact = self.facts.premise(conflict, start.saturating_add(turn));
+            if let Some(edge) = self.edge_of(fact, &mut gathered) {
+                gathered.count(edge, cause.cycle.as_slice());
+                add(&mut cause.cycle, edge)?;
+            }
         }
-        Ok(Cause {
-            anomaly: gathered.counts.name(),
-            cycle: std::mem::replace(&mut gathered.edges, Vec::new(self.alloc)),
-        })
+        cause.anomaly = gathered.counts.name();
+        Ok(())
+    }
+
+    /// The edge of a fact of a cycle, if it has one.
+    fn edge_of(&self, fact: usize, gathered: &mut Gathered) -> Option<CycleEdge> {
+        let rule = self.facts.get(fact).rule;
+        let (from, to) = self.facts.ends(fact);
+        let mut first = self.nodes.transaction(from);
+        match rule {
+            Rule::Enter => gathered.entered = first,
+            Rule::Leave(_) => first = gathered.entered,
+            Rule::After(reading) => gathered.count_missed(self.problem.reading(reading)),
+            _ => {}
+        }
+        let kind = self.kind_of(rule)?;
+        let second = self.nodes.transaction(to);
+        Some(self.edge(kind, (first, second), self.key_of(rule), self.read_by(rule)))
     }
 }
 
-impl Gathered<'_, '_> {
-    /// Takes a fact of the cycle.
-    fn take(&mut self, place: usize) -> Result<(), NoMemory> {
-        let fact = self.known.facts.get(place);
-        let Says::Before { first, second } = fact.says else {
-            return Ok(());
-        };
-        let mut before = self.known.writer_at(first);
-        match fact.rule {
-            Rule::Enter => self.entered = before,
-            Rule::Leave(_) => before = self.entered,
-            Rule::After(reading) => self.count_missed(self.known.problem.reading(reading)),
-            _ => {}
-        }
-        let after = self.known.writer_at(second);
-        match self.known.edge_of(fact.rule, before, after) {
-            Some(edge) => self.add(edge),
-            None => Ok(()),
-        }
-    }
-
+impl Gathered {
     /// Counts a reading in which a scan shows that a key is absent.
     fn count_missed(&mut self, reading: Reading) {
         if let Need::Absent = reading.need {
@@ -272,22 +285,20 @@ impl Gathered<'_, '_> {
         }
     }
 
-    /// Adds an edge.
-    fn add(&mut self, edge: CycleEdge) -> Result<(), NoMemory> {
+    /// Counts an edge after the others of its cycle.
+    fn count(&mut self, edge: CycleEdge, others: &[CycleEdge]) {
         self.counts.add(edge.kind);
-        let mut is_new = true;
-        for one in &self.edges {
+        if let Some(key) = edge.key {
+            if let Some(other) = self.key {
+                self.counts.of_one_key = self.counts.of_one_key && key == other;
+            }
+            self.key = edge.key;
+        }
+        for one in others {
             if is_same(one.first, edge.first) {
-                is_new = false;
-            }
-            if one.key.is_some() && edge.key.is_some() && one.key != edge.key {
-                self.counts.of_one_key = false;
+                return;
             }
         }
-        if is_new {
-            self.counts.transactions = self.counts.transactions.saturating_add(1);
-        }
-        self.edges.push(edge)?;
-        Ok(())
+        self.counts.transactions = self.counts.transactions.saturating_add(1);
     }
 }

@@ -2,7 +2,7 @@
 //! one, and the last tick before a time is before the points that come after it.
 use crate::facts::{Rule, Says, Stop};
 use crate::known::Known;
-use crate::lists::at;
+use crate::lists::{add, at};
 use crate::nodes::Nodes;
 use crate::problem::Problem;
 use hek_history::Order;
@@ -26,83 +26,94 @@ struct Timed {
     node: usize,
 }
 
-/// The times of a transaction's points, with their nodes: of those that others are before, or of those that are before others.
-fn times_of(problem: &Problem, nodes: &Nodes, t: usize, enters: bool) -> [(Option<u64>, usize); 2] {
-    let outline = problem.outline(t);
-    let begin = nodes.begin(t);
-    let commit = nodes.commit(t);
-    match problem.order {
-        Order::Any => [(None, begin), (None, commit)],
-        Order::Versions => [(None, begin), (outline.end, commit)],
-        Order::Times => {
-            if begin == commit {
-                [(None, begin), (outline.end, commit)]
-            } else {
-                [(outline.begin, begin), (outline.end, commit)]
-            }
-        }
-        Order::Real => {
-            if enters {
-                [(None, begin), (outline.answered, commit)]
-            } else {
-                [(outline.invoked, begin), (None, commit)]
-            }
-        }
+/// How many points of a transaction may go by times.
+fn timed_len(problem: &Problem, t: usize) -> usize {
+    if problem.order == Order::Versions {
+        problem.left_by(t).len()
+    } else {
+        2
     }
 }
 
-/// The points of a transaction that go by times: those that others are before, or those that are before others.
+/// The time of a transaction's begin, or of its commit: of the points that others are before, or of those that are before others.
+fn given_time(problem: &Problem, t: usize, is_commit: bool, enters: bool) -> Option<u64> {
+    let transaction = problem.history.transactions.get(t)?;
+    match (problem.order, is_commit) {
+        (Order::Versions | Order::Times, true) => transaction.end,
+        (Order::Times, false) => {
+            if problem.is_snapshot(t) {
+                transaction.begin
+            } else {
+                None
+            }
+        }
+        (Order::Real, true) => { if enters { transaction.answered } else { None } }
+        (Order::Real, false) => { if enters { None } else { transaction.invoked } }
+        _ => None,
+    }
+}
+
+/// The point of a transaction at a place among those that go by times, of which those that others are before, or those that are
+/// before others: in the order of versions its commit for each key that it leaves, and otherwise its begin and its commit.
 fn timed_of(
-    alloc: Global,
     problem: &Problem,
     nodes: &Nodes,
     t: usize,
+    place: usize,
     enters: bool,
-) -> Result<Vec<Timed>, NoMemory> {
-    let mut list = Vec::new(alloc);
-    for (given, node) in times_of(problem, nodes, t, enters) {
-        let Some(time) = given else {
-            continue;
-        };
-        if problem.order != Order::Versions {
-            list.push(Timed {
-                tick: (0, time),
-                node,
-            })?;
-            continue;
-        }
-        for left in problem.left_by(t) {
-            list.push(Timed {
-                tick: (left.key, time),
-                node,
-            })?;
-        }
-    }
-    Ok(list)
+) -> Option<Timed> {
+    let is_by_key = problem.order == Order::Versions;
+    let is_commit = is_by_key || place == 1;
+    let time = given_time(problem, t, is_commit, enters)?;
+    let lane = if is_by_key {
+        problem.left_by(t).get(place)?.key
+    } else {
+        0
+    };
+    let node = if is_commit {
+        nodes.commit(t)
+    } else {
+        nodes.begin(t)
+    };
+    Some(Timed {
+        tick: (lane, time),
+        node,
+    })
 }
 
 impl Clock {
-    /// The clock of a problem, with its nodes.
-    pub(crate) fn of(
-        alloc: Global,
-        problem: &Problem,
-        nodes: &mut Nodes,
-    ) -> Result<Clock, NoMemory> {
-        let mut ticks = Vec::new(alloc);
+    /// A clock without a tick.
+    pub(crate) fn new(alloc: Global) -> Clock {
+        Clock {
+            ticks: Vec::new(alloc),
+            first: 0,
+        }
+    }
+
+    /// Adds the ticks of a problem, and their nodes.
+    pub(crate) fn fill(&mut self, problem: &Problem, nodes: &mut Nodes) -> Result<(), NoMemory> {
         for t in 0..problem.transactions() {
             if problem.is_possible(t) {
-                for timed in &timed_of(alloc, problem, nodes, t, true)? {
-                    ticks.push(timed.tick)?;
-                }
+                self.add_times(problem, nodes, t)?;
             }
         }
-        ticks.sort_unstable();
-        ticks.dedup();
-        let first = nodes.len();
-        for _ in 0..ticks.len() {
-            let _node = nodes.add(None)?;
+        self.ticks.sort_unstable();
+        self.ticks.dedup();
+        self.first = nodes.len();
+        for _ in 0..self.ticks.len() {
+            nodes.add(None)?;
         }
-        Ok(Clock { ticks, first })
+        Ok(())
+    }
+
+    /// Adds a tick for each point of a transaction that others are before.
+    fn add_times(&mut self, problem: &Problem, nodes: &Nodes, t: usize) -> Result<(), NoMemory> {
+        for place in 0..timed_len(problem, t) {
+            if let Some(timed) = timed_of(problem, nodes, t, place, true) {
+                add(&mut self.ticks, timed.tick)?;
+            }
+        }
+        Ok(())
     }
 
     /// The place of the first tick that isn't before another.
@@ -148,7 +159,7 @@ impl Known<'_> {
             if let Some(before) = self.clock.last_before(tick) {
                 let first = self.clock.node(before);
                 let second = self.clock.node(place);
-                let _fact = self.begin_with(first, second, Rule::Later)?;
+                self.begin_with(first, second, Rule::Later)?;
             }
         }
         Ok(())
@@ -156,29 +167,43 @@ impl Known<'_> {
 
     /// The points of a transaction are after the last tick before their times.
     fn add_leaving(&mut self, t: usize) -> Result<(), NoMemory> {
-        for timed in &timed_of(self.alloc, self.problem, &self.nodes, t, false)? {
-            if let Some(before) = self.clock.last_before(timed.tick) {
-                let first = self.clock.node(before);
-                let key = timed.tick.0;
-                let _fact = self.begin_with(first, timed.node, Rule::Leave(key))?;
+        for place in 0..timed_len(self.problem, t) {
+            if let Some(timed) = timed_of(self.problem, &self.nodes, t, place, false) {
+                self.leave_tick(timed)?;
             }
         }
         Ok(())
     }
 
+    /// A point is after the last tick before its time.
+    fn leave_tick(&mut self, timed: Timed) -> Result<(), NoMemory> {
+        match self.clock.last_before(timed.tick) {
+            Some(before) => {
+                let first = self.clock.node(before);
+                self.begin_with(first, timed.node, Rule::Leave(timed.tick.0))
+            }
+            None => Ok(()),
+        }
+    }
+
     /// The points of a transaction that takes place are before the ticks of their times.
     pub(crate) fn enter(&mut self, t: usize) -> Result<(), Stop> {
-        for timed in &timed_of(self.alloc, self.problem, &self.nodes, t, true)? {
-            let place = self.clock.place_of(timed.tick);
-            let node = self.clock.node(place);
-            if self.taken_by(t).is_some() {
-                self.cite_taken(t)?;
-                let _fact = self.force(timed.node, node, Rule::Enter, 0)?;
-            } else {
-                let _fact = self.begin_with(timed.node, node, Rule::Enter)?;
+        for place in 0..timed_len(self.problem, t) {
+            if let Some(timed) = timed_of(self.problem, &self.nodes, t, place, true) {
+                self.enter_tick(t, timed)?;
             }
         }
         Ok(())
+    }
+
+    /// A point of a transaction is before the tick of its time.
+    fn enter_tick(&mut self, t: usize, timed: Timed) -> Result<(), Stop> {
+        let node = self.clock.node(self.clock.place_of(timed.tick));
+        if self.taken_by(t).is_none() {
+            return Ok(self.begin_with(timed.node, node, Rule::Enter)?);
+        }
+        self.cite_taken(t)?;
+        self.force(timed.node, node, Rule::Enter, 0)
     }
 
     /// What the order that is asked for says of those who are known to have committed.

@@ -1,5 +1,4 @@
 //! A short cycle among the nodes that an order left out.
-use crate::graph::Reached;
 use crate::known::Known;
 use crate::lists::at;
 use crate::nodes::OPENING;
@@ -13,7 +12,7 @@ const FOR_EACH: usize = 1000;
 impl Known<'_> {
     /// The length of the shortest cycle through a node, if one is found within so many nodes: the way along the clock counts as one.
     fn length_through(&mut self, node: usize, limit: usize) -> Result<usize, NoMemory> {
-        if self.graph.find_cycle(node, limit)? != Reached::Yes {
+        if !self.graph.find_cycle(node, limit)? {
             return Ok(usize::MAX);
         }
         let mut length: usize = 0;
@@ -26,11 +25,11 @@ impl Known<'_> {
     }
 
     /// A node on a cycle that leads to one that was left out: each of these is kept back by another.
-    fn on_a_cycle(&self, is_placed: &[bool], from: usize) -> usize {
+    fn on_a_cycle(&self, held: &[usize], from: usize) -> usize {
         let mut node = from;
         for _ in 0..self.graph.len() {
             for edge in self.graph.edges_into(node) {
-                if !at(is_placed, edge.node, true) {
+                if at(held, edge.node, 0) > 0 {
                     node = edge.node;
                     break;
                 }
@@ -39,12 +38,12 @@ impl Known<'_> {
         node
     }
 
-    /// Finds a short cycle among the nodes that an order left out: its facts are the path of the graph.
-    pub(crate) fn find_short_cycle(&mut self, is_placed: &[bool]) -> Result<(), NoMemory> {
+    /// Finds a short cycle among the nodes that an order left out, each held back by some edges: its facts are the path of the graph.
+    pub(crate) fn find_short_cycle(&mut self, held: &[usize]) -> Result<(), NoMemory> {
         let mut best = OPENING;
         let mut least = usize::MAX;
         for node in 0..self.graph.len() {
-            if at(is_placed, node, true) {
+            if at(held, node, 0) == 0 {
                 continue;
             }
             if least <= 2 || self.graph.looked_at > LOOKED_AT {
@@ -53,7 +52,7 @@ impl Known<'_> {
             let mut start = node;
             let mut limit = FOR_EACH;
             if least == usize::MAX {
-                start = self.on_a_cycle(is_placed, node);
+                start = self.on_a_cycle(held, node);
                 limit = usize::MAX;
             }
             let length = self.length_through(start, limit)?;

@@ -1,9 +1,9 @@
 //! What the search has found or assumed, each fact with its rule and the facts on which it rests.
-use crate::lists::{at, part};
+use crate::lists::{add, at, part};
 use crate::nodes::OPENING;
 use crate::problem::Source;
 use hek_rules::NoMemory;
-use std::alloc::{AllocError, AllocFailed, Global};
+use std::alloc::Global;
 
 /// What a fact says.
 #[derive(Clone, Copy)]
@@ -114,6 +114,11 @@ impl Facts {
         self.facts.len()
     }
 
+    /// The fact that was added last.
+    pub(crate) fn last(&self) -> usize {
+        self.facts.len().saturating_sub(1)
+    }
+
     pub(crate) fn get(&self, place: usize) -> Fact {
         at(self.facts.as_slice(), place, NOTHING)
     }
@@ -126,8 +131,7 @@ impl Facts {
 
     /// Cites a fact for the next one.
     pub(crate) fn cite(&mut self, fact: usize) -> Result<(), NoMemory> {
-        self.premises.push(fact)?;
-        Ok(())
+        add(&mut self.premises, fact)
     }
 
     /// Cites a fact for the next one, if there is one.
@@ -157,27 +161,30 @@ impl Facts {
         for premise in part(self.premises.as_slice(), from, to) {
             level = level.max(self.get(*premise).level);
         }
-        let place = self.facts.len();
-        self.facts.push(Fact {
+        self.cited = to;
+        self.push(Fact {
             says,
             rule,
             level,
             from,
             to,
-        })?;
-        self.cited = to;
+        })
+    }
+
+    /// Adds a fact. Answers its place.
+    fn push(&mut self, fact: Fact) -> Result<usize, NoMemory> {
+        let place = self.facts.len();
+        add(&mut self.facts, fact)?;
         Ok(place)
     }
 
     /// Adds a fact that rests on no other, while others are cited for the next one.
     pub(crate) fn add_apart(&mut self, says: Says, rule: Rule) -> Result<usize, NoMemory> {
-        let place = self.facts.len();
-        self.facts.push(Fact {
+        self.push(Fact {
             says,
             rule,
             ..NOTHING
-        })?;
-        Ok(place)
+        })
     }
 
     /// The first of the premises that says that a transaction takes place.
@@ -200,22 +207,53 @@ impl Facts {
         None
     }
 
-    /// The facts of a cycle, from one on whose first node is no tick of the clock.
-    pub(crate) fn turned_cycle(&self, alloc: Global, cycle: usize) -> Result<Vec<usize>, NoMemory> {
-        let all = self.premises(cycle);
-        let mut start = 0;
-        for (place, fact) in all.iter().enumerate() {
-            match self.get(*fact).rule {
-                Rule::Later | Rule::Leave(_) => {}
-                _ => {
-                    start = place;
-                    break;
+    /// A premise by its place; after the last one comes the first again.
+    pub(crate) fn premise(&self, fact: usize, place: usize) -> usize {
+        let all = self.premises(fact);
+        let turned = if place < all.len() {
+            place
+        } else {
+            place.saturating_sub(all.len())
+        };
+        at(all, turned, usize::MAX)
+    }
+
+    /// The nodes of a fact that one moment is before another.
+    pub(crate) fn ends(&self, fact: usize) -> (usize, usize) {
+        match self.get(fact).says {
+            Says::Before { first, second } => (first, second),
+            _ => (OPENING, OPENING),
+        }
+    }
+
+    /// The node at the end of the path that so many of the first premises of a fact are.
+    pub(crate) fn path_end(&self, fact: usize, count: usize) -> usize {
+        let last = self.premise(fact, count.saturating_sub(1));
+        self.ends(last).1
+    }
+
+    /// The first of the premises of a fact that excludes a source.
+    pub(crate) fn exclusion(&self, fact: usize, source: Source) -> usize {
+        for premise in self.premises(fact) {
+            if let Says::Not { source: other, .. } = self.get(*premise).says {
+                if other == source {
+                    return *premise;
                 }
             }
         }
-        let mut turned = Vec::from_slice(alloc, part(all, start, all.len()))?;
-        turned.extend_from_slice(part(all, 0, start))?;
-        Ok(turned)
+        usize::MAX
+    }
+
+    /// The place in a cycle of the first fact whose first node is no tick of the clock.
+    pub(crate) fn cycle_start(&self, cycle: usize) -> usize {
+        let mut start: usize = 0;
+        for fact in self.premises(cycle) {
+            match self.get(*fact).rule {
+                Rule::Later | Rule::Leave(_) => start = start.saturating_add(1),
+                _ => return start,
+            }
+        }
+        0
     }
 
     /// Whether a fact leads to a tick of the clock.
@@ -236,18 +274,6 @@ pub(crate) enum Stop {
 
 impl From<NoMemory> for Stop {
     fn from(_error: NoMemory) -> Stop {
-        Stop::NoMemory
-    }
-}
-
-impl From<AllocError> for Stop {
-    fn from(_error: AllocError) -> Stop {
-        Stop::NoMemory
-    }
-}
-
-impl<T: Drop> From<AllocFailed<T>> for Stop {
-    fn from(_error: AllocFailed<T>) -> Stop {
         Stop::NoMemory
     }
 }

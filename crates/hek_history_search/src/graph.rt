@@ -1,5 +1,5 @@
 //! A graph whose nodes are kept in an order that agrees with its edges.
-use crate::lists::{at, list_at, put};
+use crate::lists::{add, add_in, at, list_at, put};
 use hek_rules::NoMemory;
 use std::alloc::Global;
 
@@ -11,32 +11,39 @@ pub(crate) struct Edge {
 }
 
 /// No edge.
-pub(crate) const NO_EDGE: Edge = Edge { fact: 0, node: 0 };
+const NO_EDGE: Edge = Edge { fact: 0, node: 0 };
 
-/// Whether a node is reached by a path.
-#[derive(Clone, Copy, PartialEq, Eq)]
-pub(crate) enum Reached {
-    /// By the facts of the path that the graph has found.
-    Yes,
-    No,
-    /// The search gave up.
-    Unknown,
+/// What is noted of a node.
+#[derive(Clone, Copy)]
+struct Mark {
+    /// Its place in the order.
+    place: usize,
+    /// The turn in which it was last seen, and the edge by which it was reached then.
+    seen: usize,
+    reached_by: Edge,
 }
+
+/// The mark past the end.
+const NO_MARK: Mark = Mark {
+    place: 0,
+    seen: 0,
+    reached_by: NO_EDGE,
+};
 
 /// Edges in both directions, and an order of the nodes.
 #[derive(Drop)]
 pub(crate) struct Graph {
     out: Vec<Vec<Edge>>,
     into: Vec<Vec<Edge>>,
-    /// The place of each node in the order, and the nodes in order.
-    place: Vec<usize>,
+    marks: Vec<Mark>,
+    /// The nodes in order.
     order: Vec<usize>,
-    /// The turn in which a node was last seen, and the edge by which it was reached then.
-    seen: Vec<usize>,
-    reached_by: Vec<Edge>,
     turn: usize,
     /// The nodes that were seen, in the order in which they were.
     queue: Vec<usize>,
+    /// The nodes that are to be moved, and places of nodes.
+    moved: Vec<usize>,
+    places: Vec<usize>,
     /// The facts of the path that was found last.
     pub path: Vec<usize>,
     /// How many nodes paths were looked for from.
@@ -49,12 +56,12 @@ impl Graph {
         Graph {
             out: Vec::new(alloc),
             into: Vec::new(alloc),
-            place: Vec::new(alloc),
+            marks: Vec::new(alloc),
             order: Vec::new(alloc),
-            seen: Vec::new(alloc),
-            reached_by: Vec::new(alloc),
             turn: 0,
             queue: Vec::new(alloc),
+            moved: Vec::new(alloc),
+            places: Vec::new(alloc),
             path: Vec::new(alloc),
             looked_at: 0,
         }
@@ -65,11 +72,16 @@ impl Graph {
         let node = self.out.len();
         self.out.push(Vec::new(alloc))?;
         self.into.push(Vec::new(alloc))?;
-        self.place.push(node)?;
-        self.order.push(node)?;
-        self.seen.push(0)?;
-        self.reached_by.push(NO_EDGE)?;
-        Ok(())
+        let mark = Mark {
+            place: node,
+            ..NO_MARK
+        };
+        add(&mut self.marks, mark)?;
+        add(&mut self.order, node)
+    }
+
+    fn mark(&self, node: usize) -> Mark {
+        at(self.marks.as_slice(), node, NO_MARK)
     }
 
     pub(crate) fn len(&self) -> usize {
@@ -85,7 +97,16 @@ impl Graph {
     }
 
     pub(crate) fn place_of(&self, node: usize) -> usize {
-        at(self.place.as_slice(), node, 0)
+        self.mark(node).place
+    }
+
+    /// Moves a node to a place of the order.
+    fn move_to(&mut self, node: usize, place: usize) {
+        let mark = Mark {
+            place,
+            ..self.mark(node)
+        };
+        put(&mut self.marks, node, mark);
     }
 
     pub(crate) fn order(&self) -> &[usize] {
@@ -93,11 +114,11 @@ impl Graph {
     }
 
     /// Takes another order of all nodes.
-    pub(crate) fn set_order(&mut self, order: Vec<usize>) {
+    pub(crate) fn set_order(&mut self, order: &[usize]) {
         for (place, node) in order.iter().enumerate() {
-            put(&mut self.place, *node, place);
+            self.move_to(*node, place);
+            put(&mut self.order, place, *node);
         }
-        self.order = order;
     }
 
     /// Adds an edge, whether or not the order agrees with it.
@@ -107,13 +128,8 @@ impl Graph {
         second: usize,
         fact: usize,
     ) -> Result<(), NoMemory> {
-        if let Some(list) = self.out.get_mut(first) {
-            list.push(Edge { fact, node: second })?;
-        }
-        if let Some(list) = self.into.get_mut(second) {
-            list.push(Edge { fact, node: first })?;
-        }
-        Ok(())
+        add_in(&mut self.out, first, Edge { fact, node: second })?;
+        add_in(&mut self.into, second, Edge { fact, node: first })
     }
 
     /// Takes an edge away.
@@ -122,30 +138,43 @@ impl Graph {
         take_out(&mut self.into, second, fact);
     }
 
-    /// Begins a turn, in which only this node is seen yet.
-    fn begin_turn(&mut self, node: usize) -> Result<(), NoMemory> {
+    /// Begins a turn, from a node. The node itself is seen, unless it is looked for.
+    fn begin_turn(&mut self, node: usize, is_seen: bool) -> Result<(), NoMemory> {
         self.turn = self.turn.saturating_add(1);
         self.queue.clear();
-        let turn = self.turn;
-        put(&mut self.seen, node, turn);
-        self.queue.push(node)?;
-        Ok(())
+        let mark = Mark {
+            seen: if is_seen { self.turn } else { 0 },
+            ..self.mark(node)
+        };
+        put(&mut self.marks, node, mark);
+        add(&mut self.queue, node)
+    }
+
+    /// Sees a node over an edge from another, if it wasn't seen in this turn.
+    fn see(&mut self, edge: Edge, from: usize) -> Result<(), NoMemory> {
+        let mark = self.mark(edge.node);
+        if mark.seen == self.turn {
+            return Ok(());
+        }
+        let seen = Mark {
+            seen: self.turn,
+            reached_by: Edge {
+                fact: edge.fact,
+                node: from,
+            },
+            ..mark
+        };
+        put(&mut self.marks, edge.node, seen);
+        add(&mut self.queue, edge.node)
     }
 
     /// Sees the nodes after one, up to a place of the order.
     fn see_after(&mut self, node: usize, end: usize) -> Result<(), NoMemory> {
         self.looked_at = self.looked_at.saturating_add(1);
-        for edge in list_at(self.out.as_slice(), node) {
-            let next = edge.node;
-            let is_new = at(self.seen.as_slice(), next, 0) != self.turn;
-            if is_new && at(self.place.as_slice(), next, 0) <= end {
-                put(&mut self.seen, next, self.turn);
-                let by = Edge {
-                    fact: edge.fact,
-                    node,
-                };
-                put(&mut self.reached_by, next, by);
-                self.queue.push(next)?;
+        for place in 0..self.out_of(node).len() {
+            let edge = at(self.out_of(node), place, NO_EDGE);
+            if self.place_of(edge.node) <= end {
+                self.see(edge, node)?;
             }
         }
         Ok(())
@@ -153,12 +182,10 @@ impl Graph {
 
     /// Sees the nodes before one, down to a place of the order.
     fn see_before(&mut self, node: usize, end: usize) -> Result<(), NoMemory> {
-        for edge in list_at(self.into.as_slice(), node) {
-            let next = edge.node;
-            let is_new = at(self.seen.as_slice(), next, 0) != self.turn;
-            if is_new && at(self.place.as_slice(), next, 0) >= end {
-                put(&mut self.seen, next, self.turn);
-                self.queue.push(next)?;
+        for place in 0..self.edges_into(node).len() {
+            let edge = at(self.edges_into(node), place, NO_EDGE);
+            if self.place_of(edge.node) >= end {
+                self.see(edge, node)?;
             }
         }
         Ok(())
@@ -169,8 +196,8 @@ impl Graph {
         self.path.clear();
         let mut node = to;
         for _ in 0..self.out.len() {
-            let edge = at(self.reached_by.as_slice(), node, NO_EDGE);
-            self.path.push(edge.fact)?;
+            let edge = self.mark(node).reached_by;
+            add(&mut self.path, edge.fact)?;
             node = edge.node;
             if node == from {
                 break;
@@ -180,56 +207,53 @@ impl Graph {
         Ok(())
     }
 
-    /// Looks from the nodes of the queue, up to a place of the order, for a path from the first of them to another.
+    /// Looks from the nodes of the queue, up to a place of the order, for a path from the first of them to another. Answers whether
+    /// it found one, within so many nodes.
     fn look_ahead(
         &mut self,
         from: usize,
         to: usize,
         end: usize,
         limit: usize,
-    ) -> Result<Reached, NoMemory> {
+    ) -> Result<bool, NoMemory> {
         for turn in 0..self.out.len() {
-            if turn >= self.queue.len() {
-                return Ok(Reached::No);
-            }
-            if turn > limit {
-                return Ok(Reached::Unknown);
+            if turn >= self.queue.len() || turn > limit {
+                break;
             }
             let node = at(self.queue.as_slice(), turn, to);
             self.see_after(node, end)?;
-            if at(self.seen.as_slice(), to, 0) == self.turn {
+            if self.mark(to).seen == self.turn {
                 self.trace(from, to)?;
-                return Ok(Reached::Yes);
+                return Ok(true);
             }
         }
-        Ok(Reached::No)
+        Ok(false)
     }
 
-    /// Finds a shortest path from a node to another, if there is one within so many nodes.
+    /// Finds a shortest path from a node to another. Answers whether there is one within so many nodes.
     pub(crate) fn find_path(
         &mut self,
         from: usize,
         to: usize,
         limit: usize,
-    ) -> Result<Reached, NoMemory> {
+    ) -> Result<bool, NoMemory> {
         let end = self.place_of(to);
         if self.place_of(from) >= end {
-            return Ok(Reached::No);
+            return Ok(false);
         }
-        self.begin_turn(from)?;
+        self.begin_turn(from, true)?;
         self.look_ahead(from, to, end, limit)
     }
 
-    /// Finds a shortest cycle through a node, if there is one within so many nodes, whatever the order.
-    pub(crate) fn find_cycle(&mut self, node: usize, limit: usize) -> Result<Reached, NoMemory> {
-        self.begin_turn(node)?;
-        put(&mut self.seen, node, 0);
+    /// Finds a shortest cycle through a node, whatever the order. Answers whether there is one within so many nodes.
+    pub(crate) fn find_cycle(&mut self, node: usize, limit: usize) -> Result<bool, NoMemory> {
+        self.begin_turn(node, false)?;
         self.look_ahead(node, node, usize::MAX, limit)
     }
 
     /// Sees all nodes that lead to a node, down to a place of the order.
     fn look_back(&mut self, node: usize, end: usize) -> Result<(), NoMemory> {
-        self.begin_turn(node)?;
+        self.begin_turn(node, true)?;
         for turn in 0..self.out.len() {
             if turn >= self.queue.len() {
                 break;
@@ -242,59 +266,70 @@ impl Graph {
 
     /// Moves nodes so that the first is before the second. Answers whether a path from the second to the first forbids that: then
     /// nothing is moved.
-    pub(crate) fn make_room(
-        &mut self,
-        alloc: Global,
-        first: usize,
-        second: usize,
-    ) -> Result<bool, NoMemory> {
+    pub(crate) fn make_room(&mut self, first: usize, second: usize) -> Result<bool, NoMemory> {
         let low = self.place_of(second);
         if self.place_of(first) < low {
             return Ok(false);
         }
-        if self.find_path(second, first, usize::MAX)? == Reached::Yes {
+        if self.find_path(second, first, usize::MAX)? {
             return Ok(true);
         }
-        let after = self.places_seen(alloc)?;
+        self.moved.clear();
+        self.note_seen()?;
         self.look_back(first, low)?;
-        let mut moved = self.places_seen(alloc)?;
-        moved.extend_from_slice(after.as_slice())?;
-        self.move_all(alloc, moved.as_slice())?;
+        self.note_seen()?;
+        self.move_all()?;
         Ok(false)
     }
 
-    /// The places of the nodes that were seen, in order.
-    fn places_seen(&self, alloc: Global) -> Result<Vec<usize>, NoMemory> {
-        let mut places = Vec::new(alloc);
-        for node in &self.queue {
-            places.push(self.place_of(*node))?;
+    /// Notes the nodes that were seen as ones to be moved, the last one first.
+    fn note_seen(&mut self) -> Result<(), NoMemory> {
+        take_places(
+            &mut self.places,
+            self.marks.as_slice(),
+            self.queue.as_slice(),
+        )?;
+        for place in &self.places {
+            add(&mut self.moved, at(self.order.as_slice(), *place, 0))?;
         }
-        places.sort_unstable();
-        Ok(places)
+        Ok(())
     }
 
-    /// Gives the nodes at these places, one after another, the same places in order.
-    fn move_all(&mut self, alloc: Global, from: &[usize]) -> Result<(), NoMemory> {
-        let mut nodes = Vec::new(alloc);
-        for place in from {
-            nodes.push(at(self.order.as_slice(), *place, 0))?;
-        }
-        let mut places = Vec::from_slice(alloc, from)?;
-        places.sort_unstable();
-        for (place, node) in places.iter().zip(nodes.iter()) {
-            put(&mut self.place, *node, *place);
-            put(&mut self.order, *place, *node);
+    /// Gives the nodes that are to be moved, the last one first, their own places, from the last one down.
+    fn move_all(&mut self) -> Result<(), NoMemory> {
+        take_places(
+            &mut self.places,
+            self.marks.as_slice(),
+            self.moved.as_slice(),
+        )?;
+        for turn in 0..self.moved.len() {
+            let node = at(self.moved.as_slice(), turn, 0);
+            let place = at(self.places.as_slice(), turn, 0);
+            self.move_to(node, place);
+            put(&mut self.order, place, node);
         }
         Ok(())
     }
 }
 
+/// Takes the places of nodes, the last one first.
+fn take_places(places: &mut Vec<usize>, marks: &[Mark], nodes: &[usize]) -> Result<(), NoMemory> {
+    places.clear();
+    for node in nodes {
+        add(places, at(marks, *node, NO_MARK).place)?;
+    }
+    places.sort_unstable();
+    places.reverse();
+    Ok(())
+}
+
 /// Takes the edge of a fact out of the list of a node.
 fn take_out(lists: &mut Vec<Vec<Edge>>, node: usize, fact: usize) {
     if let Some(list) = lists.get_mut(node) {
-        if let Some(place) = list.iter().position(|edge| edge.fact == fact) {
-            if place < list.len() {
+        for place in 0..list.len() {
+            if at(list.as_slice(), place, NO_EDGE).fact == fact && place < list.len() {
                 let _edge = list.swap_remove(place);
+                return;
             }
         }
     }

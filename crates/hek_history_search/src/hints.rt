@@ -1,4 +1,5 @@
 //! Where a transaction is expected in an explanation: by the times of the log, or by its place there.
+use crate::lists::add;
 use hek_history::{History, Level, Point, Status, Transaction};
 use hek_rules::NoMemory;
 use std::alloc::Global;
@@ -15,7 +16,7 @@ const SPACING: u64 = 1 << 20;
 
 /// The hint of the transaction at a place: its end, or else its answer, or else its place. One that reads where it commits has
 /// one hint for both.
-fn hint_of(transaction: &Transaction, place: usize) -> Hint {
+pub(crate) fn hint_of(transaction: &Transaction, place: usize) -> Hint {
     let answered = match transaction.status {
         Status::Committed => transaction.answered,
         Status::Aborted | Status::Unknown => None,
@@ -29,33 +30,40 @@ fn hint_of(transaction: &Transaction, place: usize) -> Hint {
     Hint { begin, commit }
 }
 
-/// The hints of all transactions.
-pub(crate) fn all_hints(alloc: Global, history: &History) -> Result<Vec<Hint>, NoMemory> {
-    let mut found = Vec::new(alloc);
+/// A point by its hint: the transaction, and whether it is its commit.
+type Expected = (u64, usize, bool);
+
+/// Adds the points of all transactions that are known to have committed, with their hints.
+fn expect_all(history: &History, expected: &mut Vec<Expected>) -> Result<(), NoMemory> {
     for (place, transaction) in history.transactions.iter().enumerate() {
-        found.push(hint_of(transaction, place))?;
+        if transaction.status == Status::Committed {
+            let hint = hint_of(transaction, place);
+            add(expected, (hint.begin, place, false))?;
+            add(expected, (hint.commit, place, true))?;
+        }
     }
-    Ok(found)
+    Ok(())
+}
+
+/// Adds points without their hints.
+fn add_points(expected: &[Expected], points: &mut Vec<Point>) -> Result<(), NoMemory> {
+    for one in expected {
+        let point = if one.2 {
+            Point::Commit(one.1)
+        } else {
+            Point::Begin(one.1)
+        };
+        add(points, point)?;
+    }
+    Ok(())
 }
 
 /// The points of all transactions that are known to have committed, by their hints.
 pub(crate) fn points_by_hints(alloc: Global, history: &History) -> Result<Vec<Point>, NoMemory> {
     let mut expected = Vec::new(alloc);
-    for (place, transaction) in history.transactions.iter().enumerate() {
-        if transaction.status == Status::Committed {
-            let hint = hint_of(transaction, place);
-            expected.push((hint.begin, place, false))?;
-            expected.push((hint.commit, place, true))?;
-        }
-    }
+    expect_all(history, &mut expected)?;
     expected.sort_unstable();
-    let mut points = Vec::with_capacity(alloc, expected.len())?;
-    for one in &expected {
-        points.push(if one.2 {
-            Point::Commit(one.1)
-        } else {
-            Point::Begin(one.1)
-        })?;
-    }
+    let mut points = Vec::new(alloc);
+    add_points(expected.as_slice(), &mut points)?;
     Ok(points)
 }

@@ -4,7 +4,6 @@ ghost use Rattle.hek_history_search.specs.Verdicts.{IsVerdict};
 
 use crate::anomalies::Cause;
 use crate::hints::points_by_hints;
-use crate::known::Known;
 use crate::problem::Problem;
 use crate::reduce::reduced;
 use crate::seek::Outcome;
@@ -49,25 +48,20 @@ const NOWHERE: Progress = Progress {
     violations: 0,
 };
 
-/// What a search comes to that is prepared.
-fn sought(known: &mut Known, effort: usize) -> Result<Found, NoMemory> {
+/// What a search of a problem comes to.
+fn sought_in(alloc: Global, problem: &Problem, effort: usize) -> Result<Found, NoMemory> {
+    let mut known = prepared(alloc, problem);
     match known.seek(effort)? {
-        Outcome::Points(points) => Ok(Found::Points(points)),
+        Outcome::Ordered => Ok(Found::Points(known.points()?)),
         Outcome::Refuted(conflict) => {
             let cause = known.cause_of(conflict)?;
-            Ok(Found::Steps(steps_of(known, conflict)?, cause))
+            Ok(Found::Steps(steps_of(&known, conflict)?, cause))
         }
         Outcome::Unknown(violations) => Ok(Found::Unknown(Progress {
             conflicts: known.conflicts,
             violations,
         })),
     }
-}
-
-/// What a search of a problem comes to.
-fn sought_in(alloc: Global, problem: &Problem, effort: usize) -> Result<Found, NoMemory> {
-    let mut known = prepared(alloc, problem)?;
-    sought(&mut known, effort)
 }
 
 /// Searches by facts and decisions, with so much effort.

@@ -1,5 +1,5 @@
 //! The keys that a history names, in rising order, and those of a scan among them.
-use crate::lists::{at, part};
+use crate::lists::{add, at, place_from};
 use hek_history::{History, Operation, Scope};
 use hek_rules::NoMemory;
 use std::alloc::Global;
@@ -35,26 +35,20 @@ pub(crate) fn covers(scope: Scope, key: u64) -> bool {
 }
 
 impl Keys {
-    /// The keys that a history names.
-    pub(crate) fn of(alloc: Global, history: &History) -> Result<Keys, NoMemory> {
-        let mut keys = Keys {
+    /// No key.
+    pub(crate) fn new(alloc: Global) -> Keys {
+        Keys {
             names: Vec::new(alloc),
             divisions: Vec::new(alloc),
             bucketed: Vec::new(alloc),
-        };
-        keys.fill(history)?;
-        Ok(keys)
+        }
     }
 
     /// Takes the keys that a history names.
-    fn fill(&mut self, history: &History) -> Result<(), NoMemory> {
-        for row in &history.rows {
-            self.names.push(row.0)?;
-        }
+    pub(crate) fn fill(&mut self, history: &History) -> Result<(), NoMemory> {
+        self.add_pairs(history.rows.as_slice())?;
         for transaction in &history.transactions {
-            for operation in &transaction.operations {
-                self.add(operation)?;
-            }
+            self.add_all(transaction.operations.as_slice())?;
         }
         self.names.sort_unstable();
         self.names.dedup();
@@ -66,20 +60,33 @@ impl Keys {
         Ok(())
     }
 
-    /// Adds the keys of an operation, and the number of buckets into which it divides keys, if it is new.
-    fn add(&mut self, operation: &Operation) -> Result<(), NoMemory> {
-        if let Some(key) = key_of(operation) {
-            self.names.push(key)?;
-        }
-        let Operation::Scan(scope, pairs) = operation else {
-            return Ok(());
-        };
+    /// Adds the keys of pairs.
+    fn add_pairs(&mut self, pairs: &[(u64, u64)]) -> Result<(), NoMemory> {
         for pair in pairs {
-            self.names.push(pair.0)?;
+            add(&mut self.names, pair.0)?;
         }
+        Ok(())
+    }
+
+    /// Adds the keys of operations, and the numbers of buckets into which they divide keys.
+    fn add_all(&mut self, operations: &[Operation]) -> Result<(), NoMemory> {
+        for operation in operations {
+            if let Operation::Scan(scope, pairs) = operation {
+                self.add_division(*scope)?;
+                self.add_pairs(pairs.as_slice())?;
+            }
+            if let Some(key) = key_of(operation) {
+                add(&mut self.names, key)?;
+            }
+        }
+        Ok(())
+    }
+
+    /// Adds the number of buckets into which a scan divides keys, if it is new.
+    fn add_division(&mut self, scope: Scope) -> Result<(), NoMemory> {
         if let Scope::Bucket(buckets, _) = scope {
-            if !self.divisions.contains(buckets) {
-                self.divisions.push(*buckets)?;
+            if !self.divisions.contains(&buckets) {
+                add(&mut self.divisions, buckets)?;
             }
         }
         Ok(())
@@ -90,8 +97,9 @@ impl Keys {
         if buckets == 0 {
             return Ok(());
         }
-        for (place, key) in self.names.iter().enumerate() {
-            self.bucketed.push((buckets, *key % buckets, place))?;
+        for place in 0..self.names.len() {
+            let bucket = self.name(place) % buckets;
+            add(&mut self.bucketed, (buckets, bucket, place))?;
         }
         Ok(())
     }
@@ -102,10 +110,11 @@ impl Keys {
 
     /// The place of a key.
     pub(crate) fn place_of(&self, key: u64) -> Option<usize> {
-        let place = self.names.as_slice().partition_point(|one| *one < key);
-        match self.names.get(place) {
-            Some(there) => { if *there == key { Some(place) } else { None } }
-            None => None,
+        let place = place_from(self.names.as_slice(), key);
+        if place < self.names.len() && self.name(place) == key {
+            Some(place)
+        } else {
+            None
         }
     }
 
@@ -114,26 +123,31 @@ impl Keys {
         at(self.names.as_slice(), place, 0)
     }
 
-    /// The places of the keys that a scan is of.
-    pub(crate) fn of_scope(&self, alloc: Global, scope: Scope) -> Result<Vec<usize>, NoMemory> {
-        let mut places = Vec::new(alloc);
+    /// The place of the first key of a bucket, or of a later one, among the keys in buckets.
+    fn bucket_from(&self, buckets: u64, bucket: u64) -> usize {
+        let all = self.bucketed.as_slice();
+        all.partition_point(|one| one.0 < buckets || (one.0 == buckets && one.1 < bucket))
+    }
+
+    /// Where the keys that a scan is of stand: from a place up to another, among the keys or among those in buckets.
+    pub(crate) fn places_of(&self, scope: Scope) -> (usize, usize) {
         match scope {
-            Scope::Range(from, to) => {
-                let first = self.names.as_slice().partition_point(|key| *key < from);
-                let end = self.names.as_slice().partition_point(|key| *key < to);
-                for place in first..end {
-                    places.push(place)?;
-                }
-            }
-            Scope::Bucket(buckets, bucket) => {
-                let all = self.bucketed.as_slice();
-                let from = all.partition_point(|one| (one.0, one.1) < (buckets, bucket));
-                let to = all.partition_point(|one| (one.0, one.1) <= (buckets, bucket));
-                for one in part(all, from, to) {
-                    places.push(one.2)?;
-                }
-            }
+            Scope::Range(from, to) => (
+                place_from(self.names.as_slice(), from),
+                place_from(self.names.as_slice(), to),
+            ),
+            Scope::Bucket(buckets, bucket) => (
+                self.bucket_from(buckets, bucket),
+                self.bucket_from(buckets, bucket.saturating_add(1)),
+            ),
         }
-        Ok(places)
+    }
+
+    /// The key that a scan is of at one of its places.
+    pub(crate) fn key_at(&self, scope: Scope, place: usize) -> usize {
+        match scope {
+            Scope::Range(_, _) => place,
+            Scope::Bucket(_, _) => at(self.bucketed.as_slice(), place, (0, 0, 0)).2,
+        }
     }
 }

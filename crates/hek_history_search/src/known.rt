@@ -1,9 +1,9 @@
 //! What the search knows and assumes: facts, the graph of those that order moments, sources, and who takes place.
 use crate::clock::Clock;
 use crate::facts::{Facts, Rule, Says, Stop};
-use crate::graph::{Graph, Reached};
+use crate::graph::Graph;
 use crate::hints::Hint;
-use crate::lists::{at, list_at, put};
+use crate::lists::{add, add_in, at, list_at, put};
 use crate::nodes::{Nodes, OPENING};
 use crate::problem::{Problem, Source};
 use crate::replay::Violation;
@@ -30,6 +30,30 @@ pub(crate) struct Decision {
     pub violation: Violation,
     pub mark: usize,
 }
+
+/// Where a candidate is in the order: before its reader, after it, or nowhere yet.
+pub(crate) const BEFORE: u8 = 0;
+
+pub(crate) const AFTER: u8 = 1;
+
+pub(crate) const DOUBTFUL: u8 = 2;
+
+/// A candidate for the source of a reading, where it is, and how far from its reader.
+#[derive(Clone, Copy)]
+pub(crate) struct Chance {
+    pub source: Source,
+    pub node: usize,
+    pub standing: u8,
+    pub distance: usize,
+}
+
+/// The candidate past the end.
+pub(crate) const NO_CHANCE: Chance = Chance {
+    source: Source::Opening,
+    node: OPENING,
+    standing: DOUBTFUL,
+    distance: 0,
+};
 
 /// The state of the search.
 #[derive(Drop)]
@@ -58,6 +82,12 @@ pub(crate) struct Known<'a> {
     /// What decisions were made for that were taken back.
     pub again: Vec<Violation>,
     pub conflicts: usize,
+    /// The candidates of the last reading whose source was looked for.
+    pub chances: Vec<Chance>,
+    /// The decisions on which the last conflict rests; which facts were seen, and are to be, to find them.
+    pub rested_on: Vec<usize>,
+    pub is_seen: Vec<bool>,
+    pub todo: Vec<usize>,
     /// Within how many nodes paths are looked for.
     pub sight: usize,
 }
@@ -88,14 +118,13 @@ impl Known<'_> {
         }
     }
 
-    pub(crate) fn excluded(&self, reading: usize) -> &[Excluded] {
-        list_at(self.nots.as_slice(), reading)
-    }
-
     pub(crate) fn is_excluded(&self, reading: usize, source: Source) -> bool {
-        self.excluded(reading)
-            .iter()
-            .any(|one| one.source == source)
+        for one in list_at(self.nots.as_slice(), reading) {
+            if one.source == source {
+                return true;
+            }
+        }
+        false
     }
 
     /// The source of a reading, if it is settled.
@@ -125,18 +154,18 @@ impl Known<'_> {
         first: usize,
         second: usize,
         rule: Rule,
-    ) -> Result<usize, NoMemory> {
+    ) -> Result<(), NoMemory> {
         let fact = self.facts.add(Says::Before { first, second }, rule, 0)?;
-        if first != OPENING {
-            self.graph.link(first, second, fact)?;
+        if first == OPENING {
+            return Ok(());
         }
-        Ok(fact)
+        self.graph.link(first, second, fact)
     }
 
     /// Notes that a fact is to be taken back with the decision of its level.
     fn note(&mut self, fact: usize) -> Result<(), NoMemory> {
         if self.facts.get(fact).level > 0 {
-            self.trail.push(fact)?;
+            return add(&mut self.trail, fact);
         }
         Ok(())
     }
@@ -149,8 +178,7 @@ impl Known<'_> {
         };
         let fact = self.facts.add_apart(says, Rule::First)?;
         self.graph.path.clear();
-        self.graph.path.push(fact)?;
-        Ok(())
+        add(&mut self.graph.path, fact)
     }
 
     /// Whether a path from a node to another was found; from the opening there is one to each.
@@ -159,8 +187,7 @@ impl Known<'_> {
             self.path_from_opening(to)?;
             return Ok(true);
         }
-        let reached = self.graph.find_path(from, to, self.sight)?;
-        Ok(reached == Reached::Yes)
+        self.graph.find_path(from, to, self.sight)
     }
 
     /// Cites the path that was found last.
@@ -187,37 +214,49 @@ impl Known<'_> {
         if first == OPENING {
             return Ok(false);
         }
-        self.graph.make_room(self.alloc, first, second)
+        self.graph.make_room(first, second)
     }
 
-    /// Adds that a moment is before another, which follows from what was cited. Answers the fact.
+    /// Adds that a moment is before another, which follows from what was cited.
     pub(crate) fn force(
         &mut self,
         first: usize,
         second: usize,
         rule: Rule,
         least: usize,
-    ) -> Result<usize, Stop> {
+    ) -> Result<(), Stop> {
         let fact = self.facts.add(Says::Before { first, second }, rule, least)?;
         if self.is_forbidden(first, second)? {
             self.cite_path()?;
             self.facts.cite(fact)?;
-            let conflict = self.facts.add(Says::Contradiction, Rule::Cycle, 0)?;
-            return Err(Stop::Conflict(conflict));
+            return self.contradict(Rule::Cycle);
         }
-        if first != OPENING {
-            self.graph.link(first, second, fact)?;
-            self.note(fact)?;
+        Ok(self.link_noted(first, second, fact)?)
+    }
+
+    /// Adds the edge of a fact, unless it is from the opening, and notes that it is to be taken back with the decision of its level.
+    fn link_noted(&mut self, first: usize, second: usize, fact: usize) -> Result<(), NoMemory> {
+        if first == OPENING {
+            return Ok(());
         }
+        self.graph.link(first, second, fact)?;
+        self.note(fact)
+    }
+
+    /// Adds a fact that follows from what was cited, and notes that it is to be taken back with the decision of its level.
+    fn add_noted(&mut self, says: Says, rule: Rule, least: usize) -> Result<usize, NoMemory> {
+        let fact = self.facts.add(says, rule, least)?;
+        self.note(fact)?;
         Ok(fact)
     }
 
     /// Opens a decision. Answers its level.
     fn open_decision(&mut self, violation: Violation) -> Result<usize, NoMemory> {
-        self.decisions.push(Decision {
+        let decision = Decision {
             violation,
             mark: self.trail.len(),
-        })?;
+        };
+        add(&mut self.decisions, decision)?;
         Ok(self.decisions.len())
     }
 
@@ -232,7 +271,7 @@ impl Known<'_> {
             return Ok(true);
         }
         let level = self.open_decision(violation)?;
-        let _fact = self.force(first, second, Rule::Assumed, level)?;
+        self.force(first, second, Rule::Assumed, level)?;
         Ok(false)
     }
 
@@ -257,10 +296,7 @@ impl Known<'_> {
     ) -> Result<(), Stop> {
         let reader = self.problem.reading(reading).reader;
         self.cite_taken(reader)?;
-        let fact = self
-            .facts
-            .add(Says::Source { reading, source }, rule, least)?;
-        self.note(fact)?;
+        let fact = self.add_noted(Says::Source { reading, source }, rule, least)?;
         put(&mut self.sources, reading, Some(fact));
         self.read_from(reading, source, fact)
     }
@@ -276,30 +312,28 @@ impl Known<'_> {
         let commit = self.nodes.of_source(self.problem, source);
         let begin = self.nodes.begin(reader);
         self.facts.cite(settled)?;
-        let read = self.force(commit, begin, Rule::Read(reading), 0)?;
-        Ok(self.take(source, read, reader)?)
+        self.force(commit, begin, Rule::Read(reading), 0)?;
+        Ok(self.take(source, reader)?)
     }
 
-    /// Adds that the transaction of a source takes place, since it is before a reader that does.
-    pub(crate) fn take(
-        &mut self,
-        source: Source,
-        read: usize,
-        reader: usize,
-    ) -> Result<(), NoMemory> {
-        let Some(t) = self.problem.transaction_of(source) else {
-            return Ok(());
-        };
-        if self.is_present(t) {
-            return Ok(());
+    /// Adds that the transaction of a source takes place, since by the last fact it is before a reader that does.
+    pub(crate) fn take(&mut self, source: Source, reader: usize) -> Result<(), NoMemory> {
+        if let Some(t) = self.problem.transaction_of(source) {
+            if !self.is_present(t) {
+                return self.add_taken(t, reader);
+            }
         }
+        Ok(())
+    }
+
+    /// Adds that a transaction takes place, since by the last fact it is before a reader that does.
+    fn add_taken(&mut self, t: usize, reader: usize) -> Result<(), NoMemory> {
+        let read = self.facts.last();
         self.facts.cite(read)?;
         self.cite_taken(reader)?;
-        let fact = self.facts.add(Says::Taken(t), Rule::Inside, 0)?;
-        self.note(fact)?;
+        let fact = self.add_noted(Says::Taken(t), Rule::Inside, 0)?;
         put(&mut self.taken, t, Some(fact));
-        self.pending.push(t)?;
-        Ok(())
+        add(&mut self.pending, t)
     }
 
     /// Adds that a source is not that of a reading, which follows from what was cited.
@@ -310,12 +344,20 @@ impl Known<'_> {
         rule: Rule,
         least: usize,
     ) -> Result<(), NoMemory> {
-        let fact = self.facts.add(Says::Not { reading, source }, rule, least)?;
-        self.note(fact)?;
+        let fact = self.add_noted(Says::Not { reading, source }, rule, least)?;
+        add_in(&mut self.nots, reading, Excluded { source, fact })
+    }
+
+    /// Takes back that a source is not that of a reading.
+    fn include(&mut self, reading: usize, fact: usize) {
         if let Some(list) = self.nots.get_mut(reading) {
-            list.push(Excluded { source, fact })?;
+            for place in 0..list.len() {
+                if place < list.len() && list[place].fact == fact {
+                    let _excluded = list.remove(place);
+                    return;
+                }
+            }
         }
-        Ok(())
     }
 
     /// Takes a fact back.
@@ -323,25 +365,27 @@ impl Known<'_> {
         match self.facts.get(fact).says {
             Says::Before { first, second } => self.graph.unlink(first, second, fact),
             Says::Source { reading, .. } => put(&mut self.sources, reading, None),
-            Says::Not { reading, .. } => {
-                if let Some(list) = self.nots.get_mut(reading) {
-                    list.retain(|one| one.fact != fact);
-                }
-            }
+            Says::Not { reading, .. } => self.include(reading, fact),
             Says::Taken(t) => put(&mut self.taken, t, None),
             Says::Contradiction => {}
         }
     }
 
-    /// Takes all decisions above a level back, and the facts that rest on them.
-    pub(crate) fn undo(&mut self, level: usize) -> Result<(), NoMemory> {
+    /// Closes all decisions above a level. Answers how many facts were to be taken back before them.
+    fn close_decisions(&mut self, level: usize) -> Result<usize, NoMemory> {
         let mut mark = self.trail.len();
         for _ in level..self.decisions.len() {
             if let Some(decision) = self.decisions.pop() {
                 mark = decision.mark;
-                self.again.push(decision.violation)?;
+                add(&mut self.again, decision.violation)?;
             }
         }
+        Ok(mark)
+    }
+
+    /// Takes all decisions above a level back, and the facts that rest on them.
+    pub(crate) fn undo(&mut self, level: usize) -> Result<(), NoMemory> {
+        let mark = self.close_decisions(level)?;
         let mut end = mark;
         for place in mark..self.trail.len() {
             let fact = at(self.trail.as_slice(), place, 0);

@@ -1,4 +1,12 @@
 //! Parts of lists, and lists of lists.
+use hek_rules::NoMemory;
+
+/// Adds something to the end of a list.
+pub(crate) fn add<T: Copy>(list: &mut Vec<T>, value: T) -> Result<(), NoMemory> {
+    list.push(value)?;
+    Ok(())
+}
+
 /// The part of a list from a place up to another, or nothing if the list has no such part.
 pub(crate) fn part<T>(list: &[T], from: usize, to: usize) -> &[T] {
     if from <= to && to <= list.len() {
@@ -29,4 +37,21 @@ pub(crate) fn list_at<T>(lists: &[Vec<T>], place: usize) -> &[T] {
         Some(list) => list.as_slice(),
         None => &[],
     }
+}
+
+/// Adds something to the end of the list at a place, if there is one.
+pub(crate) fn add_in<T: Copy>(
+    lists: &mut Vec<Vec<T>>,
+    place: usize,
+    value: T,
+) -> Result<(), NoMemory> {
+    match lists.get_mut(place) {
+        Some(list) => add(list, value),
+        None => Ok(()),
+    }
+}
+
+/// The place of the first of rising numbers that isn't below another.
+pub(crate) fn place_from(rising: &[u64], least: u64) -> usize {
+    rising.partition_point(|one| *one < least)
 }

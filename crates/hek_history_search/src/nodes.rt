@@ -1,5 +1,5 @@
 //! The nodes of the graph: the moments of the transactions, and ticks of a clock.
-use crate::lists::at;
+use crate::lists::{add, at};
 use crate::problem::{Problem, Source};
 use hek_history::{Moment, Order};
 use hek_rules::NoMemory;
@@ -8,58 +8,65 @@ use std::alloc::Global;
 /// The node of the opening.
 pub(crate) const OPENING: usize = 0;
 
+/// The nodes of a transaction.
+#[derive(Clone, Copy)]
+struct Ends {
+    begin: usize,
+    commit: usize,
+}
+
+/// The nodes past the end.
+const NO_ENDS: Ends = Ends {
+    begin: OPENING,
+    commit: OPENING,
+};
+
 /// The nodes of each transaction. A transaction that reads and commits at once has one.
 #[derive(Drop)]
 pub(crate) struct Nodes {
-    begin: Vec<usize>,
-    commit: Vec<usize>,
+    ends: Vec<Ends>,
     /// The moment of each node; a tick of the clock has none.
     moments: Vec<Option<Moment>>,
 }
 
 impl Nodes {
-    /// The nodes of all transactions that may have committed.
-    pub(crate) fn of(alloc: Global, problem: &Problem) -> Result<Nodes, NoMemory> {
-        let mut nodes = Nodes {
-            begin: Vec::new(alloc),
-            commit: Vec::new(alloc),
+    /// No node.
+    pub(crate) fn new(alloc: Global) -> Nodes {
+        Nodes {
+            ends: Vec::new(alloc),
             moments: Vec::new(alloc),
-        };
-        let _opening = nodes.add(Some(Moment::Opening))?;
-        for t in 0..problem.transactions() {
-            nodes.add_transaction(problem, t)?;
         }
-        Ok(nodes)
+    }
+
+    /// Adds the nodes of all transactions that may have committed.
+    pub(crate) fn fill(&mut self, problem: &Problem) -> Result<(), NoMemory> {
+        self.add(Some(Moment::Opening))?;
+        for t in 0..problem.transactions() {
+            self.add_transaction(problem, t)?;
+        }
+        Ok(())
     }
 
     /// Adds a node.
-    pub(crate) fn add(&mut self, moment: Option<Moment>) -> Result<usize, NoMemory> {
-        let node = self.moments.len();
-        self.moments.push(moment)?;
-        Ok(node)
+    pub(crate) fn add(&mut self, moment: Option<Moment>) -> Result<(), NoMemory> {
+        add(&mut self.moments, moment)
     }
 
     /// Adds the nodes of a transaction. A snapshot transaction that writes nothing has one node, unless its commit is asked for.
     fn add_transaction(&mut self, problem: &Problem, t: usize) -> Result<(), NoMemory> {
-        let mut begin = OPENING;
-        let mut commit = OPENING;
-        if problem.is_possible(t) {
-            let is_snapshot = problem.is_snapshot(t);
-            if is_snapshot {
-                begin = self.add(Some(Moment::Begin(t)))?;
-            }
-            if is_snapshot && problem.left_by(t).is_empty() && problem.order == Order::Any {
-                commit = begin;
-            } else {
-                commit = self.add(Some(Moment::Commit(t)))?;
-            }
-            if !is_snapshot {
-                begin = commit;
-            }
+        if !problem.is_possible(t) {
+            return add(&mut self.ends, NO_ENDS);
         }
-        self.begin.push(begin)?;
-        self.commit.push(commit)?;
-        Ok(())
+        let begin = self.moments.len();
+        let is_snapshot = problem.is_snapshot(t);
+        if is_snapshot {
+            self.add(Some(Moment::Begin(t)))?;
+        }
+        if !is_snapshot || problem.order != Order::Any || !problem.left_by(t).is_empty() {
+            self.add(Some(Moment::Commit(t)))?;
+        }
+        let commit = self.moments.len().saturating_sub(1);
+        add(&mut self.ends, Ends { begin, commit })
     }
 
     pub(crate) fn len(&self) -> usize {
@@ -67,11 +74,11 @@ impl Nodes {
     }
 
     pub(crate) fn begin(&self, t: usize) -> usize {
-        at(self.begin.as_slice(), t, OPENING)
+        at(self.ends.as_slice(), t, NO_ENDS).begin
     }
 
     pub(crate) fn commit(&self, t: usize) -> usize {
-        at(self.commit.as_slice(), t, OPENING)
+        at(self.ends.as_slice(), t, NO_ENDS).commit
     }
 
     /// The commit of a transaction, or the opening.

@@ -1,78 +1,73 @@
 //! An order of the nodes that agrees with the edges, the expected first.
 use crate::graph::Graph;
-use crate::lists::{at, put};
+use crate::lists::{add, at, put};
 use hek_rules::NoMemory;
 use std::alloc::Global;
 use std::cmp::Reverse;
 use std::collections::BinaryHeap;
 
-/// What is sorted: the nodes that nothing keeps back any more, by hint, and how many edges keep each back.
+/// Nodes as they are sorted.
 #[derive(Drop)]
-struct Sorting<'a> {
-    hints: &'a [u64],
+pub(crate) struct Sorting {
+    /// The nodes that nothing keeps back any more, by hint.
     ready: BinaryHeap<Reverse<(u64, usize)>>,
-    held: Vec<usize>,
+    /// How many edges keep each node back.
+    pub held: Vec<usize>,
+    /// The nodes in order.
+    pub order: Vec<usize>,
 }
 
-impl Sorting<'_> {
+impl Sorting {
+    /// Nothing is sorted yet.
+    pub(crate) fn new(alloc: Global) -> Sorting {
+        Sorting {
+            ready: BinaryHeap::new(alloc),
+            held: Vec::new(alloc),
+            order: Vec::new(alloc),
+        }
+    }
+
     /// Adds a node that nothing keeps back.
-    fn add(&mut self, node: usize) -> Result<(), NoMemory> {
-        let hint = at(self.hints, node, 0);
-        self.ready.push(Reverse((hint, node)))?;
+    fn add(&mut self, hints: &[u64], node: usize) -> Result<(), NoMemory> {
+        self.ready.push(Reverse((at(hints, node, 0), node)))?;
         Ok(())
     }
 
     /// Counts what keeps the nodes back.
-    fn count(&mut self, graph: &Graph) -> Result<(), NoMemory> {
+    fn count(&mut self, graph: &Graph, hints: &[u64]) -> Result<(), NoMemory> {
         for node in 0..graph.len() {
             let count = graph.edges_into(node).len();
-            self.held.push(count)?;
+            add(&mut self.held, count)?;
             if count == 0 {
-                self.add(node)?;
+                self.add(hints, node)?;
             }
         }
         Ok(())
     }
 
-    /// Nothing from a node keeps another back any more.
-    fn release_after(&mut self, graph: &Graph, node: usize) -> Result<(), NoMemory> {
-        for edge in graph.out_of(node) {
-            let count = at(self.held.as_slice(), edge.node, 0).saturating_sub(1);
-            put(&mut self.held, edge.node, count);
-            if count == 0 {
-                self.add(edge.node)?;
-            }
+    /// One edge less keeps a node back.
+    fn release(&mut self, hints: &[u64], node: usize) -> Result<(), NoMemory> {
+        let count = at(self.held.as_slice(), node, 0).saturating_sub(1);
+        put(&mut self.held, node, count);
+        if count == 0 {
+            return self.add(hints, node);
         }
         Ok(())
     }
 
-    /// Sorts the nodes.
-    fn sort(&mut self, graph: &Graph, order: &mut Vec<usize>) -> Result<(), NoMemory> {
-        self.count(graph)?;
+    /// Sorts the nodes so that the order agrees with the edges, the least hint first; where the edges have cycles, those alone that
+    /// none keeps back.
+    pub(crate) fn sort(&mut self, graph: &Graph, hints: &[u64]) -> Result<(), NoMemory> {
+        self.count(graph, hints)?;
         for _ in 0..graph.len() {
             let Some(Reverse((_, node))) = self.ready.pop() else {
                 break;
             };
-            order.push(node)?;
-            self.release_after(graph, node)?;
+            add(&mut self.order, node)?;
+            for edge in graph.out_of(node) {
+                self.release(hints, edge.node)?;
+            }
         }
         Ok(())
     }
-}
-
-/// An order of all nodes that agrees with the edges, the least hint first; where the edges have cycles, of those alone that none keeps
-/// back.
-pub(crate) fn sorted_nodes(
-    alloc: Global,
-    graph: &Graph,
-    hints: &[u64],
-) -> Result<Vec<usize>, NoMemory> {
-    let mut sorting = Sorting {
-        hints,
-        ready: BinaryHeap::new(alloc),
-        held: Vec::new(alloc),
-    };
-    let mut order = Vec::new(alloc);
-    sorting.sort(graph, &mut order)?;
-    Ok(order)
 }

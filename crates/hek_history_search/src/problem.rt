@@ -45,26 +45,13 @@ pub(crate) struct Candidates {
     pub to: usize,
 }
 
-/// A transaction without its operations.
+/// What a transaction did at a key so far: the places of its reading of it, and of what it leaves there.
 #[derive(Clone, Copy)]
-pub(crate) struct Outline {
-    pub level: Level,
-    pub status: Status,
-    pub begin: Option<u64>,
-    pub end: Option<u64>,
-    pub invoked: Option<u64>,
-    pub answered: Option<u64>,
+pub(crate) struct AtKey {
+    pub transaction: usize,
+    pub reading: Option<usize>,
+    pub left: Option<usize>,
 }
-
-/// The transaction past the end.
-const NO_TRANSACTION: Outline = Outline {
-    level: Level::Serializable,
-    status: Status::Aborted,
-    begin: None,
-    end: None,
-    invoked: None,
-    answered: None,
-};
 
 /// How a transaction's answers contradict each other, whatever the others did.
 #[derive(Clone, Copy)]
@@ -109,35 +96,53 @@ pub(crate) struct Problem<'a> {
     pub table: Vec<Left>,
     pub row_from: Vec<usize>,
     pub faults: Vec<Option<OwnFault>>,
+    /// What the last transaction that named each key did there, while the transactions are read in order.
+    pub at_keys: Vec<AtKey>,
+}
+
+/// The values that meet a need, by rank: from the least of them to the greatest.
+#[derive(Clone, Copy)]
+struct Span {
+    least: u128,
+    most: u128,
+}
+
+/// The rank of absence, which is below all values, or of a value.
+fn rank(value: Option<u64>) -> u128 {
+    match value {
+        None => 0,
+        Some(number) => u128::from(number).saturating_add(1),
+    }
+}
+
+/// The values that meet a need.
+fn span_of(need: Need) -> Span {
+    let (least, most) = match need {
+        Need::Anything => (0, u128::MAX),
+        Need::Absent => (0, 0),
+        Need::Present => (1, u128::MAX),
+        Need::Value(value) => (rank(Some(value)), rank(Some(value))),
+    };
+    Span { least, most }
 }
 
 /// Whether a value, or absence, meets a need.
 pub(crate) fn meets(need: Need, value: Option<u64>) -> bool {
-    match (need, value) {
-        (Need::Anything, _) => true,
-        (Need::Absent, None) => true,
-        (Need::Present, Some(_)) => true,
-        (Need::Value(wanted), Some(found)) => wanted == found,
-        _ => false,
-    }
+    let span = span_of(need);
+    let its = rank(value);
+    span.least <= its && its <= span.most
 }
 
-/// Whether a value, or absence, is below all that meet a need.
-fn is_below(need: Need, value: Option<u64>) -> bool {
-    match (need, value) {
-        (Need::Present | Need::Value(_), None) => true,
-        (Need::Value(wanted), Some(found)) => found < wanted,
-        _ => false,
-    }
+/// Whether nothing meets both needs.
+pub(crate) fn are_apart(first: Need, second: Need) -> bool {
+    let one = span_of(first);
+    let other = span_of(second);
+    one.most < other.least || other.most < one.least
 }
 
-/// Whether a value, or absence, is at most the greatest that meets a need.
-fn is_within(need: Need, value: Option<u64>) -> bool {
-    match (need, value) {
-        (Need::Absent, Some(_)) => false,
-        (Need::Value(wanted), Some(found)) => found <= wanted,
-        _ => true,
-    }
+/// How many of the rows of a key have a value below a rank.
+fn rows_below(rows: &[Left], least: u128) -> usize {
+    rows.partition_point(|row| rank(row.value) < least)
 }
 
 /// The part of a list from the start at a place to the next start.
@@ -184,17 +189,9 @@ impl Problem<'_> {
         at(self.row_from.as_slice(), key, 0)
     }
 
-    /// A row of the table.
-    pub(crate) fn row(&self, row: usize) -> Option<Left> {
-        match self.table.get(row) {
-            Some(left) => Some(*left),
-            None => None,
-        }
-    }
-
     /// The transaction of a row.
     pub(crate) fn writer_of(&self, row: usize) -> Option<usize> {
-        match self.row(row) {
+        match self.table.get(row) {
             Some(left) => Some(left.writer),
             None => None,
         }
@@ -216,8 +213,9 @@ impl Problem<'_> {
     pub(crate) fn candidates(&self, reading: Reading) -> Candidates {
         let first = self.first_row(reading.key);
         let rows = between(self.table.as_slice(), self.row_from.as_slice(), reading.key);
-        let from = rows.partition_point(|row| is_below(reading.need, row.value));
-        let to = rows.partition_point(|row| is_within(reading.need, row.value));
+        let span = span_of(reading.need);
+        let from = rows_below(rows, span.least);
+        let to = rows_below(rows, span.most.saturating_add(1));
         Candidates {
             opening: meets(reading.need, self.opening_at(reading.key)),
             from: first.saturating_add(from),
@@ -225,31 +223,28 @@ impl Problem<'_> {
         }
     }
 
-    pub(crate) fn outline(&self, t: usize) -> Outline {
+    /// What became of a transaction.
+    fn status(&self, t: usize) -> Status {
         match self.history.transactions.get(t) {
-            Some(one) => Outline {
-                level: one.level,
-                status: one.status,
-                begin: one.begin,
-                end: one.end,
-                invoked: one.invoked,
-                answered: one.answered,
-            },
-            None => NO_TRANSACTION,
+            Some(transaction) => transaction.status,
+            None => Status::Aborted,
         }
     }
 
     pub(crate) fn is_committed(&self, t: usize) -> bool {
-        self.outline(t).status == Status::Committed
+        self.status(t) == Status::Committed
     }
 
     /// Whether the transaction may have committed.
     pub(crate) fn is_possible(&self, t: usize) -> bool {
-        self.outline(t).status != Status::Aborted
+        self.status(t) != Status::Aborted
     }
 
     pub(crate) fn is_snapshot(&self, t: usize) -> bool {
-        self.outline(t).level == Level::Snapshot
+        match self.history.transactions.get(t) {
+            Some(transaction) => transaction.level == Level::Snapshot,
+            None => false,
+        }
     }
 
     pub(crate) fn fault_of(&self, t: usize) -> Option<OwnFault> {

@@ -1,18 +1,10 @@
 //! Makes of a history what the search works on: needs, what is left, and contradictions within a transaction.
 use crate::keys::{Keys, covers, key_of};
-use crate::lists::{at, put};
-use crate::problem::{Left, OwnFault, Problem, Reading, meets};
+use crate::lists::{add, at, put};
+use crate::problem::{AtKey, Left, OwnFault, Problem, Reading, are_apart, meets};
 use hek_history::{Change, History, Level, Need, Operation, Order, Scope, Status};
 use hek_rules::NoMemory;
 use std::alloc::Global;
-
-/// What a transaction did at a key so far: the places of its reading of it, and of what it leaves there.
-#[derive(Clone, Copy)]
-struct AtKey {
-    transaction: usize,
-    reading: Option<usize>,
-    left: Option<usize>,
-}
 
 /// An operation of a transaction, by its place.
 #[derive(Clone, Copy)]
@@ -23,12 +15,12 @@ struct Named {
     scanned: bool,
 }
 
-/// What is gathered while the transactions are read in order.
-#[derive(Drop)]
-struct Gathering<'a> {
-    problem: Problem<'a>,
-    at_keys: Vec<AtKey>,
-}
+/// What no transaction did.
+const NOT_NAMED: AtKey = AtKey {
+    transaction: usize::MAX,
+    reading: None,
+    left: None,
+};
 
 /// What an operation that isn't a scan tells of the value that it found.
 fn need_of(operation: &Operation) -> Need {
@@ -74,16 +66,6 @@ fn need_by_scan(pairs: &[(u64, u64)], key: u64) -> Need {
     }
 }
 
-/// Whether nothing meets both needs.
-fn are_apart(first: Need, second: Need) -> bool {
-    match (first, second) {
-        (Need::Absent, Need::Present | Need::Value(_)) => true,
-        (Need::Present | Need::Value(_), Need::Absent) => true,
-        (Need::Value(x), Need::Value(y)) => x != y,
-        _ => false,
-    }
-}
-
 /// Whether the second need says more than the first.
 fn is_closer(first: Need, second: Need) -> bool {
     match (first, second) {
@@ -105,8 +87,10 @@ fn is_judged(lenient: bool, need: Need) -> bool {
 fn fault_of_scan(operation: usize, scope: Scope, pairs: &[(u64, u64)]) -> Option<OwnFault> {
     let mut before: Option<u64> = None;
     for pair in pairs {
-        if before.is_some_and(|key| pair.0 <= key) {
-            return Some(OwnFault::Unordered { operation });
+        if let Some(key) = before {
+            if pair.0 <= key {
+                return Some(OwnFault::Unordered { operation });
+            }
         }
         if !covers(scope, pair.0) {
             return Some(OwnFault::Outside {
@@ -119,26 +103,24 @@ fn fault_of_scan(operation: usize, scope: Scope, pairs: &[(u64, u64)]) -> Option
     None
 }
 
-impl Gathering<'_> {
+impl Problem<'_> {
     /// What a transaction did at a key so far.
     fn at_key(&self, transaction: usize, key: usize) -> AtKey {
-        let none = AtKey {
-            transaction,
-            reading: None,
-            left: None,
-        };
-        let there = at(self.at_keys.as_slice(), key, none);
+        let there = at(self.at_keys.as_slice(), key, NOT_NAMED);
         if there.transaction == transaction {
             there
         } else {
-            none
+            AtKey {
+                transaction,
+                ..NOT_NAMED
+            }
         }
     }
 
     /// Notes the first fault of a transaction.
     fn blame(&mut self, t: usize, fault: OwnFault) {
-        if self.problem.fault_of(t).is_none() {
-            put(&mut self.problem.faults, t, Some(fault));
+        if self.fault_of(t).is_none() {
+            put(&mut self.faults, t, Some(fault));
         }
     }
 
@@ -156,32 +138,30 @@ impl Gathering<'_> {
             self.join(by, key, need, place);
             return Ok(());
         }
-        let place = self.problem.readings.len();
-        self.problem.readings.push(Reading {
+        let found = AtKey {
+            reading: Some(self.readings.len()),
+            ..so_far
+        };
+        put(&mut self.at_keys, key, found);
+        let reading = Reading {
             reader: by.transaction,
             key,
             operation: by.operation,
             need,
             scanned: by.scanned,
-        })?;
-        let found = AtKey {
-            reading: Some(place),
-            ..so_far
         };
-        put(&mut self.at_keys, key, found);
-        Ok(())
+        add(&mut self.readings, reading)
     }
 
     /// Compares a need with what the transaction itself left at the key.
     fn compare(&mut self, by: Named, key: usize, need: Need, place: usize) {
-        let value = match self.problem.left.get(place) {
-            Some(left) => left.value,
-            None => None,
+        let Some(left) = self.left.get(place) else {
+            return;
         };
-        if !meets(need, value) {
+        if !meets(need, left.value) {
             let fault = OwnFault::Contradicted {
                 operation: by.operation,
-                key: self.problem.keys.name(key),
+                key: self.keys.name(key),
             };
             self.blame(by.transaction, fault);
         }
@@ -189,52 +169,48 @@ impl Gathering<'_> {
 
     /// Joins a need with an earlier reading of the key.
     fn join(&mut self, by: Named, key: usize, need: Need, place: usize) {
-        let earlier = self.problem.reading(place);
+        let earlier = self.reading(place);
         if is_closer(earlier.need, need) {
             let closer = Reading {
                 need,
                 operation: by.operation,
                 ..earlier
             };
-            put(&mut self.problem.readings, place, closer);
+            put(&mut self.readings, place, closer);
         }
         if are_apart(earlier.need, need) {
             let fault = OwnFault::Disagree {
                 first: earlier.operation,
                 second: by.operation,
-                key: self.problem.keys.name(key),
+                key: self.keys.name(key),
             };
             self.blame(by.transaction, fault);
         }
     }
 
     /// Takes what a scan tells of each key that it is of.
-    fn scan(
-        &mut self,
-        alloc: Global,
-        by: Named,
-        scope: Scope,
-        pairs: &[(u64, u64)],
-    ) -> Result<(), NoMemory> {
+    fn scan(&mut self, by: Named, scope: Scope, pairs: &[(u64, u64)]) -> Result<(), NoMemory> {
         if let Some(fault) = fault_of_scan(by.operation, scope, pairs) {
             self.blame(by.transaction, fault);
         }
-        for key in &self.problem.keys.of_scope(alloc, scope)? {
-            let need = need_by_scan(pairs, self.problem.keys.name(*key));
-            self.want(by, *key, need)?;
+        let (from, to) = self.keys.places_of(scope);
+        for place in from..to {
+            let key = self.keys.key_at(scope, place);
+            let need = need_by_scan(pairs, self.keys.name(key));
+            self.want(by, key, need)?;
         }
         Ok(())
     }
 
     /// Takes an operation.
-    fn take(&mut self, alloc: Global, by: Named, operation: &Operation) -> Result<(), NoMemory> {
+    fn take(&mut self, by: Named, operation: &Operation) -> Result<(), NoMemory> {
         if let Operation::Scan(scope, pairs) = operation {
-            return self.scan(alloc, by, *scope, pairs.as_slice());
+            return self.scan(by, *scope, pairs.as_slice());
         }
         let Some(name) = key_of(operation) else {
             return Ok(());
         };
-        let Some(key) = self.problem.keys.place_of(name) else {
+        let Some(key) = self.keys.place_of(name) else {
             return Ok(());
         };
         self.want(by, key, need_of(operation))?;
@@ -250,26 +226,22 @@ impl Gathering<'_> {
         let so_far = self.at_key(writer, key);
         let left = Left { key, value, writer };
         if let Some(place) = so_far.left {
-            put(&mut self.problem.left, place, left);
+            put(&mut self.left, place, left);
             return Ok(());
         }
-        let place = self.problem.left.len();
         let found = AtKey {
-            left: Some(place),
+            left: Some(self.left.len()),
             ..so_far
         };
         put(&mut self.at_keys, key, found);
-        self.problem.left.push(left)?;
-        Ok(())
+        add(&mut self.left, left)
     }
 
     /// Takes the operations of a transaction, if it may have committed.
-    fn take_all(&mut self, alloc: Global, t: usize) -> Result<(), NoMemory> {
-        let first_reading = self.problem.readings.len();
-        let first_left = self.problem.left.len();
-        self.problem.reading_from.push(first_reading)?;
-        self.problem.left_from.push(first_left)?;
-        let history = self.problem.history;
+    fn take_all(&mut self, t: usize) -> Result<(), NoMemory> {
+        add(&mut self.reading_from, self.readings.len())?;
+        add(&mut self.left_from, self.left.len())?;
+        let history = self.history;
         let Some(transaction) = history.transactions.get(t) else {
             return Ok(());
         };
@@ -283,57 +255,62 @@ impl Gathering<'_> {
                 lenient: transaction.level == Level::Repeatable,
                 scanned: key_of(answered).is_none(),
             };
-            self.take(alloc, by, answered)?;
+            self.take(by, answered)?;
         }
         Ok(())
     }
-}
 
-/// The value of each key in the opening rows; of a key with two rows, that of the first.
-fn opening_of(alloc: Global, history: &History, keys: &Keys) -> Result<Vec<Option<u64>>, NoMemory> {
-    let mut opening = Vec::from_elem(alloc, None, keys.len())?;
-    for row in &history.rows {
-        if let Some(key) = keys.place_of(row.0) {
-            if at(opening.as_slice(), key, None).is_none() {
-                put(&mut opening, key, Some(row.1));
+    /// Notes the value of each key in the opening rows; of a key with two rows, that of the first.
+    fn take_rows(&mut self) -> Result<(), NoMemory> {
+        for _ in 0..self.keys.len() {
+            add(&mut self.opening, None)?;
+            add(&mut self.at_keys, NOT_NAMED)?;
+        }
+        for row in &self.history.rows {
+            if let Some(key) = self.keys.place_of(row.0) {
+                if self.opening_at(key).is_none() {
+                    put(&mut self.opening, key, Some(row.1));
+                }
             }
         }
+        Ok(())
     }
-    Ok(opening)
-}
 
-/// The place of the first row of each key in the table, and the place after its last one.
-fn row_places(alloc: Global, table: &[Left], keys: usize) -> Result<Vec<usize>, NoMemory> {
-    let mut places = Vec::new(alloc);
-    for (place, row) in table.iter().enumerate() {
-        for _ in places.len()..row.key.saturating_add(1) {
-            places.push(place)?;
+    /// The rows of each key begin at a place, up to a key.
+    fn begin_rows(&mut self, key: usize, place: usize) -> Result<(), NoMemory> {
+        for _ in self.row_from.len()..key.saturating_add(1) {
+            add(&mut self.row_from, place)?;
         }
+        Ok(())
     }
-    for _ in places.len()..keys.saturating_add(1) {
-        places.push(table.len())?;
-    }
-    Ok(places)
-}
 
-/// A history as the search sees it, with nothing gathered yet.
-fn empty(alloc: Global, history: &History, order: Order) -> Result<Problem<'_>, NoMemory> {
-    let keys = Keys::of(alloc, history)?;
-    let opening = opening_of(alloc, history, &keys)?;
-    let faults = Vec::from_elem(alloc, None, history.transactions.len())?;
-    Ok(Problem {
-        history,
-        order,
-        keys,
-        opening,
-        readings: Vec::new(alloc),
-        reading_from: Vec::new(alloc),
-        left: Vec::new(alloc),
-        left_from: Vec::new(alloc),
-        table: Vec::new(alloc),
-        row_from: Vec::new(alloc),
-        faults,
-    })
+    /// Makes the table of what all transactions leave.
+    fn fill_table(&mut self) -> Result<(), NoMemory> {
+        self.table.extend_from_slice(self.left.as_slice())?;
+        self.table
+            .sort_unstable_by_key(|row| (row.key, row.value, row.writer));
+        for place in 0..self.table.len() {
+            if let Some(row) = self.table.get(place) {
+                let key = row.key;
+                self.begin_rows(key, place)?;
+            }
+        }
+        let keys = self.keys.len();
+        let rows = self.table.len();
+        self.begin_rows(keys, rows)
+    }
+
+    /// Takes all that the history has.
+    fn fill(&mut self) -> Result<(), NoMemory> {
+        self.keys.fill(self.history)?;
+        self.take_rows()?;
+        // past the last one, so that the places after its readings stand in the lists too
+        for t in 0..self.transactions().saturating_add(1) {
+            add(&mut self.faults, None)?;
+            self.take_all(t)?;
+        }
+        self.fill_table()
+    }
 }
 
 /// A history as the search sees it.
@@ -342,25 +319,20 @@ pub(crate) fn reduced(
     history: &History,
     order: Order,
 ) -> Result<Problem<'_>, NoMemory> {
-    let problem = empty(alloc, history, order)?;
-    let none = AtKey {
-        transaction: usize::MAX,
-        reading: None,
-        left: None,
+    let mut problem = Problem {
+        history,
+        order,
+        keys: Keys::new(alloc),
+        opening: Vec::new(alloc),
+        readings: Vec::new(alloc),
+        reading_from: Vec::new(alloc),
+        left: Vec::new(alloc),
+        left_from: Vec::new(alloc),
+        table: Vec::new(alloc),
+        row_from: Vec::new(alloc),
+        faults: Vec::new(alloc),
+        at_keys: Vec::new(alloc),
     };
-    let at_keys = Vec::from_elem(alloc, none, problem.keys.len())?;
-    let mut gathering = Gathering { problem, at_keys };
-    // past the last one, so that the places after its readings stand in the lists too
-    for t in 0..history.transactions.len().saturating_add(1) {
-        gathering.take_all(alloc, t)?;
-    }
-    let Gathering {
-        problem: mut found,
-        at_keys: _,
-    } = gathering;
-    let mut table = Vec::from_slice(alloc, found.left.as_slice())?;
-    table.sort_unstable_by_key(|row| (row.key, row.value, row.writer));
-    found.row_from = row_places(alloc, table.as_slice(), found.keys.len())?;
-    found.table = table;
-    Ok(found)
+    problem.fill()?;
+    Ok(problem)
 }

@@ -1,8 +1,8 @@
 //! A violation is repaired: by what follows from known facts, or else by a decision.
 use crate::facts::{Rule, Stop};
-use crate::known::{Known, Settled};
-use crate::lists::list_at;
-use crate::problem::{Reading, Source};
+use crate::known::{AFTER, BEFORE, Chance, DOUBTFUL, Known, NO_CHANCE, Settled};
+use crate::lists::{add, at, list_at};
+use crate::problem::Source;
 use crate::replay::Violation;
 use hek_rules::NoMemory;
 
@@ -16,30 +16,12 @@ struct Way {
     source: Option<usize>,
 }
 
-/// Where a candidate is in the order: before its reader, after it, or nowhere yet.
-#[derive(Clone, Copy, PartialEq, Eq, PartialOrd, Ord)]
-enum Standing {
-    Before,
-    After,
-    Doubtful,
-}
-
-/// A candidate, where it is, and how far from its reader.
-#[derive(Clone, Copy)]
-struct Chance {
-    source: Source,
-    node: usize,
-    standing: Standing,
-    distance: usize,
-}
-
 impl Known<'_> {
     /// A way holds, since the path that was found last forbids the other.
     fn follow(&mut self, way: Way) -> Result<(), Stop> {
         self.facts.cite_option(way.source)?;
         self.cite_path()?;
-        let _fact = self.force(way.first, way.second, way.rule, 0)?;
-        Ok(())
+        self.force(way.first, way.second, way.rule, 0)
     }
 
     /// One of two ways holds: the other, if a path forbids one, or else the one to try first.
@@ -47,10 +29,7 @@ impl Known<'_> {
         if self.has_path(other.second, other.first)? {
             return self.follow(one);
         }
-        if self.has_path(one.second, one.first)? {
-            return self.follow(other);
-        }
-        if self.decide(one.first, one.second, violation)? {
+        if self.has_path(one.second, one.first)? || self.decide(one.first, one.second, violation)? {
             return self.follow(other);
         }
         Ok(())
@@ -86,7 +65,7 @@ impl Known<'_> {
         }
         match self.source(place) {
             Some(settled) => self.repair_settled(place, settled, writer, violation),
-            None => self.find_source(place, reading, writer, violation),
+            None => self.find_source(place, writer, violation),
         }
     }
 
@@ -193,69 +172,77 @@ impl Known<'_> {
     }
 
     /// Adds a candidate, unless it is excluded or the reader's own.
-    fn add_chance(
-        &self,
-        chances: &mut Vec<Chance>,
-        place: usize,
-        source: Source,
-    ) -> Result<(), NoMemory> {
+    fn add_chance(&mut self, place: usize, source: Source) -> Result<(), NoMemory> {
         let reader = self.problem.reading(place).reader;
         let writer = self.problem.transaction_of(source);
         if writer == Some(reader) || self.is_excluded(place, source) {
             return Ok(());
         }
         let node = self.nodes.commit_of(writer);
-        let its = self.graph.place_of(node);
-        let begin = self.graph.place_of(self.nodes.begin(reader));
-        let standing = if !self.is_present_writer(writer) {
-            Standing::Doubtful
-        } else if its < begin {
-            Standing::Before
-        } else {
-            Standing::After
-        };
-        chances.push(Chance {
+        let begin = self.nodes.begin(reader);
+        let chance = Chance {
             source,
             node,
-            standing,
-            distance: begin.abs_diff(its),
-        })?;
+            standing: self.standing(writer, begin),
+            distance: self
+                .graph
+                .place_of(begin)
+                .abs_diff(self.graph.place_of(node)),
+        };
+        add(&mut self.chances, chance)
+    }
+
+    /// Where a candidate's writer is, for a reader that begins at a node.
+    fn standing(&self, writer: Option<usize>, begin: usize) -> u8 {
+        if !self.is_present_writer(writer) {
+            DOUBTFUL
+        } else if self.is_in_order(self.nodes.commit_of(writer), begin) {
+            BEFORE
+        } else {
+            AFTER
+        }
+    }
+
+    /// Finds the candidates of a reading that are left, the nearest first.
+    fn find_chances(&mut self, place: usize) -> Result<(), NoMemory> {
+        let candidates = self.problem.candidates(self.problem.reading(place));
+        self.chances.clear();
+        if candidates.opening {
+            self.add_chance(place, Source::Opening)?;
+        }
+        for row in candidates.from..candidates.to {
+            self.add_chance(place, Source::Row(row))?;
+        }
+        self.chances
+            .sort_unstable_by_key(|chance| (chance.standing, chance.distance));
         Ok(())
     }
 
-    /// The candidates of a reading that are left, the nearest first.
-    fn chances(&self, place: usize, reading: Reading) -> Result<Vec<Chance>, NoMemory> {
-        let candidates = self.problem.candidates(reading);
-        let mut chances = Vec::new(self.alloc);
-        if candidates.opening {
-            self.add_chance(&mut chances, place, Source::Opening)?;
-        }
-        for row in candidates.from..candidates.to {
-            self.add_chance(&mut chances, place, Source::Row(row))?;
-        }
-        chances.sort_unstable_by_key(|chance| (chance.standing, chance.distance));
-        Ok(chances)
-    }
-
-    /// A reading with several candidates gets one of them as its source.
+    /// A reading with several candidates gets one of them as its source: the only one that is left, or by a decision.
     fn find_source(
         &mut self,
         place: usize,
-        reading: Reading,
         writer: Option<usize>,
         violation: Violation,
     ) -> Result<(), Stop> {
         let last = self.nodes.commit_of(writer);
-        for chance in &self.chances(place, reading)? {
-            if chance.standing == Standing::Before && self.is_in_order(last, chance.node) {
+        self.find_chances(place)?;
+        for turn in 0..self.chances.len() {
+            let chance = at(self.chances.as_slice(), turn, NO_CHANCE);
+            if chance.standing == BEFORE && self.is_in_order(last, chance.node) {
                 return Ok(());
             }
-            if !self.excludes(place, last, *chance)? {
-                return self.take_chance(place, reading, chance.source, violation);
+            if !self.excludes(place, last, chance)? {
+                if turn.saturating_add(1) < self.chances.len() {
+                    return self.decide_source(place, chance.source, violation);
+                }
+                self.cite_exclusions(place)?;
+                return self.settle(place, chance.source, Rule::LastSource, 0);
             }
         }
         self.cite_exclusions(place)?;
-        self.cite_taken(reading.reader)?;
+        let reader = self.problem.reading(place).reader;
+        self.cite_taken(reader)?;
         self.contradict(Rule::NoSource(place))
     }
 
@@ -270,7 +257,7 @@ impl Known<'_> {
     /// Whether known facts exclude a candidate, where another wrote the key last; then that is a fact too.
     fn excludes(&mut self, place: usize, last: usize, chance: Chance) -> Result<bool, Stop> {
         let begin = self.nodes.begin(self.problem.reading(place).reader);
-        if chance.standing == Standing::Before && self.has_path(chance.node, last)? {
+        if chance.standing == BEFORE && self.has_path(chance.node, last)? {
             let count = self.graph.path.len();
             self.cite_path()?;
             if self.has_path(last, begin)? {
@@ -280,45 +267,12 @@ impl Known<'_> {
             }
             self.facts.cite_nothing();
         }
-        let is_after = chance.standing == Standing::After && self.has_path(begin, chance.node)?;
+        let is_after = chance.standing == AFTER && self.has_path(begin, chance.node)?;
         if is_after || self.is_forbidden(chance.node, begin)? {
             self.cite_path()?;
             self.exclude(place, chance.source, Rule::NotLater, 0)?;
             return Ok(true);
         }
         Ok(false)
-    }
-
-    /// A candidate is the source: since all others are excluded, or by a decision.
-    fn take_chance(
-        &mut self,
-        place: usize,
-        reading: Reading,
-        source: Source,
-        violation: Violation,
-    ) -> Result<(), Stop> {
-        if self.is_last(place, reading, source) {
-            self.cite_exclusions(place)?;
-            self.settle(place, source, Rule::LastSource, 0)
-        } else {
-            self.decide_source(place, source, violation)
-        }
-    }
-
-    /// Whether all other candidates are excluded.
-    fn is_last(&self, place: usize, reading: Reading, source: Source) -> bool {
-        let candidates = self.problem.candidates(reading);
-        let opening = Source::Opening;
-        if candidates.opening && source != opening && !self.is_excluded(place, opening) {
-            return false;
-        }
-        for row in candidates.from..candidates.to {
-            let other = Source::Row(row);
-            let is_own = self.problem.writer_of(row) == Some(reading.reader);
-            if other != source && !is_own && !self.is_excluded(place, other) {
-                return false;
-            }
-        }
-        true
     }
 }

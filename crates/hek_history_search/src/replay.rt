@@ -1,9 +1,10 @@
 //! The order of the moments is replayed, to see where it fails.
 use crate::known::Known;
-use crate::lists::{at, put};
-use crate::problem::meets;
+use crate::lists::{add, at, put};
+use crate::problem::{Problem, meets};
 use hek_history::Point;
 use hek_rules::NoMemory;
+use std::alloc::Global;
 
 /// Where a replay of the order fails.
 #[derive(Clone, Copy)]
@@ -34,50 +35,44 @@ const NO_CELL: Cell = Cell {
     writer: None,
 };
 
-/// The rows while the order is replayed, and what failed so far.
+/// The rows while the order is replayed, and where it fails, the last one first.
 #[derive(Drop)]
-struct Replay<'a, 'b> {
-    known: &'a Known<'b>,
+pub(crate) struct Replay {
     cells: Vec<Cell>,
-    failed: Vec<Violation>,
+    pub failed: Vec<Violation>,
 }
 
-impl Replay<'_, '_> {
+impl Replay {
+    /// Nothing is replayed yet.
+    pub(crate) fn new(alloc: Global) -> Replay {
+        Replay {
+            cells: Vec::new(alloc),
+            failed: Vec::new(alloc),
+        }
+    }
+
     /// A transaction reads.
-    fn read(&mut self, t: usize) -> Result<(), NoMemory> {
-        let problem = self.known.problem;
+    fn read(&mut self, problem: &Problem, t: usize) -> Result<(), NoMemory> {
         for place in problem.first_reading(t)..problem.end_reading(t) {
             let reading = problem.reading(place);
             let cell = at(self.cells.as_slice(), reading.key, NO_CELL);
             if !meets(reading.need, cell.value) {
-                self.failed.push(Violation::Found {
+                let found = Violation::Found {
                     reading: place,
                     writer: cell.writer,
-                })?;
+                };
+                add(&mut self.failed, found)?;
             }
         }
         Ok(())
     }
 
-    /// Whether a writer committed after a transaction began.
-    fn is_since(&self, t: usize, writer: usize) -> bool {
-        let graph = &self.known.graph;
-        let nodes = &self.known.nodes;
-        graph.place_of(nodes.commit(writer)) > graph.place_of(nodes.begin(t))
-    }
-
     /// The writes of a transaction come to be.
-    fn write(&mut self, t: usize) -> Result<(), NoMemory> {
-        for left in self.known.problem.left_by(t) {
+    fn write(&mut self, known: &Known, t: usize) -> Result<(), NoMemory> {
+        for left in known.problem.left_by(t) {
             let before = at(self.cells.as_slice(), left.key, NO_CELL);
-            if let Some(other) = before.writer {
-                if self.is_since(t, other) {
-                    self.failed.push(Violation::Both {
-                        first: t,
-                        second: other,
-                        key: left.key,
-                    })?;
-                }
+            if let Some(violation) = known.overlap(t, before.writer, left.key) {
+                add(&mut self.failed, violation)?;
             }
             let cell = Cell {
                 value: left.value,
@@ -88,59 +83,75 @@ impl Replay<'_, '_> {
         Ok(())
     }
 
-    /// A node's transaction reads, commits, or both.
-    fn run(&mut self, node: usize) -> Result<(), NoMemory> {
-        let Some(t) = self.known.nodes.transaction(node) else {
-            return Ok(());
-        };
-        if !self.known.is_present(t) {
-            return Ok(());
+    /// Replays the order.
+    pub(crate) fn run(&mut self, known: &Known) -> Result<(), NoMemory> {
+        self.failed.clear();
+        self.cells.clear();
+        for value in &known.problem.opening {
+            let cell = Cell {
+                value: *value,
+                writer: None,
+            };
+            add(&mut self.cells, cell)?;
         }
-        if self.known.nodes.begin(t) == node {
-            self.read(t)?;
+        for node in known.graph.order() {
+            if let Some(t) = known.reader_at(*node) {
+                self.read(known.problem, t)?;
+            }
+            if let Some(t) = known.committer_at(*node) {
+                self.write(known, t)?;
+            }
         }
-        if self.known.nodes.commit(t) == node {
-            self.write(t)?;
-        }
+        self.failed.reverse();
         Ok(())
     }
 }
 
 impl Known<'_> {
-    /// Where the order fails.
-    pub(crate) fn violations(&self) -> Result<Vec<Violation>, NoMemory> {
-        let mut replay = Replay {
-            known: self,
-            cells: Vec::new(self.alloc),
-            failed: Vec::new(self.alloc),
-        };
-        for value in &self.problem.opening {
-            replay.cells.push(Cell {
-                value: *value,
-                writer: None,
-            })?;
+    /// The transaction that reads at a node, if it takes place.
+    fn reader_at(&self, node: usize) -> Option<usize> {
+        let t = self.nodes.transaction(node)?;
+        if self.is_present(t) && self.nodes.begin(t) == node {
+            Some(t)
+        } else {
+            None
         }
-        for node in self.graph.order() {
-            replay.run(*node)?;
+    }
+
+    /// The transaction that commits at a node, if it takes place.
+    fn committer_at(&self, node: usize) -> Option<usize> {
+        let t = self.nodes.transaction(node)?;
+        if self.is_present(t) && self.nodes.commit(t) == node {
+            Some(t)
+        } else {
+            None
         }
-        Ok(std::mem::replace(&mut replay.failed, Vec::new(self.alloc)))
+    }
+
+    /// The violation that a transaction commits which writes a key, if the last writer of the key committed after it began.
+    fn overlap(&self, t: usize, last: Option<usize>, key: usize) -> Option<Violation> {
+        let second = last?;
+        let commit = self.nodes.commit(second);
+        if self.graph.place_of(commit) > self.graph.place_of(self.nodes.begin(t)) {
+            Some(Violation::Both {
+                first: t,
+                second,
+                key,
+            })
+        } else {
+            None
+        }
     }
 
     /// The points of those who take place, in order.
     pub(crate) fn points(&self) -> Result<Vec<Point>, NoMemory> {
         let mut points = Vec::new(self.alloc);
         for node in self.graph.order() {
-            let Some(t) = self.nodes.transaction(*node) else {
-                continue;
-            };
-            if !self.is_present(t) {
-                continue;
+            if let Some(t) = self.reader_at(*node) {
+                add(&mut points, Point::Begin(t))?;
             }
-            if self.nodes.begin(t) == *node {
-                points.push(Point::Begin(t))?;
-            }
-            if self.nodes.commit(t) == *node {
-                points.push(Point::Commit(t))?;
+            if let Some(t) = self.committer_at(*node) {
+                add(&mut points, Point::Commit(t))?;
             }
         }
         Ok(points)

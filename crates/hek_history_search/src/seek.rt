@@ -1,39 +1,30 @@
 //! The search: by facts, and by repairs: the order is replayed, and what fails is repaired, one after another.
 use crate::facts::{Rule, Stop};
 use crate::known::Known;
-use crate::lists::put;
-use crate::order::sorted_nodes;
-use crate::replay::Violation;
-use hek_history::Point;
+use crate::lists::add;
+use crate::order::Sorting;
+use crate::replay::{Replay, Violation};
 use hek_rules::NoMemory;
 
 /// Within how many nodes paths are looked for at first.
 const NEAR: usize = 1000;
 
 /// What the search comes to.
-#[derive(Drop)]
+#[derive(Clone, Copy)]
 pub(crate) enum Outcome {
-    Points(Vec<Point>),
+    /// The order is that of an explanation.
+    Ordered,
     /// This fact says that there is a contradiction, and rests on no decision.
     Refuted(usize),
     /// It gave up, with so many violations left.
     Unknown(usize),
 }
 
-/// What a step comes to.
-#[derive(Clone, Copy)]
-enum Stepped {
-    Done,
-    /// A decision was turned to its contrary.
-    Turned,
-    Refuted(usize),
-}
-
 /// What is left to do: violations to repair, the last one first, and how many repairs may still be made, one for which many nodes
 /// are looked at counting as several.
 #[derive(Drop)]
 struct Work {
-    violations: Vec<Violation>,
+    replay: Replay,
     effort: usize,
 }
 
@@ -49,16 +40,13 @@ impl Known<'_> {
     /// The facts that need no decision, and an order that agrees with them.
     fn start(&mut self) -> Result<(), Stop> {
         self.begin()?;
-        let order = sorted_nodes(self.alloc, &self.graph, self.node_hints.as_slice())?;
-        if order.len() == self.graph.len() {
-            self.graph.set_order(order);
+        let mut sorting = Sorting::new(self.alloc);
+        sorting.sort(&self.graph, self.node_hints.as_slice())?;
+        if sorting.order.len() == self.graph.len() {
+            self.graph.set_order(sorting.order.as_slice());
             return Ok(());
         }
-        let mut is_placed = Vec::from_elem(self.alloc, false, self.graph.len())?;
-        for node in &order {
-            put(&mut is_placed, *node, true);
-        }
-        self.find_short_cycle(is_placed.as_slice())?;
+        self.find_short_cycle(sorting.held.as_slice())?;
         self.cite_path()?;
         self.contradict(Rule::Cycle)
     }
@@ -72,36 +60,43 @@ impl Known<'_> {
         self.activate_pending()
     }
 
-    /// Repairs the last violation. After a conflict it is still to be repaired, and so are those whose repairs were taken back.
-    fn step(&mut self, work: &mut Work) -> Result<Stepped, NoMemory> {
-        let next = work.violations.pop();
+    /// Repairs the last violation. Answers a conflict that rests on no decision, if it comes to that.
+    fn step(&mut self, work: &mut Work) -> Result<Option<usize>, NoMemory> {
+        let next = work.replay.failed.pop();
         let before = self.graph.looked_at;
         let outcome = self.repair_one(next);
         work.spend(self.graph.looked_at.saturating_sub(before));
-        let conflict = match outcome {
-            Ok(()) => return Ok(Stepped::Done),
-            Err(Stop::NoMemory) => return Err(NoMemory),
-            Err(Stop::Conflict(conflict)) => conflict,
-        };
-        if let Some(last) = self.resolve(conflict)? {
-            return Ok(Stepped::Refuted(last));
+        match outcome {
+            Ok(()) => Ok(None),
+            Err(Stop::NoMemory) => Err(NoMemory),
+            Err(Stop::Conflict(conflict)) => self.turn_back(conflict, next, work),
         }
+    }
+
+    /// Resolves a conflict. The violation is still to be repaired, and so are those whose repairs were taken back.
+    fn turn_back(
+        &mut self,
+        conflict: usize,
+        next: Option<Violation>,
+        work: &mut Work,
+    ) -> Result<Option<usize>, NoMemory> {
+        let refuted = self.resolve(conflict)?;
         if let Some(violation) = next {
-            work.violations.push(violation)?;
+            add(&mut work.replay.failed, violation)?;
         }
-        work.violations.extend_from_slice(self.again.as_slice())?;
+        work.replay.failed.extend_from_slice(self.again.as_slice())?;
         self.again.clear();
-        Ok(Stepped::Turned)
+        Ok(refuted)
     }
 
     /// Repairs violations until none is left, or nothing is left of the effort. Answers a conflict that rests on no decision.
     fn repair_all(&mut self, work: &mut Work) -> Result<Option<usize>, NoMemory> {
         for _ in 0..work.effort {
-            let is_done = work.violations.is_empty() && self.pending.is_empty();
+            let is_done = work.replay.failed.is_empty() && self.pending.is_empty();
             if is_done || work.effort == 0 {
                 break;
             }
-            if let Stepped::Refuted(conflict) = self.step(work)? {
+            if let Some(conflict) = self.step(work)? {
                 return Ok(Some(conflict));
             }
         }
@@ -111,15 +106,14 @@ impl Known<'_> {
     /// Replays and repairs until nothing fails.
     fn repair_until(&mut self, effort: usize) -> Result<Outcome, NoMemory> {
         let mut work = Work {
-            violations: Vec::new(self.alloc),
+            replay: Replay::new(self.alloc),
             effort,
         };
         for _ in 0..effort {
-            work.violations = self.violations()?;
-            work.violations.reverse();
+            work.replay.run(self)?;
             work.spend(self.graph.len());
-            if work.violations.is_empty() && self.pending.is_empty() {
-                return Ok(Outcome::Points(self.points()?));
+            if work.replay.failed.is_empty() && self.pending.is_empty() {
+                return Ok(Outcome::Ordered);
             }
             if let Some(conflict) = self.repair_all(&mut work)? {
                 return Ok(Outcome::Refuted(conflict));
@@ -128,7 +122,7 @@ impl Known<'_> {
                 break;
             }
         }
-        Ok(Outcome::Unknown(work.violations.len()))
+        Ok(Outcome::Unknown(work.replay.failed.len()))
     }
 
     /// Searches from the start.

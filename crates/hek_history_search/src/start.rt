@@ -2,8 +2,9 @@
 use crate::clock::Clock;
 use crate::facts::{Facts, Rule, Says, Stop};
 use crate::graph::Graph;
-use crate::hints::all_hints;
+use crate::hints::hint_of;
 use crate::known::Known;
+use crate::lists::add;
 use crate::nodes::Nodes;
 use crate::problem::{Problem, Source};
 use hek_history::Moment;
@@ -39,16 +40,14 @@ fn choice_of(problem: &Problem, place: usize) -> Choice {
 }
 
 /// The state of a search before its first fact.
-pub(crate) fn prepared<'a>(alloc: Global, problem: &'a Problem<'a>) -> Result<Known<'a>, NoMemory> {
-    let mut nodes = Nodes::of(alloc, problem)?;
-    let clock = Clock::of(alloc, problem, &mut nodes)?;
-    Ok(Known {
+pub(crate) fn prepared<'a>(alloc: Global, problem: &'a Problem<'a>) -> Known<'a> {
+    Known {
         alloc,
         problem,
         hints: Vec::new(alloc),
         node_hints: Vec::new(alloc),
-        nodes,
-        clock,
+        nodes: Nodes::new(alloc),
+        clock: Clock::new(alloc),
         graph: Graph::new(alloc),
         facts: Facts::new(alloc),
         only: Vec::new(alloc),
@@ -60,8 +59,12 @@ pub(crate) fn prepared<'a>(alloc: Global, problem: &'a Problem<'a>) -> Result<Kn
         trail: Vec::new(alloc),
         again: Vec::new(alloc),
         conflicts: 0,
+        chances: Vec::new(alloc),
+        rested_on: Vec::new(alloc),
+        is_seen: Vec::new(alloc),
+        todo: Vec::new(alloc),
         sight: 0,
-    })
+    }
 }
 
 impl Known<'_> {
@@ -83,21 +86,29 @@ impl Known<'_> {
         }
     }
 
-    /// Makes room for what will be known of each transaction, node and reading.
+    /// Makes room for what will be known of each transaction and node.
     fn fill(&mut self) -> Result<(), NoMemory> {
-        self.hints = all_hints(self.alloc, self.problem.history)?;
-        for _ in 0..self.problem.transactions() {
-            self.taken.push(None)?;
+        for transaction in &self.problem.history.transactions {
+            let hint = hint_of(transaction, self.hints.len());
+            add(&mut self.hints, hint)?;
+            add(&mut self.taken, None)?;
         }
+        self.nodes.fill(self.problem)?;
+        self.clock.fill(self.problem, &mut self.nodes)?;
         for node in 0..self.nodes.len() {
             self.graph.add_node(self.alloc)?;
             let hint = self.node_hint(node);
-            self.node_hints.push(hint)?;
+            add(&mut self.node_hints, hint)?;
         }
+        Ok(())
+    }
+
+    /// Makes room for what will be known of each reading.
+    fn fill_readings(&mut self) -> Result<(), NoMemory> {
         for place in 0..self.problem.readings.len() {
             let only = self.only_source(place);
-            self.only.push(only)?;
-            self.sources.push(None)?;
+            add(&mut self.only, only)?;
+            add(&mut self.sources, None)?;
             self.nots.push(Vec::new(self.alloc))?;
         }
         Ok(())
@@ -115,7 +126,7 @@ impl Known<'_> {
             let begin = self.nodes.begin(t);
             let commit = self.nodes.commit(t);
             if begin != commit {
-                let _fact = self.begin_with(begin, commit, Rule::Own)?;
+                self.begin_with(begin, commit, Rule::Own)?;
             }
         }
         Ok(())
@@ -133,8 +144,8 @@ impl Known<'_> {
             Choice::One(source) => {
                 let commit = self.nodes.of_source(self.problem, source);
                 let begin = self.nodes.begin(reader);
-                let read = self.begin_with(commit, begin, Rule::Read(place))?;
-                Ok(self.take(source, read, reader)?)
+                self.begin_with(commit, begin, Rule::Read(place))?;
+                Ok(self.take(source, reader)?)
             }
         }
     }
@@ -142,6 +153,7 @@ impl Known<'_> {
     /// Adds the facts that need no decision.
     pub(crate) fn begin(&mut self) -> Result<(), Stop> {
         self.fill()?;
+        self.fill_readings()?;
         for t in 0..self.problem.transactions() {
             if self.problem.is_committed(t) && self.problem.fault_of(t).is_some() {
                 self.contradict(Rule::OwnAnswers(t))?;
@@ -162,7 +174,7 @@ impl Known<'_> {
             };
             if self.taken_by(t).is_some() {
                 if let Err(stop) = self.activate(t) {
-                    self.pending.push(t)?;
+                    add(&mut self.pending, t)?;
                     return Err(stop);
                 }
             }

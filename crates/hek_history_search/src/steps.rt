@@ -1,7 +1,7 @@
 //! The certificate of a conflict: the facts on which it rests as steps, each once in the case that it belongs to.
 use crate::facts::{Rule, Says};
 use crate::known::Known;
-use crate::lists::{at, list_at, put};
+use crate::lists::{add, at, list_at, put};
 use hek_history::Step;
 use hek_rules::NoMemory;
 
@@ -39,8 +39,10 @@ pub(crate) struct Writing<'a, 'b> {
     tasks: Vec<Task>,
     /// The decisions on which each fact rests.
     rests: Vec<Vec<usize>>,
+    /// The turn in which each fact was last seen, and what is to be looked at in this turn.
     seen: Vec<usize>,
     turn: usize,
+    todo: Vec<usize>,
 }
 
 impl Writing<'_, '_> {
@@ -50,29 +52,33 @@ impl Writing<'_, '_> {
     }
 
     /// Notes the place of a fact's claim.
-    fn remember(&mut self, fact: usize, place: usize) -> Result<(), NoMemory> {
+    pub(crate) fn remember(&mut self, fact: usize, place: usize) -> Result<(), NoMemory> {
         put(&mut self.said, fact, Some(place));
-        self.said_last.push(fact)?;
-        Ok(())
+        add(&mut self.said_last, fact)
     }
 
     /// Marks the facts that a conflict needs, in the conflicts of their cases too.
     fn mark_needed(&mut self, conflict: usize) -> Result<(), NoMemory> {
-        let mut todo = Vec::new(self.known.alloc);
-        todo.push(conflict)?;
+        add(&mut self.todo, conflict)?;
         for _ in 0..usize::MAX {
-            let Some(place) = todo.pop() else {
+            let Some(place) = self.todo.pop() else {
                 break;
             };
-            if at(self.seen.as_slice(), place, 1) > 0 {
-                continue;
+            if at(self.seen.as_slice(), place, 1) == 0 {
+                put(&mut self.seen, place, 1);
+                self.need_premises(place)?;
             }
-            put(&mut self.seen, place, 1);
-            todo.extend_from_slice(self.known.facts.premises(place))?;
-            if let Rule::Case { decision, conflict } = self.known.facts.get(place).rule {
-                todo.push(decision)?;
-                todo.push(conflict)?;
-            }
+        }
+        Ok(())
+    }
+
+    /// Adds what is needed for a fact to what is to be marked.
+    fn need_premises(&mut self, place: usize) -> Result<(), NoMemory> {
+        self.todo
+            .extend_from_slice(self.known.facts.premises(place))?;
+        if let Rule::Case { decision, conflict } = self.known.facts.get(place).rule {
+            add(&mut self.todo, decision)?;
+            return add(&mut self.todo, conflict);
         }
         Ok(())
     }
@@ -80,22 +86,28 @@ impl Writing<'_, '_> {
     /// Finds the decisions on which each fact rests that is needed.
     fn find_rests(&mut self) -> Result<(), NoMemory> {
         for place in 0..self.known.facts.len() {
-            let fact = self.known.facts.get(place);
-            if fact.level == 0 || at(self.seen.as_slice(), place, 0) == 0 {
-                continue;
+            if self.known.facts.get(place).level > 0 && at(self.seen.as_slice(), place, 0) > 0 {
+                self.gather_rests(place)?;
             }
-            let mut found = Vec::new(self.known.alloc);
-            if let Rule::Assumed = fact.rule {
-                found.push(place)?;
-            }
-            for premise in self.known.facts.premises(place) {
-                found.extend_from_slice(list_at(self.rests.as_slice(), *premise))?;
-            }
-            found.sort_unstable();
-            found.dedup();
-            if let Some(there) = self.rests.get_mut(place) {
-                *there = found;
-            }
+        }
+        self.todo.clear();
+        Ok(())
+    }
+
+    /// Finds the decisions on which a fact rests, by those of its premises.
+    fn gather_rests(&mut self, place: usize) -> Result<(), NoMemory> {
+        self.todo.clear();
+        if let Rule::Assumed = self.known.facts.get(place).rule {
+            add(&mut self.todo, place)?;
+        }
+        for premise in self.known.facts.premises(place) {
+            self.todo
+                .extend_from_slice(list_at(self.rests.as_slice(), *premise))?;
+        }
+        self.todo.sort_unstable();
+        self.todo.dedup();
+        if let Some(there) = self.rests.get_mut(place) {
+            there.extend_from_slice(self.todo.as_slice())?;
         }
         Ok(())
     }
@@ -106,20 +118,20 @@ impl Writing<'_, '_> {
             return Ok(());
         }
         match self.known.facts.get(place).rule {
-            Rule::Assumed => return Ok(()),
-            Rule::Case { decision, conflict } => {
-                return self.begin_case(place, decision, conflict);
+            Rule::Assumed => Ok(()),
+            Rule::Case { decision, conflict } => self.begin_case(place, decision, conflict),
+            _ => {
+                add(&mut self.tasks, Task::Build(place))?;
+                self.say_premises(place)
             }
-            _ => self.tasks.push(Task::Build(place))?,
         }
-        self.say_premises(place)
     }
 
     /// Adds the tasks to say the facts on which another rests.
     fn say_premises(&mut self, place: usize) -> Result<(), NoMemory> {
         for premise in self.known.facts.premises(place) {
             if self.place_of(*premise).is_none() {
-                self.tasks.push(Task::Say(*premise))?;
+                add(&mut self.tasks, Task::Say(*premise))?;
             }
         }
         Ok(())
@@ -132,9 +144,9 @@ impl Writing<'_, '_> {
         decision: usize,
         conflict: usize,
     ) -> Result<(), NoMemory> {
-        self.tasks.push(Task::Close { fact, conflict })?;
+        add(&mut self.tasks, Task::Close { fact, conflict })?;
         self.say_premises(conflict)?;
-        self.tasks.push(Task::Open(decision))?;
+        add(&mut self.tasks, Task::Open(decision))?;
         self.say_outer(conflict)
     }
 
@@ -151,21 +163,27 @@ impl Writing<'_, '_> {
     /// Of the facts on which a conflict rests, adds the tasks to say those that need no further assumption.
     fn say_outer(&mut self, conflict: usize) -> Result<(), NoMemory> {
         self.turn = self.turn.saturating_add(1);
-        let mut todo = Vec::from_slice(self.known.alloc, self.known.facts.premises(conflict))?;
+        self.todo
+            .extend_from_slice(self.known.facts.premises(conflict))?;
         for _ in 0..usize::MAX {
-            let Some(place) = todo.pop() else {
+            let Some(place) = self.todo.pop() else {
                 break;
             };
-            if at(self.seen.as_slice(), place, self.turn) == self.turn {
-                continue;
-            }
-            put(&mut self.seen, place, self.turn);
-            if self.is_outer(place) {
-                self.tasks.push(Task::Say(place))?;
-            } else {
-                todo.extend_from_slice(self.known.facts.premises(place))?;
+            if at(self.seen.as_slice(), place, self.turn) != self.turn {
+                put(&mut self.seen, place, self.turn);
+                self.say_if_outer(place)?;
             }
         }
+        Ok(())
+    }
+
+    /// Adds the task to say a fact if it needs no further assumption, or else looks at those on which it rests.
+    fn say_if_outer(&mut self, place: usize) -> Result<(), NoMemory> {
+        if self.is_outer(place) {
+            return add(&mut self.tasks, Task::Say(place));
+        }
+        self.todo
+            .extend_from_slice(self.known.facts.premises(place))?;
         Ok(())
     }
 
@@ -175,10 +193,11 @@ impl Writing<'_, '_> {
             return Ok(());
         };
         let place = self.put(step)?;
-        self.cases.push(Case {
+        let case = Case {
             place,
             mark: self.said_last.len(),
-        })?;
+        };
+        add(&mut self.cases, case)?;
         self.remember(decision, place)
     }
 
@@ -202,18 +221,15 @@ impl Writing<'_, '_> {
         if self.place_of(fact).is_some() {
             return Ok(());
         }
-        match self.build(fact)? {
-            Some(place) => self.remember(fact, place),
-            None => Ok(()),
-        }
+        self.build(fact)
     }
 
     /// Writes the certificate of a conflict that rests on no decision.
     fn write(&mut self, conflict: usize) -> Result<(), NoMemory> {
         for _ in 0..self.known.facts.len() {
-            self.said.push(None)?;
+            add(&mut self.said, None)?;
+            add(&mut self.seen, 0)?;
             self.rests.push(Vec::new(self.known.alloc))?;
-            self.seen.push(0)?;
         }
         self.mark_needed(conflict)?;
         self.find_rests()?;
@@ -253,6 +269,7 @@ pub(crate) fn steps_of(known: &Known, conflict: usize) -> Result<Vec<Step>, NoMe
         rests: Vec::new(alloc),
         seen: Vec::new(alloc),
         turn: 1,
+        todo: Vec::new(alloc),
     };
     writing.write(conflict)?;
     Ok(std::mem::replace(&mut writing.steps, Vec::new(alloc)))
