@@ -4,6 +4,7 @@ ghost use Rattle.hek_history_search.specs.Verdicts.{IsVerdict};
 
 use crate::anomalies::Cause;
 use crate::hints::points_by_hints;
+use crate::known::Known;
 use crate::problem::Problem;
 use crate::reduce::reduced;
 use crate::seek::Outcome;
@@ -48,20 +49,28 @@ const NOWHERE: Progress = Progress {
     violations: 0,
 };
 
-/// What a search of a problem comes to.
-fn sought_in(alloc: Global, problem: &Problem, effort: usize) -> Result<Found, NoMemory> {
-    let mut known = prepared(alloc, problem);
+/// What a search over what is known comes to.
+fn sought(known: &mut Known<'_>, effort: usize) -> Result<Found, NoMemory> {
     match known.seek(effort)? {
         Outcome::Ordered => Ok(Found::Points(known.points()?)),
-        Outcome::Refuted(conflict) => {
-            let cause = known.cause_of(conflict)?;
-            Ok(Found::Steps(steps_of(&known, conflict)?, cause))
-        }
+        Outcome::Refuted(conflict) => refuted(known, conflict),
         Outcome::Unknown(violations) => Ok(Found::Unknown(Progress {
             conflicts: known.conflicts,
             violations,
         })),
     }
+}
+
+/// The certificate of a conflict, with what it shows.
+fn refuted(known: &Known<'_>, conflict: usize) -> Result<Found, NoMemory> {
+    let cause = known.cause_of(conflict)?;
+    Ok(Found::Steps(steps_of(known, conflict)?, cause))
+}
+
+/// What a search of a problem comes to.
+fn sought_in(alloc: Global, problem: &Problem, effort: usize) -> Result<Found, NoMemory> {
+    let mut known = prepared(alloc, problem);
+    sought(&mut known, effort)
 }
 
 /// Searches by facts and decisions, with so much effort.
