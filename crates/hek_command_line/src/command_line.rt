@@ -14,8 +14,8 @@ use clap::{ArgMatches, Error};
 use hek_asm::level_named;
 use hek_check_command::{Beside, all_command, note_nothing, summary_command};
 use hek_commands::{
-    HekFault, INPUT, asm_command, check_command, dis_command, read_text, release_command, report,
-    run_command, state_command,
+    HekFault, INPUT, ScheduleFile, asm_command, check_command, dis_command, read_text,
+    release_command, report, run_command, state_command,
 };
 use hek_debug_command::{CommandFile, Manner, debug_command, debug_session, explained_command};
 use hek_history_command::run_log_command;
@@ -445,6 +445,18 @@ fn check<'a, D: Disk, I: Read + Drop, W: Write, E: Write + IsTerminal>(
     let file = schedule_file(alloc, found, disk, &mut input)?;
     let name = text(found, "TRACE")?;
     let trace = read_text(alloc, open(disk, &mut input, name)?, name)?;
+    check_trace(alloc, found, level, file, trace.as_slice(), out, faults)
+}
+
+fn check_trace<'a, R: Read + Drop, W: Write, E: Write + IsTerminal>(
+    alloc: Global,
+    found: &ArgMatches<'a>,
+    level: Option<Level>,
+    file: ScheduleFile<R>,
+    trace: &[u8],
+    out: &mut W,
+    faults: &mut E,
+) -> Result<u8, HekFault<'a>> {
     let why = found.get_flag("why");
     let summary = found.get_flag("summary");
     if wants_json(found) {
@@ -454,7 +466,7 @@ fn check<'a, D: Disk, I: Read + Drop, W: Write, E: Write + IsTerminal>(
             summary,
             all: found.get_flag("all"),
         };
-        return check_as_json(alloc, file, trace.as_slice(), asked, out, faults);
+        return check_as_json(alloc, file, trace, asked, out, faults);
     }
     if found.get_flag("all") {
         let beside = Beside {
@@ -462,14 +474,14 @@ fn check<'a, D: Disk, I: Read + Drop, W: Write, E: Write + IsTerminal>(
             why,
             summary,
         };
-        return all_command(alloc, file, trace.as_slice(), beside, out, faults);
+        return all_command(alloc, file, trace, beside, out, faults);
     }
     if summary {
-        return summary_command(alloc, file, trace.as_slice(), level, why, out, faults);
+        return summary_command(alloc, file, trace, level, why, out, faults);
     }
-    let status = check_command(alloc, file, trace.as_slice(), level, why, out)?;
+    let status = check_command(alloc, file, trace, level, why, out)?;
     if faults.is_terminal() {
-        note_nothing(alloc, trace.as_slice(), faults);
+        note_nothing(alloc, trace, faults);
     }
     Ok(status)
 }

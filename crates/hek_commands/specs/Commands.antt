@@ -117,6 +117,14 @@ abbrev pub judged_as : Option Level → Recorded → Recorded
 judged_as None told = told
 judged_as (Some level) told = at_level level told
 
+-- the right verdict on a transcript was written after the bytes that a writer held, with the serial reply if it is
+-- asked for; the verdict gives the exit status
+pub record Judges (told : Recorded) (why : Bool) (before after : Option (List ℕ)) (status : ℕ) : Type 0 where
+  pub verdict : Verdict
+  pub right : IsVerdict told verdict
+  pub written : Appends before after (verdict_text verdict ++ why_text why told verdict)
+  pub answer : status ≡ verdict_status verdict
+
 -- the right verdict at a level, on the transcript whose trace a text is, was written after the bytes that a writer
 -- held, with the serial reply if it is asked for; the verdict gives the exit status
 pub record Checks {R : Type 0} (left : R → Option (List ℕ)) (said : ScheduleFile R) (text : List ℕ) (level : Option Level) (why : Bool) (before after : Option (List ℕ)) (status : ℕ) : Type 0 where

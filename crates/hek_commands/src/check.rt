@@ -2,7 +2,7 @@
 ghost use Rattle.std.specs.Prelude.{◌≡◌, ◌++◌, ◌∷◌, [], codes, false, is_err, IsTrue, MatchResult, IfOk, IfErr, OnOk};
 ghost use Rattle.std.specs.Io.KnownBytes.{Appends};
 ghost use Rattle.hek_asm.specs.Reading.{IsTraceOf};
-ghost use Rattle.hek_commands.specs.Commands.{TraceTextFails, verdict_text, verdict_status, reply_text, serial_line, why_text, judged_as, Checks, CheckFails};
+ghost use Rattle.hek_commands.specs.Commands.{TraceTextFails, verdict_text, verdict_status, reply_text, serial_line, why_text, judged_as, Checks, CheckFails, Judges, IsStop};
 ghost use Rattle.hek_rules.specs.Faults.{IsVerdict};
 
 use crate::fault::HekFault;
@@ -35,8 +35,24 @@ pub fn check_command<'a, R: Read + Drop, W: Write>(
     };
     let schedule = schedule_in(alloc, file)?;
     let transcript = transcript_of_text(alloc, &schedule, trace)?;
-    let verdict = verdict_of(alloc, &transcript, level)?;
-    let mut reason = reason(alloc, why, &transcript, level, verdict)?;
+    let status = judge(alloc, &transcript, level, why, out)?;
+    Ok(status)
+}
+
+/// Writes the verdict on a transcript and, with `why`, the reply that the event at fault would have had in the serial
+/// order. Answers the exit status.
+fn judge<'a, W: Write>(
+    alloc: Global,
+    transcript: &Transcript,
+    level: Option<Level>,
+    why: bool,
+    out: &mut W,
+) -> Result<u8, HekFault<'a>>
+    ensures ok { IfOk result (Judges (judged_as level transcript.now) why (W.contents out.old) (W.contents out.new)) }
+    ensures err { IfErr result IsStop }
+{
+    let verdict = verdict_of(alloc, transcript, level)?;
+    let mut reason = reason(alloc, why, transcript, level, verdict)?;
     let status = write_verdict(verdict, out)?;
     send(&mut reason, out)?;
     Ok(status)

@@ -26,13 +26,18 @@ pub fn run_folder<R: System + Files>(rt: &R, folder: &str) -> io::Result<bool> {
     let names = fs::read_to_string(rt, path.as_str())?;
     let mut all = Tally::new();
     for name in names.as_str().lines() {
-        let path = format!(in rt.alloc(); "{folder}/{name}")?;
-        let tally = run_file(rt, path.as_str())?;
-        println!(rt; "{path}: {tally}")?;
-        all.add(&tally);
+        all.add(&run_named(rt, folder, name)?);
     }
     println!(rt; "{folder}: {all}")?;
     Ok(all.wrong == 0)
+}
+
+/// Runs the cases of a file of a folder, and prints its line.
+fn run_named<R: System + Files>(rt: &R, folder: &str, name: &str) -> io::Result<Tally> {
+    let path = format!(in rt.alloc(); "{folder}/{name}")?;
+    let tally = run_file(rt, path.as_str())?;
+    println!(rt; "{path}: {tally}")?;
+    Ok(tally)
 }
 
 /// Runs the cases of a file.

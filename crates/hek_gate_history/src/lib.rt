@@ -19,20 +19,31 @@ pub fn judge_folder<R: Files + Print + AllocGlobal>(rt: &R, folder: &str) -> io:
     let names = fs::read_to_string(rt, path.as_str())?;
     let mut all = Tally::new();
     for name in names.as_str().lines() {
-        let path = format!(in rt.alloc(); "{folder}/{name}")?;
-        match judge_file(rt, path.as_str()) {
-            Ok(tally) => {
-                println!(rt; "{path}: {tally}")?;
-                all.add(tally);
-            }
-            Err(fault) => {
-                println!(rt; "{path}: {fault}")?;
-                all.wrong = all.wrong.saturating_add(1);
-            }
-        }
+        all.add(judge_named(rt, folder, name)?);
     }
     println!(rt; "{folder}: {all}")?;
     Ok(all.wrong == 0 && all.unknown == 0)
+}
+
+/// Judges the histories of a file of a folder, and prints its line. A file that can't be read is one wrong verdict.
+fn judge_named<R: Files + Print + AllocGlobal>(
+    rt: &R,
+    folder: &str,
+    name: &str,
+) -> io::Result<Tally> {
+    let path = format!(in rt.alloc(); "{folder}/{name}")?;
+    let mut tally = Tally::new();
+    match judge_file(rt, path.as_str()) {
+        Ok(judged) => {
+            println!(rt; "{path}: {judged}")?;
+            tally.add(judged);
+        }
+        Err(fault) => {
+            println!(rt; "{path}: {fault}")?;
+            tally.wrong = 1;
+        }
+    }
+    Ok(tally)
 }
 
 fn judge_file<R: Files + Print + AllocGlobal>(rt: &R, path: &str) -> Result<Tally, Fault> {

@@ -25,6 +25,10 @@ pub(crate) fn play_file<R: Print + AllocGlobal>(
     for line in text.lines() {
         lines.push(line)?;
     }
+    play_lines(rt, file, lines.as_slice())
+}
+
+fn play_lines<R: Print + AllocGlobal>(rt: &R, file: &str, lines: &[&str]) -> io::Result<Tally> {
     let mut tally = Tally::new();
     let mut start = 0usize;
     for (at, line) in lines.iter().enumerate() {

@@ -24,12 +24,21 @@ pub fn play_folder<R: Files + Print + AllocGlobal>(rt: &R, folder: &str) -> io::
     let names = fs::read_to_string(rt, path.as_str())?;
     let mut all = Tally::new();
     for name in names.as_str().lines() {
-        let path = format!(in rt.alloc(); "{folder}/{name}")?;
-        let text = fs::read_to_string(rt, path.as_str())?;
-        let tally = play_file(rt, path.as_str(), text.as_str())?;
-        println!(rt; "{path}: {tally}")?;
-        all.add(tally);
+        all.add(play_named(rt, folder, name)?);
     }
     println!(rt; "{folder}: {all}")?;
     Ok(all.wrong == 0)
+}
+
+/// Makes the calls of a file, and prints its line.
+fn play_named<R: Files + Print + AllocGlobal>(
+    rt: &R,
+    folder: &str,
+    name: &str,
+) -> io::Result<Tally> {
+    let path = format!(in rt.alloc(); "{folder}/{name}")?;
+    let text = fs::read_to_string(rt, path.as_str())?;
+    let tally = play_file(rt, path.as_str(), text.as_str())?;
+    println!(rt; "{path}: {tally}")?;
+    Ok(tally)
 }

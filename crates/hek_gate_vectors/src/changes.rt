@@ -19,18 +19,29 @@ pub fn lay_folder<R: Files + Print + AllocGlobal>(rt: &R, folder: &str) -> Resul
     let mut differ = 0u64;
     for line in lines.as_str().lines() {
         let summary = Summary::read(line).ok_or(Fault::Summary(0))?;
-        let name = summary.name;
-        let path = format!(in rt.alloc(); "{folder}/{name}.hek")?;
-        let text = fs::read(rt, path.as_str())?;
-        if comes_to_state(rt.alloc(), text.as_slice())? {
+        if lay_run(rt, folder, summary.name)? {
             agree = agree.saturating_add(1);
         } else {
             differ = differ.saturating_add(1);
-            println!(rt; "{folder}/{name}: changes differ")?;
         }
     }
     println!(rt; "{folder}: the changes of {agree} runs come to the state, of {differ} not")?;
     Ok(differ == 0)
+}
+
+/// Whether the changes of a run come to its state; a line says so where they don't.
+fn lay_run<R: Files + Print + AllocGlobal>(
+    rt: &R,
+    folder: &str,
+    name: &str,
+) -> Result<bool, Fault> {
+    let path = format!(in rt.alloc(); "{folder}/{name}.hek")?;
+    let text = fs::read(rt, path.as_str())?;
+    let agrees = comes_to_state(rt.alloc(), text.as_slice())?;
+    if !agrees {
+        println!(rt; "{folder}/{name}: changes differ")?;
+    }
+    Ok(agrees)
 }
 
 /// Whether the changes of a run, over its opening state, are the state after it; a text that is no schedule has no run.
@@ -41,12 +52,16 @@ fn comes_to_state(alloc: Global, text: &[u8]) -> Result<bool, AllocError> {
     let Some(last) = state(alloc, text, None)? else {
         return Ok(false);
     };
-    let mut laid = fields(alloc, opening.as_str())?;
-    lay_changes(alloc, text, &mut laid)?;
-    let wanted = fields(alloc, last.as_str())?;
-    let laid = dump(alloc, &laid)?;
-    let wanted = dump(alloc, &wanted)?;
+    let laid = laid_over(alloc, text, opening.as_str())?;
+    let wanted = dump(alloc, &fields(alloc, last.as_str())?)?;
     Ok(laid.as_str() == wanted.as_str())
+}
+
+/// The state that the changes of a run make of a state.
+fn laid_over(alloc: Global, text: &[u8], opening: &str) -> Result<String, AllocError> {
+    let mut laid = fields(alloc, opening)?;
+    lay_changes(alloc, text, &mut laid)?;
+    dump(alloc, &laid)
 }
 
 /// The state after so many steps, as `hek run --state` prints it, after the trace.

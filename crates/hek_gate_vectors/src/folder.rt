@@ -94,14 +94,30 @@ fn judge<R: Files + AllocGlobal>(
 }
 
 fn read_stored<R: Files + AllocGlobal>(rt: &R, folder: &str, name: &str) -> Result<Stored, Fault> {
-    let text = format!(in rt.alloc(); "{folder}/{name}.hek")?;
-    let trace = format!(in rt.alloc(); "{folder}/{name}.trace")?;
-    let image = format!(in rt.alloc(); "{folder}/{name}.img")?;
     Ok(Stored {
-        text: fs::read_to_string(rt, text.as_str())?,
-        trace: fs::read(rt, trace.as_str())?,
-        image: read_if_there(rt, image.as_str())?,
+        text: read_text(rt, folder, name)?,
+        trace: read_trace(rt, folder, name)?,
+        image: read_image(rt, folder, name)?,
     })
+}
+
+fn read_text<R: Files + AllocGlobal>(rt: &R, folder: &str, name: &str) -> io::Result<String> {
+    let path = format!(in rt.alloc(); "{folder}/{name}.hek")?;
+    fs::read_to_string(rt, path.as_str())
+}
+
+fn read_trace<R: Files + AllocGlobal>(rt: &R, folder: &str, name: &str) -> io::Result<Vec<u8>> {
+    let path = format!(in rt.alloc(); "{folder}/{name}.trace")?;
+    fs::read(rt, path.as_str())
+}
+
+fn read_image<R: Files + AllocGlobal>(
+    rt: &R,
+    folder: &str,
+    name: &str,
+) -> io::Result<Option<Vec<u8>>> {
+    let path = format!(in rt.alloc(); "{folder}/{name}.img")?;
+    read_if_there(rt, path.as_str())
 }
 
 /// The bytes of a file, or None where there is no such file.

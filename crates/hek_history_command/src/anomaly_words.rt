@@ -220,14 +220,9 @@ pub(crate) fn cycle_lines(
     log: &Log,
     cause: &Cause,
 ) -> Result<Vec<String>, NoMemory> {
+    let texts = edge_texts(alloc, log, cause)?;
     let edges = cause.cycle.as_slice();
-    let mut texts = Vec::with_capacity(alloc, edges.len())?;
-    let mut width: usize = 0;
-    for edge in edges {
-        let text = edge_words(alloc, log, cause.anomaly, *edge)?;
-        width = width.max(text.as_str().chars().count());
-        texts.push(text)?;
-    }
+    let width = widest(texts.as_slice());
     let mut lines = Vec::with_capacity(alloc, edges.len())?;
     for (text, edge) in texts.iter().zip(edges.iter()) {
         let line = if edges.len() == 1 {
@@ -238,6 +233,24 @@ pub(crate) fn cycle_lines(
         lines.push(line)?;
     }
     Ok(lines)
+}
+
+/// The words of each edge.
+fn edge_texts(alloc: Global, log: &Log, cause: &Cause) -> Result<Vec<String>, NoMemory> {
+    let mut texts = Vec::with_capacity(alloc, cause.cycle.len())?;
+    for edge in cause.cycle.as_slice() {
+        texts.push(edge_words(alloc, log, cause.anomaly, *edge)?)?;
+    }
+    Ok(texts)
+}
+
+/// How many characters the longest of some texts has.
+fn widest(texts: &[String]) -> usize {
+    let mut width: usize = 0;
+    for text in texts {
+        width = width.max(text.as_str().chars().count());
+    }
+    width
 }
 
 /// A line of a cycle, with its first column of this width.

@@ -18,11 +18,17 @@ pub fn run_log_command<'a, R: Read + Drop, W: Write>(
     out: &mut W,
 ) -> Result<u8, HekFault<'a>> {
     let schedule = schedule_in(alloc, file)?;
-    let transcript = transcript_of(alloc, &schedule)?;
-    let mut lines = Vec::new(alloc);
-    write_run(alloc, &schedule, &transcript, &mut lines)?;
+    let mut lines = lines_of_run(alloc, &schedule)?;
     send(&mut lines, out)?;
     Ok(0)
+}
+
+/// The log of the run of a schedule's steps.
+fn lines_of_run(alloc: Global, schedule: &Schedule) -> Result<Vec<u8>, NoMemory> {
+    let transcript = transcript_of(alloc, schedule)?;
+    let mut lines = Vec::new(alloc);
+    write_run(alloc, schedule, &transcript, &mut lines)?;
+    Ok(lines)
 }
 
 /// The events of a schedule's run, with their replies.

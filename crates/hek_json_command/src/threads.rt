@@ -143,19 +143,24 @@ fn outcomes_of<'a, T: Threads + Wait + Sync, E: Write>(
 
 /// The outcome of a run.
 fn outcome_of(alloc: Global, schedule: &Schedule, report: Report) -> Result<Ended, NoMemory> {
+    let ends = ends_of(alloc, report.transcripts.as_slice())?;
+    let rows = report.machine.rows()?;
+    let serial = is_serial(alloc, schedule, report)?;
+    Ok(Ended { ends, rows, serial })
+}
+
+/// Whether the checker finds the history of a run serial.
+fn is_serial(alloc: Global, schedule: &Schedule, report: Report) -> Result<bool, NoMemory> {
     let Report {
-        machine,
+        machine: _,
         history,
-        transcripts,
+        transcripts: _,
     } = report;
-    let ends = ends_of(alloc, transcripts.as_slice())?;
-    let rows = machine.rows()?;
     let told = transcript_of(alloc, schedule, history)?;
-    let serial = match check(alloc, &told)? {
+    Ok(match check(alloc, &told)? {
         Verdict::Serial => true,
         Verdict::NotSerial(_) => false,
-    };
-    Ok(Ended { ends, rows, serial })
+    })
 }
 
 fn ends_of(alloc: Global, parts: &[Part]) -> Result<Vec<Ending>, NoMemory> {

@@ -17,18 +17,28 @@ pub fn auto_file<'a, R: Read + Drop>(
     file: ScheduleFile<R>,
 ) -> Result<ScheduleFile<R>, HekFault<'a>> {
     let schedule = schedule_in(alloc, file)?;
-    let moves = moves_of(alloc, &schedule)?;
-    let order = order_in_file(alloc, &schedule, moves.as_slice())?;
-    let events = events_of(
+    let made = ended(alloc, &schedule)?;
+    let text = canonical(alloc, &made)?;
+    Ok(ScheduleFile::Text(text.into_bytes()))
+}
+
+/// The schedule whose steps are the events of the order that a file has.
+fn ended<'a>(alloc: Global, schedule: &Schedule) -> Result<Schedule, HekFault<'a>> {
+    let events = events_in_file(alloc, schedule)?;
+    leveled(alloc, schedule, None, events.as_slice())
+}
+
+/// The events of the order that a file has.
+fn events_in_file<'a>(alloc: Global, schedule: &Schedule) -> Result<Vec<Event>, HekFault<'a>> {
+    let moves = moves_of(alloc, schedule)?;
+    let order = order_in_file(alloc, schedule, moves.as_slice())?;
+    events_of(
         alloc,
-        &schedule,
+        schedule,
         moves.as_slice(),
         Form::Event,
         order.as_slice(),
-    )?;
-    let made = leveled(alloc, &schedule, None, events.as_slice())?;
-    let text = canonical(alloc, &made)?;
-    Ok(ScheduleFile::Text(text.into_bytes()))
+    )
 }
 
 /// What a file has had of a transaction: how many reads and writes, and how many moves are in the order. `ends` is the

@@ -183,18 +183,7 @@ fn played_of<'a>(
     wanted: &Wanted,
     found: Found,
 ) -> Result<Played, HekFault<'a>> {
-    let moves = moves_of(alloc, schedule)?;
-    let play = match play_order(
-        alloc,
-        schedule,
-        moves.as_slice(),
-        form,
-        found.moves.as_slice(),
-    ) {
-        Ok(play) => play,
-        Err(fault) => return Err(fault_of(fault)),
-    };
-    let events = events_upto(alloc, &play, wanted)?;
+    let events = events_found(alloc, schedule, form, wanted, found.moves.as_slice())?;
     let made = leveled(alloc, schedule, None, events.as_slice())?;
     let Found { moves, most } = found;
     Ok(Played {
@@ -202,6 +191,21 @@ fn played_of<'a>(
         most,
         schedule: made,
     })
+}
+
+/// The events of the play of moves, up to the event that has the reply.
+fn events_found<'a>(
+    alloc: Global,
+    schedule: &Schedule,
+    form: Form,
+    wanted: &Wanted,
+    moves: &[TxnId],
+) -> Result<Vec<Event>, HekFault<'a>> {
+    let of_all = moves_of(alloc, schedule)?;
+    match play_order(alloc, schedule, of_all.as_slice(), form, moves) {
+        Ok(play) => Ok(events_upto(alloc, &play, wanted)?),
+        Err(fault) => Err(fault_of(fault)),
+    }
 }
 
 /// The shortest beginning of an order in which a reply or a verdict comes, and the schedule of its play up to the event

@@ -3,7 +3,8 @@ use crate::choice::Choice;
 use crate::one::leveled;
 use crate::permute::{put_tally, range, sorted};
 use hek_commands::{HekFault, ScheduleFile, schedule_in, send};
-use hek_permute::play_parts;
+use hek_permute::{Tally, play_parts};
+use hek_rules::{NoMemory, Schedule};
 use std::alloc::Global;
 use std::io::{Read, Write};
 use std::thread::Threads;
@@ -20,14 +21,31 @@ pub fn permute_in_threads<'a, T: Threads + Sync, R: Read + Drop, W: Write, E: Wr
     faults: &mut E,
 ) -> Result<u8, HekFault<'a>> {
     let schedule = schedule_in(alloc, file)?;
-    let Some((from, to)) = range(alloc, &schedule, choice, faults)? else {
+    let Some(part) = range(alloc, &schedule, choice, faults)? else {
         return Ok(1);
     };
-    let mut text = Vec::new(alloc);
-    let leveled = leveled(alloc, &schedule, choice.level, schedule.steps())?;
-    let played = play_parts(system, alloc, &leveled, choice.form, from, to, jobs);
-    let tally = sorted(played)?;
-    put_tally(alloc, &leveled, &tally, &mut text)?;
+    let mut text = text_of_part(system, jobs, alloc, &schedule, choice, part)?;
     send(&mut text, out)?;
     Ok(0)
+}
+
+/// The lines of the outcomes of the orders from a number on, and below another.
+fn text_of_part<'a, T: Threads + Sync>(
+    system: &T,
+    jobs: u64,
+    alloc: Global,
+    schedule: &Schedule,
+    choice: Choice<'_>,
+    part: (u64, u64),
+) -> Result<Vec<u8>, HekFault<'a>> {
+    let leveled = leveled(alloc, schedule, choice.level, schedule.steps())?;
+    let (from, to) = part;
+    let played = play_parts(system, alloc, &leveled, choice.form, from, to, jobs);
+    Ok(tally_text(alloc, &leveled, &sorted(played)?)?)
+}
+
+fn tally_text(alloc: Global, schedule: &Schedule, tally: &Tally) -> Result<Vec<u8>, NoMemory> {
+    let mut text = Vec::new(alloc);
+    put_tally(alloc, schedule, tally, &mut text)?;
+    Ok(text)
 }

@@ -1,7 +1,9 @@
 //! One order, as the schedule of its events.
 use hek_asm::canonical;
 use hek_commands::HekFault;
-use hek_permute::{Form, Moves, OrderFault, first_order, moves_of, play_order, schedule_with};
+use hek_permute::{
+    Form, Moves, OrderFault, Play, first_order, moves_of, play_order, schedule_with,
+};
 use hek_rules::{Event, Level, NoMemory, Schedule, TxnId};
 use std::alloc::Global;
 use std::io::Write;
@@ -39,13 +41,24 @@ pub fn one_order<'a>(
 ) -> Result<Played, HekFault<'a>> {
     let moves = moves_of(alloc, schedule)?;
     let order = order_named(alloc, schedule, moves.as_slice(), form, names)?;
-    let events = events_of(alloc, schedule, moves.as_slice(), form, order.as_slice())?;
-    let played = leveled(alloc, schedule, None, events.as_slice())?;
+    let played = played_by(alloc, schedule, moves.as_slice(), form, order.as_slice())?;
     Ok(Played {
         most: order.len(),
         moves: order,
         schedule: played,
     })
+}
+
+/// The schedule whose steps are the events of the play of an order.
+fn played_by<'a>(
+    alloc: Global,
+    schedule: &Schedule,
+    moves: &[Moves],
+    form: Form,
+    order: &[TxnId],
+) -> Result<Schedule, HekFault<'a>> {
+    let events = events_of(alloc, schedule, moves, form, order)?;
+    leveled(alloc, schedule, None, events.as_slice())
 }
 
 /// The events of the play of an order.
@@ -57,17 +70,18 @@ pub(crate) fn events_of<'a>(
     order: &[TxnId],
 ) -> Result<Vec<Event>, HekFault<'a>> {
     match play_order(alloc, schedule, moves, form, order) {
-        Ok(played) => {
-            let mut events = Vec::new(alloc);
-            for entry in played.history.as_slice() {
-                if events.push(entry.event).is_err() {
-                    return Err(HekFault::NoMemory);
-                }
-            }
-            Ok(events)
-        }
+        Ok(played) => Ok(events_in(alloc, &played)?),
         Err(fault) => Err(fault_of(fault)),
     }
+}
+
+/// The events of a play.
+fn events_in(alloc: Global, played: &Play) -> Result<Vec<Event>, NoMemory> {
+    let mut events = Vec::new(alloc);
+    for entry in played.history.as_slice() {
+        events.push(entry.event)?;
+    }
+    Ok(events)
 }
 
 /// The schedule at this level, or at its own levels, with these steps.

@@ -74,10 +74,8 @@ fn overwritten(reader: usize, key: u64, row: usize, writer: usize, among: usize)
     ]
 }
 
-#[test]
-fn skew_is_refuted(rt: HostRuntime) -> Result<(), Fail> {
-    let alloc = rt.alloc();
-    let history = skew(alloc, Level::Serializable)?;
+// Each of the two is before the other, since the other wrote over what it read.
+fn both_before(alloc: Global) -> Result<Vec<Step>, AllocError> {
     let mut steps = Vec::new(alloc);
     for step in overwritten(0, 10, 0, 1, 0) {
         steps.push(step)?;
@@ -89,6 +87,14 @@ fn skew_is_refuted(rt: HostRuntime) -> Result<(), Fail> {
         first: 2,
         second: 5,
     })?;
+    Ok(steps)
+}
+
+#[test]
+fn skew_is_refuted(rt: HostRuntime) -> Result<(), Fail> {
+    let alloc = rt.alloc();
+    let history = skew(alloc, Level::Serializable)?;
+    let mut steps = both_before(alloc)?;
     assert!(rt; !refutes(alloc, &history, Order::Any, steps.as_slice())?);
     steps.push(Step::Contra { premise: 6 })?;
     assert!(rt; refutes(alloc, &history, Order::Any, steps.as_slice())?);

@@ -32,18 +32,24 @@ fn assert_mismatches<R: Abort + Wait>(rt: &R, shared: &Shared<'_>) {
     }
 }
 
+// Events that two workers may make have these numbers, and no others have one.
+fn assert_numbers_of_two<R: Abort + Wait>(rt: &R, alloc: Global, part: &Part) {
+    let two = scene(rt, alloc, TWO);
+    let shared = Shared::new(Book::load(alloc, &two).expect(rt, "a book"));
+    assert_mismatches(rt, &shared);
+    assert_numbers(rt, &shared, part);
+    assert_mismatches(rt, &shared);
+    is(rt, shared.into_book().history().len(), 9);
+}
+
 #[test]
 fn numbers_events(rt: HostRuntime) -> Result<(), Fail> {
     let one = scene(&rt, rt.alloc(), ONE);
     let report = run_workers(&rt, rt.alloc(), &one, 5, &Open)?;
-    let two = scene(&rt, rt.alloc(), TWO);
-    let shared = Shared::new(Book::load(rt.alloc(), &two)?);
-    assert_mismatches(&rt, &shared);
-    if let Some(part) = report.transcripts.first() {
-        assert_numbers(&rt, &shared, part);
+    is(&rt, report.transcripts.len(), 1);
+    for part in &report.transcripts {
+        assert_numbers_of_two(&rt, rt.alloc(), part);
     }
-    assert_mismatches(&rt, &shared);
-    is(&rt, shared.into_book().history().len(), 9);
     Ok(())
 }
 
@@ -58,14 +64,18 @@ enum Change {
     More,
 }
 
+fn changed_reply(rt: &impl Abort, reply: &Reply, change: Change) -> Reply {
+    match (change, reply) {
+        (Change::Reply, Reply::Found(value)) => Reply::Found(value.wrapping_add(1)),
+        (_, reply) => reply.copy().expect(rt, "memory"),
+    }
+}
+
 // The part with a change.
 fn changed(rt: &impl Abort, alloc: Global, part: &Part, change: Change) -> Part {
     let mut turns = Vec::new(alloc);
     for (event, reply) in part.as_slice() {
-        let reply = match (change, reply) {
-            (Change::Reply, Reply::Found(value)) => Reply::Found(value.wrapping_add(1)),
-            (_, reply) => reply.copy().expect(rt, "memory"),
-        };
+        let reply = changed_reply(rt, reply, change);
         holds(rt, turns.push((*event, reply)).is_ok());
     }
     match change {
@@ -87,19 +97,24 @@ fn assert_compares(rt: &impl Abort, alloc: Global, report: &Report, change: Chan
     is(rt, found.map_or(0, |worker| worker.number()), least);
 }
 
+// The first worker is at fault wherever its part was changed.
+fn assert_compares_all(rt: &impl Abort, alloc: Global, report: &Report) {
+    for (change, least) in [
+        (Change::Nothing, 0),
+        (Change::Reply, 1),
+        (Change::Less, 1),
+        (Change::More, 1),
+    ] {
+        assert_compares(rt, alloc, report, change, least);
+    }
+}
+
 #[test]
 fn compares_transcripts(rt: HostRuntime) -> Result<(), Fail> {
     for (text, turns) in [(ONE, 5), (ONE, 0), (TWO, 5)] {
         let schedule = scene(&rt, rt.alloc(), text);
         let report = run_workers(&rt, rt.alloc(), &schedule, turns, &Open)?;
-        for (change, least) in [
-            (Change::Nothing, 0),
-            (Change::Reply, 1),
-            (Change::Less, 1),
-            (Change::More, 1),
-        ] {
-            assert_compares(&rt, rt.alloc(), &report, change, least);
-        }
+        assert_compares_all(&rt, rt.alloc(), &report);
     }
     Ok(())
 }

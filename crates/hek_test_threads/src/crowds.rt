@@ -23,14 +23,19 @@ fn ran<R: Abort + Threads + Wait + Sync>(
     run_workers(rt, alloc, schedule, turns, &Open).expect(rt, "a report")
 }
 
+// Runs again and again, each of them serial.
+fn assert_runs_serial<R: Abort + Threads + Wait + Sync>(rt: &R, alloc: Global, text: &str) {
+    let schedule = scene(rt, alloc, text);
+    for _ in 0..100 {
+        let report = ran(rt, alloc, &schedule, 1_000);
+        assert_serial(rt, alloc, &schedule, &report);
+    }
+}
+
 #[test]
 fn two_are_serial(rt: HostRuntime) {
     for text in [SAME_WAY, CROSSWISE] {
-        let schedule = scene(&rt, rt.alloc(), text);
-        for _ in 0..100 {
-            let report = ran(&rt, rt.alloc(), &schedule, 1_000);
-            assert_serial(&rt, rt.alloc(), &schedule, &report);
-        }
+        assert_runs_serial(&rt, rt.alloc(), text);
     }
 }
 

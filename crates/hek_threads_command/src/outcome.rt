@@ -8,7 +8,7 @@ ghost use Rattle.hek_threads_command.specs.Outcomes.{ending_reply, verdict_endin
 use hek_commands::put_reply;
 use hek_rules::{Cause, NoMemory, Reply, Schedule, TxnId, Verdict};
 use hek_serial::check;
-use hek_threads::{Entry, Part, Report, transcript_of};
+use hek_threads::{Part, Report, transcript_of};
 use std::alloc::Global;
 use std::io::Write;
 
@@ -22,16 +22,17 @@ pub(crate) fn outcome_text(
     requires { HasRun schedule.now report.history.items }
     ensures { IfOk result (λ text. (before : List ℕ) × (text.items ≡ before ++ verdict_ending verdict.Serial)) }
 {
-    let Report {
-        machine,
-        history,
-        transcripts,
-    } = report;
-    let mut text = Vec::new(alloc);
-    put_ends(alloc, schedule, transcripts.as_slice(), &mut text)?;
-    put_reply(alloc, &Reply::Rows(machine.rows()?), &mut text)?;
-    let verdict = judge(alloc, schedule, history)?;
+    let mut text = ended_text(alloc, schedule, &report)?;
+    let verdict = judge(alloc, schedule, report)?;
     put_verdict(verdict, &mut text)?;
+    Ok(text)
+}
+
+/// How each transaction ended, and the committed rows.
+fn ended_text(alloc: Global, schedule: &Schedule, report: &Report) -> Result<Vec<u8>, NoMemory> {
+    let mut text = Vec::new(alloc);
+    put_ends(alloc, schedule, report.transcripts.as_slice(), &mut text)?;
+    put_reply(alloc, &Reply::Rows(report.machine.rows()?), &mut text)?;
     Ok(text)
 }
 
@@ -70,10 +71,15 @@ pub fn end_of(part: &Part) -> Reply
 }
 
 /// The checker's verdict on a history that is serial.
-fn judge(alloc: Global, schedule: &Schedule, history: Vec<Entry>) -> Result<Verdict, NoMemory>
-    requires { IsSerialHistory schedule.now history.items }
+fn judge(alloc: Global, schedule: &Schedule, report: Report) -> Result<Verdict, NoMemory>
+    requires { IsSerialHistory schedule.now report.history.items }
     ensures { IfOk result (λ v. v ≡ verdict.Serial) }
 {
+    let Report {
+        machine: _,
+        history,
+        transcripts: _,
+    } = report;
     let told = transcript_of(alloc, schedule, history)?;
     check(alloc, &told)
 }

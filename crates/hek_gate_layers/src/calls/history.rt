@@ -54,18 +54,29 @@ const HISTORY_CALLS: Calls<HistoryCall> = &[
     ("replies_differ", 0, HistoryCall::RepliesDiffer),
 ];
 
+/// The schedule of a text that declares so many transactions, and of as many more as make nine.
+fn widened(alloc: Global, text: &str, declared: usize) -> Result<Schedule, LineFault> {
+    let mut opening = String::from_str(alloc, text)?;
+    for name in UNDECLARED.get(declared..).unwrap_or(&[]) {
+        push_declaration(&mut opening, name)?;
+    }
+    schedule(alloc, opening.as_str())
+}
+
+fn push_declaration(opening: &mut String, name: &str) -> Result<(), LineFault> {
+    opening.push_str("txn ")?;
+    opening.push_str(name)?;
+    opening.push_str(" snapshot\n")?;
+    Ok(())
+}
+
 impl History {
     /// No events over the rows and transactions of a schedule's text.
     pub(crate) fn open(alloc: Global, text: &str) -> Result<History, LineFault> {
         let narrow = schedule(alloc, text)?;
-        let mut opening = String::from_str(alloc, text)?;
-        for name in UNDECLARED.get(narrow.txn_count()..).unwrap_or(&[]) {
-            opening.push_str("txn ")?;
-            opening.push_str(name)?;
-            opening.push_str(" snapshot\n")?;
-        }
+        let wide = widened(alloc, text, narrow.txn_count())?;
         Ok(History {
-            wide: schedule(alloc, opening.as_str())?,
+            wide,
             transcript: Transcript::new(alloc, &narrow)?,
         })
     }

@@ -14,7 +14,7 @@ use crate::fault::LineFault;
 use crate::stage::Stage;
 use crate::words::{Calls, Operands, named, operands, words};
 use hek_buckets::Buckets;
-use hek_rules::NoMemory;
+use hek_rules::{NoMemory, Schedule};
 use hek_store::Store;
 use hek_txn::Txns;
 use std::alloc::Global;
@@ -29,6 +29,15 @@ pub(crate) struct Tables {
 }
 
 impl Tables {
+    /// The tables before the first step of a schedule.
+    fn load(alloc: Global, schedule: &Schedule) -> Result<Tables, NoMemory> {
+        Ok(Tables {
+            store: Store::load(alloc, schedule)?,
+            txns: Txns::load(alloc, schedule)?,
+            buckets: Buckets::load(alloc, schedule)?,
+        })
+    }
+
     fn copy(&self) -> Result<Tables, NoMemory> {
         Ok(Tables {
             store: self.store.copy()?,
@@ -61,12 +70,7 @@ const COPY_CALLS: Calls<CopyCall> = &[
 impl Layers {
     /// The layers as a schedule's text opens them.
     pub(crate) fn open(alloc: Global, text: &str) -> Result<Layers, LineFault> {
-        let schedule = schedule(alloc, text)?;
-        let now = Tables {
-            store: Store::load(alloc, &schedule)?,
-            txns: Txns::load(alloc, &schedule)?,
-            buckets: Buckets::load(alloc, &schedule)?,
-        };
+        let now = Tables::load(alloc, &schedule(alloc, text)?)?;
         let kept = now.copy()?;
         Ok(Layers { now, kept })
     }

@@ -86,6 +86,10 @@ impl MachineScene {
     /// Whether the run of all steps has their replies, and ends as the machine is: `same` if so.
     fn run(&self, alloc: Global) -> Result<Answer, LineFault> {
         let trace = traced(alloc, &self.schedule, self.clock, self.events.as_slice())?;
+        self.compared(alloc, &trace)
+    }
+
+    fn compared(&self, alloc: Global, trace: &Trace) -> Result<Answer, LineFault> {
         if !are_same(trace.replies.as_slice(), self.replies.as_slice()) {
             return Ok(Answer::Word("other replies"));
         }

@@ -37,6 +37,14 @@ const SESSION_CALLS: Calls<SessionCall> = &[
     ("copies", 0, SessionCall::Copies),
 ];
 
+/// The first line that is no command.
+fn unread(alloc: Global, fault: CommandFault) -> Result<Answer, LineFault> {
+    match fault {
+        CommandFault::Line(line) => Ok(Answer::Text(format!(in alloc; "line {line}")?)),
+        CommandFault::NoMemory => Err(LineFault::NoMemory),
+    }
+}
+
 fn opened(alloc: Global, text: &str) -> Result<Debugger, LineFault> {
     Ok(Debugger::open(alloc, schedule(alloc, text)?)?)
 }
@@ -69,8 +77,7 @@ impl Session {
                 self.commands = commands;
                 Ok(Answer::Number(self.commands.len() as u64))
             }
-            Err(CommandFault::Line(line)) => Ok(Answer::Text(format!(in alloc; "line {line}")?)),
-            Err(CommandFault::NoMemory) => Err(LineFault::NoMemory),
+            Err(fault) => unread(alloc, fault),
         }
     }
 
