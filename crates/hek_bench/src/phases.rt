@@ -65,14 +65,9 @@ fn pass_schedule(
     laps: &mut Laps,
 ) -> Result<Passed, Fault> {
     write_text(rt, alloc, schedule, laps)?;
-    let image = image_of(rt, alloc, schedule, laps)?;
-    let loaded = load(rt, alloc, image.as_slice(), laps)?;
-    let (replies, rows) = replies_of(rt, alloc, schedule, laps)?;
-    let trace = trace_of(rt, alloc, schedule, replies.as_slice(), laps)?;
-    let Ok(trace) = str::from_utf8(trace.as_slice()) else {
-        return Err(Fault::NotText);
-    };
-    let verdict = judge(rt, alloc, schedule, trace, laps)?;
+    let loaded = load_image(rt, alloc, schedule, laps)?;
+    let (trace, rows) = run_steps(rt, alloc, schedule, laps)?;
+    let verdict = judge(rt, alloc, schedule, trace.as_slice(), laps)?;
     Ok(Passed {
         steps: schedule.steps().len(),
         loaded,
@@ -140,6 +135,29 @@ fn image_once(
     write_image(schedule, &mut sink)?;
     laps.done(rt, "write image", &start)?;
     Ok(sink.into_inner())
+}
+
+/// How many steps the schedule of a schedule's image has.
+fn load_image(
+    rt: &HostRuntime,
+    alloc: Global,
+    schedule: &Schedule,
+    laps: &mut Laps,
+) -> Result<usize, Fault> {
+    let image = image_of(rt, alloc, schedule, laps)?;
+    load(rt, alloc, image.as_slice(), laps)
+}
+
+/// The trace of all steps, and the number of committed rows at the end.
+fn run_steps(
+    rt: &HostRuntime,
+    alloc: Global,
+    schedule: &Schedule,
+    laps: &mut Laps,
+) -> Result<(Vec<u8>, usize), Fault> {
+    let (replies, rows) = replies_of(rt, alloc, schedule, laps)?;
+    let trace = trace_of(rt, alloc, schedule, replies.as_slice(), laps)?;
+    Ok((trace, rows))
 }
 
 /// How many steps the schedule of an image has.
@@ -304,9 +322,12 @@ fn judge(
     rt: &HostRuntime,
     alloc: Global,
     schedule: &Schedule,
-    trace: &str,
+    trace: &[u8],
     laps: &mut Laps,
 ) -> Result<Verdict, Fault> {
+    let Ok(trace) = str::from_utf8(trace) else {
+        return Err(Fault::NotText);
+    };
     let mut history = transcript_of(rt, alloc, schedule, trace, laps)?;
     for _ in 1..laps.times() {
         history = transcript_of(rt, alloc, schedule, trace, laps)?;

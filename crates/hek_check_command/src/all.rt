@@ -4,7 +4,7 @@ use crate::judged::Judged;
 use crate::writers::{put, put_sources};
 use hek_asm::read_trace;
 use hek_commands::{HekFault, ScheduleFile, put_reply, schedule_in, send};
-use hek_rules::{Level, NoMemory, Reply, Transcript, Verdict};
+use hek_rules::{Level, NoMemory, Reply, Schedule, Transcript, Verdict};
 use hek_serial::{check, check_at};
 use std::alloc::Global;
 use std::io::{Read, Write};
@@ -70,7 +70,16 @@ pub fn check_text<'a, R: Read + Drop>(
     level: Option<Level>,
 ) -> Result<Checked, HekFault<'a>> {
     let schedule = schedule_in(alloc, file)?;
-    let transcript = match read_trace(alloc, &schedule, text) {
+    judge_text(alloc, &schedule, text, level)
+}
+
+fn judge_text<'a>(
+    alloc: Global,
+    schedule: &Schedule,
+    text: &str,
+    level: Option<Level>,
+) -> Result<Checked, HekFault<'a>> {
+    let transcript = match read_trace(alloc, schedule, text) {
         Ok(transcript) => transcript,
         Err(fault) => return Err(HekFault::from(fault)),
     };

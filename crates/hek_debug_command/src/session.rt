@@ -57,6 +57,18 @@ pub fn debug_session<'a, R: Read + Drop, I: Read + Drop, W: Write, E: Write>(
     let schedule = schedule_in(alloc, file)?;
     let debugger = Debugger::open(alloc, schedule)?;
     let mut lines = buffered(alloc, input)?;
+    hold_session(alloc, debugger, manner, &mut lines, out, faults)
+}
+
+/// Answers the lines of a session, which begins where a debugger is.
+fn hold_session<'a, B: BufRead, W: Write, E: Write>(
+    alloc: Global,
+    debugger: Debugger,
+    manner: Manner,
+    lines: &mut B,
+    out: &mut W,
+    faults: &mut E,
+) -> Result<u8, HekFault<'a>> {
     if manner.prompts {
         greet(&debugger, out)?;
     }
@@ -68,7 +80,7 @@ pub fn debug_session<'a, R: Read + Drop, I: Read + Drop, W: Write, E: Write>(
         manner,
         last_step: None,
     };
-    answer_lines(alloc, &mut session, &mut lines, out, faults)
+    answer_lines(alloc, &mut session, lines, out, faults)
 }
 
 /// Says how many steps there are, and how to list the commands.

@@ -8,7 +8,7 @@ use hek_asm::AsmKind;
 use hek_commands::{HekFault, INPUT, ScheduleFile, buffered, read_fault, schedule_in};
 use hek_json::{Lines, put_state};
 use hek_machine::Machine;
-use hek_rules::{Event, NoMemory, next_line};
+use hek_rules::{Event, NoMemory, Schedule, next_line};
 use hek_why_command::{Extras, read_event};
 use std::alloc::Global;
 use std::io::{BufRead, Read, Write};
@@ -37,10 +37,23 @@ pub fn drive_json<'a, R: Read + Drop, I: Read + Drop, W: Write>(
     ensures { IfOk result (λ status. status ≤ 1) }
 {
     let schedule = schedule_in(alloc, file)?;
-    let mut machine = Machine::load(alloc, &schedule)?;
-    let mut telling = Telling::new(alloc, &schedule, driven.extras);
     let mut input = buffered(alloc, input)?;
-    drive(alloc, &mut telling, &mut machine, driven, &mut input, out)
+    drive_over(alloc, &schedule, driven, &mut input, out)
+}
+
+/// Answers the lines of the input on the machine of a schedule's rows and transactions.
+fn drive_over<'a, B: BufRead, W: Write>(
+    alloc: Global,
+    schedule: &Schedule,
+    driven: Driven,
+    input: &mut B,
+    out: &mut W,
+) -> Result<u8, HekFault<'a>>
+    ensures { IfOk result (λ status. status ≤ 1) }
+{
+    let mut machine = Machine::load(alloc, schedule)?;
+    let mut telling = Telling::new(alloc, schedule, driven.extras);
+    drive(alloc, &mut telling, &mut machine, driven, input, out)
 }
 
 fn drive<'a, B: BufRead, W: Write>(

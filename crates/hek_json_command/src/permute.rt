@@ -23,11 +23,21 @@ pub fn permute_json<'a, R: Read + Drop, W: Write, E: Write>(
     faults: &mut E,
 ) -> Result<u8, HekFault<'a>> {
     let schedule = schedule_in(alloc, file)?;
+    permute(alloc, &schedule, choice, out, faults)
+}
+
+fn permute<'a, W: Write, E: Write>(
+    alloc: Global,
+    schedule: &Schedule,
+    choice: Choice<'_>,
+    out: &mut W,
+    faults: &mut E,
+) -> Result<u8, HekFault<'a>> {
     if let Some(names) = choice.order {
-        return write_one(alloc, &schedule, choice, names, out);
+        return write_one(alloc, schedule, choice, names, out);
     }
-    match extent_of(alloc, &schedule, choice, faults)? {
-        Some(extent) => write_asked(alloc, &schedule, choice, extent, out, faults),
+    match extent_of(alloc, schedule, choice, faults)? {
+        Some(extent) => write_asked(alloc, schedule, choice, extent, out, faults),
         None => Ok(1),
     }
 }
@@ -63,14 +73,22 @@ fn write_one<'a, W: Write>(
 ) -> Result<u8, HekFault<'a>> {
     let leveled = leveled(alloc, schedule, choice.level, schedule.steps())?;
     let played = one_order(alloc, &leveled, choice.form, names)?;
+    write_played(alloc, &played, out)?;
+    Ok(0)
+}
+
+fn write_played<'a, W: Write>(
+    alloc: Global,
+    played: &Played,
+    out: &mut W,
+) -> Result<(), HekFault<'a>> {
     let extras = Extras {
         why: None,
         changes: false,
     };
     let mut lines = Lines::new(alloc);
-    put_played(alloc, &played, extras, &mut lines)?;
-    send_lines(&mut lines, out)?;
-    Ok(0)
+    put_played(alloc, played, extras, &mut lines)?;
+    send_lines(&mut lines, out)
 }
 
 /// Appends moves, and the steps of their play.

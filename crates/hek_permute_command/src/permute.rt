@@ -206,6 +206,19 @@ pub fn tally_of<'a, E: Write>(
     }
 }
 
+/// The tally of the orders at a level; None if there are more states than the limit.
+fn tally_at<'a, E: Write>(
+    alloc: Global,
+    schedule: &Schedule,
+    level: Level,
+    form: Form,
+    extent: Extent,
+    progress: &mut Progress<'_, E>,
+) -> Result<Option<Tally>, HekFault<'a>> {
+    let leveled = leveled(alloc, schedule, Some(level), schedule.steps())?;
+    tally_of(alloc, &leveled, form, extent, progress)
+}
+
 /// The tally with the most frequent outcomes first.
 pub(crate) fn sorted<'a>(counted: Result<Tally, OrderFault>) -> Result<Tally, HekFault<'a>> {
     match counted {
@@ -322,8 +335,7 @@ pub fn tallies_of<'a, E: Write>(
 ) -> Result<Option<Vec<Tally>>, HekFault<'a>> {
     let mut tallies = Vec::new(alloc);
     for level in Level::ALL {
-        let leveled = leveled(alloc, schedule, Some(level), schedule.steps())?;
-        let Some(tally) = tally_of(alloc, &leveled, form, extent, progress)? else {
+        let Some(tally) = tally_at(alloc, schedule, level, form, extent, progress)? else {
             return Ok(None);
         };
         if tallies.push(tally).is_err() {
