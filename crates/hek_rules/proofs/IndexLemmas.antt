@@ -15,6 +15,7 @@ use Rattle.std.proofs.lemmas.Slice.Eq.{bytes_eq-Decides}
 use Rattle.hek_rules.specs.Indexed.{HoldsPlaces}
 
 module _ {X : Type 0} (p : X → Bool) where
+  -- no place passes
   past : (xs : List X) → list_any p xs ≡ false → position_or_len p xs ≡ length xs
   past [] h = refl
   past (x ∷ xs) h = elim (cases_Bool (p x)) [
@@ -22,6 +23,7 @@ module _ {X : Type 0} (p : X → Bool) where
     | inr g ↦ let rest = past xs (rw g at h) in let more : 1 + position_or_len p xs ≡ suc (length xs) = omega arith in rw g more
   ]
 
+  -- a place passes
   within : (xs : List X) → list_any p xs ≡ true → position_or_len p xs < length xs
   within [] h = cc
   within (x ∷ xs) h = elim (cases_Bool (p x)) [
@@ -52,6 +54,7 @@ module _ {X : Type 0} (p : X → Bool) where
   place_within es None e = tt
   place_within es (Some i) e = omega (arith, position-within (keys_of es) i (sym e), length-map es (λ e. e.0))
 
+  -- one more that passes is the first to pass
   at_end : (xs : List X) (y : X) → list_any p xs ≡ false → p y ≡ true → position_or_len p (xs ++ y ∷ []) ≡ length xs
   at_end [] y h e = rw e refl
   at_end (x ∷ xs) y h e = elim (cases_Bool (p x)) [
@@ -59,6 +62,7 @@ module _ {X : Type 0} (p : X → Bool) where
     | inr g ↦ let rest = at_end xs y (rw g at h) e in let more : 1 + position_or_len p (xs ++ y ∷ []) ≡ suc (length xs) = omega arith in rw g more
   ]
 
+  -- the first place stays if there is one
   stays : (xs : List X) (y : X) → list_any p xs ≡ true → position_or_len p (xs ++ y ∷ []) ≡ position_or_len p xs
   stays [] y h = cc
   stays (x ∷ xs) y h = elim (cases_Bool (p x)) [
@@ -66,7 +70,7 @@ module _ {X : Type 0} (p : X → Bool) where
     | inr g ↦ rw (g, stays xs y (rw g at h)) refl
   ]
 
-  -- the first that passes is the last of the list
+  -- the same of `position`
   pub position-last : (xs : List X) (y : X) → list_any p xs ≡ false → p y ≡ true → position p (xs ++ y ∷ []) ≡ Some (length xs)
   position-last xs y h e = position_at (xs ++ y ∷ []) (length xs) (at_end xs y h e) (omega (arith, length_push xs y))
 

@@ -1,5 +1,5 @@
 -- A schedule's plan after each builder, and names as lists of bytes.
-use Rattle.std.proofs.Common.{◌≡◌, ℕ, ◌<◌, ◌≤◌, ◌^◌, true, false, ◌&&◌, not, List, [], ◌∷◌, ◌++◌, length, String, Some, Result, Ok, Err, sym, ap, subst, ◌∙◌, arith, nat_eq, nat_lt, slice_get, IsTrue}
+use Rattle.std.proofs.Common.{◌≡◌, ℕ, ◌<◌, ◌≤◌, ◌^◌, true, false, ◌&&◌, not, List, [], ◌∷◌, ◌++◌, length, String, Some, Result, Ok, Err, sym, ap, subst, ◌∙◌, arith, nat_eq, nat_lt, get_or, slice_get, IsTrue}
 use Rattle.std.specs.Cmp.{nat_eq_equiv}
 use Rattle.std.specs.Cmp.Lexicographic.{nat_list_eq_equiv}
 use Rattle.std.specs.List.{AllByRecursion, IsDistinct}
@@ -9,9 +9,9 @@ use Rattle.std.specs.Result.{OnOk, OnErr}
 use Rattle.std.specs.Str.{bytes_eq}
 use Rattle.std.specs.String.{string_bytes}
 use Rattle.std.proofs.lemmas.Bool.{and_parts, not-true, ltb-true}
-use Rattle.std.proofs.lemmas.List.{map_push, length_push}
+use Rattle.std.proofs.lemmas.List.{length-map, map_push, length_push}
 use Rattle.std.proofs.lemmas.Map.Keys.{IsDistinct-push}
-use Rattle.std.proofs.lemmas.Option.{slice_get-map}
+use Rattle.std.proofs.lemmas.Option.{slice_get-map, slice_get_read}
 use Rattle.hek_rules.specs.declared.event.Level.{Level}
 use Rattle.hek_rules.specs.declared.event.Event.{Event}
 use Rattle.hek_rules.specs.declared.event.Event.TheVariants as event
@@ -36,11 +36,12 @@ module _ {Y L : Type 0} where
   named_push es fs k l w e same = ap named e ∙ map_push (λ (p : String Y × L). (string_bytes p.0, p.1)) es (k, l) ∙ ap (λ (x : List ℕ). named es ++ (x, l) ∷ []) same
 
   -- the entry at a place
-  pub named_at : (es : List (String Y × L)) (ts : List (List ℕ × L)) (i : ℕ) (e : String Y × L) → named es ≡ ts → slice_get es i ≡ Some e → slice_get ts i ≡ Some (string_bytes e.0, e.1)
-  named_at es ts i e same h =
+  pub named_at : (es : List (String Y × L)) (ts : List (List ℕ × L)) (i : ℕ) (e : String Y × L) → named es ≡ ts → i < length ts → e ≡ get_or es i e → slice_get ts i ≡ Some (string_bytes e.0, e.1)
+  named_at es ts i e same lt is =
+      let long : length ts ≡ length es = ap length (sym same) ∙ length-map es (λ (p : String Y × L). (string_bytes p.0, p.1)) in
       ap (λ (xs : List (List ℕ × L)). slice_get xs i) (sym same)
       ∙ slice_get-map (λ (p : String Y × L). (string_bytes p.0, p.1)) es i
-      ∙ ap (option_map (λ (p : String Y × L). (string_bytes p.0, p.1))) h
+      ∙ ap (option_map (λ (p : String Y × L). (string_bytes p.0, p.1))) (slice_get_read es (length ts) i e long lt is)
 
 -- ---- plans
 pub empty_plan : (p : Plan) → (0 < p.buckets) × (p.buckets ≤ 1024) → p.rows ≡ [] → p.txns ≡ [] → p.steps ≡ [] → IsPlan p

@@ -1,6 +1,6 @@
-use Rattle.std.proofs.Common.{◌∙◌, ap, sym, subst, ℕ, ◌-◌, ◌≡◌, List, arith, length, Some, slice_get}
+use Rattle.std.proofs.Common.{◌∙◌, ap, subst, ℕ, ◌-◌, ◌≡◌, List, arith, Some, slice_get}
 use Rattle.std.specs.Option.{option_map}
-use Rattle.std.proofs.lemmas.Option.{slice_get-map, slice_get_read}
+use Rattle.std.proofs.lemmas.Option.{slice_get-map}
 use Rattle.hek_rules.specs.declared.event.Level.{Level}
 use Rattle.hek_rules.specs.Plan.{Plan, levels_of}
 use Rattle.hek_rules.proofs.PlanLemmas.{named_at}
@@ -9,9 +9,8 @@ use Rattle.hek_rules.proofs.schedule.Schedule.level_of.Goals as goal
 pub returns : goal.returns
 returns c =
     let txns = c.args.self.now.txns in
+    let place = c.number.result - 1 in
     let same = c.as_slice.ensures.value ∙ ap (λ (p : Plan). p.txns) c.self.view_is in
-    let len : length txns ≡ length c.as_slice.result.now = ap length (sym (ap (λ (p : Plan). p.txns) c.self.view_is)) ∙ sym c.as_slice.ensures.len in
-    let here = slice_get_read c.as_slice.result.now (length txns) (c.number.result - 1) c.index-as_slice-number.result len (omega arith) c.index-as_slice-number.is in
-    let entry = named_at c.as_slice.result.now txns (c.number.result - 1) c.index-as_slice-number.result same here in
+    let entry = named_at c.as_slice.result.now txns place c.index-as_slice-number.result same (omega arith) c.index-as_slice-number.is in
     subst (λ (n : ℕ). slice_get (levels_of c.args.self.now) (n - 1) ≡ Some c.index-as_slice-number.result.1) c.number.ensures
-    (slice_get-map (λ (t : List ℕ × Level). t.1) txns (c.number.result - 1) ∙ ap (option_map (λ (t : List ℕ × Level). t.1)) entry)
+    (slice_get-map (λ (t : List ℕ × Level). t.1) txns place ∙ ap (option_map (λ (t : List ℕ × Level). t.1)) entry)
