@@ -2,13 +2,17 @@
 ghost use Rattle.std.specs.Prelude.{◌≡◌, ◌+◌, ◌-◌, ◌<◌, ◌≤◌, ◌↔◌, [], ◌∷◌, ◌++◌, length, slice_get, IsTrue, OnOk, OnErr, IfSome, Some};
 ghost use Rattle.hek_rules.specs.Plan.{IsPlan, IsDeclared, IsStep, row_fits, txn_fits, StepFits, has_key, has_name, id_of, names_of, levels_of, max_buckets};
 
+mod rows;
+mod txns;
+
 use crate::event::{Event, Level};
 use crate::id::TxnId;
 use crate::memory::NoMemory;
 use crate::name::{name_ok, name_text};
-use indexmap::IndexMap;
+use rows::Rows;
 use std::alloc::Global;
 use std::marker::Model;
+use txns::Txns;
 
 /// The most buckets that a schedule has. It has at least one.
 pub const MAX_BUCKETS: u64 = 1_024;
@@ -27,8 +31,8 @@ pub const MAX_STEPS: usize = 1_000_000;
 #[derive(Drop)]
 pub struct Schedule {
     buckets: u64,
-    rows: IndexMap<u64, u64>,
-    names: IndexMap<String, Level>,
+    rows: Rows,
+    txns: Txns,
     steps: Vec<Event>,
 }
 
@@ -59,8 +63,8 @@ impl Schedule {
     {
         Schedule {
             buckets,
-            rows: IndexMap::new(alloc),
-            names: IndexMap::new(alloc),
+            rows: Rows::new(alloc),
+            txns: Txns::new(alloc),
             steps: Vec::new(alloc),
         }
     }
@@ -77,7 +81,7 @@ impl Schedule {
     pub fn row_count(&self) -> usize
         ensures { result ≡ length self.now.rows }
     {
-        self.rows.len()
+        self.rows.as_slice().len()
     }
 
     /// The key and the value of the row at a place.
@@ -85,22 +89,21 @@ impl Schedule {
         requires { place < length self.now.rows }
         ensures { slice_get self.now.rows place ≡ Some result }
     {
-        let (key, value) = self.rows.get_index(place).unwrap();
-        (*key, *value)
+        self.rows.as_slice()[place]
     }
 
     /// Whether a row has this key.
     pub fn has_key(&self, key: u64) -> bool
         ensures { result ≡ has_key self.now key }
     {
-        self.rows.contains_key(&key)
+        self.rows.has_key(key)
     }
 
     /// Whether a row with this key may be added: there is room, and the key is new.
     pub fn row_fits(&self, key: u64) -> bool
         ensures { result ≡ row_fits self.now key }
     {
-        self.rows.len() < MAX_ROWS && !self.has_key(key)
+        self.row_count() < MAX_ROWS && !self.has_key(key)
     }
 
     /// Adds a row at the end. Out of memory, the schedule is unchanged.
@@ -109,15 +112,14 @@ impl Schedule {
         ensures ok { OnOk result (self.new ≡ record self.old { rows = self.old.rows ++ (key, value) ∷ [] }) }
         ensures err { OnErr result (self.new ≡ self.old) }
     {
-        self.rows.insert(key, value)?;
-        Ok(())
+        self.rows.add(key, value)
     }
 
     /// How many transactions are declared: their IDs are 1 to this number.
     pub fn txn_count(&self) -> usize
         ensures { result ≡ length self.now.txns }
     {
-        self.names.len()
+        self.txns.as_slice().len()
     }
 
     /// The transaction with this name, if there is one.
@@ -125,9 +127,9 @@ impl Schedule {
         ensures value { result ≡ id_of self.now name.now }
         ensures declared { IfSome result (λ t. IsDeclared (length self.now.txns) t) }
     {
-        let names = &self.names;
+        let txns = &self.txns;
         let text = name_text(name)?;
-        let place = names.get_index_of(text)?;
+        let place = txns.place_of(text)?;
         Some(TxnId::new(place as u64 + 1))
     }
 
@@ -135,7 +137,7 @@ impl Schedule {
     pub fn has_name(&self, name: &str) -> bool
         ensures { result ≡ has_name self.now name.now }
     {
-        self.names.contains_key(name)
+        self.txns.place_of(name).is_some()
     }
 
     /// The name of a declared transaction.
@@ -143,7 +145,7 @@ impl Schedule {
         requires { IsDeclared (length self.now.txns) txn }
         ensures { slice_get (names_of self.now) (txn - 1) ≡ Some result.now }
     {
-        let (name, _) = self.names.get_index((txn.number() - 1) as usize).unwrap();
+        let (name, _) = &self.txns.as_slice()[(txn.number() - 1) as usize];
         name.as_str()
     }
 
@@ -152,7 +154,7 @@ impl Schedule {
         requires { IsDeclared (length self.now.txns) txn }
         ensures { slice_get (levels_of self.now) (txn - 1) ≡ Some result }
     {
-        let (_, level) = self.names.get_index((txn.number() - 1) as usize).unwrap();
+        let (_, level) = &self.txns.as_slice()[(txn.number() - 1) as usize];
         *level
     }
 
@@ -160,7 +162,7 @@ impl Schedule {
     pub fn txn_fits(&self, name: &str) -> bool
         ensures { result ≡ txn_fits self.now name.now }
     {
-        self.names.len() < MAX_TXNS && name_ok(name.as_bytes()) && !self.has_name(name)
+        self.txn_count() < MAX_TXNS && name_ok(name.as_bytes()) && !self.has_name(name)
     }
 
     /// Adds a transaction at the end; the new count is its ID. Out of memory, the schedule is unchanged.
@@ -169,9 +171,7 @@ impl Schedule {
         ensures ok { OnOk result (self.new ≡ record self.old { txns = self.old.txns ++ (name.now, level) ∷ [] }) }
         ensures err { OnErr result (self.new ≡ self.old) }
     {
-        let name = String::from_str(*self.names.allocator(), name)?;
-        self.names.insert(name, level)?;
-        Ok(())
+        self.txns.add(name, level)
     }
 
     /// The steps, in order.
@@ -184,7 +184,7 @@ impl Schedule {
     fn is_declared(&self, txn: TxnId) -> bool
         ensures { IsTrue result ↔ IsDeclared (length self.now.txns) txn }
     {
-        txn.number() > 0 && txn.number() <= self.names.len() as u64
+        txn.number() > 0 && txn.number() <= self.txn_count() as u64
     }
 
     fn is_step(&self, event: Event) -> bool
@@ -234,7 +234,7 @@ impl Schedule {
     fn same_txns(&self, other: &Schedule) -> bool
         ensures { IsTrue result ↔ (self.now.txns ≡ other.now.txns) }
     {
-        self.names.as_slice() == other.names.as_slice()
+        self.txns.as_slice() == other.txns.as_slice()
     }
 
     fn same_steps(&self, other: &Schedule) -> bool
