@@ -1,65 +1,68 @@
 //! Sets in order of entry, whose first member is taken out in constant time on average.
-ghost use Rattle.std.specs.Prelude.{◌≡◌, ◌+◌, ◌<◌, ◌≤◌, [], drop, length, not, slice_get, IfOk, OnOk};
-ghost use Rattle.indexmap.specs.IndexSet.{spare};
-ghost use Rattle.std.specs.List.{list_any};
+ghost use Rattle.std.specs.Prelude.{◌≡◌, ◌+◌, ◌-◌, ◌<◌, ◌≤◌, [], drop, length, not, slice_get, IfOk, OnOk, vec_len, vec_capacity};
+ghost use Rattle.std.specs.HashSet.{IsFromIterResult};
+ghost use Rattle.std.specs.List.{list_any, IsDistinct};
 ghost use Rattle.std.specs.Set.{remove_key};
 ghost use Rattle.hek_txn.specs.Entries.{joined};
 
 use hek_rules::NoMemory;
-use indexmap::IndexSet;
 use std::alloc::Global;
+use std::collections::HashSet;
 use std::hash::Hash;
 use std::marker::Model;
 
 /// Members in order of entry, each once. Looking a member up takes constant time, and taking the first one out takes
 /// constant time on average. Taking another one out takes time linear in the members after it.
 ///
-/// Members that are taken out at the front stay in the set until it is empty, or has no room for others.
+/// Members that are taken out at the front stay in the list until it is empty, or has no room for others.
 #[derive(Drop)]
 pub(crate) struct EntrySet<T: Copy + Eq + Hash> {
-    items: IndexSet<T>,
+    items: Vec<T>,
     gone: usize,
+    members: HashSet<T>,
 }
 
 impl<T: Copy + Eq + Hash> Model for EntrySet<T> {
-    ghost use Rattle.std.specs.Prelude.{◌≤◌, drop, length};
-    ghost use Rattle.indexmap.specs.IndexSet.{spare};
-    ghost use Rattle.hek_txn.specs.Entries.{Entries};
+    ghost use Rattle.std.specs.Prelude.{◌-◌, ◌≤◌, drop, length, min, vec_len, vec_capacity};
+    ghost use Rattle.std.specs.HashSet.{spare};
+    ghost use Rattle.hek_txn.specs.Entries.{Entries, IsHeld};
 
     ghost Value = { Entries T };
 
-    ghost view = { λ l. record { items = drop l.gone l.items.keys; room = spare l.items } };
+    ghost view = { λ l. record { items = drop l.gone l.items.items; room = min (vec_capacity l.items - vec_len l.items) (spare l.members) } };
 
-    ghost invariant = { λ l. l.gone ≤ length l.items.keys };
+    ghost invariant = { λ l. (l.gone ≤ length l.items.items) × IsHeld T.eq (drop l.gone l.items.items) l.members.keys };
 }
 
-/// Whether `gone` members at the front of a set of `count` are removed to make room, in place of a growth: if they are
-/// more than half, so that each of them pays for at most one other that moves.
-fn is_due(gone: usize, count: usize) -> bool {
-    gone > count / 2
-}
-
-/// Removes `count` members at the front of the set.
-fn take_front<T: Copy + Eq + Hash>(items: &mut IndexSet<T>, count: usize)
-    requires { count ≤ length items.old.keys }
-    ensures items { items.new.keys ≡ drop count items.old.keys }
-    ensures room { spare items.old ≤ spare items.new }
+/// For how many more members room is made in a set of `len` that has too little for `count`: it grows to about four times
+/// its size.
+fn growth(len: usize, count: usize) -> usize
+    ensures { count ≤ result }
 {
-    let left = items.len() - count;
-    items.reverse();
-    items.truncate(left);
-    items.reverse();
+    count.max(len.saturating_mul(3))
 }
 
-/// An equal set, with separate room.
-fn copied_set<T: Copy + Eq + Hash>(set: &IndexSet<T>) -> Result<IndexSet<T>, NoMemory>
-    ensures { IfOk result (λ copy. copy.keys ≡ set.now.keys) }
+/// Takes an item out that is not among the first `gone`, if it is in the list.
+fn take_behind<T: Copy + Eq>(items: &mut Vec<T>, gone: usize, item: T)
+    requires within { gone ≤ length items.old.items }
+    requires once { IsDistinct T.eq (drop gone items.old.items) }
+    ensures items { drop gone items.new.items ≡ remove_key (T.eq item) (drop gone items.old.items) }
+    ensures within { gone ≤ length items.new.items }
+    ensures room { vec_capacity items.old - vec_len items.old ≤ vec_capacity items.new - vec_len items.new }
 {
-    let mut items = IndexSet::with_capacity(*set.allocator(), set.len())?;
-    for item in set.as_slice() {
-        items.insert(*item)?;
+    for place in (gone..items.len()).rev() {
+        if items[place] == item {
+            items.remove(place);
+            return;
+        }
     }
-    Ok(items)
+}
+
+/// The items as a set, which finds each of them in constant time.
+fn set_of<T: Copy + Eq + Hash>(alloc: Global, items: &[T]) -> Result<HashSet<T>, NoMemory>
+    ensures { IfOk result (IsFromIterResult T.eq items.now) }
+{
+    Ok(items.iter().copied().collect(alloc)?)
 }
 
 impl<T: Copy + Eq + Hash> EntrySet<T> {
@@ -68,8 +71,29 @@ impl<T: Copy + Eq + Hash> EntrySet<T> {
         ensures { result.items ≡ [] }
     {
         EntrySet {
-            items: IndexSet::new(alloc),
+            items: Vec::new(alloc),
             gone: 0,
+            members: HashSet::new(alloc),
+        }
+    }
+
+    /// For how many more members there is room.
+    fn room(&self) -> usize
+        ensures { result ≡ self.now.room }
+    {
+        let listed = self.items.capacity() - self.items.len();
+        listed.min(self.members.capacity() - self.members.len())
+    }
+
+    /// Removes the gone members from the list if they are more than half of it, so that each of them pays for at most
+    /// one other that moves.
+    fn forget_gone(&mut self)
+        ensures items { self.new.items ≡ self.old.items }
+        ensures room { self.old.room ≤ self.new.room }
+    {
+        if self.gone > self.items.len() / 2 {
+            self.items.drain(..self.gone);
+            self.gone = 0;
         }
     }
 
@@ -80,21 +104,17 @@ impl<T: Copy + Eq + Hash> EntrySet<T> {
         ensures room { OnOk result (count ≤ self.new.room) }
         ensures kept { self.old.room ≤ self.new.room }
     {
-        if count == 0 {
-            return Ok(());
+        if self.items.capacity() - self.items.len() < count {
+            self.forget_gone();
         }
-        let len = self.items.len();
-        if count <= self.items.capacity() - len {
-            return Ok(());
+        let listed = self.items.len();
+        if self.items.capacity() - listed < count {
+            self.items.reserve(growth(listed, count))?;
         }
-        let more = if is_due(self.gone, len) {
-            take_front(&mut self.items, self.gone);
-            self.gone = 0;
-            count
-        } else {
-            count.max(len.saturating_mul(3))
-        };
-        self.items.reserve(more)?;
+        let len = self.members.len();
+        if self.members.capacity() - len < count {
+            self.members.reserve(growth(len, count))?;
+        }
         Ok(())
     }
 
@@ -106,7 +126,7 @@ impl<T: Copy + Eq + Hash> EntrySet<T> {
         ensures kept { self.old.room ≤ self.new.room }
     {
         self.reserve(count)?;
-        Ok(self.items.capacity() - self.items.len())
+        Ok(self.room())
     }
 
     /// Appends a member, unless it is in the set, and returns whether it was new.
@@ -116,45 +136,25 @@ impl<T: Copy + Eq + Hash> EntrySet<T> {
         ensures items { self.new.items ≡ joined T.eq self.old.items item }
         ensures room { self.old.room ≤ self.new.room + 1 }
     {
-        if self.gone == 0 {
-            return matches!(self.items.insert(item), Ok(true));
+        let is_new = matches!(self.members.insert(item), Ok(true));
+        if is_new {
+            self.items.push_reserved(item);
         }
-        // The contract of `len` gives the proof that the members are distinct.
-        let _ = self.items.len();
-        match self.items.get_index_of(&item) {
-            None => {
-                let _ = self.items.insert(item);
-                true
-            }
-            Some(place) => {
-                if place < self.gone {
-                    take_front(&mut self.items, self.gone);
-                    self.gone = 0;
-                    let _ = self.items.insert(item);
-                    true
-                } else {
-                    false
-                }
-            }
-        }
+        is_new
     }
 
     /// Whether the item is a member.
     pub(crate) fn contains(&self, item: T) -> bool
         ensures { result ≡ list_any (T.eq item) self.now.items }
     {
-        let _ = self.items.len();
-        match self.items.get_index_of(&item) {
-            None => false,
-            Some(place) => self.gone <= place,
-        }
+        self.members.contains(&item)
     }
 
     /// The member that entered first.
     pub(crate) fn first(&self) -> Option<T>
         ensures { result ≡ slice_get self.now.items 0 }
     {
-        self.items.get_index(self.gone).copied()
+        self.items.get(self.gone).copied()
     }
 
     /// Takes the first member out.
@@ -163,10 +163,11 @@ impl<T: Copy + Eq + Hash> EntrySet<T> {
         ensures items { self.new.items ≡ drop 1 self.old.items }
         ensures room { self.old.room ≤ self.new.room }
     {
-        let count = self.items.len();
+        self.members.remove(&self.items[self.gone]);
         let gone = self.gone + 1;
-        if gone == count {
-            self.clear();
+        if gone == self.items.len() {
+            self.items.clear();
+            self.gone = 0;
         } else {
             self.gone = gone;
         }
@@ -178,18 +179,11 @@ impl<T: Copy + Eq + Hash> EntrySet<T> {
         ensures items { self.new.items ≡ remove_key (T.eq item) self.old.items }
         ensures room { self.old.room ≤ self.new.room }
     {
-        let _ = self.items.len();
-        match self.items.get_index_of(&item) {
-            None => false,
-            Some(place) => {
-                if self.gone <= place {
-                    let _ = self.items.shift_remove_index(place);
-                    true
-                } else {
-                    false
-                }
-            }
+        let is_member = self.members.remove(&item);
+        if is_member {
+            take_behind(&mut self.items, self.gone, item);
         }
+        is_member
     }
 
     /// Takes a member out, if it is in the set, and returns whether it was.
@@ -218,6 +212,7 @@ impl<T: Copy + Eq + Hash> EntrySet<T> {
     {
         self.items.clear();
         self.gone = 0;
+        self.members.clear();
     }
 
     /// The members, in order of entry.
@@ -232,9 +227,12 @@ impl<T: Copy + Eq + Hash> EntrySet<T> {
     pub(crate) fn copy(&self) -> Result<EntrySet<T>, NoMemory>
         ensures { IfOk result (λ list. list.items ≡ self.now.items) }
     {
+        let alloc = *self.items.allocator();
+        let (_, left) = self.items.as_slice().split_at(self.gone);
         Ok(EntrySet {
-            items: copied_set(&self.items)?,
-            gone: self.gone,
+            items: Vec::from_slice(alloc, left)?,
+            gone: 0,
+            members: set_of(alloc, left)?,
         })
     }
 }

@@ -1,4 +1,4 @@
-use Rattle.hek_txn.proofs.Queued.{none_any, none_first}
+use Rattle.hek_txn.proofs.Held.{none_any, none_first}
 use Rattle.hek_txn.proofs.entry_sets.EntrySet.take.Goals as goal
 
 pub returns-in-None-clause-told : goal.returns-in-None-clause-told
