@@ -65,7 +65,7 @@ fn pass_schedule(
     laps: &mut Laps,
 ) -> Result<Passed, Fault> {
     write_text(rt, alloc, schedule, laps)?;
-    let loaded = load_image(rt, alloc, schedule, laps)?;
+    let loaded = reload(rt, alloc, schedule, laps)?;
     let (trace, rows) = run_steps(rt, alloc, schedule, laps)?;
     let verdict = judge(rt, alloc, schedule, trace.as_slice(), laps)?;
     Ok(Passed {
@@ -138,7 +138,7 @@ fn image_once(
 }
 
 /// How many steps the schedule of a schedule's image has.
-fn load_image(
+fn reload(
     rt: &HostRuntime,
     alloc: Global,
     schedule: &Schedule,
