@@ -88,20 +88,26 @@ pub fn answer<S: AsStr, D: Disk, I: Read + IsTerminal + Drop, W: Write, E: Write
 ) -> u8 {
     let mut out = NotedOutput::new(out);
     let ran = match read_words(alloc, words) {
-        Ok(matches) => {
-            let kept = Kept::new(alloc, &matches, faults.is_terminal());
-            let disk = KeptDisk::new(disk, &kept);
-            let input = KeptReader::new(input, INPUT, &kept);
-            let ran = run(alloc, &matches, &disk, input, &mut out, faults);
-            explained(alloc, ran, &matches, &kept, faults)
-        }
-        Err(error) => {
-            let refused = refuse(&error, &mut out, faults);
-            suggest(alloc, &error, words, faults);
-            refused
-        }
+        Ok(matches) => follow(alloc, &matches, disk, input, &mut out, faults),
+        Err(error) => refused(alloc, &error, words, &mut out, faults),
     };
     status_of(ran, &out, faults)
+}
+
+/// Does what these words ask for, and explains its fault where that is wanted.
+fn follow<'a, D: Disk, I: Read + IsTerminal + Drop, W: Write, E: Write + IsTerminal>(
+    alloc: Global,
+    matches: &ArgMatches<'a>,
+    disk: &D,
+    input: I,
+    out: &mut W,
+    faults: &mut E,
+) -> Result<u8, HekFault<'a>> {
+    let kept = Kept::new(alloc, matches, faults.is_terminal());
+    let disk = KeptDisk::new(disk, &kept);
+    let mut input = Some(KeptReader::new(input, INPUT, &kept));
+    let ran = run(alloc, matches, &disk, &mut input, out, faults);
+    explained(alloc, ran, matches, &kept, faults)
 }
 
 /// Answers the words of a command line, with the threads of a system.
@@ -115,28 +121,42 @@ pub fn answer_in_threads<
 >(system: &T, alloc: Global, words: &[S], disk: &D, input: I, out: &mut W, faults: &mut E) -> u8 {
     let mut out = NotedOutput::new(out);
     let ran = match read_words(alloc, words) {
-        Ok(matches) => {
-            let kept = Kept::new(alloc, &matches, faults.is_terminal());
-            let disk = KeptDisk::new(disk, &kept);
-            let input = KeptReader::new(input, INPUT, &kept);
-            let ran = match matches.subcommand() {
-                Some(("threads", found)) => {
-                    threads(system, alloc, found, &disk, input, &mut out, faults)
-                }
-                Some(("permute", found)) => {
-                    permute_jobs(system, alloc, found, &disk, input, &mut out, faults)
-                }
-                _ => run(alloc, &matches, &disk, input, &mut out, faults),
-            };
-            explained(alloc, ran, &matches, &kept, faults)
-        }
-        Err(error) => {
-            let refused = refuse(&error, &mut out, faults);
-            suggest(alloc, &error, words, faults);
-            refused
-        }
+        Ok(matches) => follow_in_threads(system, alloc, &matches, disk, input, &mut out, faults),
+        Err(error) => refused(alloc, &error, words, &mut out, faults),
     };
     status_of(ran, &out, faults)
+}
+
+/// As `follow`, with the threads of a system.
+fn follow_in_threads<
+    'a,
+    T: Threads + Wait + Sync,
+    D: Disk,
+    I: Read + IsTerminal + Drop,
+    W: Write,
+    E: Write + IsTerminal,
+>(
+    system: &T,
+    alloc: Global,
+    matches: &ArgMatches<'a>,
+    disk: &D,
+    input: I,
+    out: &mut W,
+    faults: &mut E,
+) -> Result<u8, HekFault<'a>> {
+    let kept = Kept::new(alloc, matches, faults.is_terminal());
+    let disk = KeptDisk::new(disk, &kept);
+    let mut input = Some(KeptReader::new(input, INPUT, &kept));
+    let ran = match matches.subcommand() {
+        Some(("threads", found)) => {
+            threads(system, alloc, found, &disk, &mut input, out, faults)
+        }
+        Some(("permute", found)) => {
+            permute_jobs(system, alloc, found, &disk, &mut input, out, faults)
+        }
+        _ => run(alloc, matches, &disk, &mut input, out, faults),
+    };
+    explained(alloc, ran, matches, &kept, faults)
 }
 
 /// The exit status after a command, whose fault is reported. That its output's reader has left is no fault.
@@ -150,6 +170,19 @@ fn status_of<W: Write, E: Write>(
         Err(HekFault::CannotWrite) if out.has_lost_reader() => 0,
         Err(fault) => report(fault, faults),
     }
+}
+
+/// What comes of words that the parser of the command line refuses, help among them.
+fn refused<'a, S: AsStr, W: Write, E: Write + IsTerminal>(
+    alloc: Global,
+    error: &Error,
+    words: &[S],
+    out: &mut W,
+    faults: &mut E,
+) -> Result<u8, HekFault<'a>> {
+    let refused = refuse(error, out, faults);
+    suggest(alloc, error, words, faults);
+    refused
 }
 
 /// Writes what the parser of the command line says: help on standard output, otherwise why it refuses the words.
@@ -192,11 +225,12 @@ fn suggest<S: AsStr, E: Write + IsTerminal>(
     }
 }
 
+/// Answers a command without threads. `input` is standard input, until a command reads it.
 fn run<'a, D: Disk, I: Read + IsTerminal + Drop, W: Write, E: Write + IsTerminal>(
     alloc: Global,
     matches: &ArgMatches<'a>,
     disk: &D,
-    input: I,
+    input: &mut Option<I>,
     out: &mut W,
     faults: &mut E,
 ) -> Result<u8, HekFault<'a>> {
@@ -206,7 +240,7 @@ fn run<'a, D: Disk, I: Read + IsTerminal + Drop, W: Write, E: Write + IsTerminal
             text(found, "WAITS")?,
             out,
         ),
-        Some(("word", found)) => word(alloc, found, input, out),
+        Some(("word", found)) => word(alloc, found, disk, input, out),
         Some(("asm", found)) => asm(alloc, found, disk, input, out),
         Some(("dis", found)) => dis(alloc, found, disk, input, out),
         Some(("run", found)) => run_schedule(alloc, found, disk, input, out),
@@ -224,13 +258,15 @@ fn run<'a, D: Disk, I: Read + IsTerminal + Drop, W: Write, E: Write + IsTerminal
     }
 }
 
-fn word<'a, I: Read + Drop, W: Write>(
+fn word<'a, D: Disk, I: Read + Drop, W: Write>(
     alloc: Global,
     found: &ArgMatches<'a>,
-    input: I,
+    disk: &D,
+    input: &mut Option<I>,
     out: &mut W,
 ) -> Result<u8, HekFault<'a>> {
     let words = texts(found, "WORD")?;
+    let input = open(disk, input, INPUT)?;
     if found.get_flag("changes") {
         return changes_command(alloc, words, input, out);
     }
@@ -246,13 +282,12 @@ fn asm<'a, D: Disk, I: Read + Drop, W: Write>(
     alloc: Global,
     found: &ArgMatches<'a>,
     disk: &D,
-    input: I,
+    input: &mut Option<I>,
     out: &mut W,
 ) -> Result<u8, HekFault<'a>> {
-    let mut input = Some(input);
     let name = text(found, "FILE")?;
     let image = text(found, "OUT")?;
-    let bytes = schedule_text(alloc, open(disk, &mut input, name)?, name)?;
+    let bytes = schedule_text(alloc, open(disk, input, name)?, name)?;
     if image == OUTPUT {
         return asm_command(alloc, bytes.as_slice(), out);
     }
@@ -263,11 +298,10 @@ fn dis<'a, D: Disk, I: Read + Drop, W: Write>(
     alloc: Global,
     found: &ArgMatches<'a>,
     disk: &D,
-    input: I,
+    input: &mut Option<I>,
     out: &mut W,
 ) -> Result<u8, HekFault<'a>> {
-    let mut input = Some(input);
-    let file = schedule_file(alloc, found, disk, &mut input)?;
+    let file = schedule_file(alloc, found, disk, input)?;
     dis_command(alloc, file, out)
 }
 
@@ -275,14 +309,13 @@ fn run_schedule<'a, D: Disk, I: Read + Drop, W: Write>(
     alloc: Global,
     found: &ArgMatches<'a>,
     disk: &D,
-    input: I,
+    input: &mut Option<I>,
     out: &mut W,
 ) -> Result<u8, HekFault<'a>> {
-    let mut input = Some(input);
     let limit = number_of(found, "state-at")?;
     let extras = extras_of(found);
     let state = limit.is_some() || found.get_flag("state");
-    let file = schedule_file(alloc, found, disk, &mut input)?;
+    let file = schedule_file(alloc, found, disk, input)?;
     let file = if found.get_flag("auto") {
         auto_file(alloc, file)?
     } else {
@@ -321,7 +354,7 @@ fn drive<'a, D: Disk, I: Read + IsTerminal + Drop, W: Write, E: Write>(
     alloc: Global,
     found: &ArgMatches<'a>,
     disk: &D,
-    input: I,
+    input: &mut Option<I>,
     out: &mut W,
     faults: &mut E,
 ) -> Result<u8, HekFault<'a>> {
@@ -329,13 +362,20 @@ fn drive<'a, D: Disk, I: Read + IsTerminal + Drop, W: Write, E: Write>(
         extras: extras_of(found),
         state: found.get_flag("state"),
         ends: found.get_flag("ends"),
-        prompts: input.is_terminal(),
+        prompts: is_typed(input),
     };
-    let mut input = Some(input);
-    let file = schedule_file(alloc, found, disk, &mut input)?;
-    let events = open(disk, &mut input, INPUT)?;
+    let file = schedule_file(alloc, found, disk, input)?;
+    let events = open(disk, input, INPUT)?;
     let events = TypedReader::new(events, driving.prompts, faults);
     drive_as(alloc, found, file, events, driving, out)
+}
+
+/// Whether standard input is a terminal.
+fn is_typed<I: IsTerminal>(input: &Option<I>) -> bool {
+    match input {
+        Some(input) => input.is_terminal(),
+        None => false,
+    }
 }
 
 /// The number that an option has, if the words have the option.
@@ -353,29 +393,41 @@ fn debug<'a, D: Disk, I: Read + IsTerminal + Drop, W: Write, E: Write + IsTermin
     alloc: Global,
     found: &ArgMatches<'a>,
     disk: &D,
-    input: I,
+    input: &mut Option<I>,
     out: &mut W,
     faults: &mut E,
 ) -> Result<u8, HekFault<'a>> {
     let manner = Manner {
-        prompts: input.is_terminal(),
+        prompts: is_typed(input),
         explains: faults.is_terminal() || found.get_flag("explain"),
     };
-    let mut input = Some(input);
-    let file = schedule_file(alloc, found, disk, &mut input)?;
+    let file = schedule_file(alloc, found, disk, input)?;
     match found.get_str("COMMANDS") {
         Some(name) => {
-            let commands = read_text(alloc, open(disk, &mut input, name)?, name)?;
+            let commands = read_text(alloc, open(disk, input, name)?, name)?;
             let text = commands.as_slice();
-            if manner.explains {
-                return explained_command(alloc, file, CommandFile { name, text }, out, faults);
-            }
-            debug_command(alloc, file, text, out)
+            debug_file(alloc, file, CommandFile { name, text }, manner, out, faults)
         }
         None => {
-            let typed = open(disk, &mut input, INPUT)?;
+            let typed = open(disk, input, INPUT)?;
             debug_session(alloc, file, typed, manner, out, faults)
         }
+    }
+}
+
+/// Debugs a schedule by the commands of a file, and explains one that is no command where that is wanted.
+fn debug_file<'a, R: Read + Drop, W: Write, E: Write>(
+    alloc: Global,
+    file: ScheduleFile<R>,
+    commands: CommandFile<'_>,
+    manner: Manner,
+    out: &mut W,
+    faults: &mut E,
+) -> Result<u8, HekFault<'a>> {
+    if manner.explains {
+        explained_command(alloc, file, commands, out, faults)
+    } else {
+        debug_command(alloc, file, commands.text, out)
     }
 }
 
@@ -383,11 +435,10 @@ fn page<'a, D: Disk, I: Read + Drop, W: Write, E: Write>(
     alloc: Global,
     found: &ArgMatches<'a>,
     disk: &D,
-    input: I,
+    input: &mut Option<I>,
     out: &mut W,
     faults: &mut E,
 ) -> Result<u8, HekFault<'a>> {
-    let mut input = Some(input);
     let part = Part {
         from: step_of(found, "from")?,
         to: step_of(found, "to")?,
@@ -397,7 +448,7 @@ fn page<'a, D: Disk, I: Read + Drop, W: Write, E: Write>(
         limit: number_of(found, "limit")?.unwrap_or(MOST_NODES),
     };
     let heading = heading_of(found)?;
-    let file = schedule_file(alloc, found, disk, &mut input)?;
+    let file = schedule_file(alloc, found, disk, input)?;
     if found.get_flag("orders") {
         return explorer_command(alloc, file, extent, heading, out, faults);
     }
@@ -436,15 +487,14 @@ fn check<'a, D: Disk, I: Read + Drop, W: Write, E: Write + IsTerminal>(
     alloc: Global,
     found: &ArgMatches<'a>,
     disk: &D,
-    input: I,
+    input: &mut Option<I>,
     out: &mut W,
     faults: &mut E,
 ) -> Result<u8, HekFault<'a>> {
-    let mut input = Some(input);
     let level = level_of(found)?;
-    let file = schedule_file(alloc, found, disk, &mut input)?;
+    let file = schedule_file(alloc, found, disk, input)?;
     let name = text(found, "TRACE")?;
-    let trace = read_text(alloc, open(disk, &mut input, name)?, name)?;
+    let trace = read_text(alloc, open(disk, input, name)?, name)?;
     check_trace(alloc, found, level, file, trace.as_slice(), out, faults)
 }
 
@@ -490,13 +540,12 @@ fn permute<'a, D: Disk, I: Read + Drop, W: Write, E: Write + IsTerminal>(
     alloc: Global,
     found: &ArgMatches<'a>,
     disk: &D,
-    input: I,
+    input: &mut Option<I>,
     out: &mut W,
     faults: &mut E,
 ) -> Result<u8, HekFault<'a>> {
-    let mut input = Some(input);
     let choice = choice_of(found, faults.is_terminal())?;
-    let file = schedule_file(alloc, found, disk, &mut input)?;
+    let file = schedule_file(alloc, found, disk, input)?;
     permute_as(alloc, found, file, choice, out, faults)
 }
 
@@ -538,7 +587,7 @@ fn permute_jobs<'a, T: Threads + Sync, D: Disk, I: Read + Drop, W: Write, E: Wri
     alloc: Global,
     found: &ArgMatches<'a>,
     disk: &D,
-    input: I,
+    input: &mut Option<I>,
     out: &mut W,
     faults: &mut E,
 ) -> Result<u8, HekFault<'a>> {
@@ -546,9 +595,8 @@ fn permute_jobs<'a, T: Threads + Sync, D: Disk, I: Read + Drop, W: Write, E: Wri
     if jobs == 1 || !counts_a_part(found) {
         return permute(alloc, found, disk, input, out, faults);
     }
-    let mut input = Some(input);
     let choice = choice_of(found, false)?;
-    let file = schedule_file(alloc, found, disk, &mut input)?;
+    let file = schedule_file(alloc, found, disk, input)?;
     permute_in_threads(system, jobs, alloc, file, choice, out, faults)
 }
 
@@ -577,11 +625,10 @@ fn threads<'a, T: Threads + Wait + Sync, D: Disk, I: Read + Drop, W: Write, E: W
     alloc: Global,
     found: &ArgMatches<'a>,
     disk: &D,
-    input: I,
+    input: &mut Option<I>,
     out: &mut W,
     faults: &mut E,
 ) -> Result<u8, HekFault<'a>> {
-    let mut input = Some(input);
     let pace = Pace {
         turns: count_from(text(found, "turns")?, 0)?,
         seed: number_of(found, "seed")?,
@@ -590,7 +637,7 @@ fn threads<'a, T: Threads + Wait + Sync, D: Disk, I: Read + Drop, W: Write, E: W
         None => None,
         Some(text) => Some(count_from(text, 1)?),
     };
-    let file = schedule_file(alloc, found, disk, &mut input)?;
+    let file = schedule_file(alloc, found, disk, input)?;
     threads_as(system, alloc, found, file, pace, times, out, faults)
 }
 

@@ -12,11 +12,10 @@ pub fn history<'a, D: Disk, I: Read + Drop, W: Write, E: Write>(
     alloc: Global,
     found: &ArgMatches<'a>,
     disk: &D,
-    input: I,
+    input: &mut Option<I>,
     out: &mut W,
     faults: &mut E,
 ) -> Result<u8, HekFault<'a>> {
-    let mut input = Some(input);
     let choice = Choice {
         level: level_of(found)?,
         order: order_of(found)?,
@@ -28,7 +27,7 @@ pub fn history<'a, D: Disk, I: Read + Drop, W: Write, E: Write>(
         Some(name) => Some(LateFile::new(disk, name)),
         None => None,
     };
-    let file = open(disk, &mut input, name)?;
+    let file = open(disk, input, name)?;
     history_command(alloc, file, name, choice, &mut order_out, out, faults)
 }
 

@@ -132,10 +132,7 @@ pub record Checks {R : Type 0} (left : R → Option (List ℕ)) (said : Schedule
   pub is : FileGives left said plan
   pub told : Recorded
   pub read : IsTraceOf plan told text
-  pub verdict : Verdict
-  pub right : IsVerdict (judged_as level told) verdict
-  pub written : Appends before after (verdict_text verdict ++ why_text why (judged_as level told) verdict)
-  pub answer : status ≡ verdict_status verdict
+  pub judges : Judges (judged_as level told) why before after status
 
 abbrev pub CheckFails : {R : Type 0} → (R → Option (List ℕ)) → ScheduleFile R → List ℕ → HekFault → Type 0
 CheckFails left said text CannotWrite = Unit {0}

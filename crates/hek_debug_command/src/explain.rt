@@ -35,18 +35,28 @@ pub fn explained_command<'a, R: Read + Drop, W: Write, E: Write>(
         return Err(HekFault::NotText);
     };
     let schedule = schedule_in(alloc, file)?;
-    match commands_of_text(alloc, &schedule, text) {
-        Ok(read) => {
-            debug(alloc, schedule, read.as_slice(), out)?;
-            Ok(0)
-        }
-        Err(HekFault::CommandLine(number)) => {
-            let status = report(HekFault::CommandLine(number), faults);
-            explain_in_file(alloc, &schedule, commands, number, faults);
-            Ok(status)
-        }
-        Err(fault) => Err(fault),
-    }
+    let read = match commands_of_text(alloc, &schedule, text) {
+        Ok(read) => read,
+        Err(fault) => return explain_fault(alloc, &schedule, commands, fault, faults),
+    };
+    debug(alloc, schedule, read.as_slice(), out)?;
+    Ok(0)
+}
+
+/// Reports a line that isn't a command, with what is wrong with it. Another fault is the answer.
+fn explain_fault<'a, E: Write>(
+    alloc: Global,
+    schedule: &Schedule,
+    commands: CommandFile<'_>,
+    fault: HekFault<'a>,
+    faults: &mut E,
+) -> Result<u8, HekFault<'a>> {
+    let HekFault::CommandLine(number) = fault else {
+        return Err(fault);
+    };
+    let status = report(fault, faults);
+    explain_in_file(alloc, schedule, commands, number, faults);
+    Ok(status)
 }
 
 /// Says what is wrong with the line of this number, after the place where it is.

@@ -54,33 +54,42 @@ pub fn debug_session<'a, R: Read + Drop, I: Read + Drop, W: Write, E: Write>(
     out: &mut W,
     faults: &mut E,
 ) -> Result<u8, HekFault<'a>> {
-    let schedule = schedule_in(alloc, file)?;
-    let debugger = Debugger::open(alloc, schedule)?;
+    let mut session = Session::open(alloc, file, manner)?;
     let mut lines = buffered(alloc, input)?;
-    hold_session(alloc, debugger, manner, &mut lines, out, faults)
+    hold_session(alloc, &mut session, &mut lines, out, faults)
 }
 
-/// Answers the lines of a session, which begins where a debugger is.
+impl Session {
+    /// A session before the first step of the schedule in a file.
+    fn open<'a, R: Read + Drop>(
+        alloc: Global,
+        file: ScheduleFile<R>,
+        manner: Manner,
+    ) -> Result<Session, HekFault<'a>> {
+        let schedule = schedule_in(alloc, file)?;
+        Ok(Session {
+            moves: Moves {
+                debugger: Debugger::open(alloc, schedule)?,
+                held: Vec::new(alloc),
+            },
+            manner,
+            last_step: None,
+        })
+    }
+}
+
+/// Answers the lines of a session.
 fn hold_session<'a, B: BufRead, W: Write, E: Write>(
     alloc: Global,
-    debugger: Debugger,
-    manner: Manner,
+    session: &mut Session,
     lines: &mut B,
     out: &mut W,
     faults: &mut E,
 ) -> Result<u8, HekFault<'a>> {
-    if manner.prompts {
-        greet(&debugger, out)?;
+    if session.manner.prompts {
+        greet(&session.moves.debugger, out)?;
     }
-    let mut session = Session {
-        moves: Moves {
-            debugger,
-            held: Vec::new(alloc),
-        },
-        manner,
-        last_step: None,
-    };
-    answer_lines(alloc, &mut session, lines, out, faults)
+    answer_lines(alloc, session, lines, out, faults)
 }
 
 /// Says how many steps there are, and how to list the commands.

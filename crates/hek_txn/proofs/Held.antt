@@ -43,7 +43,7 @@ all-without {T} test out (y ∷ ys) each = by (out y) (all-without test out ys e
     by false rest = (each.0, rest)
 
 -- taking out no member changes nothing
-none_out : {T : Type 0} (test : T → Bool) (xs : List T) → list_any test xs ≡ false → remove_key test xs ≡ xs
+pub none_out : {T : Type 0} (test : T → Bool) (xs : List T) → list_any test xs ≡ false → remove_key test xs ≡ xs
 none_out test [] e = refl
 none_out test (x ∷ xs) e = let p = or-none (test x) (list_any test xs) e in cond-false (test x) xs (x ∷ remove_key test xs) p.0 ∙ ap (λ ys. x ∷ ys) (none_out test xs p.1)
 

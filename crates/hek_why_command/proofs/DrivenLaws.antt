@@ -3,7 +3,7 @@ use Rattle.std.proofs.Common.{◌≡◌, subst, ℕ, List, [], ◌∷◌, ◌++�
 use Rattle.std.proofs.lemmas.List.{append-nil}
 use Rattle.std.specs.Prelude.{Result, Ok, Err, OnOk}
 use Rattle.std.specs.Io.KnownBytes.{Appends}
-use Rattle.hek_why_command.specs.Driven.{Told, answer_text, answers_text, HasAnswers}
+use Rattle.hek_why_command.specs.Driven.{Told, answer_text, answers_text, HasAnswers, IsAnswered}
 
 -- no answer yet
 pub none_yet : (ends : Bool) → (b : Option (List ℕ)) → HasAnswers ends b b
@@ -22,6 +22,10 @@ more_text ends [] a = append-nil (answer_text ends a.told a.state)
 more_text ends (first ∷ rest) a =
     let front = answer_text ends first.told first.state in
     ap (λ (xs : List ℕ). front ++ xs) (more_text ends rest a) ∙ sym (append_assoc front (answers_text ends rest) (answer_text ends a.told a.state))
+
+-- an answer is written
+pub one_answered : (ends : Bool) → (n m : Option (List ℕ)) → (told state : List ℕ) → Appends n m (answer_text ends told state) → IsAnswered ends n m
+one_answered ends n m told state h = record { answer = record { told = told; state = state }; written = h }
 
 -- one more answer is written
 pub one_more : (ends : Bool) → (b n m : Option (List ℕ)) → (told state : List ℕ) → HasAnswers ends b n → Appends n m (answer_text ends told state) → HasAnswers ends b m

@@ -16,6 +16,11 @@ pub record Told : Type 0 where
   pub told : List ℕ
   pub state : List ℕ
 
+-- the answer to a line was written after the bytes that a writer held
+pub record IsAnswered (ends : Bool) (before after : Option (List ℕ)) : Type 0 where
+  pub answer : Told
+  pub written : Appends before after (answer_text ends answer.told answer.state)
+
 -- what is written for all lines of the input
 abbrev pub answers_text : Bool → List Told → List ℕ
 answers_text ends [] = []

@@ -2,7 +2,7 @@
 ghost use Rattle.std.specs.Prelude.{◌≡◌, ◌≤◌, ◌++◌, [], false, length, IfOk, OnOk};
 ghost use Rattle.std.specs.Io.KnownBytes.{Appends};
 ghost use Rattle.hek_rules.specs.Plan.{IsStep};
-ghost use Rattle.hek_why_command.specs.Driven.{answer_text, HasAnswers};
+ghost use Rattle.hek_why_command.specs.Driven.{answer_text, HasAnswers, IsAnswered};
 
 use crate::driven_line::read_event;
 use crate::step::{Extras, Telling, tell_step};
@@ -47,16 +47,30 @@ pub fn drive_command<'a, R: Read + Drop, I: Read + Drop, W: Write>(
     ensures written { OnOk result (driving.prompts ≡ false → HasAnswers driving.ends (W.contents out.old) (W.contents out.new)) }
 {
     let schedule = schedule_in(alloc, file)?;
-    let mut machine = Machine::load(alloc, &schedule)?;
+    let mut input = buffered(alloc, input)?;
+    drive_schedule(alloc, &schedule, driving, &mut input, out)
+}
+
+/// Greets, and answers each line of the input, on the machine of a schedule's rows and transactions.
+fn drive_schedule<'a, B: BufRead, W: Write>(
+    alloc: Global,
+    schedule: &Schedule,
+    driving: Driving,
+    input: &mut B,
+    out: &mut W,
+) -> Result<u8, HekFault<'a>>
+    ensures status { IfOk result (λ status. status ≤ 1) }
+    ensures written { OnOk result (driving.prompts ≡ false → HasAnswers driving.ends (W.contents out.old) (W.contents out.new)) }
+{
+    let mut machine = Machine::load(alloc, schedule)?;
     let mut telling = Telling {
-        schedule: &schedule,
+        schedule,
         done: 0,
         dooms: Dooms::new(alloc),
         extras: driving.extras,
     };
-    let mut input = buffered(alloc, input)?;
-    greet(driving.prompts, &schedule, out)?;
-    drive(alloc, &mut telling, &mut machine, driving, &mut input, out)
+    greet(driving.prompts, schedule, out)?;
+    drive(alloc, &mut telling, &mut machine, driving, input, out)
 }
 
 /// At a terminal, says how many transactions there are, and what a line is.
@@ -99,11 +113,28 @@ fn drive<'a, B: BufRead, W: Write>(
             prompt(driving.prompts, b"\n", out)?;
             return Ok(status);
         };
-        let answer = answer_to(alloc, telling, machine, driving, number, text)?;
-        status = status_after(status, answer.is_fault);
-        write_answer(alloc, &answer, driving.ends, out)?;
+        let is_fault = answer_line(alloc, telling, machine, driving, number, text, out)?;
+        status = status_after(status, is_fault);
     }
     Ok(status)
+}
+
+/// Does what a line asks for, and writes the answer. Answers whether the line is at fault.
+#[tactic(auto, using(crate::proofs::DrivenLaws::one_answered))]
+fn answer_line<'a, W: Write>(
+    alloc: Global,
+    telling: &mut Telling<'_>,
+    machine: &mut Machine,
+    driving: Driving,
+    number: u64,
+    line: &[u8],
+    out: &mut W,
+) -> Result<bool, HekFault<'a>>
+    ensures { OnOk result (IsAnswered driving.ends (W.contents out.old) (W.contents out.new)) }
+{
+    let answer = answer_to(alloc, telling, machine, driving, number, line)?;
+    write_answer(alloc, &answer, driving.ends, out)?;
+    Ok(answer.is_fault)
 }
 
 /// The exit status after one more answer.

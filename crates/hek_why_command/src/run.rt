@@ -50,9 +50,26 @@ fn explain<'a, W: Write>(
         extras,
     };
     let steps = schedule.steps();
-    tell_steps(alloc, &mut telling, &mut machine, steps, limit, out)?;
+    tell_run(alloc, &mut telling, &mut machine, steps, limit, state, out)
+}
+
+/// Does steps on a machine, as many as `limit` or all of them, and writes each; then the state, if `state` is set.
+fn tell_run<'a, W: Write>(
+    alloc: Global,
+    telling: &mut Telling<'_>,
+    machine: &mut Machine,
+    steps: &[Event],
+    limit: Option<u64>,
+    state: bool,
+    out: &mut W,
+) -> Result<(), HekFault<'a>>
+    requires buckets { length machine.old.buckets ≡ telling.old.schedule.now.buckets }
+    requires placed { All (IsPlaced telling.old.schedule.now.buckets) steps.now }
+    requires declared { AllByRecursion (NamesDeclared (length telling.old.schedule.now.txns)) steps.now }
+{
+    tell_steps(alloc, telling, machine, steps, limit, out)?;
     if state {
-        tell_state(alloc, schedule, &machine, out)?;
+        tell_state(alloc, telling.schedule, machine, out)?;
     }
     Ok(())
 }

@@ -54,17 +54,39 @@ pub fn changes_command<'a, I: Read + Drop, W: Write>(
     }
     let mut lines = buffered(alloc, input)?;
     let mut chain = Chain::new(alloc);
+    let are_lawful = answer_lines(alloc, &mut lines, &mut chain, out)?;
+    Ok(if are_lawful { 0 } else { 1 })
+}
+
+/// Answers each line that isn't blank. Answers whether each is of a change.
+fn answer_lines<'a, B: BufRead, W: Write>(
+    alloc: Global,
+    lines: &mut B,
+    chain: &mut Chain,
+    out: &mut W,
+) -> Result<bool, HekFault<'a>> {
     let mut are_lawful = true;
     for line in lines.lines(alloc) {
         let line = line.map_err(|error| line_fault(error.kind()))?;
         let text = line.as_str().trim();
         if !text.is_empty() {
-            let answer = answer_to(text, &mut chain)?;
-            are_lawful &= answer.is_lawful();
-            writeln!(out, "{answer}").map_err(|_| HekFault::CannotWrite)?;
+            are_lawful &= answer_line(text, chain, out)?;
         }
     }
-    Ok(if are_lawful { 0 } else { 1 })
+    Ok(are_lawful)
+}
+
+/// Answers a line. Answers whether it is of a change.
+fn answer_line<'a, W: Write>(
+    line: &str,
+    chain: &mut Chain,
+    out: &mut W,
+) -> Result<bool, HekFault<'a>> {
+    let answer = answer_to(line, chain)?;
+    match writeln!(out, "{answer}") {
+        Ok(()) => Ok(answer.is_lawful()),
+        Err(_) => Err(HekFault::CannotWrite),
+    }
 }
 
 fn answer_to<'a>(line: &str, chain: &mut Chain) -> Result<Answer, HekFault<'a>> {

@@ -5,14 +5,10 @@ use Rattle.hek_commands.proofs.check.check_command.Goals as goal
 pub returns : goal.returns
 returns g c =
     let told = c.in_ok-transcript.transcript in
-    let judged = c.in_ok-status.ensures.ok in
     record {
       plan = c.in_ok-schedule.schedule;
       is = c.in_ok-schedule.ensures;
       told = told;
       read = subst (λ (xs : List ℕ). IsTraceOf c.in_ok-schedule.schedule told xs) c.in-Ok.ensures.cases.0 c.in_ok-transcript.ensures;
-      verdict = judged.verdict;
-      right = judged.right;
-      written = judged.written;
-      answer = judged.answer;
+      judges = c.in_ok-status.ensures.ok;
     }

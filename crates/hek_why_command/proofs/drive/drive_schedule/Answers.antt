@@ -1,6 +1,6 @@
 use Rattle.std.proofs.Common.{◌≡◌, false}
 use Rattle.hek_why_command.proofs.DrivenLaws.{greeted}
-use Rattle.hek_why_command.proofs.drive.drive_command.Goals as goal
+use Rattle.hek_why_command.proofs.drive.drive_schedule.Goals as goal
 
 pub returns-clause-written : goal.returns-clause-written
 returns-clause-written g c =
