@@ -54,9 +54,21 @@ pub fn debug_session<'a, R: Read + Drop, I: Read + Drop, W: Write, E: Write>(
     out: &mut W,
     faults: &mut E,
 ) -> Result<u8, HekFault<'a>> {
-    let mut session = Session::open(alloc, file, manner)?;
     let mut lines = buffered(alloc, input)?;
-    hold_session(alloc, &mut session, &mut lines, out, faults)
+    open_session(alloc, file, manner, &mut lines, out, faults)
+}
+
+/// Opens a session, and answers its lines.
+fn open_session<'a, R: Read + Drop, B: BufRead, W: Write, E: Write>(
+    alloc: Global,
+    file: ScheduleFile<R>,
+    manner: Manner,
+    lines: &mut B,
+    out: &mut W,
+    faults: &mut E,
+) -> Result<u8, HekFault<'a>> {
+    let mut session = Session::open(alloc, file, manner)?;
+    hold_session(alloc, &mut session, lines, out, faults)
 }
 
 impl Session {

@@ -56,12 +56,22 @@ pub fn history_command<'a, R: Read + Drop, W: Write, O: Write, E: Write>(
 /// Judges a log, and writes the verdict.
 fn answer<'a, W: Write, O: Write>(
     alloc: Global,
-    log: Log,
+    mut log: Log,
     choice: Choice,
     order_out: &mut Option<O>,
     out: &mut W,
 ) -> Result<u8, HekFault<'a>> {
-    let mut log = log;
+    judge_log(alloc, &mut log, choice, order_out, out)
+}
+
+/// Sets the level that is asked for, and writes the verdict.
+fn judge_log<'a, W: Write, O: Write>(
+    alloc: Global,
+    log: &mut Log,
+    choice: Choice,
+    order_out: &mut Option<O>,
+    out: &mut W,
+) -> Result<u8, HekFault<'a>> {
     if let Some(level) = choice.level {
         set_level(&mut log.history, level);
     }
@@ -70,7 +80,7 @@ fn answer<'a, W: Write, O: Write>(
         all: choice.all,
         json: choice.json,
     };
-    write_verdict(alloc, &mut log, question, order_out, out)
+    write_verdict(alloc, log, question, order_out, out)
 }
 
 /// Writes the verdict on a history. The status is that of the verdict.

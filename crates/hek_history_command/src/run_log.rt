@@ -32,14 +32,23 @@ fn lines_of_run(alloc: Global, schedule: &Schedule) -> Result<Vec<u8>, NoMemory>
 }
 
 /// The events of a schedule's run, with their replies.
-#[tactic(auto, using(hek_machine::proofs::PlacedSteps::steps_placed))]
 fn transcript_of(alloc: Global, schedule: &Schedule) -> Result<Transcript, NoMemory> {
+    let mut transcript = Transcript::new(alloc, schedule)?;
+    run_all(alloc, schedule, &mut transcript)?;
+    Ok(transcript)
+}
+
+/// Runs a schedule's steps, and notes each with its reply.
+#[tactic(auto, using(hek_machine::proofs::PlacedSteps::steps_placed))]
+fn run_all(
+    alloc: Global,
+    schedule: &Schedule,
+    transcript: &mut Transcript,
+) -> Result<(), NoMemory> {
     // `known` gives that the schedule has a bucket, and that each of its steps is well formed.
     schedule.known();
     let mut machine = Machine::load(alloc, schedule)?;
-    let mut transcript = Transcript::new(alloc, schedule)?;
-    run_steps(schedule, &mut machine, schedule.steps(), &mut transcript)?;
-    Ok(transcript)
+    run_steps(schedule, &mut machine, schedule.steps(), transcript)
 }
 
 /// Does steps, and notes each with its reply.

@@ -3,7 +3,7 @@ ghost use Rattle.std.specs.Prelude.{◌≡◌, MatchResult, IfErr, IfOk};
 ghost use Rattle.hek_asm.specs.Reading.{IsTraceOf};
 ghost use Rattle.hek_commands.specs.Commands.{CheckFails, IsStop, TraceTextFails, judged_as, verdict_status};
 ghost use Rattle.hek_rules.specs.Faults.{IsVerdict};
-ghost use Rattle.hek_json_command.specs.Statuses.{HasStatusOf};
+ghost use Rattle.hek_json_command.specs.Statuses.{HasStatusOf, IsStatusOn};
 
 use crate::sending::send_lines;
 use hek_asm::read_trace;
@@ -46,10 +46,25 @@ pub fn check_json<'a, R: Read + Drop, W: Write>(
     };
     let schedule = schedule_in(alloc, file)?;
     let transcript = transcript_of_text(alloc, &schedule, text)?;
-    let verdict = verdict_of(alloc, &transcript, asked.level)?;
-    let status = status_of(verdict);
-    write_verdict(alloc, text, &schedule, &transcript, asked, verdict, out)?;
+    let status = judge(alloc, text, &schedule, &transcript, asked, out)?;
     Ok(status)
+}
+
+/// Writes the objects of the verdict on the transcript whose trace a text is. Answers the exit status.
+fn judge<'a, W: Write>(
+    alloc: Global,
+    text: &str,
+    schedule: &Schedule,
+    transcript: &Transcript,
+    asked: Asked,
+    out: &mut W,
+) -> Result<u8, HekFault<'a>>
+    ensures ok { IfOk result (IsStatusOn (judged_as asked.level transcript.now)) }
+    ensures err { IfErr result IsStop }
+{
+    let verdict = verdict_of(alloc, transcript, asked.level)?;
+    write_verdict(alloc, text, schedule, transcript, asked, verdict, out)?;
+    Ok(status_of(verdict))
 }
 
 /// Writes the object of the verdict on the transcript whose trace a text is, and those of the events at fault if they are

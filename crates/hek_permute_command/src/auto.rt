@@ -16,16 +16,19 @@ pub fn auto_file<'a, R: Read + Drop>(
     alloc: Global,
     file: ScheduleFile<R>,
 ) -> Result<ScheduleFile<R>, HekFault<'a>> {
-    let schedule = schedule_in(alloc, file)?;
-    let made = ended(alloc, &schedule)?;
+    let made = ended(alloc, file)?;
     let text = canonical(alloc, &made)?;
     Ok(ScheduleFile::Text(text.into_bytes()))
 }
 
 /// The schedule whose steps are the events of the order that a file has.
-fn ended<'a>(alloc: Global, schedule: &Schedule) -> Result<Schedule, HekFault<'a>> {
-    let events = events_in_file(alloc, schedule)?;
-    leveled(alloc, schedule, None, events.as_slice())
+fn ended<'a, R: Read + Drop>(
+    alloc: Global,
+    file: ScheduleFile<R>,
+) -> Result<Schedule, HekFault<'a>> {
+    let schedule = schedule_in(alloc, file)?;
+    let events = events_in_file(alloc, &schedule)?;
+    leveled(alloc, &schedule, None, events.as_slice())
 }
 
 /// The events of the order that a file has.

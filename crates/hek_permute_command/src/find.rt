@@ -5,8 +5,8 @@ use crate::progress::Progress;
 use hek_asm::{canonical, read_trace};
 use hek_commands::{HekFault, ScheduleFile};
 use hek_permute::{
-    Form, OrderFault, Outcome, Play, Sought, Watch, find_order, first_order, moves_of, play_all,
-    play_order,
+    Form, Moves, OrderFault, Outcome, Play, Sought, Watch, find_order, first_order, moves_of,
+    play_all, play_order,
 };
 use hek_rules::{Event, NoMemory, Reply, Schedule, TxnId};
 use hek_why_command::{Extras, Why, explain_command};
@@ -202,7 +202,19 @@ fn events_found<'a>(
     moves: &[TxnId],
 ) -> Result<Vec<Event>, HekFault<'a>> {
     let of_all = moves_of(alloc, schedule)?;
-    match play_order(alloc, schedule, of_all.as_slice(), form, moves) {
+    events_played(alloc, schedule, form, wanted, of_all.as_slice(), moves)
+}
+
+/// The same, of the play of these moves.
+fn events_played<'a>(
+    alloc: Global,
+    schedule: &Schedule,
+    form: Form,
+    wanted: &Wanted,
+    of_all: &[Moves],
+    moves: &[TxnId],
+) -> Result<Vec<Event>, HekFault<'a>> {
+    match play_order(alloc, schedule, of_all, form, moves) {
         Ok(play) => Ok(events_upto(alloc, &play, wanted)?),
         Err(fault) => Err(fault_of(fault)),
     }

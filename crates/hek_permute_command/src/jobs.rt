@@ -3,7 +3,7 @@ use crate::choice::Choice;
 use crate::one::leveled;
 use crate::permute::{put_tally, range, sorted};
 use hek_commands::{HekFault, ScheduleFile, schedule_in, send};
-use hek_permute::{Tally, play_parts};
+use hek_permute::{Form, Tally, play_parts};
 use hek_rules::{NoMemory, Schedule};
 use std::alloc::Global;
 use std::io::{Read, Write};
@@ -21,10 +21,23 @@ pub fn permute_in_threads<'a, T: Threads + Sync, R: Read + Drop, W: Write, E: Wr
     faults: &mut E,
 ) -> Result<u8, HekFault<'a>> {
     let schedule = schedule_in(alloc, file)?;
-    let Some(part) = range(alloc, &schedule, choice, faults)? else {
-        return Ok(1);
-    };
-    let mut text = text_of_part(system, jobs, alloc, &schedule, choice, part)?;
+    match range(alloc, &schedule, choice, faults)? {
+        Some(part) => write_part(system, jobs, alloc, &schedule, choice, part, out),
+        None => Ok(1),
+    }
+}
+
+/// Writes the lines of the outcomes of the orders from a number on, and below another.
+fn write_part<'a, T: Threads + Sync, W: Write>(
+    system: &T,
+    jobs: u64,
+    alloc: Global,
+    schedule: &Schedule,
+    choice: Choice<'_>,
+    part: (u64, u64),
+    out: &mut W,
+) -> Result<u8, HekFault<'a>> {
+    let mut text = text_of_part(system, jobs, alloc, schedule, choice, part)?;
     send(&mut text, out)?;
     Ok(0)
 }
@@ -39,9 +52,21 @@ fn text_of_part<'a, T: Threads + Sync>(
     part: (u64, u64),
 ) -> Result<Vec<u8>, HekFault<'a>> {
     let leveled = leveled(alloc, schedule, choice.level, schedule.steps())?;
+    text_played(system, jobs, alloc, &leveled, choice.form, part)
+}
+
+/// The same lines, of a schedule with the levels that are asked for.
+fn text_played<'a, T: Threads + Sync>(
+    system: &T,
+    jobs: u64,
+    alloc: Global,
+    leveled: &Schedule,
+    form: Form,
+    part: (u64, u64),
+) -> Result<Vec<u8>, HekFault<'a>> {
     let (from, to) = part;
-    let played = play_parts(system, alloc, &leveled, choice.form, from, to, jobs);
-    Ok(tally_text(alloc, &leveled, &sorted(played)?)?)
+    let played = play_parts(system, alloc, leveled, form, from, to, jobs);
+    Ok(tally_text(alloc, leveled, &sorted(played)?)?)
 }
 
 fn tally_text(alloc: Global, schedule: &Schedule, tally: &Tally) -> Result<Vec<u8>, NoMemory> {

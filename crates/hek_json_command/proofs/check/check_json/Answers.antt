@@ -10,7 +10,5 @@ returns g c =
       is = c.in_ok-schedule.ensures;
       told = told;
       read = subst (λ (xs : List ℕ). IsTraceOf c.in_ok-schedule.schedule told xs) c.in-Ok.ensures.cases.0 c.in_ok-transcript.ensures;
-      verdict = c.in_ok-verdict.verdict;
-      right = c.in_ok-verdict.ensures;
-      answer = c.status_of-status.ensures;
+      judged = c.in_ok-status.ensures.ok;
     }
