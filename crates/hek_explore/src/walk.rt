@@ -2,7 +2,7 @@
 ghost use Rattle.std.specs.Prelude.{◌≡◌, ◌+◌, ◌<◌, [], ◌∷◌, ℕ, IfOk, IfSome, OnOk, length, reverse, slice_index};
 ghost use Rattle.hek_explore.specs.Counts.{Group, IsCensus, IsFewer, IsGrown, IsReplayed, IsStart, IsTried};
 ghost use Rattle.hek_explore.specs.Deals.{IsExtended, IsNextLayer, IsTallied};
-ghost use Rattle.hek_explore.specs.Steps.{EndsWith, HasCome, LeadsBy};
+ghost use Rattle.hek_explore.specs.Steps.{EndsWith, HasCome, HasKey, LeadsBy};
 ghost use Rattle.hek_permute.specs.Moves.{AreMoves, counts_of};
 ghost use Rattle.hek_permute.specs.Places.{AllRest, HasMoved};
 
@@ -102,10 +102,7 @@ fn start(
     requires { AreMoves schedule.now moves.now }
     ensures { IfOk result (IsStart schedule.now form moves.now left.items) }
 {
-    let book = Book::load(alloc, schedule)?;
-    let places = first_places(alloc, moves)?;
-    let key = Key::of(alloc, &book, places.as_slice())?;
-    let (_machine, _history) = book.into_parts();
+    let key = first_key(alloc, schedule, moves)?;
     Ok(Class {
         first: Vec::new(alloc),
         orders: 1,
@@ -113,6 +110,18 @@ fn start(
         key,
         longest: 0,
     })
+}
+
+/// The key of the play without moves.
+fn first_key(alloc: Global, schedule: &Schedule, moves: &[Moves]) -> Result<Key, OrderFault>
+    requires { AreMoves schedule.now moves.now }
+    ensures { IfOk result (λ key. (form : Form) → HasKey schedule.now form moves.now [] key 0) }
+{
+    let book = Book::load(alloc, schedule)?;
+    let places = first_places(alloc, moves)?;
+    let key = Key::of(alloc, &book, places.as_slice())?;
+    let (_machine, _history) = book.into_parts();
+    Ok(key)
 }
 
 /// The classes with one more move; None if there are more than there is room for.

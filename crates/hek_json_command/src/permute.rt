@@ -71,10 +71,20 @@ fn write_one<'a, W: Write>(
     names: &str,
     out: &mut W,
 ) -> Result<u8, HekFault<'a>> {
-    let leveled = leveled(alloc, schedule, choice.level, schedule.steps())?;
-    let played = one_order(alloc, &leveled, choice.form, names)?;
+    let played = played_of(alloc, schedule, choice, names)?;
     write_played(alloc, &played, out)?;
     Ok(0)
+}
+
+/// The play of one order, at the levels that are asked for.
+fn played_of<'a>(
+    alloc: Global,
+    schedule: &Schedule,
+    choice: Choice<'_>,
+    names: &str,
+) -> Result<Played, HekFault<'a>> {
+    let leveled = leveled(alloc, schedule, choice.level, schedule.steps())?;
+    one_order(alloc, &leveled, choice.form, names)
 }
 
 fn write_played<'a, W: Write>(

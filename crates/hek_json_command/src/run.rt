@@ -47,17 +47,22 @@ fn write_run<'a, W: Write>(
     schedule.known();
     let mut machine = Machine::load(alloc, schedule)?;
     let mut telling = Telling::new(alloc, schedule, extras);
-    write_steps(
-        alloc,
-        &mut telling,
-        &mut machine,
-        schedule.steps(),
-        limit,
-        out,
-    )?;
+    let steps = schedule.steps();
+    write_steps(alloc, &mut telling, &mut machine, steps, limit, out)?;
+    write_state(alloc, schedule, &machine, state, out)
+}
+
+/// Writes the object of a machine's state, if `state` is set.
+fn write_state<'a, W: Write>(
+    alloc: Global,
+    schedule: &Schedule,
+    machine: &Machine,
+    state: bool,
+    out: &mut W,
+) -> Result<(), HekFault<'a>> {
     let mut lines = Lines::new(alloc);
     if state {
-        put_state(schedule, &machine, &mut lines);
+        put_state(schedule, machine, &mut lines);
     }
     send_lines(&mut lines, out)
 }

@@ -41,8 +41,16 @@ placed_at p es i e m below at placed stands =
     subst (λ (b : ℕ). IsPlaced b e) (sym count) (subst (IsPlaced p.buckets) (sym at) here)
 
 -- changes from a copy of a machine are changes from the machine
-pub lead_from_copy : (m b n : Engine) (cs : List Change) → StandsAs m b → LeadOn b n cs → LeadOn m n cs
+lead_from_copy : (m b n : Engine) (cs : List Change) → StandsAs m b → LeadOn b n cs → LeadOn m n cs
 lead_from_copy m b n cs same lead w es stands after = lead w es (same w stands) after
+
+-- a step from a copy of a machine is a step from the machine
+pub added_from_copy : (m b n : Engine) (old new : List StepText) → StandsAs m b → IsStepAdded b n old new → IsStepAdded m n old new
+added_from_copy m b n old new same a = record {
+  text = a.text;
+  lead = lead_from_copy m b n a.text.changes.items same a.lead;
+  added = a.added;
+}
 
 -- ---- the changes
 

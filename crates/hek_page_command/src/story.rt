@@ -98,18 +98,7 @@ fn run_story(
         dooms: Dooms::new(alloc),
     };
     let steps = schedule.steps();
-    let transcript = &mut story.transcript;
-    pass_steps(
-        alloc,
-        schedule,
-        steps,
-        range.done,
-        &mut machine,
-        &mut watch,
-        transcript,
-    )?;
-    open(alloc, schedule, &machine, &mut watch, &mut story.opening)?;
-    show_steps(
+    tell_steps(
         alloc,
         schedule,
         steps,
@@ -118,6 +107,32 @@ fn run_story(
         &mut watch,
         story,
     )
+}
+
+/// Does the steps before those that are shown, and then these.
+fn tell_steps(
+    alloc: Global,
+    schedule: &Schedule,
+    steps: &[Event],
+    range: StepRange,
+    machine: &mut Machine,
+    watch: &mut Watch,
+    story: &mut Story,
+) -> Result<(), NoMemory>
+    requires same { steps.now ≡ schedule.now.steps }
+    requires fits { range.done ≤ range.last }
+    requires ends { range.last ≤ length steps.now }
+    requires none { story.old.steps.items ≡ [] }
+    requires placed { All (IsPlaced schedule.now.buckets) steps.now }
+    requires declared { AllByRecursion (NamesDeclared (length schedule.now.txns)) steps.now }
+    requires stands { StandsFor machine.old (world_at schedule.now 0) }
+    ensures told { OnOk result (AreTold schedule.now range.done story.new.steps.items) }
+    ensures count { OnOk result (range.done + length story.new.steps.items ≡ range.last) }
+{
+    let passed = &mut story.transcript;
+    pass_steps(alloc, schedule, steps, range.done, machine, watch, passed)?;
+    open(alloc, schedule, machine, watch, &mut story.opening)?;
+    show_steps(alloc, schedule, steps, range, machine, watch, story)
 }
 
 /// Does the steps before those that are shown.
@@ -154,8 +169,23 @@ fn pass_step(
     ensures { OnOk result (LeadsNext event.now machine.old machine.new) }
 {
     let before = machine.copy()?;
+    pass_from(alloc, event, &before, machine, watch, passed)
+}
+
+/// The same, given a copy of the machine from before.
+fn pass_from(
+    alloc: Global,
+    event: &Event,
+    before: &Machine,
+    machine: &mut Machine,
+    watch: &mut Watch,
+    passed: &mut Transcript,
+) -> Result<(), NoMemory>
+    requires placed { IsPlaced (length machine.old.buckets) event.now }
+    ensures { OnOk result (LeadsNext event.now machine.old machine.new) }
+{
     let reply = machine.step(*event)?;
-    watch_step(alloc, &before, event, &reply, machine, watch)?;
+    watch_step(alloc, before, event, &reply, machine, watch)?;
     passed.push(*event, reply)
 }
 
@@ -242,17 +272,62 @@ fn show_step(
     ensures added { OnOk result (IsStepAdded machine.old machine.new story.old.steps.items story.new.steps.items) }
 {
     let before = machine.copy()?;
+    show_from(
+        alloc, schedule, number, event, &before, machine, watch, story,
+    )?;
+    Ok(())
+}
+
+/// The same, given a copy of the machine from before.
+fn show_from(
+    alloc: Global,
+    schedule: &Schedule,
+    number: u64,
+    event: &Event,
+    before: &Machine,
+    machine: &mut Machine,
+    watch: &mut Watch,
+    story: &mut Story,
+) -> Result<(), NoMemory>
+    requires placed { IsPlaced (length machine.old.buckets) event.now }
+    requires declared { NamesDeclared (length schedule.now.txns) event.now }
+    ensures next { OnOk result (LeadsNext event.now machine.old machine.new) }
+    ensures added { OnOk result (IsStepAdded before.now machine.new story.old.steps.items story.new.steps.items) }
+{
     let reply = machine.step(*event)?;
     let step = Step {
-        before: &before,
+        before,
         event: *event,
         reply: &reply,
         after: machine,
     };
-    let text = step_text(alloc, schedule, &step, watch)?;
-    watch.dooms.note(&before, *event, &reply)?;
-    put_line(alloc, schedule, number, event, &reply, &mut story.trace)?;
-    story.steps.push(text)?;
+    add_step(alloc, schedule, number, &step, watch, story)?;
     story.transcript.push(*event, reply)?;
+    Ok(())
+}
+
+/// Adds what a page says of a step, and its line of the trace.
+fn add_step(
+    alloc: Global,
+    schedule: &Schedule,
+    number: u64,
+    step: &Step<'_>,
+    watch: &mut Watch,
+    story: &mut Story,
+) -> Result<(), NoMemory>
+    requires declared { NamesDeclared (length schedule.now.txns) step.now.event }
+    ensures added { OnOk result (IsStepAdded step.now.before.now step.now.after.now story.old.steps.items story.new.steps.items) }
+{
+    let text = step_text(alloc, schedule, step, watch)?;
+    watch.dooms.note(step.before, step.event, step.reply)?;
+    put_line(
+        alloc,
+        schedule,
+        number,
+        &step.event,
+        step.reply,
+        &mut story.trace,
+    )?;
+    story.steps.push(text)?;
     Ok(())
 }
