@@ -69,12 +69,7 @@ pub(crate) fn tree_of<'a>(
         steps: IndexSet::new(alloc),
         texts: IndexSet::new(alloc),
     };
-    for place in 0..prefixes.len() {
-        let done = tree.events_of(prefixes[place].parent);
-        let played = played_at(alloc, schedule, moves, form, prefixes, place, done)?;
-        tree.add_node(alloc, prefixes[place], &played)?;
-    }
-    tree.add_counts(alloc)?;
+    tree.grow(alloc, schedule, moves, form, prefixes)?;
     Ok(tree)
 }
 
@@ -113,6 +108,26 @@ fn fault_of<'a>(fault: OrderFault) -> HekFault<'a>
 }
 
 impl Tree {
+    /// Plays each prefix, and adds its node; then counts the outcomes of each.
+    fn grow<'a>(
+        &mut self,
+        alloc: Global,
+        schedule: &Schedule,
+        moves: &[Moves],
+        form: Form,
+        prefixes: &[Prefix],
+    ) -> Result<(), HekFault<'a>>
+        ensures stops { IfErr result IsExploreStop }
+    {
+        for place in 0..prefixes.len() {
+            let done = self.events_of(prefixes[place].parent);
+            let played = played_at(alloc, schedule, moves, form, prefixes, place, done)?;
+            self.add_node(alloc, prefixes[place], &played)?;
+        }
+        self.add_counts(alloc)?;
+        Ok(())
+    }
+
     /// Adds the node of a prefix that was played: its steps are those after the play of its parent.
     fn add_node(
         &mut self,
