@@ -235,27 +235,42 @@ fn run<'a, D: Disk, I: Read + IsTerminal + Drop, W: Write, E: Write + IsTerminal
     faults: &mut E,
 ) -> Result<u8, HekFault<'a>> {
     match matches.subcommand() {
-        Some(("release", found)) => release_command(
-            text(found, "WORD")?,
-            text(found, "WAITS")?,
-            out,
-        ),
+        Some(("release", found)) => release(found, out),
         Some(("word", found)) => word(alloc, found, disk, input, out),
         Some(("asm", found)) => asm(alloc, found, disk, input, out),
         Some(("dis", found)) => dis(alloc, found, disk, input, out),
         Some(("run", found)) => run_schedule(alloc, found, disk, input, out),
-        Some(("drive", found)) => drive(alloc, found, disk, input, out, faults),
-        Some(("debug", found)) => debug(alloc, found, disk, input, out, faults),
-        Some(("check", found)) => check(alloc, found, disk, input, out, faults),
-        Some(("history", found)) => history(alloc, found, disk, input, out, faults),
-        Some(("permute", found)) => {
-            let _jobs = jobs_of(found)?;
-            permute(alloc, found, disk, input, out, faults)
-        }
-        Some(("page", found)) => page(alloc, found, disk, input, out, faults),
-        Some(("threads", _)) => Err(HekFault::NoWorker),
+        Some((name, found)) => run_noting(alloc, name, found, disk, input, out, faults),
+        None => Err(HekFault::BadArgument),
+    }
+}
+
+/// Answers a command that writes to `faults` too.
+fn run_noting<'a, D: Disk, I: Read + IsTerminal + Drop, W: Write, E: Write + IsTerminal>(
+    alloc: Global,
+    name: &str,
+    found: &ArgMatches<'a>,
+    disk: &D,
+    input: &mut Option<I>,
+    out: &mut W,
+    faults: &mut E,
+) -> Result<u8, HekFault<'a>> {
+    match name {
+        "drive" => drive(alloc, found, disk, input, out, faults),
+        "debug" => debug(alloc, found, disk, input, out, faults),
+        "check" => check(alloc, found, disk, input, out, faults),
+        "history" => history(alloc, found, disk, input, out, faults),
+        "permute" => permute_alone(alloc, found, disk, input, out, faults),
+        "page" => page(alloc, found, disk, input, out, faults),
+        "threads" => Err(HekFault::NoWorker),
         _ => Err(HekFault::BadArgument),
     }
+}
+
+fn release<'a, W: Write>(found: &ArgMatches<'a>, out: &mut W) -> Result<u8, HekFault<'a>> {
+    let word = text(found, "WORD")?;
+    let waits = text(found, "WAITS")?;
+    release_command(word, waits, out)
 }
 
 fn word<'a, D: Disk, I: Read + Drop, W: Write>(
@@ -534,6 +549,19 @@ fn check_trace<'a, R: Read + Drop, W: Write, E: Write + IsTerminal>(
         note_nothing(alloc, trace, faults);
     }
     Ok(status)
+}
+
+/// As `permute`, where the words may ask for threads, of which there are none.
+fn permute_alone<'a, D: Disk, I: Read + Drop, W: Write, E: Write + IsTerminal>(
+    alloc: Global,
+    found: &ArgMatches<'a>,
+    disk: &D,
+    input: &mut Option<I>,
+    out: &mut W,
+    faults: &mut E,
+) -> Result<u8, HekFault<'a>> {
+    let _jobs = jobs_of(found)?;
+    permute(alloc, found, disk, input, out, faults)
 }
 
 fn permute<'a, D: Disk, I: Read + Drop, W: Write, E: Write + IsTerminal>(

@@ -1,11 +1,11 @@
 //! One event at a time, and transcripts that were changed.
-use crate::scene::{Open, holds, id, is, scene};
+use crate::scene::{holds, id, is, ran, scene};
 use hek_rules::{Event, Reply};
-use hek_threads::{Book, Part, Report, Shared, ThreadFault, compare, run_workers};
+use hek_threads::{Book, Part, Report, Shared, ThreadFault, compare};
 use std::alloc::Global;
 use std::process::Abort;
 use std::sync::Wait;
-use std::test::Fail;
+use std::thread::Threads;
 
 const TWO: &str = "buckets 1\nrow 10 100\ntxn a repeatable\ntxn b repeatable\na read 10\n";
 
@@ -43,14 +43,13 @@ fn assert_numbers_of_two<R: Abort + Wait>(rt: &R, alloc: Global, part: &Part) {
 }
 
 #[test]
-fn numbers_events(rt: HostRuntime) -> Result<(), Fail> {
+fn numbers_events(rt: HostRuntime) {
     let one = scene(&rt, rt.alloc(), ONE);
-    let report = run_workers(&rt, rt.alloc(), &one, 5, &Open)?;
+    let report = ran(&rt, rt.alloc(), &one, 5);
     is(&rt, report.transcripts.len(), 1);
     for part in &report.transcripts {
         assert_numbers_of_two(&rt, rt.alloc(), part);
     }
-    Ok(())
 }
 
 #[derive(Clone, Copy)]
@@ -109,12 +108,21 @@ fn assert_compares_all(rt: &impl Abort, alloc: Global, report: &Report) {
     }
 }
 
+// A run of a text's transactions.
+fn assert_run_compares<R: Abort + Threads + Wait + Sync>(
+    rt: &R,
+    alloc: Global,
+    text: &str,
+    turns: u64,
+) {
+    let schedule = scene(rt, alloc, text);
+    let report = ran(rt, alloc, &schedule, turns);
+    assert_compares_all(rt, alloc, &report);
+}
+
 #[test]
-fn compares_transcripts(rt: HostRuntime) -> Result<(), Fail> {
+fn compares_transcripts(rt: HostRuntime) {
     for (text, turns) in [(ONE, 5), (ONE, 0), (TWO, 5)] {
-        let schedule = scene(&rt, rt.alloc(), text);
-        let report = run_workers(&rt, rt.alloc(), &schedule, turns, &Open)?;
-        assert_compares_all(&rt, rt.alloc(), &report);
+        assert_run_compares(&rt, rt.alloc(), text, turns);
     }
-    Ok(())
 }

@@ -1,7 +1,7 @@
 //! Many workers, again and again.
-use crate::scene::{Open, assert_serial, crowd, is, scene};
-use hek_rules::{Reply, Schedule};
-use hek_threads::{Report, run_workers};
+use crate::scene::{assert_serial, crowd, is, ran, scene};
+use hek_rules::Reply;
+use hek_threads::Report;
 use std::alloc::Global;
 use std::process::Abort;
 use std::sync::Wait;
@@ -13,15 +13,6 @@ const SAME_WAY: &str =
 
 const CROSSWISE: &str =
     "buckets 2\nrow 10 100\nrow 11 110\nrow 12 120\ntxn a serializable\ntxn b serializable\na read 10\na update 11 1\nb read 11\nb update 10 2\n";
-
-fn ran<R: Abort + Threads + Wait + Sync>(
-    rt: &R,
-    alloc: Global,
-    schedule: &Schedule,
-    turns: u64,
-) -> Report {
-    run_workers(rt, alloc, schedule, turns, &Open).expect(rt, "a report")
-}
 
 // Runs again and again, each of them serial.
 fn assert_runs_serial<R: Abort + Threads + Wait + Sync>(rt: &R, alloc: Global, text: &str) {

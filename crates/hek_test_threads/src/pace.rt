@@ -4,7 +4,6 @@ use hek_rules::TxnId;
 use hek_threads::{Entry, Gate, run_workers};
 use std::process::Abort;
 use std::sync::atomic::{AtomicU64, Ordering};
-use std::test::Fail;
 use std::thread;
 
 /// How often the gate lets others run before it gives up.
@@ -64,16 +63,15 @@ fn assert_both(rt: &impl Abort, entries: &[Entry]) {
 
 // One thread for both would stop at the gate, and so would a lock that is kept over two events.
 #[test]
-fn two_go_in_step(rt: HostRuntime) -> Result<(), Fail> {
+fn two_go_in_step(rt: HostRuntime) {
     let text = "buckets 1\nrow 10 100\ntxn a repeatable\ntxn b repeatable\na read 10\nb read 10\n";
     let schedule = scene(&rt, rt.alloc(), text);
     let pace = Pace::new(9);
-    let report = run_workers(&rt, rt.alloc(), &schedule, 5, &pace)?;
+    let report = run_workers(&rt, rt.alloc(), &schedule, 5, &pace).expect(&rt, "a report");
     is(&rt, pace.late.load(Ordering::SeqCst), 0);
     is(&rt, report.history.len(), 18);
     for pair in report.history.chunks(2) {
         assert_both(&rt, pair);
     }
     holds(&rt, report.transcripts.len() == 2);
-    Ok(())
 }

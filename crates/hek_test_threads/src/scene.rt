@@ -2,11 +2,13 @@
 use hek_asm::assemble_text;
 use hek_rules::{Reply, Schedule, Transcript, TxnId, Verdict};
 use hek_serial::check;
-use hek_threads::{Gate, Report};
+use hek_threads::{Gate, Report, run_workers};
 use std::alloc::Global;
 use std::fmt::Debug;
 use std::io::Write;
 use std::process::Abort;
+use std::sync::Wait;
+use std::thread::Threads;
 use std::{io, str};
 
 /// The two are equal.
@@ -68,6 +70,16 @@ impl Gate for Open {
     fn before(&self, _worker: TxnId, _nth: u64) {}
 
     fn leave(&self, _worker: TxnId) {}
+}
+
+/// The report of a run whose gate is always open.
+pub fn ran<R: Abort + Threads + Wait + Sync>(
+    rt: &R,
+    alloc: Global,
+    schedule: &Schedule,
+    turns: u64,
+) -> Report {
+    run_workers(rt, alloc, schedule, turns, &Open).expect(rt, "a report")
 }
 
 /// The checker finds no fault with the history.
