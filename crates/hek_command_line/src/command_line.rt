@@ -2,16 +2,17 @@
 use crate::arguments::{RULES, meant_command, read_words};
 use crate::disk::{Disk, LateFile, open};
 use crate::explain::explained;
-use crate::json::{check_as_json, drive_as, permute_as, threads_as, wants_json};
+use crate::json::{check_as_json, drive_as, threads_as, wants_json};
 use crate::kept::{Kept, KeptDisk, KeptReader};
 use crate::log::history;
+use crate::options::{count_from, form_of, level_of, number_of, step_of, text, texts};
 use crate::output::NotedOutput;
+use crate::permute::{permute_alone, permute_jobs};
 use crate::schedule::{schedule_file, schedule_text};
 use crate::typed::TypedReader;
 use crate::words::advise_sign;
 use clap::error::ErrorKind as ClapKind;
 use clap::{ArgMatches, Error};
-use hek_asm::level_named;
 use hek_check_command::{Beside, all_command, note_nothing, summary_command};
 use hek_commands::{
     HekFault, INPUT, ScheduleFile, asm_command, check_command, dis_command, read_text,
@@ -21,9 +22,8 @@ use hek_debug_command::{CommandFile, Manner, debug_command, debug_session, expla
 use hek_history_command::run_log_command;
 use hek_json_command::{Asked, run_json};
 use hek_page_command::{Extent, Heading, MOST_NODES, Part, explorer_command, page_command};
-use hek_permute::Form;
-use hek_permute_command::{Choice, auto_file, part_of, permute_in_threads};
-use hek_rules::{Level, number};
+use hek_permute_command::auto_file;
+use hek_rules::Level;
 use hek_threads_command::Pace;
 use hek_why_command::{Driving, Extras, Why, explain_command};
 use hek_word_command::{Bounds, changes_command, word_command};
@@ -393,17 +393,6 @@ fn is_typed<I: IsTerminal>(input: &Option<I>) -> bool {
     }
 }
 
-/// The number that an option has, if the words have the option.
-fn number_of<'a>(found: &ArgMatches<'a>, name: &str) -> Result<Option<u64>, HekFault<'a>> {
-    match found.get_str(name) {
-        None => Ok(None),
-        Some(text) => match number(text.as_bytes()) {
-            Some(count) => Ok(Some(count)),
-            None => Err(HekFault::BadArgument),
-        },
-    }
-}
-
 fn debug<'a, D: Disk, I: Read + IsTerminal + Drop, W: Write, E: Write + IsTerminal>(
     alloc: Global,
     found: &ArgMatches<'a>,
@@ -481,23 +470,6 @@ fn heading_of<'a>(found: &ArgMatches<'a>) -> Result<Heading<'a>, HekFault<'a>> {
     })
 }
 
-/// How a transaction is cut into moves.
-fn form_of<'a>(found: &ArgMatches<'a>) -> Result<Form, HekFault<'a>> {
-    match found.get_str("grain") {
-        Some(word) => Form::named(word).ok_or(HekFault::BadArgument),
-        None if found.get_flag("split") => Ok(Form::Split),
-        None => Ok(Form::Whole),
-    }
-}
-
-/// The number of a step, from 1, that an option has, if the words have the option.
-fn step_of<'a>(found: &ArgMatches<'a>, name: &str) -> Result<Option<u64>, HekFault<'a>> {
-    match number_of(found, name)? {
-        Some(0) => Err(HekFault::BadArgument),
-        step => Ok(step),
-    }
-}
-
 fn check<'a, D: Disk, I: Read + Drop, W: Write, E: Write + IsTerminal>(
     alloc: Global,
     found: &ArgMatches<'a>,
@@ -551,103 +523,6 @@ fn check_trace<'a, R: Read + Drop, W: Write, E: Write + IsTerminal>(
     Ok(status)
 }
 
-/// As `permute`, where the words may ask for threads, of which there are none.
-fn permute_alone<'a, D: Disk, I: Read + Drop, W: Write, E: Write + IsTerminal>(
-    alloc: Global,
-    found: &ArgMatches<'a>,
-    disk: &D,
-    input: &mut Option<I>,
-    out: &mut W,
-    faults: &mut E,
-) -> Result<u8, HekFault<'a>> {
-    let _jobs = jobs_of(found)?;
-    permute(alloc, found, disk, input, out, faults)
-}
-
-fn permute<'a, D: Disk, I: Read + Drop, W: Write, E: Write + IsTerminal>(
-    alloc: Global,
-    found: &ArgMatches<'a>,
-    disk: &D,
-    input: &mut Option<I>,
-    out: &mut W,
-    faults: &mut E,
-) -> Result<u8, HekFault<'a>> {
-    let choice = choice_of(found, faults.is_terminal())?;
-    let file = schedule_file(alloc, found, disk, input)?;
-    permute_as(alloc, found, file, choice, out, faults)
-}
-
-fn choice_of<'a>(found: &ArgMatches<'a>, progress: bool) -> Result<Choice<'a>, HekFault<'a>> {
-    Ok(Choice {
-        level: level_of(found)?,
-        form: form_of(found)?,
-        limit: number_of(found, "limit")?,
-        part: parts_of(found)?,
-        each: found.get_flag("each"),
-        order: found.get_str("order"),
-        levels: found.get_flag("levels"),
-        find: found.get_str("find"),
-        progress,
-    })
-}
-
-/// The level that the words give with `--level`.
-fn level_of<'a>(found: &ArgMatches<'a>) -> Result<Option<Level>, HekFault<'a>> {
-    match found.get_str("level") {
-        None => Ok(None),
-        Some(word) => match level_named(word.as_bytes()) {
-            Some(level) => Ok(Some(level)),
-            None => Err(HekFault::BadArgument),
-        },
-    }
-}
-
-fn parts_of<'a>(found: &ArgMatches<'a>) -> Result<(u64, u64), HekFault<'a>> {
-    match found.get_str("part") {
-        None => Ok((1, 1)),
-        Some(word) => part_of(word).ok_or(HekFault::BadArgument),
-    }
-}
-
-/// As `permute`, with as many threads of the system as the words ask for, where the outcomes of a part are counted.
-fn permute_jobs<'a, T: Threads + Sync, D: Disk, I: Read + Drop, W: Write, E: Write + IsTerminal>(
-    system: &T,
-    alloc: Global,
-    found: &ArgMatches<'a>,
-    disk: &D,
-    input: &mut Option<I>,
-    out: &mut W,
-    faults: &mut E,
-) -> Result<u8, HekFault<'a>> {
-    let jobs = jobs_of(found)?;
-    if jobs == 1 || !counts_a_part(found) {
-        return permute(alloc, found, disk, input, out, faults);
-    }
-    let choice = choice_of(found, false)?;
-    let file = schedule_file(alloc, found, disk, input)?;
-    permute_in_threads(system, jobs, alloc, file, choice, out, faults)
-}
-
-/// Whether the words ask for the outcomes of a part, as text.
-fn counts_a_part(found: &ArgMatches<'_>) -> bool {
-    let is_part = found.get_str("part").is_some();
-    is_part && !found.get_flag("each") && !found.get_flag("levels") && !wants_json(found)
-}
-
-/// The greatest number of threads that play orders.
-const MOST_JOBS: u64 = 1_000;
-
-fn jobs_of<'a>(found: &ArgMatches<'a>) -> Result<u64, HekFault<'a>> {
-    match number_of(found, "jobs")? {
-        None => Ok(1),
-        Some(jobs) if 1 <= jobs && jobs <= MOST_JOBS => Ok(jobs),
-        Some(_) => Err(HekFault::BadArgument),
-    }
-}
-
-/// The greatest number of turns, and of runs.
-const MOST: u64 = 1_000_000;
-
 fn threads<'a, T: Threads + Wait + Sync, D: Disk, I: Read + Drop, W: Write, E: Write + IsTerminal>(
     system: &T,
     alloc: Global,
@@ -667,20 +542,4 @@ fn threads<'a, T: Threads + Wait + Sync, D: Disk, I: Read + Drop, W: Write, E: W
     };
     let file = schedule_file(alloc, found, disk, input)?;
     threads_as(system, alloc, found, file, pace, times, out, faults)
-}
-
-/// The number that a text gives, from `least` to 1,000,000.
-fn count_from<'a>(text: &str, least: u64) -> Result<u64, HekFault<'a>> {
-    match number(text.as_bytes()) {
-        Some(count) if least <= count && count <= MOST => Ok(count),
-        _ => Err(HekFault::BadArgument),
-    }
-}
-
-fn text<'a>(found: &ArgMatches<'a>, name: &str) -> Result<&'a str, HekFault<'a>> {
-    found.get_str(name).ok_or(HekFault::BadArgument)
-}
-
-fn texts<'m, 'a>(found: &'m ArgMatches<'a>, name: &str) -> Result<&'m [&'a str], HekFault<'a>> {
-    found.get_strs(name).ok_or(HekFault::BadArgument)
 }

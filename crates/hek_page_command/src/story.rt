@@ -172,7 +172,7 @@ fn pass_step(
     pass_from(alloc, event, &before, machine, watch, passed)
 }
 
-/// The same, given a copy of the machine from before.
+/// Does a step that no page shows, given a copy of the machine from before it.
 fn pass_from(
     alloc: Global,
     event: &Event,
@@ -278,7 +278,7 @@ fn show_step(
     Ok(())
 }
 
-/// The same, given a copy of the machine from before.
+/// Does a step that is shown, given a copy of the machine from before it.
 fn show_from(
     alloc: Global,
     schedule: &Schedule,

@@ -205,7 +205,7 @@ fn events_found<'a>(
     events_played(alloc, schedule, form, wanted, of_all.as_slice(), moves)
 }
 
-/// The same, of the play of these moves.
+/// The events of the play of moves, up to the event that has the reply, given the moves of all transactions.
 fn events_played<'a>(
     alloc: Global,
     schedule: &Schedule,

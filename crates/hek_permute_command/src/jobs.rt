@@ -55,7 +55,7 @@ fn text_of_part<'a, T: Threads + Sync>(
     text_played(system, jobs, alloc, &leveled, choice.form, part)
 }
 
-/// The same lines, of a schedule with the levels that are asked for.
+/// The lines of the outcomes of a part, of a schedule with the levels that are asked for.
 fn text_played<'a, T: Threads + Sync>(
     system: &T,
     jobs: u64,
