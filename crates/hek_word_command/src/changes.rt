@@ -58,7 +58,7 @@ pub fn changes_command<'a, I: Read + Drop, W: Write>(
     Ok(if are_lawful { 0 } else { 1 })
 }
 
-/// Answers each line that isn't blank. Answers whether each is of a change.
+/// Writes what each line that isn't blank comes to. Answers whether every one is of a change.
 fn answer_lines<'a, B: BufRead, W: Write>(
     alloc: Global,
     lines: &mut B,
@@ -76,7 +76,7 @@ fn answer_lines<'a, B: BufRead, W: Write>(
     Ok(are_lawful)
 }
 
-/// Answers a line. Answers whether it is of a change.
+/// Writes what a line comes to. Answers whether it is of a change.
 fn answer_line<'a, W: Write>(
     line: &str,
     chain: &mut Chain,
