@@ -6,7 +6,7 @@ use Rattle.hek_rules.specs.declared.event.Event.{Event}
 use Rattle.hek_rules.specs.declared.reply.Reply.{Reply}
 use Rattle.hek_rules.specs.Plan.{Plan, IsPlan}
 use Rattle.hek_rules.specs.Text.{lines_of, words_of}
-use Rattle.hek_asm.specs.Lines.{joined_words}
+use Rattle.hek_rules.specs.Lines.{joined_words}
 use Rattle.hek_asm.specs.Canonical.{step_words}
 use Rattle.hek_asm.specs.Trace.{reply_words, trace_line}
 use Rattle.hek_asm.specs.Likely.{likely_entry}

@@ -6,7 +6,7 @@ use Rattle.hek_rules.specs.Plan.{Plan}
 use Rattle.hek_rules.specs.Text.{lines_of, words_of, is_line_end, is_blank, is_comment, at_word}
 use Rattle.hek_asm.specs.declared.fault.AsmKind.{AsmKind}
 use Rattle.hek_asm.specs.Text.{has_foreign, line_after, lines_after, words_after, onward}
-use Rattle.hek_asm.specs.Lines.{spaced, joined_words, line_text}
+use Rattle.hek_rules.specs.Lines.{spaced, joined_words, line_text}
 
 -- a byte of a word: ASCII, no blank, no LF, no '#'
 abbrev pub IsPlain : ℕ → Type 0

@@ -5,7 +5,7 @@ use Rattle.hek_rules.specs.declared.event.Event.{Event}
 use Rattle.hek_rules.specs.declared.reply.Reply.{Reply}
 use Rattle.hek_rules.specs.declared.reply.Reply.TheVariants as reply
 use Rattle.hek_rules.specs.Plan.{Plan}
-use Rattle.hek_asm.specs.Lines.{spaced, joined_words}
+use Rattle.hek_rules.specs.Lines.{spaced, joined_words}
 use Rattle.hek_asm.specs.Canonical.{step_words}
 use Rattle.hek_asm.specs.Trace.{reply_words, line_front, line_rest, trace_line}
 

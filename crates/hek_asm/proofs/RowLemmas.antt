@@ -6,7 +6,7 @@ use Rattle.std.proofs.lemmas.Option.{slice_get_within}
 use Rattle.hek_rules.specs.declared.event.Event.{Event}
 use Rattle.hek_rules.specs.declared.event.Event.TheVariants as event
 use Rattle.hek_rules.specs.Plan.{Plan, IsPlan, IsStep}
-use Rattle.hek_asm.specs.Lines.{line_text}
+use Rattle.hek_rules.specs.Lines.{line_text}
 use Rattle.hek_asm.specs.Trace.{NamesDeclared}
 
 -- the element at a place, and those after it

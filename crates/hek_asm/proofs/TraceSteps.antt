@@ -8,7 +8,7 @@ use Rattle.hek_rules.specs.declared.reply.Reply.{Reply}
 use Rattle.hek_rules.specs.Plan.{Plan, levels_of}
 use Rattle.hek_rules.specs.Recorded.{Recorded}
 use Rattle.hek_asm.specs.Canonical.{step_words}
-use Rattle.hek_asm.specs.Lines.{joined_words}
+use Rattle.hek_rules.specs.Lines.{joined_words}
 use Rattle.hek_asm.specs.Trace.{reply_words, trace_line, trace_from}
 use Rattle.hek_asm.specs.Reading.{IsTraceEntry, AreEntries, history_trace, IsFront}
 

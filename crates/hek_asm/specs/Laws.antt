@@ -3,7 +3,7 @@ use Rattle.std.specs.Prelude.{◌≡◌, ℕ, ◌<◌, false, List, length, get_
 use Rattle.std.specs.List.{AllByRecursion, flat_map}
 use Rattle.hek_rules.specs.Plan.{Plan, IsPlan}
 use Rattle.hek_rules.specs.Text.{is_line_end, ends_word}
-use Rattle.hek_asm.specs.Lines.{line_text}
+use Rattle.hek_rules.specs.Lines.{line_text}
 use Rattle.hek_asm.specs.Text.{schedule_of}
 use Rattle.hek_asm.specs.Canonical.{canonical_text}
 

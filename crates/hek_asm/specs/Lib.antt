@@ -1,4 +1,3 @@
-pub mod Lines
 pub mod Canonical
 pub mod Trace
 pub mod Text

@@ -9,7 +9,7 @@ use Rattle.hek_rules.specs.declared.reply.Reply.TheVariants as reply
 use Rattle.hek_rules.specs.Events.{txn_of}
 use Rattle.hek_rules.specs.Names.{cause_word}
 use Rattle.hek_rules.specs.Plan.{Plan, IsDeclared}
-use Rattle.hek_asm.specs.Lines.{spaced, joined_words, line_text}
+use Rattle.hek_rules.specs.Lines.{spaced, joined_words, line_text}
 use Rattle.hek_asm.specs.Canonical.{step_words}
 
 abbrev pub refusal_words : Refusal → List (List ℕ)

@@ -1,7 +1,7 @@
 //! Words and numbers that go to a sink.
 ghost use Rattle.std.specs.Prelude.{◌≡◌, ◌++◌, ◌∷◌, [], false, map, IsTrue, OnOk, is_err};
 ghost use Rattle.std.specs.Fmt.{decimal};
-ghost use Rattle.hek_asm.specs.Lines.{spaced};
+ghost use Rattle.hek_rules.specs.Lines.{spaced};
 
 use hek_rules::{Sink, WriteFault, put_all};
 use itoa::Buffer;

@@ -1,7 +1,7 @@
 //! Replies as texts.
 ghost use Rattle.std.specs.Prelude.{◌≡◌, ◌++◌, ◌∷◌, [], false, map, IsTrue, OnOk, is_err};
 ghost use Rattle.std.specs.Fmt.{decimal};
-ghost use Rattle.hek_asm.specs.Lines.{spaced, joined_words};
+ghost use Rattle.hek_rules.specs.Lines.{spaced, joined_words};
 ghost use Rattle.hek_asm.specs.Trace.{pair_word, writer_words, refusal_words, reply_words};
 
 use crate::putting::{put_item, put_number, put_text};

@@ -3,7 +3,7 @@ ghost use Rattle.std.specs.Prelude.{◌≡◌, ◌++◌, ◌∷◌, [], ◌<◌,
 ghost use Rattle.std.specs.List.{AllByRecursion};
 ghost use Rattle.hek_rules.specs.Plan.{IsDeclared};
 ghost use Rattle.hek_rules.specs.Events.{word_of};
-ghost use Rattle.hek_asm.specs.Lines.{spaced};
+ghost use Rattle.hek_rules.specs.Lines.{spaced};
 ghost use Rattle.hek_asm.specs.Canonical.{name_words, operand_words, step_words};
 ghost use Rattle.hek_asm.specs.Trace.{NamesDeclared, line_front, line_rest, trace_line, trace};
 

@@ -11,7 +11,7 @@ use Rattle.hek_rules.specs.Faults.{IsVerdict}
 use Rattle.hek_rules.specs.Plan.{Plan}
 use Rattle.hek_rules.specs.Recorded.{Recorded}
 use Rattle.hek_asm.specs.Reading.{IsTraceOf, StopsAt}
-use Rattle.hek_asm.specs.Lines.{joined_words}
+use Rattle.hek_rules.specs.Lines.{joined_words}
 use Rattle.hek_asm.specs.Text.{schedule_of}
 use Rattle.hek_asm.specs.Trace.{reply_words}
 use Rattle.hek_asm.specs.Canonical.{canonical_text}

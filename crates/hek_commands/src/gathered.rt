@@ -1,6 +1,6 @@
 //! Lines and replies, gathered in memory.
 ghost use Rattle.std.specs.Prelude.{◌≡◌, ◌++◌, length, OnOk};
-ghost use Rattle.hek_asm.specs.Lines.{joined_words};
+ghost use Rattle.hek_rules.specs.Lines.{joined_words};
 ghost use Rattle.hek_asm.specs.Trace.{NamesDeclared, reply_words, trace_line};
 
 use hek_asm::{write_line, write_reply};

@@ -6,7 +6,7 @@ use Rattle.std.specs.Str.{IsUtf8}
 use Rattle.hek_rules.specs.declared.reply.Reply.{Reply}
 use Rattle.hek_rules.specs.Plan.{Plan, names_of}
 use Rattle.hek_rules.specs.World.{World}
-use Rattle.hek_asm.specs.Lines.{joined_words}
+use Rattle.hek_rules.specs.Lines.{joined_words}
 use Rattle.hek_asm.specs.Trace.{reply_words}
 use Rattle.hek_debug.specs.declared.command.Command.{Command}
 use Rattle.hek_debug.specs.declared.command.Reason.{Reason}

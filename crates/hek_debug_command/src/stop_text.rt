@@ -1,7 +1,7 @@
 //! What a debugger answers, as text.
 ghost use Rattle.std.specs.Prelude.{◌≡◌, ◌<◌, ◌++◌, ◌∷◌, [], codes, OnOk};
 ghost use Rattle.std.specs.Fmt.{decimal};
-ghost use Rattle.hek_asm.specs.Lines.{joined_words};
+ghost use Rattle.hek_rules.specs.Lines.{joined_words};
 ghost use Rattle.hek_asm.specs.Trace.{reply_words};
 ghost use Rattle.hek_debug.specs.Sessions.{world_at};
 ghost use Rattle.hek_debug_command.specs.Debugged.{reason_text, answer_text, stop_line, hex_digit, hex_text, seen_text, count_text, name_text, watch_line, watch_lines, told_text};

@@ -1,6 +1,8 @@
 pub mod Words
 pub mod Events
 pub mod Names
+pub mod Lines
+pub mod Forms
 pub mod Replies
 pub mod Text
 pub mod Listing

@@ -26,6 +26,24 @@ pub enum EventKind {
 }
 
 impl EventKind {
+    /// All kinds, in the order of their opcodes.
+    pub const ALL: [EventKind; 14] = [
+        EventKind::Begin,
+        EventKind::Read,
+        EventKind::Scan,
+        EventKind::Insert,
+        EventKind::Update,
+        EventKind::Delete,
+        EventKind::Finish,
+        EventKind::Precommit,
+        EventKind::Release,
+        EventKind::Commit,
+        EventKind::Fail,
+        EventKind::Stamp,
+        EventKind::End,
+        EventKind::Detect,
+    ];
+
     /// The word of the kind in texts.
     pub fn word(self) -> &'static str
         ensures { result.now ≡ word_of self }

@@ -5,6 +5,7 @@
 mod check;
 mod device;
 mod event;
+mod form;
 mod id;
 mod kind;
 mod laws;
@@ -24,6 +25,7 @@ pub use device::{
     Ending, FromRead, FromWrite, MemorySink, MemorySource, Sink, Source, WriteFault, put_all,
 };
 pub use event::{Aim, Cause, Effect, Event, Level, Sight, State, WriteEntry};
+pub use form::{ReplyForm, ReplyOperands};
 pub use id::{Time, TxnId, VersionId};
 pub use kind::{EventKind, events_are_their_parts};
 pub use laws::victim_is_that_of_walks;

@@ -1,11 +1,14 @@
 //! Replies to events.
 ghost use Rattle.std.specs.Prelude.{◌≡◌, ◌↔◌, IfOk, OnErr, IsTrue};
-ghost use Rattle.hek_rules.specs.Replies.{HasList, whole};
+ghost use Rattle.hek_rules.specs.Names.{refusal_number, refusal_name, refusal_named};
+ghost use Rattle.hek_rules.specs.Replies.{HasList, whole, form_of};
 
 use crate::event::Cause;
+use crate::form::ReplyForm;
 use crate::id::{Time, TxnId, VersionId};
 use crate::lists::{Members, Pairs};
 use crate::memory::NoMemory;
+use crate::text::same_bytes;
 
 /// Why an event was refused. A refused event changes nothing.
 #[derive(Clone, Copy, Debug, PartialEq, Eq)]
@@ -16,6 +19,58 @@ pub enum Refusal {
     Ended,
     WrongPhase,
     ClockFull,
+}
+
+impl Refusal {
+    /// All refusals, in the order of their numbers.
+    pub const ALL: [Refusal; 6] = [
+        Refusal::UnknownTxn,
+        Refusal::NotBegun,
+        Refusal::BegunTwice,
+        Refusal::Ended,
+        Refusal::WrongPhase,
+        Refusal::ClockFull,
+    ];
+
+    /// The number of the refusal in texts, 1 to 6.
+    pub fn number(self) -> u64
+        ensures { result ≡ refusal_number self }
+    {
+        match self {
+            Refusal::UnknownTxn => 1,
+            Refusal::NotBegun => 2,
+            Refusal::BegunTwice => 3,
+            Refusal::Ended => 4,
+            Refusal::WrongPhase => 5,
+            Refusal::ClockFull => 6,
+        }
+    }
+
+    /// The name of the refusal in texts.
+    pub fn name(self) -> &'static str
+        ensures { result.now ≡ refusal_name self }
+    {
+        match self {
+            Refusal::UnknownTxn => "UnknownTxn",
+            Refusal::NotBegun => "NotBegun",
+            Refusal::BegunTwice => "BegunTwice",
+            Refusal::Ended => "Ended",
+            Refusal::WrongPhase => "WrongPhase",
+            Refusal::ClockFull => "ClockFull",
+        }
+    }
+
+    /// The refusal with a name.
+    pub fn named(name: &[u8]) -> Option<Refusal>
+        ensures { result ≡ refusal_named name.now }
+    {
+        for refusal in Refusal::ALL {
+            if same_bytes(name, refusal.name().as_bytes()) {
+                return Some(refusal);
+            }
+        }
+        None
+    }
 }
 
 /// The reply to an event.
@@ -65,6 +120,38 @@ pub enum ReplyParts<'a> {
 }
 
 impl Reply {
+    /// The form of the reply.
+    pub fn form(&self) -> ReplyForm
+        ensures { result ≡ form_of self.now }
+    {
+        match self {
+            Reply::Began(_) => ReplyForm::Began,
+            Reply::Found(_) => ReplyForm::Found,
+            Reply::Absent => ReplyForm::Absent,
+            Reply::Rows(_) => ReplyForm::Rows,
+            Reply::Done => ReplyForm::Done,
+            Reply::Exists => ReplyForm::Exists,
+            Reply::Ready => ReplyForm::Ready,
+            Reply::Waiting(_) => ReplyForm::Waiting,
+            Reply::Precommitted(_) => ReplyForm::Precommitted,
+            Reply::ReleasedRead(_, _) => ReplyForm::ReleasedRead,
+            Reply::ReleasedBucket(_) => ReplyForm::ReleasedBucket,
+            Reply::ReleasedWaiter(_) => ReplyForm::ReleasedWaiter,
+            Reply::Nothing => ReplyForm::Nothing,
+            Reply::Committed => ReplyForm::Committed,
+            Reply::WaitingCommits(_) => ReplyForm::WaitingCommits,
+            Reply::Failed => ReplyForm::Failed,
+            Reply::StampedBegin(_) => ReplyForm::StampedBegin,
+            Reply::StampedEnd(_) => ReplyForm::StampedEnd,
+            Reply::Left(_) => ReplyForm::Left,
+            Reply::Over => ReplyForm::Over,
+            Reply::NoCycle => ReplyForm::NoCycle,
+            Reply::Victim(_, _) => ReplyForm::Victim,
+            Reply::Aborted(_) => ReplyForm::Aborted,
+            Reply::Refused(_) => ReplyForm::Refused,
+        }
+    }
+
     /// The reply taken apart. This needs no memory.
     pub fn parts(&self) -> ReplyParts<'_>
         ensures { whole result ≡ self.now }

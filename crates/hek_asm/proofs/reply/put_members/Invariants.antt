@@ -1,6 +1,6 @@
 use Rattle.std.proofs.Common.{◌≡◌, ◌++◌, false, drop, map, IsTrue}
 use Rattle.std.specs.Fmt.{decimal}
-use Rattle.hek_asm.specs.Lines.{spaced}
+use Rattle.hek_rules.specs.Lines.{spaced}
 use Rattle.hek_asm.proofs.reply.put_members.Given as goal
 
 -- with the members left, the sink would hold what the contract asks

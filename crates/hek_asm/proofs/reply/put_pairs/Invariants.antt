@@ -1,5 +1,5 @@
 use Rattle.std.proofs.Common.{◌≡◌, ◌++◌, false, drop, map, IsTrue}
-use Rattle.hek_asm.specs.Lines.{spaced}
+use Rattle.hek_rules.specs.Lines.{spaced}
 use Rattle.hek_asm.specs.Trace.{pair_word}
 use Rattle.hek_asm.proofs.reply.put_pairs.Given as goal
 

@@ -1,6 +1,6 @@
 use Rattle.std.proofs.Common.{List, ℕ, ◌++◌, ap, ◌∙◌}
 use Rattle.std.proofs.lemmas.Result.{on_ok_weaker}
-use Rattle.hek_asm.specs.Lines.{spaced}
+use Rattle.hek_rules.specs.Lines.{spaced}
 use Rattle.hek_asm.specs.Trace.{writer_words}
 use Rattle.hek_asm.proofs.LineLemmas.{released_parts}
 use Rattle.hek_asm.proofs.reply.write_reply.Goals as goal

@@ -1,7 +1,7 @@
 use Rattle.std.proofs.Common.{◌≡◌, ◌++◌, drop, map}
 use Rattle.std.specs.List.{flat_map}
 use Rattle.std.specs.String.{string_bytes}
-use Rattle.hek_asm.specs.Lines.{line_text}
+use Rattle.hek_rules.specs.Lines.{line_text}
 use Rattle.hek_asm.specs.Canonical.{row_words}
 use Rattle.hek_asm.proofs.schedule_text.add_rows.Given as goal
 

@@ -1,7 +1,7 @@
 use Rattle.std.proofs.Common.{codes}
 use Rattle.std.specs.Fmt.{decimal}
 use Rattle.std.proofs.lemmas.Result.{on_ok_weaker}
-use Rattle.hek_asm.specs.Lines.{spaced}
+use Rattle.hek_rules.specs.Lines.{spaced}
 use Rattle.hek_asm.specs.Canonical.{step_words}
 use Rattle.hek_asm.proofs.LineLemmas.{three_parts}
 use Rattle.hek_asm.proofs.trace.write_front.Goals as goal

@@ -1,6 +1,6 @@
 use Rattle.std.proofs.Common.{[], ◌∷◌}
 use Rattle.std.proofs.lemmas.Result.{on_ok_weaker}
-use Rattle.hek_asm.specs.Lines.{joined_words}
+use Rattle.hek_rules.specs.Lines.{joined_words}
 use Rattle.hek_asm.specs.Trace.{reply_words}
 use Rattle.hek_asm.proofs.LineLemmas.{two_parts}
 use Rattle.hek_asm.proofs.trace.write_rest.Goals as goal
