@@ -36,6 +36,38 @@ pub enum AsmKind {
     NotAscii,
 }
 
+impl AsmKind {
+    /// The number of the fault, 1 to 9.
+    pub fn number(self) -> u64 {
+        match self {
+            AsmKind::NoBuckets => 1,
+            AsmKind::BadWord => 2,
+            AsmKind::BadNumber => 3,
+            AsmKind::UnknownName => 4,
+            AsmKind::NameTwice => 5,
+            AsmKind::KeyTwice => 6,
+            AsmKind::TooMany => 7,
+            AsmKind::BadBucket => 8,
+            AsmKind::NotAscii => 9,
+        }
+    }
+
+    /// The name of the fault.
+    pub fn name(self) -> &'static str {
+        match self {
+            AsmKind::NoBuckets => "NoBuckets",
+            AsmKind::BadWord => "BadWord",
+            AsmKind::BadNumber => "BadNumber",
+            AsmKind::UnknownName => "UnknownName",
+            AsmKind::NameTwice => "NameTwice",
+            AsmKind::KeyTwice => "KeyTwice",
+            AsmKind::TooMany => "TooMany",
+            AsmKind::BadBucket => "BadBucket",
+            AsmKind::NotAscii => "NotAscii",
+        }
+    }
+}
+
 /// Why a text isn't assembled: its first fault, or out of memory.
 #[derive(Clone, Copy, Debug, PartialEq, Eq, Error)]
 pub enum AsmFault {

@@ -1,6 +1,6 @@
 //! All events of a trace that are at fault.
+use crate::verdict::serial_at;
 use hek_rules::{Event, Level, NoMemory, Pairs, Reply, Transcript, TxnId};
-use hek_serial::{serial_reply, serial_reply_at};
 use std::alloc::Global;
 use std::collections::{BTreeMap, BTreeSet};
 
@@ -43,19 +43,6 @@ pub fn faults_of(
         }
     }
     Ok(faults)
-}
-
-/// The reply that an event would have had in the serial order.
-fn serial_at(
-    alloc: Global,
-    transcript: &Transcript,
-    level: Option<Level>,
-    place: usize,
-) -> Result<Option<Reply>, NoMemory> {
-    match level {
-        None => serial_reply(alloc, transcript, place),
-        Some(level) => serial_reply_at(alloc, transcript, level, place),
-    }
 }
 
 /// The transactions that commit.

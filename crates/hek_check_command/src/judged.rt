@@ -1,5 +1,5 @@
 //! How much of a trace is judged.
-use hek_commands::HekFault;
+use hek_report::HekFault;
 use std::alloc::Global;
 use std::collections::BTreeSet;
 use std::fmt::{Display, Formatter};
@@ -47,6 +47,14 @@ impl Display for Judged {
             "{} committed, {} events judged",
             self.committed, self.events
         )
+    }
+}
+
+/// Notes in `faults` that nothing is judged, if no transaction of a trace has committed. Without the memory to find out
+/// it says nothing.
+pub fn note_nothing<E: Write>(alloc: Global, trace: &[u8], faults: &mut E) {
+    if let Ok(judged) = Judged::of(alloc, trace) {
+        judged.note(faults);
     }
 }
 

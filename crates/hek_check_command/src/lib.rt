@@ -1,14 +1,16 @@
-//! `hek check` with more than its verdict: how much of a trace is judged, and each of its faults.
+//! The command `check`: the verdict on a trace, how much of it is judged, and each of its faults.
 #![tactic(auto)]
 
-mod all;
+mod check;
 mod faults;
+mod json;
 mod judged;
-mod summary;
-mod writers;
+mod sources;
+mod text;
+mod told;
+mod verdict;
 
-pub use all::{Beside, Checked, all_command, check_text, names_of};
+pub use check::check_command;
 pub use faults::{Fault, faults_of};
-pub use judged::Judged;
-pub use summary::{note_nothing, summary_command};
-pub use writers::{Source, pairs_of, put_sources, source_of};
+pub use judged::{Judged, note_nothing};
+pub use told::{Asked, told_command};

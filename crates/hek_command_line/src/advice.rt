@@ -1,10 +1,9 @@
 //! What is wrong with a bad argument and what is wanted in its place, for a reader at a terminal, or with `--explain`.
 use clap::ArgMatches;
-use hek_asm::level_named;
 use hek_diagnostics::nearest_word;
 use hek_permute::Form;
 use hek_permute_command::part_of;
-use hek_rules::number;
+use hek_rules::{Level, number};
 use std::alloc::Global;
 use std::fmt;
 use std::fmt::{Display, Formatter};
@@ -140,7 +139,7 @@ pub fn advice_of<'a>(alloc: Global, command: &str, found: &ArgMatches<'a>) -> Op
         }
     }
     match found.get_str("level") {
-        Some(value) if level_named(value.as_bytes()).is_none() => {
+        Some(value) if Level::named(value.as_bytes()).is_none() => {
             let wrong = Wrong::NoLevel(nearest_word(alloc, value, LEVELS));
             return Some(Advice::new("level", value, wrong));
         }

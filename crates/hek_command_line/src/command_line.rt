@@ -2,10 +2,9 @@
 use crate::arguments::{RULES, meant_command, read_words};
 use crate::disk::{Disk, LateFile, open};
 use crate::explain::explained;
-use crate::json::{check_as_json, drive_as, threads_as, wants_json};
 use crate::kept::{Kept, KeptDisk, KeptReader};
 use crate::log::history;
-use crate::options::{count_from, form_of, level_of, number_of, step_of, text, texts};
+use crate::options::{count_from, form_of, level_of, number_of, printing_of, step_of, text, texts};
 use crate::output::NotedOutput;
 use crate::permute::{permute_alone, permute_jobs};
 use crate::schedule::{schedule_file, schedule_text};
@@ -13,20 +12,19 @@ use crate::typed::TypedReader;
 use crate::words::advise_sign;
 use clap::error::ErrorKind as ClapKind;
 use clap::{ArgMatches, Error};
-use hek_check_command::{Beside, all_command, note_nothing, summary_command};
-use hek_commands::{
-    HekFault, INPUT, ScheduleFile, asm_command, check_command, dis_command, read_text,
-    release_command, report, run_command, state_command,
+use hek_check_command::{Asked, check_command, note_nothing, told_command};
+use hek_convert_command::{
+    Bounds, asm_command, changes_command, dis_command, release_command, word_command,
 };
 use hek_debug_command::{CommandFile, Manner, debug_command, debug_session, explained_command};
 use hek_history_command::run_log_command;
-use hek_json_command::{Asked, run_json};
 use hek_page_command::{Extent, Heading, MOST_NODES, Part, explorer_command, page_command};
 use hek_permute_command::auto_file;
+use hek_report::{HekFault, INPUT, Printing, ScheduleFile, read_text, report};
 use hek_rules::Level;
-use hek_threads_command::Pace;
-use hek_why_command::{Driving, Extras, Why, explain_command};
-use hek_word_command::{Bounds, changes_command, word_command};
+use hek_run_command::{Driving, Steps, drive_command, run_command, state_command, steps_command};
+use hek_step_report::{Extras, Why};
+use hek_threads_command::{Pace, Progress, repeat_command, threads_command};
 use std::alloc::Global;
 use std::convert::AsStr;
 use std::env;
@@ -328,8 +326,12 @@ fn run_schedule<'a, D: Disk, I: Read + Drop, W: Write>(
     out: &mut W,
 ) -> Result<u8, HekFault<'a>> {
     let limit = number_of(found, "state-at")?;
-    let extras = extras_of(found);
-    let state = limit.is_some() || found.get_flag("state");
+    let asked = Steps {
+        extras: extras_of(found),
+        limit,
+        state: limit.is_some() || found.get_flag("state"),
+        printing: printing_of(found),
+    };
     let file = schedule_file(alloc, found, disk, input)?;
     let file = if found.get_flag("auto") {
         auto_file(alloc, file)?
@@ -339,14 +341,20 @@ fn run_schedule<'a, D: Disk, I: Read + Drop, W: Write>(
     if found.get_flag("history") {
         return run_log_command(alloc, file, out);
     }
-    if wants_json(found) {
-        return run_json(alloc, file, extras, limit, state, out);
-    }
-    if extras.why.is_some() || extras.changes {
-        return explain_command(alloc, file, extras, limit, state, out);
-    }
-    if state {
-        state_command(alloc, file, limit, out)
+    run_file(alloc, file, asked, out)
+}
+
+/// Runs the schedule in a file.
+fn run_file<'a, R: Read + Drop, W: Write>(
+    alloc: Global,
+    file: ScheduleFile<R>,
+    asked: Steps,
+    out: &mut W,
+) -> Result<u8, HekFault<'a>> {
+    if asked.printing == Printing::Json || !asked.extras.is_none() {
+        steps_command(alloc, file, asked, out)
+    } else if asked.state {
+        state_command(alloc, file, asked.limit, out)
     } else {
         run_command(alloc, file, out)
     }
@@ -373,16 +381,19 @@ fn drive<'a, D: Disk, I: Read + IsTerminal + Drop, W: Write, E: Write>(
     out: &mut W,
     faults: &mut E,
 ) -> Result<u8, HekFault<'a>> {
+    let printing = printing_of(found);
     let driving = Driving {
         extras: extras_of(found),
         state: found.get_flag("state"),
         ends: found.get_flag("ends"),
-        prompts: is_typed(input),
+        prompts: is_typed(input) && printing == Printing::Text,
+        printing,
     };
+    let is_typed = is_typed(input);
     let file = schedule_file(alloc, found, disk, input)?;
     let events = open(disk, input, INPUT)?;
-    let events = TypedReader::new(events, driving.prompts, faults);
-    drive_as(alloc, found, file, events, driving, out)
+    let events = TypedReader::new(events, is_typed, faults);
+    drive_command(alloc, file, events, driving, out)
 }
 
 /// Whether standard input is a terminal.
@@ -494,33 +505,33 @@ fn check_trace<'a, R: Read + Drop, W: Write, E: Write + IsTerminal>(
     out: &mut W,
     faults: &mut E,
 ) -> Result<u8, HekFault<'a>> {
-    let why = found.get_flag("why");
-    let summary = found.get_flag("summary");
-    if wants_json(found) {
-        let asked = Asked {
-            level,
-            why,
-            summary,
-            all: found.get_flag("all"),
-        };
-        return check_as_json(alloc, file, trace, asked, out, faults);
-    }
-    if found.get_flag("all") {
-        let beside = Beside {
-            level,
-            why,
-            summary,
-        };
-        return all_command(alloc, file, trace, beside, out, faults);
-    }
-    if summary {
-        return summary_command(alloc, file, trace, level, why, out, faults);
-    }
-    let status = check_command(alloc, file, trace, level, why, out)?;
-    if faults.is_terminal() {
+    let asked = Asked {
+        level,
+        why: found.get_flag("why"),
+        summary: found.get_flag("summary"),
+        all: found.get_flag("all"),
+        printing: printing_of(found),
+    };
+    let status = judge_trace(alloc, asked, file, trace, out)?;
+    if asked.summary || (!asked.all && faults.is_terminal()) {
         note_nothing(alloc, trace, faults);
     }
     Ok(status)
+}
+
+/// Writes the verdict on a trace, with what is asked for.
+fn judge_trace<'a, R: Read + Drop, W: Write>(
+    alloc: Global,
+    asked: Asked,
+    file: ScheduleFile<R>,
+    trace: &[u8],
+    out: &mut W,
+) -> Result<u8, HekFault<'a>> {
+    if asked.summary || asked.all || asked.printing == Printing::Json {
+        told_command(alloc, file, trace, asked, out)
+    } else {
+        check_command(alloc, file, trace, asked.level, asked.why, out)
+    }
 }
 
 fn threads<'a, T: Threads + Wait + Sync, D: Disk, I: Read + Drop, W: Write, E: Write + IsTerminal>(
@@ -541,5 +552,42 @@ fn threads<'a, T: Threads + Wait + Sync, D: Disk, I: Read + Drop, W: Write, E: W
         Some(text) => Some(count_from(text, 1)?),
     };
     let file = schedule_file(alloc, found, disk, input)?;
-    threads_as(system, alloc, found, file, pace, times, out, faults)
+    run_in_threads(
+        system,
+        alloc,
+        file,
+        pace,
+        times,
+        printing_of(found),
+        out,
+        faults,
+    )
+}
+
+/// Runs transactions in threads, once or many times. Many runs show on a terminal how many are over.
+fn run_in_threads<'a, T: Threads + Wait + Sync, R: Read + Drop, W: Write, E: Write + IsTerminal>(
+    system: &T,
+    alloc: Global,
+    file: ScheduleFile<R>,
+    pace: Pace,
+    times: Option<u64>,
+    printing: Printing,
+    out: &mut W,
+    faults: &mut E,
+) -> Result<u8, HekFault<'a>> {
+    let Some(times) = times else {
+        return threads_command(system, alloc, file, pace, printing, out);
+    };
+    let shows = faults.is_terminal();
+    let mut progress = Progress::new(faults, shows, times);
+    repeat_command(
+        system,
+        alloc,
+        file,
+        pace,
+        times,
+        printing,
+        &mut progress,
+        out,
+    )
 }

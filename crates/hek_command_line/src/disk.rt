@@ -1,8 +1,8 @@
 //! The files that commands read and write.
 ghost use Rattle.std.specs.Prelude.{IfErr};
-ghost use Rattle.hek_commands.specs.Commands.{ReadFails};
+ghost use Rattle.hek_report.specs.Files.{ReadFails};
 
-use hek_commands::{HekFault, INPUT, read_fault};
+use hek_report::{HekFault, INPUT, read_fault};
 use std::io::{Read, Write};
 use std::rt::Files;
 use std::{fs, io};

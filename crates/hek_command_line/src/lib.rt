@@ -6,7 +6,6 @@ mod arguments;
 mod command_line;
 mod disk;
 mod explain;
-mod json;
 mod kept;
 mod log;
 mod notes;

@@ -1,9 +1,10 @@
 //! The words of `hek history`, and the files that it reads and writes.
 use crate::disk::{Disk, LateFile, open};
+use crate::options::printing_of;
 use clap::ArgMatches;
-use hek_commands::HekFault;
 use hek_history::{Level, Order};
-use hek_history_command::{Choice, history_command, level_named, order_named};
+use hek_history_command::{Choice, history_command};
+use hek_report::HekFault;
 use std::alloc::Global;
 use std::io::{Read, Write};
 
@@ -20,7 +21,7 @@ pub fn history<'a, D: Disk, I: Read + Drop, W: Write, E: Write>(
         level: level_of(found)?,
         order: order_of(found)?,
         all: found.get_flag("all"),
-        json: found.get_flag("json"),
+        printing: printing_of(found),
     };
     let name = found.get_str("FILE").ok_or(HekFault::BadArgument)?;
     let mut order_out = match found.get_str("order-out") {
@@ -35,7 +36,7 @@ pub fn history<'a, D: Disk, I: Read + Drop, W: Write, E: Write>(
 fn level_of<'a>(found: &ArgMatches<'a>) -> Result<Option<Level>, HekFault<'a>> {
     match found.get_str("level") {
         None => Ok(None),
-        Some(word) => match level_named(word) {
+        Some(word) => match Level::named(word) {
             Some(level) => Ok(Some(level)),
             None => Err(HekFault::BadArgument),
         },
@@ -46,7 +47,7 @@ fn level_of<'a>(found: &ArgMatches<'a>) -> Result<Option<Level>, HekFault<'a>> {
 fn order_of<'a>(found: &ArgMatches<'a>) -> Result<Option<Order>, HekFault<'a>> {
     match found.get_str("order") {
         None => Ok(None),
-        Some(word) => match order_named(word) {
+        Some(word) => match Order::named(word) {
             Some(order) => Ok(Some(order)),
             None => Err(HekFault::BadArgument),
         },

@@ -1,8 +1,7 @@
 //! What the arguments and options of a command are: texts, numbers, levels and forms.
 use clap::ArgMatches;
-use hek_asm::level_named;
-use hek_commands::HekFault;
 use hek_permute::Form;
+use hek_report::{HekFault, Printing};
 use hek_rules::{Level, number};
 
 /// The number that an option has, if the words have the option.
@@ -33,11 +32,20 @@ pub fn form_of<'a>(found: &ArgMatches<'a>) -> Result<Form, HekFault<'a>> {
     }
 }
 
+/// How the words ask to print: as text, or with `--json` as objects of JSON.
+pub fn printing_of(found: &ArgMatches<'_>) -> Printing {
+    if found.get_flag("json") {
+        Printing::Json
+    } else {
+        Printing::Text
+    }
+}
+
 /// The level that the words give with `--level`.
 pub fn level_of<'a>(found: &ArgMatches<'a>) -> Result<Option<Level>, HekFault<'a>> {
     match found.get_str("level") {
         None => Ok(None),
-        Some(word) => match level_named(word.as_bytes()) {
+        Some(word) => match Level::named(word.as_bytes()) {
             Some(level) => Ok(Some(level)),
             None => Err(HekFault::BadArgument),
         },

@@ -1,11 +1,10 @@
 //! The words of `hek permute`.
 use crate::disk::Disk;
-use crate::json::{permute_as, wants_json};
-use crate::options::{form_of, level_of, number_of};
+use crate::options::{form_of, level_of, number_of, printing_of};
 use crate::schedule::schedule_file;
 use clap::ArgMatches;
-use hek_commands::HekFault;
-use hek_permute_command::{Choice, part_of, permute_in_threads};
+use hek_permute_command::{Choice, part_of, permute_command, permute_in_threads};
+use hek_report::HekFault;
 use std::alloc::Global;
 use std::io::{IsTerminal, Read, Write};
 use std::thread::Threads;
@@ -34,7 +33,7 @@ fn permute<'a, D: Disk, I: Read + Drop, W: Write, E: Write + IsTerminal>(
 ) -> Result<u8, HekFault<'a>> {
     let choice = choice_of(found, faults.is_terminal())?;
     let file = schedule_file(alloc, found, disk, input)?;
-    permute_as(alloc, found, file, choice, out, faults)
+    permute_command(alloc, file, choice, out, faults)
 }
 
 fn choice_of<'a>(found: &ArgMatches<'a>, progress: bool) -> Result<Choice<'a>, HekFault<'a>> {
@@ -48,6 +47,7 @@ fn choice_of<'a>(found: &ArgMatches<'a>, progress: bool) -> Result<Choice<'a>, H
         levels: found.get_flag("levels"),
         find: found.get_str("find"),
         progress,
+        printing: printing_of(found),
     })
 }
 
@@ -84,10 +84,10 @@ pub fn permute_jobs<
     permute_in_threads(system, jobs, alloc, file, choice, out, faults)
 }
 
-/// Whether the words ask for the outcomes of a part, as text.
+/// Whether the words ask for the outcomes of a part.
 fn counts_a_part(found: &ArgMatches<'_>) -> bool {
     let is_part = found.get_str("part").is_some();
-    is_part && !found.get_flag("each") && !found.get_flag("levels") && !wants_json(found)
+    is_part && !found.get_flag("each") && !found.get_flag("levels")
 }
 
 /// The greatest number of threads that play orders.

@@ -1,10 +1,10 @@
 //! FILE, the schedule of a command: a text or an image, by its name, its first bytes and the words of the command line.
 ghost use Rattle.std.specs.Prelude.{IfErr};
-ghost use Rattle.hek_commands.specs.Commands.{ReadFails};
+ghost use Rattle.hek_report.specs.Files.{ReadFails};
 
 use crate::disk::{Disk, InputFile, open};
 use clap::ArgMatches;
-use hek_commands::{HekFault, ScheduleFile, buffered, read_fault, read_text};
+use hek_report::{HekFault, ScheduleFile, buffered, read_fault, read_text};
 use std::alloc::Global;
 use std::io::{BufReader, Chain, Cursor, Read};
 

@@ -1,7 +1,8 @@
 //! What is wrong with a lock word, with waits, or with a number that has a sign, of a command line.
 use crate::advice::is_count;
 use clap::ArgMatches;
-use hek_commands::{INPUT, hex_number};
+use hek_convert_command::hex_number;
+use hek_report::INPUT;
 use hek_rules::number;
 use std::convert::AsStr;
 use std::io::Write;

@@ -2,7 +2,7 @@
 use Rattle.std.proofs.Common.{ℕ, List, [], ◌++◌, ◌∙◌, ap, sym, append_assoc, Option, Some, None}
 use Rattle.std.proofs.lemmas.List.{append-nil}
 use Rattle.std.specs.Io.KnownBytes.{Appends}
-use Rattle.hek_commands.specs.Sent.{Passes}
+use Rattle.hek_report.specs.Sent.{Passes}
 
 -- the next of the lines to come goes out
 pub passes-next : (b n m : Option (List ℕ)) (whole line rest : List ℕ) → Passes b whole n (line ++ rest) → Appends n m line → Passes b whole m rest

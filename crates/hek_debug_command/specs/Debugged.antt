@@ -19,10 +19,10 @@ use Rattle.hek_debug.specs.declared.reading.CommandFault.TheVariants as read
 use Rattle.hek_debug.specs.Lines.{commands_of}
 use Rattle.hek_debug.specs.Marks.{looked_at}
 use Rattle.hek_debug.specs.Sessions.{Session, opened, session_after, stop_of, world_at}
-use Rattle.hek_commands.specs.declared.fault.HekFault.{HekFault}
-use Rattle.hek_commands.specs.declared.fault.HekFault.TheVariants.{NotText, CommandLine, CannotWrite, NoMemory}
-use Rattle.hek_commands.specs.declared.schedule_file.ScheduleFile.{ScheduleFile}
-use Rattle.hek_commands.specs.Commands.{FileGives, FileFails}
+use Rattle.hek_report.specs.declared.fault.HekFault.{HekFault}
+use Rattle.hek_report.specs.declared.fault.HekFault.TheVariants.{NotText, CommandLine, CannotWrite, NoMemory}
+use Rattle.hek_report.specs.declared.schedule_file.ScheduleFile.{ScheduleFile}
+use Rattle.hek_report.specs.Files.{FileGives, FileFails}
 
 -- ---- stops
 

@@ -3,12 +3,12 @@ ghost use Rattle.std.specs.Prelude.{◌≡◌, ◌++◌, Ok, OnOk, IfErr, MatchR
 ghost use Rattle.std.specs.Io.KnownBytes.{Appends};
 ghost use Rattle.hek_debug.specs.Lines.{commands_of};
 ghost use Rattle.hek_debug.specs.Sessions.{opened, session_after, stop_of};
-ghost use Rattle.hek_commands.specs.Commands.{IsStop};
+ghost use Rattle.hek_report.specs.Files.{IsStop};
 ghost use Rattle.hek_debug_command.specs.Debugged.{told_text, session_text, command_fault, CommandTextFails, Debugs, DebugFails};
 
 use crate::stop_text::put_told;
-use hek_commands::{HekFault, ScheduleFile, schedule_in, send};
 use hek_debug::{Command, CommandFault, Debugger, read_commands};
+use hek_report::{HekFault, ScheduleFile, schedule_in, send};
 use hek_rules::Schedule;
 use std::alloc::Global;
 use std::io::{Read, Write};

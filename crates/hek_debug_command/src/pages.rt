@@ -6,15 +6,15 @@ ghost use Rattle.hek_asm.specs.Trace.{NamesDeclared};
 use crate::held::{Held, count_held};
 use crate::question::Question;
 use crate::stop_text::{put_name, put_number, put_text};
-use hek_asm::write_step;
-use hek_commands::{clock_line, put_txn, put_version, state_lines};
+use hek_asm::put_step as put_event;
 use hek_debug::{Debugger, Mark};
 use hek_machine::Machine;
-use hek_rules::{Event, FromWrite, NoMemory, Schedule, TxnId, VersionId};
-use hek_why_command::{Extras, Why, explain_step};
+use hek_rules::{Event, NoMemory, Schedule, TxnId, VersionId};
+use hek_run_command::explain_step;
+use hek_step_report::text::{clock_line, put_txn, put_version, state_lines};
+use hek_step_report::{Extras, Why};
 use std::alloc::Global;
 use std::io::Write;
-use std::mem;
 
 /// How many steps are listed before the position, and how many after it.
 const ROUND: u64 = 5;
@@ -172,11 +172,7 @@ fn put_step(
     requires { NamesDeclared (length schedule.now.txns) event.now }
 {
     put_number(number, lines)?;
-    let mut sink = FromWrite::new(mem::replace(lines, Vec::new(alloc)));
-    if write_step(schedule, event, &mut sink).is_err() {
-        return Err(NoMemory);
-    }
-    *lines = sink.into_inner();
+    put_event(schedule, event, lines)?;
     put_text("\n", lines)
 }
 

@@ -5,10 +5,8 @@ use crate::moves::Moves;
 use crate::pages::put_answer;
 use crate::question::Question;
 use crate::typed::{Typed, read_typed};
-use hek_commands::{
-    HekFault, INPUT, ScheduleFile, buffered, read_fault, report, schedule_in, send,
-};
 use hek_debug::{Command, Debugger, Mark};
+use hek_report::{HekFault, INPUT, ScheduleFile, buffered, read_fault, report, schedule_in, send};
 use hek_rules::next_line;
 use std::alloc::Global;
 use std::io::{BufRead, Read, Write};

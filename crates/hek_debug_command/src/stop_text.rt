@@ -6,7 +6,7 @@ ghost use Rattle.hek_asm.specs.Trace.{reply_words};
 ghost use Rattle.hek_debug.specs.Sessions.{world_at};
 ghost use Rattle.hek_debug_command.specs.Debugged.{reason_text, answer_text, stop_line, hex_digit, hex_text, seen_text, count_text, name_text, watch_line, watch_lines, told_text};
 
-use hek_commands::put_reply;
+use hek_asm::put_reply;
 use hek_debug::{Debugger, Mark, Reason, Stop};
 use hek_rules::{NoMemory, Reply, Schedule, TxnId};
 use std::alloc::Global;
@@ -98,7 +98,7 @@ fn put_answer(alloc: Global, last: &Option<Reply>, lines: &mut Vec<u8>) -> Resul
         None => Ok(()),
         Some(reply) => {
             put_text(" -> ", lines)?;
-            put_reply(alloc, reply, lines)
+            put_reply(reply, lines)
         }
     }
 }

@@ -2,10 +2,10 @@
 //! SUMMARY.
 use crate::folder::Count;
 use crate::sessions::read;
-use hek_commands::{ScheduleFile, report};
 use hek_compare::Fault;
 use hek_permute::Form;
 use hek_permute_command::{Choice, permute_command};
+use hek_report::{Printing, ScheduleFile, report};
 use std::alloc::Global;
 use std::rt::Files;
 use std::{fs, io};
@@ -21,6 +21,7 @@ const LEVELS: Choice<'static> = Choice {
     levels: true,
     find: None,
     progress: false,
+    printing: Printing::Text,
 };
 
 /// Plays all orders of each schedule of a folder, in the order of SUMMARY, compares their outcomes by level with what is stored,

@@ -1,7 +1,8 @@
 //! What `hek run --changes` prints, step by step, laid over the opening state, comes to the state that `hek run --state` prints.
-use hek_commands::{ScheduleFile, state_command};
 use hek_compare::{Fault, Summary};
-use hek_why_command::{Extras, explain_command};
+use hek_report::{Printing, ScheduleFile};
+use hek_run_command::{Steps, state_command, steps_command};
+use hek_step_report::Extras;
 use std::alloc::{AllocError, Global};
 use std::collections::BTreeMap;
 use std::fs;
@@ -77,12 +78,17 @@ fn state(alloc: Global, text: &[u8], limit: Option<u64>) -> Result<Option<String
 /// Each change of the run, in order.
 fn lay_changes(alloc: Global, text: &[u8], laid: &mut Fields) -> Result<(), AllocError> {
     let file = ScheduleFile::<&[u8]>::Text(Vec::from_slice(alloc, text)?);
-    let extras = Extras {
-        why: None,
-        changes: true,
+    let asked = Steps {
+        extras: Extras {
+            why: None,
+            changes: true,
+        },
+        limit: None,
+        state: false,
+        printing: Printing::Text,
     };
     let mut out = Vec::new(alloc);
-    let _ = explain_command(alloc, file, extras, None, false, &mut out);
+    let _ = steps_command(alloc, file, asked, &mut out);
     let Ok(out) = String::from_utf8(out) else {
         return Ok(());
     };

@@ -1,8 +1,8 @@
 //! A folder of debugger sessions: NAME.hek, NAME.commands, NAME.out and NAME.err for each line of its SUMMARY.
 use crate::folder::Count;
-use hek_commands::{ScheduleFile, report};
 use hek_compare::Fault;
 use hek_debug_command::debug_command;
+use hek_report::{ScheduleFile, report};
 use std::alloc::Global;
 use std::rt::Files;
 use std::{fs, io};

@@ -1,5 +1,6 @@
 //! What the command line asks the command to do.
 use hek_history::{History, Level, Order, Status};
+use hek_report::Printing;
 
 /// What the words of the command line ask for.
 #[derive(Clone, Copy)]
@@ -10,51 +11,7 @@ pub struct Choice {
     pub order: Option<Order>,
     /// Whether to go on after an anomaly.
     pub all: bool,
-    /// Whether to write JSON.
-    pub json: bool,
-}
-
-const LEVELS: [(&str, Level); 3] = [
-    ("serializable", Level::Serializable),
-    ("repeatable", Level::Repeatable),
-    ("snapshot", Level::Snapshot),
-];
-
-const ORDERS: [(&str, Order); 4] = [
-    ("any", Order::Any),
-    ("versions", Order::Versions),
-    ("commit", Order::Times),
-    ("real", Order::Real),
-];
-
-/// The level with a name, if there is one.
-pub fn level_named(word: &str) -> Option<Level> {
-    for (name, level) in LEVELS {
-        if name == word {
-            return Some(level);
-        }
-    }
-    None
-}
-
-/// The order with a name, if there is one.
-pub fn order_named(word: &str) -> Option<Order> {
-    for (name, order) in ORDERS {
-        if name == word {
-            return Some(order);
-        }
-    }
-    None
-}
-
-/// The name of an order.
-pub(crate) fn order_word(order: Order) -> &'static str {
-    match order {
-        Order::Any => "any",
-        Order::Versions => "versions",
-        Order::Times => "commit",
-        Order::Real => "real",
-    }
+    pub printing: Printing,
 }
 
 /// The order that is asked for: without a choice, that of versions where each committed transaction has an end, and

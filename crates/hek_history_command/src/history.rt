@@ -10,10 +10,10 @@ use crate::order_lines::write_order;
 use crate::turned::turn;
 use crate::twins::have_both;
 use crate::{verdict_json, verdict_text};
-use hek_commands::{HekFault, buffered, send};
 use hek_history::{History, Order, Point, Writer};
 use hek_history_log::{Log, LogFault, read_log};
 use hek_history_search::{Cause, Progress, Verdict, judge};
+use hek_report::{HekFault, Lines, Printing, buffered, send};
 use hek_rules::NoMemory;
 use std::alloc::Global;
 use std::io::{Read, Write};
@@ -26,7 +26,7 @@ const EFFORT: usize = 100_000;
 struct Question {
     order: Order,
     all: bool,
-    json: bool,
+    printing: Printing,
 }
 
 /// Reads the log in a file, and writes whether it has a serial order, with the order to `order_out` if there is one.
@@ -78,7 +78,7 @@ fn judge_log<'a, W: Write, O: Write>(
     let question = Question {
         order: order_of(choice, &log.history),
         all: choice.all,
-        json: choice.json,
+        printing: choice.printing,
     };
     write_verdict(alloc, log, question, order_out, out)
 }
@@ -168,10 +168,13 @@ fn write_serial<'a, W: Write, O: Write>(
     }
     let counts = counts_of(alloc, &log.history, points)?;
     let mut lines = Vec::new(alloc);
-    if question.json {
-        verdict_json::put_serial(question.order, counts, &mut lines)?;
-    } else {
-        verdict_text::put_serial(counts, &mut lines)?;
+    match question.printing {
+        Printing::Text => verdict_text::put_serial(counts, &mut lines)?,
+        Printing::Json => {
+            let mut objects = Lines::after(alloc, &mut lines);
+            verdict_json::put_serial(question.order, counts, &mut objects);
+            objects.put_back(&mut lines)?;
+        }
     }
     send(&mut lines, out)
 }
@@ -183,10 +186,13 @@ fn write_unknown<'a, W: Write>(
     out: &mut W,
 ) -> Result<(), HekFault<'a>> {
     let mut lines = Vec::new(alloc);
-    if question.json {
-        verdict_json::put_unknown(question.order, progress, &mut lines)?;
-    } else {
-        verdict_text::put_unknown(progress, &mut lines)?;
+    match question.printing {
+        Printing::Text => verdict_text::put_unknown(progress, &mut lines)?,
+        Printing::Json => {
+            let mut objects = Lines::after(alloc, &mut lines);
+            verdict_json::put_unknown(question.order, progress, &mut objects);
+            objects.put_back(&mut lines)?;
+        }
     }
     send(&mut lines, out)
 }
@@ -199,10 +205,13 @@ fn write_not_serial<'a, W: Write>(
     out: &mut W,
 ) -> Result<(), HekFault<'a>> {
     let mut lines = Vec::new(alloc);
-    if question.json {
-        verdict_json::put_not_serial(alloc, question.order, log, cause, &mut lines)?;
-    } else {
-        verdict_text::put_not_serial(alloc, log, cause, &mut lines)?;
+    match question.printing {
+        Printing::Text => verdict_text::put_not_serial(alloc, log, cause, &mut lines)?,
+        Printing::Json => {
+            let mut objects = Lines::after(alloc, &mut lines);
+            verdict_json::put_not_serial(alloc, question.order, log, cause, &mut objects)?;
+            objects.put_back(&mut lines)?;
+        }
     }
     send(&mut lines, out)
 }
@@ -239,7 +248,7 @@ fn write_order_asked<'a, W: Write>(
     out: &mut W,
 ) -> Result<(), HekFault<'a>> {
     let mut lines = Vec::new(alloc);
-    if !question.json {
+    if question.printing == Printing::Text {
         verdict_text::put_order(question.order, &mut lines)?;
     }
     send(&mut lines, out)

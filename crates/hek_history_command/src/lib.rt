@@ -13,6 +13,6 @@ mod twins;
 mod verdict_json;
 mod verdict_text;
 
-pub use choice::{Choice, level_named, order_named};
+pub use choice::Choice;
 pub use history::history_command;
 pub use run_log::run_log_command;

@@ -1,7 +1,7 @@
 //! The order that was found, a line for each point.
-use hek_commands::{HekFault, send};
 use hek_history::{Level, Point};
 use hek_history_log::Log;
+use hek_report::{HekFault, send};
 use hek_rules::NoMemory;
 use std::alloc::Global;
 use std::io::Write;

@@ -3,9 +3,9 @@ ghost use Rattle.std.specs.Prelude.{◌≡◌, length};
 ghost use Rattle.std.specs.List.{All};
 ghost use Rattle.hek_laws.specs.Runs.{IsPlaced};
 
-use hek_commands::{HekFault, ScheduleFile, schedule_in, send};
 use hek_history_log::write_run;
 use hek_machine::Machine;
+use hek_report::{HekFault, ScheduleFile, schedule_in, send};
 use hek_rules::{Event, NoMemory, Schedule, Transcript};
 use std::alloc::Global;
 use std::io::{Read, Write};

@@ -1,50 +1,22 @@
-//! A verdict as JSON, one object on each line. The fields of an object are in the order of their names.
+//! A verdict as JSON, one object on each line. The members of an object are in the order of their names.
 use crate::anomaly_words::{anomaly_name, edge_words, kind_word};
-use crate::choice::order_word;
 use crate::counts::Counts;
-use crate::verdict_text::put;
 use hek_history::{Need, Order, Writer};
 use hek_history_log::{Label, Log};
 use hek_history_search::{Anomaly, Cause, CycleEdge, Progress};
+use hek_report::Lines;
 use hek_rules::NoMemory;
 use std::alloc::Global;
-use std::fmt;
-use std::io::Write;
-
-/// A label as JSON, or null.
-#[derive(Clone, Copy)]
-struct Json<'a>(Option<Label<'a>>);
-
-impl fmt::Display for Json<'_> {
-    fn fmt<W: fmt::Write>(&self, f: &mut fmt::Formatter<W>) -> fmt::Result {
-        match self.0 {
-            None => f.write_str("null"),
-            Some(label) => label.write_json(f),
-        }
-    }
-}
 
 /// The object of a serial history.
-pub(crate) fn put_serial(
-    order: Order,
-    counts: Counts,
-    lines: &mut Vec<u8>,
-) -> Result<(), NoMemory> {
-    let order = order_word(order);
-    let transactions = counts.transactions;
-    let reads = counts.reads;
-    let elsewhere = match counts.elsewhere {
-        Some(elsewhere) => Json(Some(Label::Number(elsewhere))),
-        None => Json(None),
-    };
-    put(write!(
-        lines,
-        r#"{{"elsewhere":{elsewhere},"order":"{order}","reads":{reads}"#
-    ))?;
-    put(writeln!(
-        lines,
-        r#","transactions":{transactions},"verdict":"serial"}}"#
-    ))
+pub(crate) fn put_serial(order: Order, counts: Counts, out: &mut Lines) {
+    out.begin_line();
+    out.put_maybe("elsewhere", counts.elsewhere);
+    out.put_text("order", order.word());
+    out.put_number("reads", counts.reads);
+    out.put_number("transactions", counts.transactions);
+    out.put_text("verdict", "serial");
+    out.end_line();
 }
 
 /// The object of a history that is not serial.
@@ -53,32 +25,29 @@ pub(crate) fn put_not_serial(
     order: Order,
     log: &Log,
     cause: &Cause,
-    lines: &mut Vec<u8>,
+    out: &mut Lines,
 ) -> Result<(), NoMemory> {
-    let order = order_word(order);
-    let name = anomaly_name(cause.anomaly);
-    put(write!(lines, r#"{{"anomaly":"{name}","cycle":["#))?;
-    for (place, edge) in cause.cycle.iter().enumerate() {
-        if place > 0 {
-            lines.push(b',')?;
-        }
-        put_edge(alloc, log, cause.anomaly, *edge, lines)?;
+    out.begin_line();
+    out.put_text("anomaly", anomaly_name(cause.anomaly));
+    out.put_key("cycle");
+    out.begin_array();
+    for edge in cause.cycle.iter() {
+        put_edge(alloc, log, cause.anomaly, *edge, out)?;
     }
-    put(writeln!(lines, r#"],"order":"{order}","verdict":"not serial"}}"#))
+    out.end_array();
+    out.put_text("order", order.word());
+    out.put_text("verdict", "not serial");
+    out.end_line();
+    Ok(())
 }
 
 /// The object of a history of which nothing is known.
-pub(crate) fn put_unknown(
-    order: Order,
-    progress: Progress,
-    lines: &mut Vec<u8>,
-) -> Result<(), NoMemory> {
-    let order = order_word(order);
-    let conflicts = progress.conflicts;
-    put(writeln!(
-        lines,
-        r#"{{"conflicts":{conflicts},"order":"{order}","verdict":"unknown"}}"#
-    ))
+pub(crate) fn put_unknown(order: Order, progress: Progress, out: &mut Lines) {
+    out.begin_line();
+    out.put_number("conflicts", progress.conflicts as u64);
+    out.put_text("order", order.word());
+    out.put_text("verdict", "unknown");
+    out.end_line();
 }
 
 /// The object of an edge of a cycle.
@@ -87,41 +56,48 @@ fn put_edge(
     log: &Log,
     anomaly: Anomaly,
     edge: CycleEdge,
-    lines: &mut Vec<u8>,
+    out: &mut Lines,
 ) -> Result<(), NoMemory> {
-    put_reading(log, edge, lines)?;
-    let to = name_of(log, edge.second);
-    let text = edge_words(alloc, log, anomaly, edge)?;
-    let words = Json(Some(Label::Text(text.as_str())));
-    let written = match edge.written {
-        Some(Some(value)) => Json(Some(log.value(value))),
-        _ => Json(None),
-    };
-    put(write!(lines, r#","to":{to},"words":{words},"written":{written}}}"#))
+    let words = edge_words(alloc, log, anomaly, edge)?;
+    out.begin_object();
+    put_reading(log, edge, out);
+    put_writer("to", log, edge.second, out);
+    out.put_text("words", words.as_str());
+    match edge.written {
+        Some(Some(value)) => put_label("written", Some(log.value(value)), out),
+        Some(None) | None => put_label("written", None, out),
+    }
+    out.end_object();
+    Ok(())
 }
 
-/// The fields of an edge up to what was read.
-fn put_reading(log: &Log, edge: CycleEdge, lines: &mut Vec<u8>) -> Result<(), NoMemory> {
-    let from = name_of(log, edge.first);
-    let kind = kind_word(edge.kind);
-    let key = match edge.key {
-        Some(key) => Json(Some(log.key(key))),
-        None => Json(None),
-    };
-    let read = match edge.read {
-        Some(Need::Value(value)) => Json(Some(log.value(value))),
-        _ => Json(None),
-    };
-    put(write!(
-        lines,
-        r#"{{"from":{from},"key":{key},"kind":"{kind}","read":{read}"#
-    ))
+/// The members of an edge up to what was read.
+fn put_reading(log: &Log, edge: CycleEdge, out: &mut Lines) {
+    put_writer("from", log, edge.first, out);
+    match edge.key {
+        Some(key) => put_label("key", Some(log.key(key)), out),
+        None => put_label("key", None, out),
+    }
+    out.put_text("kind", kind_word(edge.kind));
+    match edge.read {
+        Some(Need::Value(value)) => put_label("read", Some(log.value(value)), out),
+        _ => put_label("read", None, out),
+    }
 }
 
 /// The name of a transaction, or null for the opening.
-fn name_of(log: &Log, writer: Writer) -> Json<'_> {
+fn put_writer(name: &str, log: &Log, writer: Writer, out: &mut Lines) {
     match writer {
-        Writer::Opening => Json(None),
-        Writer::Transaction(place) => Json(Some(log.name(place))),
+        Writer::Opening => put_label(name, None, out),
+        Writer::Transaction(place) => put_label(name, Some(log.name(place)), out),
+    }
+}
+
+/// A number or a text of a log, or null.
+fn put_label(name: &str, label: Option<Label<'_>>, out: &mut Lines) {
+    match label {
+        None => out.put_null(name),
+        Some(Label::Number(number)) => out.put_number(name, number),
+        Some(Label::Text(text)) => out.put_text(name, text),
     }
 }

@@ -4,10 +4,11 @@ use crate::counts::Counts;
 use hek_history::Order;
 use hek_history_log::Log;
 use hek_history_search::{Cause, Progress};
+use hek_report::put;
 use hek_rules::NoMemory;
 use std::alloc::Global;
 use std::fmt;
-use std::io::{self, Write};
+use std::io::Write;
 
 /// The line of a serial history.
 pub(crate) fn put_serial(counts: Counts, lines: &mut Vec<u8>) -> Result<(), NoMemory> {
@@ -87,13 +88,5 @@ pub(crate) fn put_order(order: Order, lines: &mut Vec<u8>) -> Result<(), NoMemor
             lines,
             "  in the orders of real time; --order any asks for any"
         )),
-    }
-}
-
-/// NoMemory if a text could not be written.
-pub(crate) fn put(written: io::Result<()>) -> Result<(), NoMemory> {
-    match written {
-        Ok(()) => Ok(()),
-        Err(_) => Err(NoMemory),
     }
 }

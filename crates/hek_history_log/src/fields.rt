@@ -8,12 +8,6 @@ use hek_history::{Level, Status};
 use json::Value;
 use std::alloc::Global;
 
-const LEVELS: [(&str, Level); 3] = [
-    ("serializable", Level::Serializable),
-    ("snapshot", Level::Snapshot),
-    ("repeatable", Level::Repeatable),
-];
-
 const STATUSES: [(&str, Status); 3] = [
     ("committed", Status::Committed),
     ("aborted", Status::Aborted),
@@ -36,13 +30,10 @@ pub(crate) fn level_of(line: LogLine<'_>, object: &Value<'_>) -> Result<Level, L
     let Some(value) = object.get("level") else {
         return Ok(Level::Serializable);
     };
-    let word = value.as_str().unwrap_or("");
-    for (name, level) in LEVELS {
-        if name == word {
-            return Ok(level);
-        }
+    match Level::named(value.as_str().unwrap_or("")) {
+        Some(level) => Ok(level),
+        None => Err(line.wants(Spot::Field("level"), Wanted::Level)),
     }
-    Err(line.wants(Spot::Field("level"), Wanted::Level))
 }
 
 /// The status of a transaction: committed, if it is not given.

@@ -3,10 +3,11 @@ use Rattle.std.specs.Prelude.{ℕ, ◌≡◌, ◌≤◌, ◌++◌, List, length,
 use Rattle.hek_rules.specs.Plan.{Plan}
 use Rattle.hek_asm.specs.declared.fault.AsmKind.{AsmKind}
 use Rattle.hek_asm.specs.Text.{schedule_of}
-use Rattle.hek_commands.specs.declared.fault.HekFault.{HekFault}
-use Rattle.hek_commands.specs.declared.fault.HekFault.TheVariants.{Line, NotText, CannotWrite}
-use Rattle.hek_commands.specs.Commands.{ScheduleTextFails}
-use Rattle.hek_commands.specs.Ran.{trace_of_steps, trace_of, first_events, clock_text, world_after}
+use Rattle.hek_report.specs.declared.fault.HekFault.{HekFault}
+use Rattle.hek_report.specs.declared.fault.HekFault.TheVariants.{Line, NotText, CannotWrite}
+use Rattle.hek_report.specs.Files.{ScheduleTextFails}
+use Rattle.hek_run_command.specs.Ran.{trace_of_steps, trace_of, first_events, world_after}
+use Rattle.hek_step_report.specs.Clock.{clock_text}
 
 abbrev pub status_of : HekFault → ℕ
 status_of (Line line kind) = 1

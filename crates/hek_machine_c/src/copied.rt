@@ -1,10 +1,10 @@
 //! A text, in the room of a caller.
 ghost use Rattle.std.specs.Prelude.{◌≡◌, ◌<◌, ◌≤◌, length, IfOk, IfErr};
-ghost use Rattle.hek_commands.specs.declared.fault.HekFault.TheVariants as hek;
+ghost use Rattle.hek_report.specs.declared.fault.HekFault.TheVariants as hek;
 ghost use Rattle.hek_machine_c.specs.Made.{IsIn};
 
 use crate::made::{HekMade, MADE, NO_ROOM};
-use hek_commands::HekFault;
+use hek_report::HekFault;
 use std::alloc::Global;
 
 /// Copies a text to the beginning of the room, if it fits.

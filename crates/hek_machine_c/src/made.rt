@@ -2,7 +2,7 @@
 ghost use Rattle.std.specs.Prelude.{◌≡◌};
 ghost use Rattle.hek_machine_c.specs.Made.{status_of, line_of};
 
-use hek_commands::HekFault;
+use hek_report::HekFault;
 
 /// The status of a call that made a text.
 pub(crate) const MADE: u32 = 0;

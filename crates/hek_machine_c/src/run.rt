@@ -5,7 +5,8 @@ ghost use Rattle.hek_machine_c.specs.Made.{HasFaultAt, MakingFails, IsIn, IsTrac
 
 use crate::copied::{copied, owned};
 use crate::made::{HekMade, failed};
-use hek_commands::{HekFault, ScheduleFile, run_command};
+use hek_report::{HekFault, ScheduleFile};
+use hek_run_command::run_command;
 use std::alloc::Global;
 
 /// Runs the schedule that a text describes, and writes its trace into the room at `out`, as `hek run --text` prints it.

@@ -5,7 +5,8 @@ ghost use Rattle.hek_machine_c.specs.Made.{HasFaultAt, MakingFails, IsIn, IsStat
 
 use crate::copied::{copied, owned};
 use crate::made::{HekMade, failed};
-use hek_commands::{HekFault, ScheduleFile, state_command};
+use hek_report::{HekFault, ScheduleFile};
+use hek_run_command::state_command;
 use std::alloc::Global;
 
 /// Runs the first `steps` steps of the schedule that a text describes, or all if it has fewer, and writes their trace and then

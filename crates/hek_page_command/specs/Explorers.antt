@@ -6,10 +6,10 @@ use Rattle.hek_worker.specs.declared.entry.Entry.{Entry}
 use Rattle.hek_permute.specs.declared.moves.Form.{Form}
 use Rattle.hek_permute.specs.Moves.{Work}
 use Rattle.hek_permute.specs.Plays.{IsPlay}
-use Rattle.hek_commands.specs.declared.fault.HekFault.{HekFault}
-use Rattle.hek_commands.specs.declared.fault.HekFault.TheVariants.{Mismatch}
-use Rattle.hek_commands.specs.declared.schedule_file.ScheduleFile.{ScheduleFile}
-use Rattle.hek_commands.specs.Commands.{FileGives, PrintFails, IsStop}
+use Rattle.hek_report.specs.declared.fault.HekFault.{HekFault}
+use Rattle.hek_report.specs.declared.fault.HekFault.TheVariants.{Mismatch}
+use Rattle.hek_report.specs.declared.schedule_file.ScheduleFile.{ScheduleFile}
+use Rattle.hek_report.specs.Files.{FileGives, PrintFails, IsStop}
 use Rattle.hek_permute.specs.Leveled.{leveled}
 use Rattle.hek_page_command.specs.declared.step_text.StepText.{StepText}
 use Rattle.hek_page_command.specs.Pages.{WritesPage}

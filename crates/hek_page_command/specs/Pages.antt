@@ -2,8 +2,8 @@
 use Rattle.std.specs.Prelude.{◌≡◌, ◌≤◌, ◌<◌, ◌⊎◌, ℕ, ◌-◌, min, List, length, Option, unwrap_or}
 use Rattle.std.specs.Io.KnownBytes.{Appends}
 use Rattle.hek_rules.specs.Plan.{Plan}
-use Rattle.hek_commands.specs.declared.schedule_file.ScheduleFile.{ScheduleFile}
-use Rattle.hek_commands.specs.Commands.{FileGives}
+use Rattle.hek_report.specs.declared.schedule_file.ScheduleFile.{ScheduleFile}
+use Rattle.hek_report.specs.Files.{FileGives}
 use Rattle.hek_page_command.specs.declared.page.Part.{Part}
 
 -- the number of the last step that is asked for, of a run of this many steps

@@ -1,7 +1,7 @@
 //! What a step changed, in the lines of a state.
-use hek_commands::{clock_line, put_bucket, put_txn, put_version};
 use hek_machine::Machine;
 use hek_rules::{NoMemory, Schedule, TxnId, VersionId};
+use hek_step_report::text::{clock_line, put_bucket, put_txn, put_version};
 use hek_why::Change;
 use std::alloc::Global;
 use std::io::Write;

@@ -1,8 +1,8 @@
 //! What the comments of a schedule text say.
 ghost use Rattle.std.specs.Prelude.{IfErr};
-ghost use Rattle.hek_commands.specs.Commands.{IsStop};
+ghost use Rattle.hek_report.specs.Files.{IsStop};
 
-use hek_commands::{HekFault, ScheduleFile};
+use hek_report::{HekFault, ScheduleFile};
 use hek_rules::NoMemory;
 use std::alloc::Global;
 use std::io::Read;

@@ -1,6 +1,6 @@
 //! The command `page`: writes the page of a run.
 ghost use Rattle.std.specs.Prelude.{◌≡◌, length, IfOk, IfErr, OnOk, MatchResult};
-ghost use Rattle.hek_commands.specs.Commands.{PrintFails, IsStop};
+ghost use Rattle.hek_report.specs.Files.{PrintFails, IsStop};
 ghost use Rattle.hek_page_command.specs.Pages.{Pages, IsAnswer, WritesPage, count_of, done_of, last_step};
 
 use crate::comments::{Comments, comments_in};
@@ -8,7 +8,7 @@ use crate::data::data_of;
 use crate::heading::Heading;
 use crate::sheet::write_sheet;
 use crate::story::StepRange;
-use hek_commands::{HekFault, ScheduleFile, schedule_in};
+use hek_report::{HekFault, ScheduleFile, schedule_in};
 use hek_rules::Schedule;
 use std::alloc::Global;
 use std::io::{Read, Write};

@@ -1,7 +1,7 @@
 //! A page: the frame, the style and the script around a title and data.
 ghost use Rattle.std.specs.Prelude.{◌≡◌, ◌++◌, IfErr, OnOk};
 ghost use Rattle.std.specs.List.{flat_map};
-ghost use Rattle.hek_commands.specs.Commands.{IsStop};
+ghost use Rattle.hek_report.specs.Files.{IsStop};
 ghost use Rattle.hek_page_command.specs.Pages.{WritesPage};
 ghost use Rattle.hek_page_command.specs.Sheets.{escaped};
 
@@ -9,7 +9,7 @@ use crate::frame::{BACK, END, FRONT, HEAD, MIDDLE};
 use crate::heading::Heading;
 use crate::script::SCRIPT;
 use crate::style::STYLE;
-use hek_commands::{HekFault, send};
+use hek_report::{HekFault, send};
 use hek_rules::NoMemory;
 use serde_json::Value;
 use std::alloc::Global;

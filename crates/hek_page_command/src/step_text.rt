@@ -6,8 +6,9 @@ use crate::changed::put_changed;
 use crate::sees::put_sees;
 use crate::waits::Waits;
 use hek_rules::{NoMemory, Schedule, TxnId};
+use hek_step_report::reply_rule;
+use hek_step_report::text::put_reasons;
 use hek_why::{Change, Dooms, Step, changes, reasons};
-use hek_why_command::{put_reasons, reply_rule};
 use std::alloc::Global;
 
 /// What a page says of a step: what the step changed, and these lines: `changed`, the line of each thing that it changed, as the

@@ -1,8 +1,8 @@
 //! A schedule that finishes itself.
 use crate::one::{events_of, leveled};
 use hek_asm::canonical;
-use hek_commands::{HekFault, ScheduleFile, schedule_in};
 use hek_permute::{Form, Moves, moves_of};
+use hek_report::{HekFault, ScheduleFile, schedule_in};
 use hek_rules::{Event, EventKind, NoMemory, Schedule, TxnId};
 use hek_worker::is_work;
 use std::alloc::Global;

@@ -1,5 +1,6 @@
 //! What the command line asks the command to do.
 use hek_permute::Form;
+use hek_report::Printing;
 use hek_rules::{Level, number};
 
 /// What the words of the command line ask for.
@@ -22,6 +23,7 @@ pub struct Choice<'a> {
     pub find: Option<&'a str>,
     /// Whether standard error is a terminal, on which the number of orders that have been played is shown.
     pub progress: bool,
+    pub printing: Printing,
 }
 
 /// The most orders that are played, if a choice has no limit.
@@ -48,7 +50,7 @@ impl Choice<'_> {
 
 /// How outcomes are counted.
 #[derive(Clone, Copy)]
-pub enum Extent {
+pub(crate) enum Extent {
     /// Each order is played: those from a number on, and below another.
     Orders(u64, u64),
     /// Orders that lead to the same state are counted together; there are at most so many states.

@@ -1,15 +1,13 @@
 //! The shortest beginning of an order in which something comes, as a schedule.
-use crate::lines::{put_order, put_written};
 use crate::one::{Played, fault_of, leveled};
 use crate::progress::Progress;
-use hek_asm::{canonical, read_trace};
-use hek_commands::{HekFault, ScheduleFile};
+use hek_asm::read_trace;
 use hek_permute::{
     Form, Moves, OrderFault, Outcome, Play, Sought, Watch, find_order, first_order, moves_of,
     play_all, play_order,
 };
+use hek_report::HekFault;
 use hek_rules::{Event, NoMemory, Reply, Schedule, TxnId};
-use hek_why_command::{Extras, Why, explain_command};
 use std::alloc::Global;
 use std::io::Write;
 
@@ -23,33 +21,18 @@ enum Wanted {
 
 /// The moves after which it came, and how many moves an order has.
 #[derive(Drop)]
-struct Found {
+struct Beginning {
     moves: Vec<TxnId>,
     most: usize,
 }
 
-/// Appends the schedule of the shortest beginning of an order in which a reply or a verdict comes, or `none of N orders`.
-/// Answers the exit status: 1 for none.
-pub(crate) fn put_search<'a, E: Write>(
-    alloc: Global,
-    schedule: &Schedule,
-    form: Form,
-    text: &str,
-    count: u64,
-    progress: &mut Progress<'_, E>,
-    lines: &mut Vec<u8>,
-) -> Result<u8, HekFault<'a>> {
-    let wanted = wanted_of(alloc, schedule, text)?;
-    match found_of(alloc, schedule, form, &wanted, progress)? {
-        Some(found) => {
-            put_found(alloc, schedule, form, &wanted, found, lines)?;
-            Ok(0)
-        }
-        None => {
-            put_written(writeln!(lines, "none of {count} orders").is_ok())?;
-            Ok(1)
-        }
-    }
+/// The play of the shortest beginning of an order in which something comes.
+#[derive(Drop)]
+pub(crate) struct Found {
+    /// The moves, and the schedule of their play up to the event that has the reply.
+    pub(crate) played: Played,
+    /// Whether a reply was looked for.
+    pub(crate) is_reply: bool,
 }
 
 /// What a text asks for: `not serial`, a reply, or a name and a reply.
@@ -99,13 +82,13 @@ fn detect_line(alloc: Global, text: &str) -> Result<String, NoMemory> {
 }
 
 /// The moves after which it came, if it comes.
-fn found_of<'a, E: Write>(
+fn beginning_of<'a, E: Write>(
     alloc: Global,
     schedule: &Schedule,
     form: Form,
     wanted: &Wanted,
     progress: &mut Progress<'_, E>,
-) -> Result<Option<Found>, HekFault<'a>> {
+) -> Result<Option<Beginning>, HekFault<'a>> {
     let moves = moves_of(alloc, schedule)?;
     let most = first_order(alloc, moves.as_slice(), form)?.len();
     let found = match wanted {
@@ -113,7 +96,7 @@ fn found_of<'a, E: Write>(
         Wanted::NotSerial => first_not_serial(alloc, schedule, form, progress),
     };
     match found {
-        Ok(Some(moves)) => Ok(Some(Found { moves, most })),
+        Ok(Some(moves)) => Ok(Some(Beginning { moves, most })),
         Ok(None) => Ok(None),
         Err(fault) => Err(fault_of(fault)),
     }
@@ -161,31 +144,17 @@ fn first_not_serial<E: Write>(
     }
 }
 
-/// Appends the schedule of the play of the moves that were found, up to the event that has the reply.
-fn put_found<'a>(
-    alloc: Global,
-    schedule: &Schedule,
-    form: Form,
-    wanted: &Wanted,
-    found: Found,
-    lines: &mut Vec<u8>,
-) -> Result<(), HekFault<'a>> {
-    let played = played_of(alloc, schedule, form, wanted, found)?;
-    put_heading(schedule, &played, lines)?;
-    put_schedule(alloc, &played.schedule, wanted, lines)
-}
-
 /// The moves that were found, and the schedule of their play up to the event that has the reply.
 fn played_of<'a>(
     alloc: Global,
     schedule: &Schedule,
     form: Form,
     wanted: &Wanted,
-    found: Found,
+    found: Beginning,
 ) -> Result<Played, HekFault<'a>> {
     let events = events_found(alloc, schedule, form, wanted, found.moves.as_slice())?;
     let made = leveled(alloc, schedule, None, events.as_slice())?;
-    let Found { moves, most } = found;
+    let Beginning { moves, most } = found;
     Ok(Played {
         moves,
         most,
@@ -220,30 +189,22 @@ fn events_played<'a>(
     }
 }
 
-/// The shortest beginning of an order in which a reply or a verdict comes, and the schedule of its play up to the event
-/// that has the reply; None if it comes in no order.
-pub fn find_played<'a, E: Write>(
+/// The shortest beginning of an order in which a reply or a verdict comes; None if it comes in no order.
+pub(crate) fn found_in<'a, E: Write>(
     alloc: Global,
     schedule: &Schedule,
     form: Form,
     text: &str,
     progress: &mut Progress<'_, E>,
-) -> Result<Option<Played>, HekFault<'a>> {
+) -> Result<Option<Found>, HekFault<'a>> {
     let wanted = wanted_of(alloc, schedule, text)?;
-    match found_of(alloc, schedule, form, &wanted, progress)? {
-        Some(found) => Ok(Some(played_of(alloc, schedule, form, &wanted, found)?)),
+    match beginning_of(alloc, schedule, form, &wanted, progress)? {
+        Some(found) => Ok(Some(Found {
+            played: played_of(alloc, schedule, form, &wanted, found)?,
+            is_reply: matches!(wanted, Wanted::Reply(_)),
+        })),
         None => Ok(None),
     }
-}
-
-/// Appends `# after M of N moves: NAMES`.
-fn put_heading(schedule: &Schedule, found: &Played, lines: &mut Vec<u8>) -> Result<(), NoMemory> {
-    let made = found.moves.len();
-    let most = found.most;
-    put_written(write!(lines, "# after {made} of {most} moves: ").is_ok())?;
-    put_order(schedule, found.moves.as_slice(), lines)?;
-    lines.push(b'\n')?;
-    Ok(())
 }
 
 /// The events of a play up to the first that has the reply; all, if none is asked for.
@@ -258,70 +219,4 @@ fn events_upto(alloc: Global, play: &Play, wanted: &Wanted) -> Result<Vec<Event>
         }
     }
     Ok(events)
-}
-
-/// Appends the text of a schedule. If a reply is asked for, its line of the trace and its reasons stand before the last
-/// step, as comments.
-fn put_schedule<'a>(
-    alloc: Global,
-    schedule: &Schedule,
-    wanted: &Wanted,
-    lines: &mut Vec<u8>,
-) -> Result<(), HekFault<'a>> {
-    let text = canonical(alloc, schedule)?;
-    let (front, last) = at_last_step(text.as_bytes());
-    put(front, lines)?;
-    if let Wanted::Reply(_) = wanted {
-        put_reasons(alloc, text.as_bytes(), lines)?;
-    }
-    put(last, lines)
-}
-
-/// Appends the last step of a schedule's trace with its reasons, as comments.
-fn put_reasons<'a>(alloc: Global, text: &[u8], lines: &mut Vec<u8>) -> Result<(), HekFault<'a>> {
-    let mut copy = Vec::new(alloc);
-    put(text, &mut copy)?;
-    let file: ScheduleFile<&[u8]> = ScheduleFile::Text(copy);
-    let extras = Extras {
-        why: Some(Why::Reasons),
-        changes: false,
-    };
-    let mut trace = Vec::new(alloc);
-    explain_command(alloc, file, extras, None, false, &mut trace)?;
-    let (_, last) = at_last_step(trace.as_slice());
-    put_comments(last, lines)?;
-    Ok(())
-}
-
-/// Appends lines as comments.
-fn put_comments(text: &[u8], lines: &mut Vec<u8>) -> Result<(), NoMemory> {
-    let mut is_start = true;
-    for byte in text {
-        if is_start {
-            lines.extend_from_slice(b"# ")?;
-        }
-        lines.push(*byte)?;
-        is_start = *byte == b'\n';
-    }
-    Ok(())
-}
-
-/// A text before and from its last line that doesn't begin with a space.
-fn at_last_step(text: &[u8]) -> (&[u8], &[u8]) {
-    let mut last = 0;
-    let mut is_start = true;
-    for (place, byte) in text.iter().enumerate() {
-        if is_start && *byte != b' ' {
-            last = place;
-        }
-        is_start = *byte == b'\n';
-    }
-    text.split_at(last.min(text.len()))
-}
-
-fn put<'a>(bytes: &[u8], lines: &mut Vec<u8>) -> Result<(), HekFault<'a>> {
-    match lines.extend_from_slice(bytes) {
-        Ok(()) => Ok(()),
-        Err(_) => Err(HekFault::NoMemory),
-    }
 }

@@ -1,10 +1,11 @@
 //! The command `permute` with several threads, which play the orders of a part.
 use crate::choice::Choice;
 use crate::one::leveled;
-use crate::permute::{put_tally, range, sorted};
-use hek_commands::{HekFault, ScheduleFile, schedule_in, send};
-use hek_permute::{Form, Tally, play_parts};
-use hek_rules::{NoMemory, Schedule};
+use crate::permute::{range, sorted};
+use crate::printed::put_tally;
+use hek_permute::play_parts;
+use hek_report::{HekFault, ScheduleFile, schedule_in, send};
+use hek_rules::Schedule;
 use std::alloc::Global;
 use std::io::{Read, Write};
 use std::thread::Threads;
@@ -37,13 +38,13 @@ fn write_part<'a, T: Threads + Sync, W: Write>(
     part: (u64, u64),
     out: &mut W,
 ) -> Result<u8, HekFault<'a>> {
-    let mut text = text_of_part(system, jobs, alloc, schedule, choice, part)?;
-    send(&mut text, out)?;
+    let mut lines = lines_of_part(system, jobs, alloc, schedule, choice, part)?;
+    send(&mut lines, out)?;
     Ok(0)
 }
 
 /// The lines of the outcomes of the orders from a number on, and below another.
-fn text_of_part<'a, T: Threads + Sync>(
+fn lines_of_part<'a, T: Threads + Sync>(
     system: &T,
     jobs: u64,
     alloc: Global,
@@ -52,25 +53,22 @@ fn text_of_part<'a, T: Threads + Sync>(
     part: (u64, u64),
 ) -> Result<Vec<u8>, HekFault<'a>> {
     let leveled = leveled(alloc, schedule, choice.level, schedule.steps())?;
-    text_played(system, jobs, alloc, &leveled, choice.form, part)
+    lines_played(system, jobs, alloc, &leveled, choice, part)
 }
 
 /// The lines of the outcomes of a part, of a schedule with the levels that are asked for.
-fn text_played<'a, T: Threads + Sync>(
+fn lines_played<'a, T: Threads + Sync>(
     system: &T,
     jobs: u64,
     alloc: Global,
     leveled: &Schedule,
-    form: Form,
+    choice: Choice<'_>,
     part: (u64, u64),
 ) -> Result<Vec<u8>, HekFault<'a>> {
     let (from, to) = part;
-    let played = play_parts(system, alloc, leveled, form, from, to, jobs);
-    Ok(tally_text(alloc, leveled, &sorted(played)?)?)
-}
-
-fn tally_text(alloc: Global, schedule: &Schedule, tally: &Tally) -> Result<Vec<u8>, NoMemory> {
-    let mut text = Vec::new(alloc);
-    put_tally(alloc, schedule, tally, &mut text)?;
-    Ok(text)
+    let played = play_parts(system, alloc, leveled, choice.form, from, to, jobs);
+    let tally = sorted(played)?;
+    let mut lines = Vec::new(alloc);
+    put_tally(alloc, choice.printing, leveled, &tally, &mut lines)?;
+    Ok(lines)
 }

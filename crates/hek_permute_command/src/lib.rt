@@ -3,20 +3,19 @@
 
 mod auto;
 mod choice;
+mod counts;
 mod find;
 mod jobs;
-mod lines;
+mod json;
 mod one;
 mod permute;
+mod printed;
 mod progress;
-mod table;
+mod text;
 
 pub use auto::auto_file;
-pub use choice::{Choice, Extent, part_of};
-pub use find::find_played;
+pub use choice::{Choice, part_of};
 pub use jobs::permute_in_threads;
-pub use lines::put_outcome;
-pub use one::{Played, fault_of, leveled, one_order};
-pub use permute::{extent_of, most_plays, permute_command, put_too_many, tallies_of, tally_of};
-pub use progress::Progress;
-pub use table::{count_of, is_first};
+pub use one::{fault_of, leveled};
+pub use permute::permute_command;
+pub use text::put_outcome;

@@ -1,39 +1,21 @@
 //! One order, as the schedule of its events.
-use hek_asm::canonical;
-use hek_commands::HekFault;
 use hek_permute::{
     Form, Moves, OrderFault, Play, first_order, moves_of, play_order, schedule_with,
 };
+use hek_report::HekFault;
 use hek_rules::{Event, Level, NoMemory, Schedule, TxnId};
 use std::alloc::Global;
-use std::io::Write;
-
-/// Writes the schedule whose steps are the events of an order.
-pub(crate) fn write_one<'a, W: Write>(
-    alloc: Global,
-    schedule: &Schedule,
-    form: Form,
-    names: &str,
-    out: &mut W,
-) -> Result<u8, HekFault<'a>> {
-    let played = one_order(alloc, schedule, form, names)?;
-    let text = canonical(alloc, &played.schedule)?;
-    match out.write_all(text.as_bytes()) {
-        Ok(()) => Ok(0),
-        Err(_) => Err(HekFault::CannotWrite),
-    }
-}
 
 /// Moves, how many moves an order has, and the schedule whose steps are the events of these moves.
 #[derive(Drop)]
-pub struct Played {
-    pub moves: Vec<TxnId>,
-    pub most: usize,
-    pub schedule: Schedule,
+pub(crate) struct Played {
+    pub(crate) moves: Vec<TxnId>,
+    pub(crate) most: usize,
+    pub(crate) schedule: Schedule,
 }
 
 /// The order that names give, and the schedule whose steps are its events.
-pub fn one_order<'a>(
+pub(crate) fn one_order<'a>(
     alloc: Global,
     schedule: &Schedule,
     form: Form,

@@ -1,14 +1,13 @@
 //! The command `permute`: plays the orders that are asked for, and writes their outcomes.
 use crate::choice::{Choice, Extent, range_of};
-use crate::find::put_search;
-use crate::lines::{put_order, put_outcome, put_row, put_written};
-use crate::one::{fault_of, leveled, write_one};
+use crate::find::found_in;
+use crate::one::{fault_of, leveled, one_order};
+use crate::printed::{put_found, put_levels, put_none, put_order, put_played, put_tally};
 use crate::progress::Progress;
-use crate::table::put_table;
-use hek_commands::{HekFault, ScheduleFile, schedule_in, send};
 use hek_explore::explore;
 use hek_permute::{Form, OrderFault, Outcome, Tally, Watch, moves_of, order_count, play_all};
-use hek_rules::{Level, NoMemory, Schedule, TxnId};
+use hek_report::{HekFault, Printing, ScheduleFile, schedule_in, send};
+use hek_rules::{Level, Schedule, TxnId};
 use std::alloc::Global;
 use std::io::{Read, Write};
 
@@ -41,19 +40,19 @@ fn permute<'a, W: Write, E: Write>(
         return Ok(1);
     };
     let mut progress = Progress::new(faults, choice.progress, most_plays(choice, extent));
-    let mut text = Vec::new(alloc);
-    let played = put_asked(alloc, schedule, choice, extent, &mut progress, &mut text);
+    let mut lines = Vec::new(alloc);
+    let played = put_asked(alloc, schedule, choice, extent, &mut progress, &mut lines);
     progress.clear();
     let status = played?;
     if status.is_none() {
         put_too_many(choice, faults);
     }
-    send(&mut text, out)?;
+    send(&mut lines, out)?;
     Ok(status.unwrap_or(1))
 }
 
 /// Says that there are more states than the limit.
-pub fn put_too_many<E: Write>(choice: Choice<'_>, faults: &mut E) {
+fn put_too_many<E: Write>(choice: Choice<'_>, faults: &mut E) {
     let most = choice.most_states();
     let _ = writeln!(faults, "hek: permute: more than {most} states");
 }
@@ -66,22 +65,24 @@ fn put_asked<'a, E: Write>(
     choice: Choice<'_>,
     extent: Extent,
     progress: &mut Progress<'_, E>,
-    text: &mut Vec<u8>,
+    lines: &mut Vec<u8>,
 ) -> Result<Option<u8>, HekFault<'a>> {
     if choice.levels {
-        return put_levels(alloc, schedule, choice.form, extent, progress, text);
+        return put_leveled(alloc, schedule, choice, extent, progress, lines);
     }
     let leveled = leveled(alloc, schedule, choice.level, schedule.steps())?;
     match extent {
-        Extent::Orders(from, to) => {
-            put_orders(alloc, &leveled, choice, (from, to), progress, text).map(Some)
+        Extent::Orders(from, to) if choice.find.is_some() || choice.each => {
+            put_orders(alloc, &leveled, choice, (from, to), progress, lines).map(Some)
         }
-        Extent::States(_) => put_counts(alloc, &leveled, choice.form, extent, progress, text),
+        Extent::Orders(_, _) | Extent::States(_) => {
+            put_counts(alloc, &leveled, choice, extent, progress, lines)
+        }
     }
 }
 
 /// How many plays the orders take, if that is known.
-pub fn most_plays(choice: Choice<'_>, extent: Extent) -> Option<u64> {
+fn most_plays(choice: Choice<'_>, extent: Extent) -> Option<u64> {
     match extent {
         Extent::Orders(from, to) if choice.levels => {
             Some((to.saturating_sub(from)).saturating_mul(Level::ALL.len() as u64))
@@ -99,12 +100,27 @@ fn at_order<'a, W: Write>(
     names: &str,
     out: &mut W,
 ) -> Result<u8, HekFault<'a>> {
+    let mut lines = lines_of_order(alloc, schedule, choice, names)?;
+    send(&mut lines, out)?;
+    Ok(0)
+}
+
+/// The lines of one order.
+fn lines_of_order<'a>(
+    alloc: Global,
+    schedule: &Schedule,
+    choice: Choice<'_>,
+    names: &str,
+) -> Result<Vec<u8>, HekFault<'a>> {
     let leveled = leveled(alloc, schedule, choice.level, schedule.steps())?;
-    write_one(alloc, &leveled, choice.form, names, out)
+    let played = one_order(alloc, &leveled, choice.form, names)?;
+    let mut lines = Vec::new(alloc);
+    put_played(alloc, choice.printing, &played, &mut lines)?;
+    Ok(lines)
 }
 
 /// How the outcomes that a choice asks for are counted; None if there are too many orders.
-pub fn extent_of<'a, E: Write>(
+fn extent_of<'a, E: Write>(
     alloc: Global,
     schedule: &Schedule,
     choice: Choice<'_>,
@@ -147,46 +163,63 @@ pub(crate) fn range<'a, E: Write>(
     Ok(Some((from, to)))
 }
 
-/// The lines of a range of orders, each of which is played. Answers the exit status.
+/// The lines of a range of orders, each of which is played: what was found, or each order. Answers the exit status.
 fn put_orders<'a, E: Write>(
     alloc: Global,
     schedule: &Schedule,
     choice: Choice<'_>,
     part: (u64, u64),
     progress: &mut Progress<'_, E>,
-    text: &mut Vec<u8>,
+    lines: &mut Vec<u8>,
 ) -> Result<u8, HekFault<'a>> {
-    let (from, to) = part;
     if let Some(wanted) = choice.find {
-        return put_search(alloc, schedule, choice.form, wanted, to, progress, text);
+        return put_search(alloc, schedule, choice, wanted, part.1, progress, lines);
     }
-    if choice.each {
-        put_each(alloc, schedule, choice.form, from, to, progress, text)?;
-        return Ok(0);
+    put_each(alloc, schedule, choice, part, progress, lines)?;
+    Ok(0)
+}
+
+/// Appends the shortest beginning of an order in which a reply or a verdict comes, or that it comes in none of `count`
+/// orders. Answers the exit status: 1 for none.
+fn put_search<'a, E: Write>(
+    alloc: Global,
+    schedule: &Schedule,
+    choice: Choice<'_>,
+    wanted: &str,
+    count: u64,
+    progress: &mut Progress<'_, E>,
+    lines: &mut Vec<u8>,
+) -> Result<u8, HekFault<'a>> {
+    match found_in(alloc, schedule, choice.form, wanted, progress)? {
+        Some(found) => {
+            put_found(alloc, choice.printing, &found, lines)?;
+            Ok(0)
+        }
+        None => {
+            put_none(alloc, choice.printing, count, lines)?;
+            Ok(1)
+        }
     }
-    let extent = Extent::Orders(from, to);
-    let status = put_counts(alloc, schedule, choice.form, extent, progress, text)?;
-    Ok(status.unwrap_or(1))
 }
 
 /// The lines of a tally. Answers the exit status, or None if there are more states than the limit.
 fn put_counts<'a, E: Write>(
     alloc: Global,
     schedule: &Schedule,
-    form: Form,
+    choice: Choice<'_>,
     extent: Extent,
     progress: &mut Progress<'_, E>,
-    text: &mut Vec<u8>,
+    lines: &mut Vec<u8>,
 ) -> Result<Option<u8>, HekFault<'a>> {
-    let Some(tally) = tally_of(alloc, schedule, form, extent, progress)? else {
+    let Some(tally) = tally_of(alloc, schedule, choice.form, extent, progress)? else {
         return Ok(None);
     };
-    put_tally(alloc, schedule, &tally, text)?;
+    put_tally(alloc, choice.printing, schedule, &tally, lines)?;
     Ok(Some(0))
 }
 
 /// The tally of the orders, the most frequent outcomes first; None if there are more states than the limit.
-pub fn tally_of<'a, E: Write>(
+fn tally_of<'a, E: Write>(
     alloc: Global,
     schedule: &Schedule,
     form: Form,
@@ -230,103 +263,71 @@ pub(crate) fn sorted<'a>(counted: Result<Tally, OrderFault>) -> Result<Tally, He
     }
 }
 
-/// A line with the number of orders, and a line for each outcome.
-pub(crate) fn put_tally(
-    alloc: Global,
-    schedule: &Schedule,
-    tally: &Tally,
-    text: &mut Vec<u8>,
-) -> Result<(), NoMemory> {
-    let mut orders = 0u64;
-    for row in tally.rows() {
-        orders = orders.saturating_add(row.orders());
-    }
-    put_heading(orders, tally.rows().len(), text)?;
-    for row in tally.rows() {
-        put_row(alloc, schedule, row, text)?;
-    }
-    Ok(())
-}
-
-fn put_heading(orders: u64, outcomes: usize, text: &mut Vec<u8>) -> Result<(), NoMemory> {
-    put_written(writeln!(text, "orders {orders} outcomes {outcomes}").is_ok())
-}
-
 /// A watcher that gathers a line for each order.
 #[derive(Drop)]
-struct Lines<'s, 'p, 'e, E: Write> {
+struct Each<'s, 'p, 'e, 'l, E: Write> {
     alloc: Global,
+    printing: Printing,
     schedule: &'s Schedule,
     progress: &'p mut Progress<'e, E>,
-    text: Vec<u8>,
+    lines: &'l mut Vec<u8>,
 }
 
-impl<E: Write> Watch for Lines<'_, '_, '_, E> {
+impl<E: Write> Watch for Each<'_, '_, '_, '_, E> {
     fn see(&mut self, order: &[TxnId], outcome: &Outcome) -> bool {
         self.progress.count();
-        put_line(self.alloc, self.schedule, order, outcome, &mut self.text).is_ok()
+        let schedule = self.schedule;
+        put_order(
+            self.alloc,
+            self.printing,
+            schedule,
+            order,
+            outcome,
+            self.lines,
+        )
+        .is_ok()
     }
-}
-
-fn put_line(
-    alloc: Global,
-    schedule: &Schedule,
-    order: &[TxnId],
-    outcome: &Outcome,
-    text: &mut Vec<u8>,
-) -> Result<(), NoMemory> {
-    put_order(schedule, order, text)?;
-    text.extend_from_slice(b" -> ")?;
-    put_outcome(alloc, schedule, outcome, text)?;
-    if outcome.waited() {
-        text.extend_from_slice(b"; waited")?;
-    }
-    text.push(b'\n')?;
-    Ok(())
 }
 
 fn put_each<'a, E: Write>(
     alloc: Global,
     schedule: &Schedule,
-    form: Form,
-    from: u64,
-    to: u64,
+    choice: Choice<'_>,
+    part: (u64, u64),
     progress: &mut Progress<'_, E>,
-    text: &mut Vec<u8>,
+    lines: &mut Vec<u8>,
 ) -> Result<(), HekFault<'a>> {
-    let mut lines = Lines {
+    let mut each = Each {
         alloc,
+        printing: choice.printing,
         schedule,
         progress,
-        text: Vec::new(alloc),
+        lines,
     };
-    if let Err(fault) = play_all(alloc, schedule, form, from, to, &mut lines) {
-        return Err(fault_of(fault));
+    match play_all(alloc, schedule, choice.form, part.0, part.1, &mut each) {
+        Ok(_) => Ok(()),
+        Err(fault) => Err(fault_of(fault)),
     }
-    if text.extend_from_slice(lines.text.as_slice()).is_err() {
-        return Err(HekFault::NoMemory);
-    }
-    Ok(())
 }
 
-/// The table of outcomes by level. Answers the exit status, or None if there are more states than the limit.
-fn put_levels<'a, E: Write>(
+/// The outcomes at each level. Answers the exit status, or None if there are more states than the limit.
+fn put_leveled<'a, E: Write>(
     alloc: Global,
     schedule: &Schedule,
-    form: Form,
+    choice: Choice<'_>,
     extent: Extent,
     progress: &mut Progress<'_, E>,
-    text: &mut Vec<u8>,
+    lines: &mut Vec<u8>,
 ) -> Result<Option<u8>, HekFault<'a>> {
-    let Some(tallies) = tallies_of(alloc, schedule, form, extent, progress)? else {
+    let Some(tallies) = tallies_of(alloc, schedule, choice.form, extent, progress)? else {
         return Ok(None);
     };
-    put_table(alloc, schedule, tallies.as_slice(), text)?;
+    put_levels(alloc, choice.printing, schedule, tallies.as_slice(), lines)?;
     Ok(Some(0))
 }
 
 /// The tally of the orders at each level, in the order of the levels; None if there are more states than the limit.
-pub fn tallies_of<'a, E: Write>(
+fn tallies_of<'a, E: Write>(
     alloc: Global,
     schedule: &Schedule,
     form: Form,

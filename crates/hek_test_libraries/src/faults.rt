@@ -1,8 +1,8 @@
 //! The line of each fault.
 use crate::asserts::is;
 use hek_asm::{AsmFault, AsmKind, TraceFault};
-use hek_commands::{HekFault, report};
 use hek_image::LoadFault;
+use hek_report::{HekFault, report};
 use std::alloc::Global;
 use std::fmt::Display;
 use std::process::Abort;

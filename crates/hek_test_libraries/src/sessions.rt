@@ -1,7 +1,7 @@
 //! A debugger's session in which memory may be refused.
 use crate::asserts::{holds, is};
-use hek_commands::{HekFault, ScheduleFile};
 use hek_debug_command::{Manner, debug_session};
+use hek_report::{HekFault, ScheduleFile};
 use std::alloc::{AllocError, Global};
 use std::process::Abort;
 use std::test::Fail;

@@ -13,10 +13,10 @@ use Rattle.hek_rules.specs.Recorded.{Recorded}
 use Rattle.hek_rules.specs.declared.memory.NoMemory.{NoMemory}
 use Rattle.hek_rules.specs.Faults.{HasNoFault, IsVerdict}
 use Rattle.hek_asm.specs.Trace.{NamesDeclared}
-use Rattle.hek_commands.specs.declared.fault.HekFault.{HekFault}
-use Rattle.hek_commands.specs.declared.fault.HekFault.TheVariants as hek
-use Rattle.hek_commands.specs.declared.schedule_file.ScheduleFile.{ScheduleFile}
-use Rattle.hek_commands.specs.declared.schedule_file.ScheduleFile.TheVariants as file
+use Rattle.hek_report.specs.declared.fault.HekFault.{HekFault}
+use Rattle.hek_report.specs.declared.fault.HekFault.TheVariants as hek
+use Rattle.hek_report.specs.declared.schedule_file.ScheduleFile.{ScheduleFile}
+use Rattle.hek_report.specs.declared.schedule_file.ScheduleFile.TheVariants as file
 use Rattle.hek_threads_command.specs.Threaded.{IsThreadsStop, ThreadsFail}
 use Rattle.hek_worker.specs.declared.entry.Entry.{Entry}
 use Rattle.hek_worker.specs.History.{IsEntry, IsHistory, IsSerialHistory, history_events, replies_in, recorded_by, is_that}

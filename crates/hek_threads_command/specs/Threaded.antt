@@ -7,10 +7,12 @@ use Rattle.hek_rules.specs.Plan.{Plan}
 use Rattle.hek_rules.specs.Run.{transcript}
 use Rattle.hek_machine.specs.Observed.{opening_of}
 use Rattle.hek_asm.specs.Trace.{trace}
-use Rattle.hek_commands.specs.declared.fault.HekFault.{HekFault}
-use Rattle.hek_commands.specs.declared.fault.HekFault.TheVariants as hek
-use Rattle.hek_commands.specs.declared.schedule_file.ScheduleFile.{ScheduleFile}
-use Rattle.hek_commands.specs.Commands.{FileGives, PrintFails}
+use Rattle.hek_report.specs.declared.fault.HekFault.{HekFault}
+use Rattle.hek_report.specs.declared.fault.HekFault.TheVariants as hek
+use Rattle.hek_report.specs.declared.schedule_file.ScheduleFile.{ScheduleFile}
+use Rattle.hek_report.specs.declared.printing.Printing.{Printing}
+use Rattle.hek_report.specs.declared.printing.Printing.TheVariants.{Text}
+use Rattle.hek_report.specs.Files.{FileGives, PrintFails}
 use Rattle.hek_worker.specs.declared.entry.Entry.{Entry}
 use Rattle.hek_worker.specs.declared.entry.ThreadFault.{ThreadFault}
 use Rattle.hek_worker.specs.declared.entry.ThreadFault.TheVariants as threads
@@ -27,17 +29,18 @@ pub record HasRun (plan : Plan) (history : List Entry) : Type 0 where
   pub replies : AreTableReplies plan history
   pub serial : IsSerialHistory plan history
 
--- the trace of a history of the schedule's workers was written after the bytes that a writer held, if these are known
-pub record ShowsHistory (plan : Plan) (before after : Option (List ℕ)) : Type 0 where
+-- a history of the schedule's workers was written; as text it is its trace, after the bytes that a writer held, if these
+-- are known
+pub record ShowsHistory (plan : Plan) (printing : Printing) (before after : Option (List ℕ)) : Type 0 where
   pub history : List Entry
   pub run : HasRun plan history
-  pub written : Appends before after (trace plan (history_events history) (replies_in history))
+  pub written : printing ≡ Text → Appends before after (trace plan (history_events history) (replies_in history))
 
--- the trace of a history was written for the schedule in a file
-pub record RunsInThreads {R : Type 0} (left : R → Option (List ℕ)) (said : ScheduleFile R) (before after : Option (List ℕ)) : Type 0 where
+-- a history was written for the schedule in a file
+pub record RunsInThreads {R : Type 0} (left : R → Option (List ℕ)) (said : ScheduleFile R) (printing : Printing) (before after : Option (List ℕ)) : Type 0 where
   pub plan : Plan
   pub is : FileGives left said plan
-  pub shows : ShowsHistory plan before after
+  pub shows : ShowsHistory plan printing before after
 
 -- the fault of a run in threads as that of a command
 abbrev pub thread_fault : ThreadFault → HekFault

@@ -1,61 +1,55 @@
 //! The outcome of a run: which transactions committed, which aborted and why, the rows, and the checker's verdict.
-ghost use Rattle.std.specs.Prelude.{◌≡◌, ◌++◌, ℕ, List, IfOk};
+ghost use Rattle.std.specs.Prelude.{◌≡◌, IfOk};
 ghost use Rattle.hek_rules.specs.declared.serial.Verdict.TheVariants as verdict;
 ghost use Rattle.hek_worker.specs.History.{IsSerialHistory};
 ghost use Rattle.hek_threads_command.specs.Threaded.{HasRun};
-ghost use Rattle.hek_threads_command.specs.Outcomes.{ending_reply, verdict_ending};
+ghost use Rattle.hek_threads_command.specs.Outcomes.{ending_reply};
 
-use hek_commands::put_reply;
-use hek_rules::{Cause, NoMemory, Reply, Schedule, TxnId, Verdict};
+use hek_rules::{Cause, NoMemory, Pairs, Reply, Schedule, Verdict};
 use hek_serial::check;
 use hek_threads::{Part, Report, transcript_of};
 use std::alloc::Global;
-use std::io::Write;
 
-/// A run's outcome as text: each transaction by name, with how it ended; the committed rows; the checker's verdict on
-/// the history, which is always `serial`.
-pub(crate) fn outcome_text(
+/// An outcome of a run.
+#[derive(Drop)]
+pub(crate) struct Outcome {
+    /// How each transaction ended, by ID: Committed, Aborted with the cause, or Nothing.
+    pub(crate) ends: Vec<Reply>,
+    /// The committed rows.
+    pub(crate) rows: Pairs,
+    /// The checker's verdict on the history.
+    pub(crate) verdict: Verdict,
+}
+
+/// The outcome of a run; its verdict is always `Serial`.
+pub(crate) fn outcome_of(
     alloc: Global,
     schedule: &Schedule,
     report: Report,
-) -> Result<Vec<u8>, NoMemory>
+) -> Result<Outcome, NoMemory>
     requires { HasRun schedule.now report.history.items }
-    ensures { IfOk result (λ text. (before : List ℕ) × (text.items ≡ before ++ verdict_ending verdict.Serial)) }
+    ensures { IfOk result (λ outcome. outcome.verdict ≡ verdict.Serial) }
 {
-    let mut text = ended_text(alloc, schedule, &report)?;
+    let ends = ends_of(alloc, report.transcripts.as_slice())?;
+    let rows = report.machine.rows()?;
     let verdict = judge(alloc, schedule, report)?;
-    put_verdict(verdict, &mut text)?;
-    Ok(text)
+    Ok(Outcome {
+        ends,
+        rows,
+        verdict,
+    })
 }
 
-/// How each transaction ended, and the committed rows.
-fn ended_text(alloc: Global, schedule: &Schedule, report: &Report) -> Result<Vec<u8>, NoMemory> {
-    let mut text = Vec::new(alloc);
-    put_ends(alloc, schedule, report.transcripts.as_slice(), &mut text)?;
-    put_reply(alloc, &Reply::Rows(report.machine.rows()?), &mut text)?;
-    Ok(text)
-}
-
-fn put_ends(
-    alloc: Global,
-    schedule: &Schedule,
-    parts: &[Part],
-    text: &mut Vec<u8>,
-) -> Result<(), NoMemory> {
-    for place in 0..schedule.txn_count() {
-        let name = schedule.name_of(TxnId::new(place as u64 + 1));
-        text.extend_from_slice(name.as_bytes())?;
-        text.push(b' ')?;
-        if let Some(part) = parts.get(place) {
-            put_reply(alloc, &end_of(part), text)?;
-        }
-        text.extend_from_slice(b"; ")?;
+fn ends_of(alloc: Global, parts: &[Part]) -> Result<Vec<Reply>, NoMemory> {
+    let mut ends = Vec::new(alloc);
+    for part in parts {
+        ends.push(end_of(part))?;
     }
-    Ok(())
+    Ok(ends)
 }
 
 /// How a worker's transaction ended: Committed, or Aborted with the cause.
-pub fn end_of(part: &Part) -> Reply
+fn end_of(part: &Part) -> Reply
     ensures { result ≡ ending_reply part.now }
 {
     let mut rest = part.as_slice();
@@ -82,18 +76,4 @@ fn judge(alloc: Global, schedule: &Schedule, report: Report) -> Result<Verdict, 
     } = report;
     let told = transcript_of(alloc, schedule, history)?;
     check(alloc, &told)
-}
-
-/// Appends the verdict to the text.
-fn put_verdict(verdict: Verdict, text: &mut Vec<u8>) -> Result<(), NoMemory>
-    ensures { IfOk result (λ _. text.new.items ≡ text.old.items ++ verdict_ending verdict) }
-{
-    let written = match verdict {
-        Verdict::Serial => write!(text, "; serial"),
-        Verdict::NotSerial(number) => write!(text, "; not serial {number}"),
-    };
-    match written {
-        Ok(()) => Ok(()),
-        Err(_) => Err(NoMemory),
-    }
 }

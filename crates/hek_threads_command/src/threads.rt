@@ -1,13 +1,14 @@
 //! One run in threads, and its trace.
 ghost use Rattle.std.specs.Prelude.{◌≡◌, MatchResult, OnOk, IfOk, IfErr, length};
-ghost use Rattle.std.specs.List.{AllByRecursion};
-ghost use Rattle.hek_asm.specs.Trace.{NamesDeclared, trace};
+ghost use Rattle.hek_asm.specs.Trace.{trace};
 ghost use Rattle.hek_worker.specs.History.{IsHistory, history_events, replies_in};
+ghost use Rattle.hek_report.specs.declared.printing.Printing.TheVariants as printings;
 ghost use Rattle.hek_threads_command.specs.Threaded.{HasRun, IsRunFault, IsThreadsStop, RunsInThreads, ShowsHistory, ThreadsFail, thread_fault};
 
-use hek_asm::write_trace;
-use hek_commands::{HekFault, ScheduleFile, schedule_in, send};
-use hek_rules::{Event, FromWrite, NoMemory, Reply, Schedule, TxnId};
+use crate::json::history_lines;
+use crate::text::trace_text;
+use hek_report::{HekFault, Printing, ScheduleFile, schedule_in, send};
+use hek_rules::{NoMemory, Schedule, TxnId};
 use hek_threads::{Entry, Gate, Lottery, Report, ThreadFault, run_workers};
 use std::alloc::Global;
 use std::io::{Read, Write};
@@ -23,37 +24,55 @@ pub struct Pace {
     pub seed: Option<u64>,
 }
 
-/// Runs each transaction of the schedule in a file in its own thread, and writes the history as a trace. Answers the
-/// exit status. Nothing is written before the run is over.
+/// Runs each transaction of the schedule in a file in its own thread, and writes the history: as a trace, or the object of
+/// each step. Answers the exit status. Nothing is written before the run is over.
 #[tactic(auto, using(crate::proofs::Histories::stop_fails))]
 pub fn threads_command<'a, T: Threads + Wait + Sync, R: Read + Drop, W: Write>(
     rt: &T,
     alloc: Global,
     file: ScheduleFile<R>,
     pace: Pace,
+    printing: Printing,
     out: &mut W,
 ) -> Result<u8, HekFault<'a>>
-    ensures { MatchResult result (λ status. (status ≡ 0) × RunsInThreads R.remaining file (W.contents out.old) (W.contents out.new)) (ThreadsFail R.remaining file) }
+    ensures { MatchResult result (λ status. (status ≡ 0) × RunsInThreads R.remaining file printing (W.contents out.old) (W.contents out.new)) (ThreadsFail R.remaining file) }
 {
     let schedule = schedule_in(alloc, file)?;
-    write_history(rt, alloc, &schedule, pace, out)?;
+    write_history(rt, alloc, &schedule, pace, printing, out)?;
     Ok(0)
 }
 
-/// Runs a schedule's transactions in threads, and writes the trace.
+/// Runs a schedule's transactions in threads, and writes the history.
 fn write_history<'a, T: Threads + Wait + Sync, W: Write>(
     rt: &T,
     alloc: Global,
     schedule: &Schedule,
     pace: Pace,
+    printing: Printing,
     out: &mut W,
 ) -> Result<(), HekFault<'a>>
-    ensures written { OnOk result (ShowsHistory schedule.now (W.contents out.old) (W.contents out.new)) }
+    ensures written { OnOk result (ShowsHistory schedule.now printing (W.contents out.old) (W.contents out.new)) }
     ensures stops { IfErr result IsThreadsStop }
 {
     let history = history_of(rt, alloc, schedule, pace)?;
-    let mut text = trace_text(alloc, schedule, history)?;
-    send(&mut text, out)
+    let mut lines = lines_of(alloc, schedule, history, printing)?;
+    send(&mut lines, out)
+}
+
+/// The lines of a history.
+fn lines_of(
+    alloc: Global,
+    schedule: &Schedule,
+    history: Vec<Entry>,
+    printing: Printing,
+) -> Result<Vec<u8>, NoMemory>
+    requires { IsHistory (length schedule.now.txns) history.items }
+    ensures { IfOk result (λ lines. printing ≡ printings.Text → lines.items ≡ trace schedule.now (history_events history.items) (replies_in history.items)) }
+{
+    match printing {
+        Printing::Text => trace_text(alloc, schedule, history),
+        Printing::Json => history_lines(alloc, schedule, history.as_slice()),
+    }
 }
 
 /// A gate that is always open.
@@ -127,59 +146,5 @@ fn fault_of<'a>(fault: ThreadFault) -> HekFault<'a>
         ThreadFault::NoWorker => HekFault::NoWorker,
         ThreadFault::NoMemory => HekFault::NoMemory,
         ThreadFault::Mismatch(worker) => HekFault::Mismatch(worker.number()),
-    }
-}
-
-/// The trace of a history.
-#[tactic(auto, using(crate::proofs::Histories::paired))]
-fn trace_text(alloc: Global, schedule: &Schedule, history: Vec<Entry>) -> Result<Vec<u8>, NoMemory>
-    requires { IsHistory (length schedule.now.txns) history.items }
-    ensures { IfOk result (λ text. text.items ≡ trace schedule.now (history_events history.items) (replies_in history.items)) }
-{
-    let events = events_in(alloc, history.as_slice())?;
-    let replies = replies_of(alloc, history)?;
-    text_of(alloc, schedule, events.as_slice(), replies.as_slice())
-}
-
-/// The events of a history.
-fn events_in(alloc: Global, history: &[Entry]) -> Result<Vec<Event>, NoMemory>
-    ensures { IfOk result (λ events. events.items ≡ history_events history.now) }
-{
-    Ok(history.iter().map(|entry| entry.event).collect(alloc)?)
-}
-
-/// The replies of a history.
-fn replies_of(alloc: Global, history: Vec<Entry>) -> Result<Vec<Reply>, NoMemory>
-    ensures { IfOk result (λ replies. replies.items ≡ replies_in history.items) }
-{
-    Ok(history.into_iter().map(reply_of).collect(alloc)?)
-}
-
-fn reply_of(entry: Entry) -> Reply
-    ensures { result ≡ entry.reply }
-{
-    let Entry {
-        worker: _,
-        event: _,
-        reply,
-    } = entry;
-    reply
-}
-
-/// The trace of events and replies.
-fn text_of(
-    alloc: Global,
-    schedule: &Schedule,
-    events: &[Event],
-    replies: &[Reply],
-) -> Result<Vec<u8>, NoMemory>
-    requires declared { AllByRecursion (NamesDeclared (length schedule.now.txns)) events.now }
-    requires paired { length replies.now ≡ length events.now }
-    ensures { IfOk result (λ text. text.items ≡ trace schedule.now events.now replies.now) }
-{
-    let mut sink = FromWrite::new(Vec::new(alloc));
-    match write_trace(schedule, events, replies, &mut sink) {
-        Ok(()) => Ok(sink.into_inner()),
-        Err(_) => Err(NoMemory),
     }
 }

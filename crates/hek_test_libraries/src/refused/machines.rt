@@ -5,9 +5,9 @@ ghost use Rattle.hek_txn.specs.TxnTable.{Declared};
 
 use crate::asserts::{holds, is, refused};
 use crate::refused::texts::{SCHEDULE, TRACE, assembled, told};
-use hek_commands::state_lines;
 use hek_machine::{Machine, Trace, run, run_at};
 use hek_rules::{Event, Pairs, Reply, Schedule, Time, Transcript, TxnId};
+use hek_step_report::text::state_lines;
 use std::alloc::Global;
 use std::process::Abort;
 

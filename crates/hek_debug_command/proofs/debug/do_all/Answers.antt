@@ -3,7 +3,7 @@ use Rattle.std.proofs.lemmas.List.{at_drop_more}
 use Rattle.hek_debug.specs.declared.command.Command.{Command}
 use Rattle.hek_debug.specs.Sessions.{Session, session_after, stop_of}
 use Rattle.hek_debug_command.specs.Debugged.{told_text, session_text}
-use Rattle.hek_commands.specs.Sent.{Passes}
+use Rattle.hek_report.specs.Sent.{Passes}
 use Rattle.hek_debug_command.proofs.Sending.{passes-next}
 use Rattle.hek_debug_command.proofs.debug.do_all.Goals as goal
 

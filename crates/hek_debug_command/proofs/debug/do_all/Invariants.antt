@@ -1,6 +1,6 @@
 use Rattle.std.proofs.Common.{drop}
 use Rattle.hek_debug_command.specs.Debugged.{session_text}
-use Rattle.hek_commands.specs.Sent.{Passes}
+use Rattle.hek_report.specs.Sent.{Passes}
 use Rattle.hek_debug_command.proofs.debug.do_all.Given as goal
 
 -- what is written, with the answers to the commands left, is the whole answer

@@ -1,0 +1,113 @@
+//! A verdict as text.
+use crate::check::put_serial_reply;
+use crate::faults::Fault;
+use crate::sources::{Source, missing};
+use crate::told::Told;
+use hek_report::put;
+use hek_rules::{NoMemory, Verdict};
+use std::alloc::Global;
+use std::io::Write;
+
+/// Appends the line of a verdict, and the lines of what is told with it: the serial reply of the first event at fault, and
+/// each event at fault.
+pub(crate) fn put_told(
+    alloc: Global,
+    told: &Told<'_>,
+    lines: &mut Vec<u8>,
+) -> Result<(), NoMemory> {
+    put_verdict(told, lines)?;
+    if told.asked.why {
+        put_reason(told.faults.as_slice(), lines)?;
+    }
+    if told.asked.all {
+        put_faults(alloc, told, lines)?;
+    }
+    Ok(())
+}
+
+/// The line of a verdict, with what is judged at its end if that is asked for.
+fn put_verdict(told: &Told<'_>, lines: &mut Vec<u8>) -> Result<(), NoMemory> {
+    match told.verdict {
+        Verdict::Serial => put(write!(lines, "serial"))?,
+        Verdict::NotSerial(number) => put(write!(lines, "not serial {number}"))?,
+    }
+    if told.asked.summary {
+        let judged = told.judged;
+        put(write!(lines, ": {judged}"))?;
+    }
+    put(writeln!(lines))
+}
+
+/// The line with the serial reply of the first fault.
+fn put_reason(faults: &[Fault], lines: &mut Vec<u8>) -> Result<(), NoMemory> {
+    let Some(fault) = faults.first() else {
+        return Ok(());
+    };
+    put(write!(lines, "serial reply: "))?;
+    put_serial_reply(fault.serial.as_ref(), lines)?;
+    put(writeln!(lines))
+}
+
+/// The lines of all faults.
+fn put_faults(alloc: Global, told: &Told<'_>, lines: &mut Vec<u8>) -> Result<(), NoMemory> {
+    let names = names_of(alloc, told.text)?;
+    let mut trace = told.text.lines();
+    let mut next = 0usize;
+    for fault in told.faults.as_slice() {
+        let line = trace.nth(fault.place.saturating_sub(next)).unwrap_or("");
+        next = fault.place.saturating_add(1);
+        put_fault(alloc, told, names.as_slice(), line, fault, lines)?;
+    }
+    Ok(())
+}
+
+/// The name in each line of a trace: of its transaction, or `detect`.
+fn names_of<'t>(alloc: Global, text: &'t str) -> Result<Vec<&'t str>, NoMemory> {
+    let mut names = Vec::new(alloc);
+    for line in text.lines() {
+        names.push(line.split(' ').nth(1).unwrap_or(""))?;
+    }
+    Ok(names)
+}
+
+/// The line of a fault: its line of the trace, the serial reply, and where each pair comes from that the reply has and the
+/// serial reply lacks, and each that it lacks and the serial reply has: `; read 10=100 loaded; missed 10=200 by b at 4`.
+fn put_fault(
+    alloc: Global,
+    told: &Told<'_>,
+    names: &[&str],
+    line: &str,
+    fault: &Fault,
+    lines: &mut Vec<u8>,
+) -> Result<(), NoMemory> {
+    put(write!(lines, "{line}; serial reply: "))?;
+    put_serial_reply(fault.serial.as_ref(), lines)?;
+    let missing = missing(alloc, told.transcript, fault)?;
+    for (pair, source) in missing.read.as_slice() {
+        put_source("; read", *pair, *source, names, lines)?;
+    }
+    for (pair, source) in missing.missed.as_slice() {
+        put_source("; missed", *pair, *source, names, lines)?;
+    }
+    put(writeln!(lines))
+}
+
+fn put_source(
+    label: &str,
+    pair: (u64, u64),
+    source: Source,
+    names: &[&str],
+    lines: &mut Vec<u8>,
+) -> Result<(), NoMemory> {
+    let (key, value) = pair;
+    put(write!(lines, "{label} {key}={value}"))?;
+    match source {
+        Source::Loaded => put(write!(lines, " loaded")),
+        Source::Nowhere => put(write!(lines, " written by none")),
+        Source::Write(place) => {
+            let name = names.get(place).copied().unwrap_or("");
+            let number = place.saturating_add(1);
+            put(write!(lines, " by {name} at {number}"))
+        }
+    }
+}

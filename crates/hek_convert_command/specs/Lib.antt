@@ -1,0 +1,4 @@
+pub mod Bounds
+pub mod Chain
+pub mod Converted
+pub mod WordText

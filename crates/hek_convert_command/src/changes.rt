@@ -1,0 +1,118 @@
+//! `word --changes`: which change leads from one word to the next.
+use crate::chain::Chain;
+use crate::exchange::{Exchange, Side, exchange_of};
+use crate::words::line_fault;
+use hek_changes::{BeginChange, EndChange, begin_change, end_change};
+use hek_report::{HekFault, INPUT, buffered};
+use hek_word::{BeginWord, EndWord};
+use std::alloc::Global;
+use std::fmt;
+use std::io::{BufRead, Read, Write};
+
+/// What a line of a log of exchanges comes to.
+#[derive(Drop)]
+enum Answer {
+    NotAChange,
+    /// The exchange before it left the word this number.
+    Broken(u64),
+    Changes(Option<BeginChange>, Option<EndChange>),
+}
+
+impl Answer {
+    fn is_lawful(&self) -> bool {
+        match self {
+            Answer::NotAChange | Answer::Broken(_) | Answer::Changes(None, None) => false,
+            Answer::Changes(_, _) => true,
+        }
+    }
+}
+
+/// Writes `end stamped`, `begin stamped; end stamped`, `none`, `broken: the word was 8000000000000002` or `not a change`.
+impl fmt::Display for Answer {
+    fn fmt<W: fmt::Write>(&self, f: &mut fmt::Formatter<W>) -> fmt::Result {
+        match self {
+            Answer::NotAChange => write!(f, "not a change"),
+            Answer::Broken(last) => write!(f, "broken: the word was {last:016X}"),
+            Answer::Changes(None, None) => write!(f, "none"),
+            Answer::Changes(Some(begin), None) => write!(f, "begin {begin}"),
+            Answer::Changes(None, Some(end)) => write!(f, "end {end}"),
+            Answer::Changes(Some(begin), Some(end)) => write!(f, "begin {begin}; end {end}"),
+        }
+    }
+}
+
+/// Reads exchanges of words, one on each line of the input, and writes for each the change that leads from the old word to
+/// the new one. `words` must be `-` alone. Answers the exit status: 1 if a line is of no change.
+pub fn changes_command<'a, I: Read + Drop, W: Write>(
+    alloc: Global,
+    words: &[&'a str],
+    input: I,
+    out: &mut W,
+) -> Result<u8, HekFault<'a>> {
+    if words.len() != 1 || words[0] != INPUT {
+        return Err(HekFault::BadArgument);
+    }
+    let mut lines = buffered(alloc, input)?;
+    let mut chain = Chain::new(alloc);
+    let are_lawful = answer_lines(alloc, &mut lines, &mut chain, out)?;
+    Ok(if are_lawful { 0 } else { 1 })
+}
+
+/// Writes what each line that isn't blank comes to. Answers whether every one is of a change.
+fn answer_lines<'a, B: BufRead, W: Write>(
+    alloc: Global,
+    lines: &mut B,
+    chain: &mut Chain,
+    out: &mut W,
+) -> Result<bool, HekFault<'a>> {
+    let mut are_lawful = true;
+    for line in lines.lines(alloc) {
+        let line = line.map_err(|error| line_fault(error.kind()))?;
+        let text = line.as_str().trim();
+        if !text.is_empty() {
+            are_lawful &= answer_line(text, chain, out)?;
+        }
+    }
+    Ok(are_lawful)
+}
+
+/// Writes what a line comes to. Answers whether it is of a change.
+fn answer_line<'a, W: Write>(
+    line: &str,
+    chain: &mut Chain,
+    out: &mut W,
+) -> Result<bool, HekFault<'a>> {
+    let answer = answer_to(line, chain)?;
+    match writeln!(out, "{answer}") {
+        Ok(()) => Ok(answer.is_lawful()),
+        Err(_) => Err(HekFault::CannotWrite),
+    }
+}
+
+fn answer_to<'a>(line: &str, chain: &mut Chain) -> Result<Answer, HekFault<'a>> {
+    let Some(exchange) = exchange_of(line) else {
+        return Ok(Answer::NotAChange);
+    };
+    let Some(word) = exchange.word else {
+        return Ok(Answer::Changes(begin_change_of(exchange), end_change_of(exchange)));
+    };
+    match chain.note(word, exchange.new)? {
+        Some(last) if last != exchange.old => Ok(Answer::Broken(last)),
+        _ => Ok(match word.side {
+            Side::Begin => Answer::Changes(begin_change_of(exchange), None),
+            Side::End => Answer::Changes(None, end_change_of(exchange)),
+        }),
+    }
+}
+
+fn begin_change_of(exchange: Exchange) -> Option<BeginChange> {
+    let before = BeginWord::read(exchange.old)?;
+    let after = BeginWord::read(exchange.new)?;
+    begin_change(before, after, exchange.txn)
+}
+
+fn end_change_of(exchange: Exchange) -> Option<EndChange> {
+    let before = EndWord::read(exchange.old)?;
+    let after = EndWord::read(exchange.new)?;
+    end_change(before, after, exchange.txn)
+}

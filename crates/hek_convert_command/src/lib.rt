@@ -1,0 +1,19 @@
+//! The commands that turn one form into another: `asm` and `dis`, texts and images of schedules; `release` and `word`,
+//! lock words and what they say.
+#![tactic(auto)]
+
+mod asm;
+mod bounds;
+mod chain;
+mod changes;
+mod dis;
+mod exchange;
+mod release;
+mod words;
+
+pub use asm::asm_command;
+pub use bounds::Bounds;
+pub use changes::changes_command;
+pub use dis::dis_command;
+pub use release::{hex_number, release_command};
+pub use words::word_command;

@@ -1,0 +1,112 @@
+//! Orders and outcomes as objects of JSON.
+use crate::counts::{count_of, is_first, orders_of};
+use crate::one::Played;
+use hek_permute::{Ending, Outcome, Row, Tally};
+use hek_report::{Lines, Printing, StateText};
+use hek_rules::{Level, NoMemory, Schedule, State, TxnId};
+use hek_run_command::put_run;
+use hek_step_report::Extras;
+use std::alloc::Global;
+
+/// How each transaction ended, the rows and the verdict.
+fn put_outcome(schedule: &Schedule, outcome: &Outcome, out: &mut Lines) {
+    put_ends(schedule, outcome.ends(), out);
+    out.put_rows(outcome.rows().items());
+    out.put_flag("serial", outcome.serial());
+}
+
+/// How each transaction ended, by ID.
+fn put_ends(schedule: &Schedule, ends: &[Ending], out: &mut Lines) {
+    out.put_key("ends");
+    out.begin_array();
+    for (place, end) in ends.iter().enumerate() {
+        let txn = TxnId::new((place as u64).saturating_add(1));
+        out.begin_object();
+        out.put_name("txn", schedule, txn);
+        match *end {
+            Ending::Committed => out.put_text("end", "committed"),
+            Ending::Aborted(cause) => out.put_shown("end", &StateText(State::Aborted(cause))),
+            Ending::Unended => out.put_text("end", "unended"),
+        }
+        out.end_object();
+    }
+    out.end_array();
+}
+
+/// The lines of a tally: how many orders were played and how many outcomes they have, then each row.
+pub(crate) fn put_tally(schedule: &Schedule, tally: &Tally, out: &mut Lines) {
+    out.begin_line();
+    out.put_number("orders", orders_of(tally));
+    out.put_number("outcomes", tally.rows().len() as u64);
+    out.end_line();
+    for row in tally.rows() {
+        put_row(schedule, row, out);
+    }
+}
+
+fn put_row(schedule: &Schedule, row: &Row, out: &mut Lines) {
+    out.begin_line();
+    out.put_number("orders", row.orders());
+    put_outcome(schedule, row.outcome(), out);
+    out.put_number("waited", row.waited());
+    out.put_names("first", schedule, row.first());
+    out.end_line();
+}
+
+/// The line of an order with its outcome.
+pub(crate) fn put_order(schedule: &Schedule, order: &[TxnId], outcome: &Outcome, out: &mut Lines) {
+    out.begin_line();
+    out.put_names("order", schedule, order);
+    put_outcome(schedule, outcome, out);
+    out.put_flag("waited", outcome.waited());
+    out.end_line();
+}
+
+/// Each outcome, with the number of orders that have it at each level. There is one tally for each level, in the order of
+/// the levels.
+pub(crate) fn put_levels(schedule: &Schedule, tallies: &[Tally], out: &mut Lines) {
+    for (column, tally) in tallies.iter().enumerate() {
+        for row in tally.rows() {
+            if is_first(tallies, column, row.outcome()) {
+                put_leveled(schedule, tallies, row.outcome(), out);
+            }
+        }
+    }
+}
+
+/// The line of an outcome, with the number of orders that have it at each level.
+fn put_leveled(schedule: &Schedule, tallies: &[Tally], outcome: &Outcome, out: &mut Lines) {
+    out.begin_line();
+    out.put_key("levels");
+    out.begin_object();
+    for (tally, level) in tallies.iter().zip(Level::ALL.iter()) {
+        out.put_number((*level).word(), count_of(tally, outcome));
+    }
+    out.end_object();
+    put_outcome(schedule, outcome, out);
+    out.end_line();
+}
+
+/// The moves of an order, or of the beginning of one, and the steps of their play.
+pub(crate) fn put_played(
+    alloc: Global,
+    played: &Played,
+    extras: Extras,
+    lines: &mut Vec<u8>,
+) -> Result<(), NoMemory> {
+    let mut objects = Lines::after(alloc, lines);
+    objects.begin_line();
+    objects.put_names("moves", &played.schedule, played.moves.as_slice());
+    objects.put_number("of", played.most as u64);
+    objects.end_line();
+    objects.put_back(lines)?;
+    put_run(alloc, &played.schedule, extras, Printing::Json, lines)
+}
+
+/// The line that says that none of these orders has what was looked for.
+pub(crate) fn put_none(orders: u64, out: &mut Lines) {
+    out.begin_line();
+    out.put_null("moves");
+    out.put_number("orders", orders);
+    out.end_line();
+}

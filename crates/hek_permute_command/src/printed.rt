@@ -1,0 +1,107 @@
+//! Orders and outcomes as text or as objects of JSON.
+use crate::find::Found;
+use crate::one::Played;
+use crate::{json, text};
+use hek_permute::{Outcome, Tally};
+use hek_report::{Lines, Printing};
+use hek_rules::{NoMemory, Schedule, TxnId};
+use hek_step_report::Extras;
+use std::alloc::Global;
+
+/// Appends the line of an order with its outcome.
+pub(crate) fn put_order(
+    alloc: Global,
+    printing: Printing,
+    schedule: &Schedule,
+    order: &[TxnId],
+    outcome: &Outcome,
+    lines: &mut Vec<u8>,
+) -> Result<(), NoMemory> {
+    match printing {
+        Printing::Text => text::put_order(schedule, order, outcome, lines),
+        Printing::Json => {
+            let mut objects = Lines::after(alloc, lines);
+            json::put_order(schedule, order, outcome, &mut objects);
+            objects.put_back(lines)
+        }
+    }
+}
+
+/// Appends the number of orders, and each outcome.
+pub(crate) fn put_tally(
+    alloc: Global,
+    printing: Printing,
+    schedule: &Schedule,
+    tally: &Tally,
+    lines: &mut Vec<u8>,
+) -> Result<(), NoMemory> {
+    match printing {
+        Printing::Text => text::put_tally(schedule, tally, lines),
+        Printing::Json => {
+            let mut objects = Lines::after(alloc, lines);
+            json::put_tally(schedule, tally, &mut objects);
+            objects.put_back(lines)
+        }
+    }
+}
+
+/// Appends each outcome with the number of orders that have it at each level.
+pub(crate) fn put_levels(
+    alloc: Global,
+    printing: Printing,
+    schedule: &Schedule,
+    tallies: &[Tally],
+    lines: &mut Vec<u8>,
+) -> Result<(), NoMemory> {
+    match printing {
+        Printing::Text => text::put_levels(schedule, tallies, lines),
+        Printing::Json => {
+            let mut objects = Lines::after(alloc, lines);
+            json::put_levels(schedule, tallies, &mut objects);
+            objects.put_back(lines)
+        }
+    }
+}
+
+/// Appends one order: the schedule of its events, or the object of each.
+pub(crate) fn put_played(
+    alloc: Global,
+    printing: Printing,
+    played: &Played,
+    lines: &mut Vec<u8>,
+) -> Result<(), NoMemory> {
+    match printing {
+        Printing::Text => text::put_played(alloc, played, lines),
+        Printing::Json => json::put_played(alloc, played, Extras::NONE, lines),
+    }
+}
+
+/// Appends the beginning of an order in which something comes, with the reasons of its last reply.
+pub(crate) fn put_found(
+    alloc: Global,
+    printing: Printing,
+    found: &Found,
+    lines: &mut Vec<u8>,
+) -> Result<(), NoMemory> {
+    match printing {
+        Printing::Text => text::put_found(alloc, found, lines),
+        Printing::Json => json::put_played(alloc, &found.played, Extras::REASONS, lines),
+    }
+}
+
+/// Appends that none of these orders has what was looked for.
+pub(crate) fn put_none(
+    alloc: Global,
+    printing: Printing,
+    orders: u64,
+    lines: &mut Vec<u8>,
+) -> Result<(), NoMemory> {
+    match printing {
+        Printing::Text => text::put_none(orders, lines),
+        Printing::Json => {
+            let mut objects = Lines::after(alloc, lines);
+            json::put_none(orders, &mut objects);
+            objects.put_back(lines)
+        }
+    }
+}

@@ -1,0 +1,2 @@
+mod WholeText
+pub mod Sending

@@ -1,0 +1,38 @@
+//! One step: its line of the trace, and under it its reasons and its changes.
+ghost use Rattle.std.specs.Prelude.{length};
+ghost use Rattle.hek_asm.specs.Trace.{NamesDeclared};
+
+use crate::text::changes::put_changes;
+use crate::text::reason::{put_reasons, put_ruled_reasons};
+use crate::told::{Told, Why};
+use hek_asm::put_line;
+use hek_rules::{NoMemory, Schedule, TxnId};
+
+/// Appends the line of a step, and under it what is told beside its event and reply: reasons first, then changes.
+pub fn put_told(schedule: &Schedule, told: &Told<'_>, lines: &mut Vec<u8>) -> Result<(), NoMemory>
+    requires { NamesDeclared (length schedule.now.txns) told.now.step.now.event }
+{
+    put_line(
+        schedule,
+        told.number,
+        &told.step.event,
+        told.step.reply,
+        lines,
+    )?;
+    put_why(schedule, told, lines)?;
+    match told.changes {
+        Some(changes) => put_changes(schedule, changes, lines),
+        None => Ok(()),
+    }
+}
+
+/// The reasons of the reply, as they are asked for.
+fn put_why(schedule: &Schedule, told: &Told<'_>, lines: &mut Vec<u8>) -> Result<(), NoMemory> {
+    let step = told.step;
+    let t = step.event.txn().unwrap_or(TxnId::new(0));
+    match told.why {
+        None => Ok(()),
+        Some(Why::Reasons) => put_reasons(schedule, step.before, t, told.reasons, lines),
+        Some(Why::Rules) => put_ruled_reasons(schedule, step, t, told.reasons, lines),
+    }
+}

@@ -1,0 +1,125 @@
+//! Histories and outcomes as text.
+ghost use Rattle.std.specs.Prelude.{◌≡◌, ◌++◌, ℕ, List, length, IfOk};
+ghost use Rattle.std.specs.List.{AllByRecursion};
+ghost use Rattle.hek_asm.specs.Trace.{NamesDeclared, trace};
+ghost use Rattle.hek_worker.specs.History.{IsHistory, history_events, replies_in};
+ghost use Rattle.hek_threads_command.specs.Outcomes.{verdict_ending};
+
+use crate::outcome::Outcome;
+use hek_asm::{put_reply, put_trace};
+use hek_report::{put, put_name};
+use hek_rules::{Event, NoMemory, Reply, Schedule, TxnId, Verdict};
+use hek_threads::Entry;
+use std::alloc::Global;
+use std::io::Write;
+
+/// The trace of a history.
+#[tactic(auto, using(crate::proofs::Histories::paired))]
+pub(crate) fn trace_text(
+    alloc: Global,
+    schedule: &Schedule,
+    history: Vec<Entry>,
+) -> Result<Vec<u8>, NoMemory>
+    requires { IsHistory (length schedule.now.txns) history.items }
+    ensures { IfOk result (λ text. text.items ≡ trace schedule.now (history_events history.items) (replies_in history.items)) }
+{
+    let events = events_in(alloc, history.as_slice())?;
+    let replies = replies_of(alloc, history)?;
+    text_of(alloc, schedule, events.as_slice(), replies.as_slice())
+}
+
+/// The events of a history.
+fn events_in(alloc: Global, history: &[Entry]) -> Result<Vec<Event>, NoMemory>
+    ensures { IfOk result (λ events. events.items ≡ history_events history.now) }
+{
+    Ok(history.iter().map(|entry| entry.event).collect(alloc)?)
+}
+
+/// The replies of a history.
+fn replies_of(alloc: Global, history: Vec<Entry>) -> Result<Vec<Reply>, NoMemory>
+    ensures { IfOk result (λ replies. replies.items ≡ replies_in history.items) }
+{
+    Ok(history.into_iter().map(reply_of).collect(alloc)?)
+}
+
+fn reply_of(entry: Entry) -> Reply
+    ensures { result ≡ entry.reply }
+{
+    let Entry {
+        worker: _,
+        event: _,
+        reply,
+    } = entry;
+    reply
+}
+
+/// The trace of events and replies.
+fn text_of(
+    alloc: Global,
+    schedule: &Schedule,
+    events: &[Event],
+    replies: &[Reply],
+) -> Result<Vec<u8>, NoMemory>
+    requires declared { AllByRecursion (NamesDeclared (length schedule.now.txns)) events.now }
+    requires paired { length replies.now ≡ length events.now }
+    ensures { IfOk result (λ text. text.items ≡ trace schedule.now events.now replies.now) }
+{
+    let mut text = Vec::new(alloc);
+    put_trace(schedule, events, replies, &mut text)?;
+    Ok(text)
+}
+
+/// Appends an outcome: each transaction by name, with how it ended; the committed rows; the verdict.
+pub(crate) fn put_outcome(
+    schedule: &Schedule,
+    outcome: &Outcome,
+    text: &mut Vec<u8>,
+) -> Result<(), NoMemory>
+    ensures { IfOk result (λ _. (before : List ℕ) × (text.new.items ≡ before ++ verdict_ending outcome.now.verdict)) }
+{
+    put_ended(schedule, outcome, text)?;
+    put_verdict(outcome.verdict, text)
+}
+
+/// How each transaction ended, and the committed rows.
+fn put_ended(schedule: &Schedule, outcome: &Outcome, text: &mut Vec<u8>) -> Result<(), NoMemory> {
+    for (place, end) in outcome.ends.iter().enumerate() {
+        put_name(schedule, TxnId::new((place as u64).saturating_add(1)), text)?;
+        text.push(b' ')?;
+        put_reply(end, text)?;
+        text.extend_from_slice(b"; ")?;
+    }
+    let rows = Reply::Rows(outcome.rows.copy()?);
+    put_reply(&rows, text)
+}
+
+/// Appends the verdict.
+fn put_verdict(verdict: Verdict, text: &mut Vec<u8>) -> Result<(), NoMemory>
+    ensures { IfOk result (λ _. text.new.items ≡ text.old.items ++ verdict_ending verdict) }
+{
+    let written = match verdict {
+        Verdict::Serial => write!(text, "; serial"),
+        Verdict::NotSerial(number) => write!(text, "; not serial {number}"),
+    };
+    match written {
+        Ok(()) => Ok(()),
+        Err(_) => Err(NoMemory),
+    }
+}
+
+/// How many outcomes there were in how many runs.
+pub(crate) fn put_heading(outcomes: usize, runs: u64, text: &mut Vec<u8>) -> Result<(), NoMemory> {
+    put(writeln!(text, "outcomes {outcomes}; runs {runs}"))
+}
+
+/// The line of an outcome, and of how many runs had it.
+pub(crate) fn put_seen(
+    schedule: &Schedule,
+    runs: u64,
+    outcome: &Outcome,
+    text: &mut Vec<u8>,
+) -> Result<(), NoMemory> {
+    put(write!(text, "{runs} "))?;
+    put_outcome(schedule, outcome, text)?;
+    put(writeln!(text))
+}

@@ -1,5 +1,0 @@
-use Rattle.std.proofs.Common.{length}
-use Rattle.hek_why_command.proofs.driven_line.count_words.Given as goal
-
-abbrev pub decreases-loop-after : goal.decreases-loop-after
-decreases-loop-after l = length l.rest
