@@ -2,8 +2,8 @@
 use crate::faults::{Fault, faults_of};
 use crate::judged::Judged;
 use crate::writers::{put, put_sources};
-use hek_asm::read_trace;
-use hek_commands::{HekFault, ScheduleFile, put_reply, schedule_in, send};
+use hek_asm::{put_reply, read_trace};
+use hek_commands::{HekFault, ScheduleFile, schedule_in, send};
 use hek_rules::{Level, NoMemory, Reply, Schedule, Transcript, Verdict};
 use hek_serial::{check, check_at};
 use std::alloc::Global;
@@ -154,7 +154,7 @@ fn put_reason(alloc: Global, faults: &[Fault], lines: &mut Vec<u8>) -> Result<()
         return Ok(());
     };
     put(write!(lines, "serial reply: ").is_ok())?;
-    put_serial(alloc, &fault.serial, lines)?;
+    put_serial(&fault.serial, lines)?;
     put(writeln!(lines).is_ok())
 }
 
@@ -177,14 +177,14 @@ fn put_fault(
     lines: &mut Vec<u8>,
 ) -> Result<(), NoMemory> {
     put(write!(lines, "{line}; serial reply: ").is_ok())?;
-    put_serial(alloc, &fault.serial, lines)?;
+    put_serial(&fault.serial, lines)?;
     put_sources(alloc, transcript, names, fault.place, &fault.serial, lines)?;
     put(writeln!(lines).is_ok())
 }
 
-fn put_serial(alloc: Global, serial: &Option<Reply>, lines: &mut Vec<u8>) -> Result<(), NoMemory> {
+fn put_serial(serial: &Option<Reply>, lines: &mut Vec<u8>) -> Result<(), NoMemory> {
     match serial {
-        Some(reply) => put_reply(alloc, reply, lines),
+        Some(reply) => put_reply(reply, lines),
         None => put(write!(lines, "none").is_ok()),
     }
 }

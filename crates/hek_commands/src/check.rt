@@ -1,5 +1,5 @@
 //! The command `check`: the verdict on a trace.
-ghost use Rattle.std.specs.Prelude.{◌≡◌, ◌++◌, ◌∷◌, [], codes, false, is_err, IsTrue, MatchResult, IfOk, IfErr, OnOk};
+ghost use Rattle.std.specs.Prelude.{◌≡◌, ◌++◌, ◌∷◌, [], codes, MatchResult, IfOk, IfErr, OnOk};
 ghost use Rattle.std.specs.Io.KnownBytes.{Appends};
 ghost use Rattle.hek_asm.specs.Reading.{IsTraceOf};
 ghost use Rattle.hek_commands.specs.Commands.{TraceTextFails, verdict_text, verdict_status, reply_text, serial_line, why_text, judged_as, Checks, CheckFails, Judges, IsStop};
@@ -8,10 +8,8 @@ ghost use Rattle.hek_rules.specs.Faults.{IsVerdict};
 use crate::fault::HekFault;
 use crate::lines::send;
 use crate::schedule_file::{ScheduleFile, schedule_in};
-use hek_asm::{read_trace, write_reply};
-use hek_rules::{
-    FromWrite, Level, NoMemory, Reply, Schedule, Sink, Transcript, Verdict, WriteFault, put_all,
-};
+use hek_asm::{put_reply, read_trace};
+use hek_rules::{Level, NoMemory, Reply, Schedule, Transcript, Verdict};
 use hek_serial::{check, check_at, serial_reply, serial_reply_at};
 use std::alloc::Global;
 use std::io::{Read, Write};
@@ -133,41 +131,26 @@ fn serial_line(
         None => serial_reply(alloc, transcript, place)?,
         Some(level) => serial_reply_at(alloc, transcript, level, place)?,
     };
-    let mut sink = FromWrite::new(Vec::new(alloc));
-    match put_serial_line(&reply, &mut sink) {
-        Ok(()) => Ok(sink.into_inner()),
-        Err(_) => Err(NoMemory),
-    }
+    let mut line = Vec::new(alloc);
+    put_serial_line(&reply, &mut line)?;
+    Ok(line)
 }
 
-fn put_serial_line<S: Sink>(reply: &Option<Reply>, sink: &mut S) -> Result<(), WriteFault>
-    requires { S.failed sink.old ≡ false }
-    ensures ok { OnOk result (IsTrue (S.tells sink.old) → S.holds sink.new ≡ S.holds sink.old ++ (codes "serial reply: " ++ (reply_text reply.now ++ 10 ∷ []))) }
-    ensures tells { IsTrue (S.tells sink.old) → IsTrue (S.tells sink.new) }
-    ensures fails { S.failed sink.new ≡ is_err result }
+fn put_serial_line(reply: &Option<Reply>, out: &mut Vec<u8>) -> Result<(), NoMemory>
+    ensures { OnOk result (out.new.items ≡ out.old.items ++ (codes "serial reply: " ++ (reply_text reply.now ++ 10 ∷ []))) }
 {
-    put_all(sink, b"serial reply: ")?;
-    put_reply_line(reply, sink)
+    out.extend_from_slice(b"serial reply: ")?;
+    put_maybe_reply(reply, out)?;
+    out.push(b'\n')?;
+    Ok(())
 }
 
-fn put_reply_line<S: Sink>(reply: &Option<Reply>, sink: &mut S) -> Result<(), WriteFault>
-    requires { S.failed sink.old ≡ false }
-    ensures ok { OnOk result (IsTrue (S.tells sink.old) → S.holds sink.new ≡ S.holds sink.old ++ (reply_text reply.now ++ 10 ∷ [])) }
-    ensures tells { IsTrue (S.tells sink.old) → IsTrue (S.tells sink.new) }
-    ensures fails { S.failed sink.new ≡ is_err result }
-{
-    put_reply(reply, sink)?;
-    put_all(sink, b"\n")
-}
-
-fn put_reply<S: Sink>(reply: &Option<Reply>, sink: &mut S) -> Result<(), WriteFault>
-    requires { S.failed sink.old ≡ false }
-    ensures ok { OnOk result (IsTrue (S.tells sink.old) → S.holds sink.new ≡ S.holds sink.old ++ reply_text reply.now) }
-    ensures tells { IsTrue (S.tells sink.old) → IsTrue (S.tells sink.new) }
-    ensures fails { S.failed sink.new ≡ is_err result }
+fn put_maybe_reply(reply: &Option<Reply>, out: &mut Vec<u8>) -> Result<(), NoMemory>
+    ensures { OnOk result (out.new.items ≡ out.old.items ++ reply_text reply.now) }
 {
     match reply {
-        Some(reply) => write_reply(reply, sink),
-        None => put_all(sink, b"none"),
+        Some(reply) => put_reply(reply, out)?,
+        None => out.extend_from_slice(b"none")?,
     }
+    Ok(())
 }

@@ -13,10 +13,10 @@ ghost use Rattle.hek_commands.specs.Commands.{PrintFails, IsStop};
 ghost use Rattle.hek_commands.specs.Ran.{Runs, RunsTo, ShowsState, TellsClock, trace_of, trace_of_steps, replies_to, first_events};
 
 use crate::fault::HekFault;
-use crate::gathered::put_line;
 use crate::lines::{send, send_if_many};
 use crate::schedule_file::{ScheduleFile, schedule_in};
 use crate::state::{clock_line, state_lines};
+use hek_asm::put_line;
 use hek_machine::Machine;
 use hek_rules::{Event, Schedule};
 use std::alloc::Global;
@@ -140,7 +140,7 @@ fn write_steps<'a, W: Write>(
     for place in 0..steps.len() {
         let event = &steps[place];
         let reply = machine.step(*event)?;
-        put_line(alloc, schedule, place as u64 + 1, event, &reply, &mut lines)?;
+        put_line(schedule, place as u64 + 1, event, &reply, &mut lines)?;
         send_if_many(&mut lines, out)?;
     }
     send(&mut lines, out)?;

@@ -6,15 +6,14 @@ ghost use Rattle.hek_asm.specs.Trace.{NamesDeclared};
 use crate::held::{Held, count_held};
 use crate::question::Question;
 use crate::stop_text::{put_name, put_number, put_text};
-use hek_asm::write_step;
+use hek_asm::put_step;
 use hek_commands::{clock_line, put_txn, put_version, state_lines};
 use hek_debug::{Debugger, Mark};
 use hek_machine::Machine;
-use hek_rules::{Event, FromWrite, NoMemory, Schedule, TxnId, VersionId};
+use hek_rules::{Event, NoMemory, Schedule, TxnId, VersionId};
 use hek_why_command::{Extras, Why, explain_step};
 use std::alloc::Global;
 use std::io::Write;
-use std::mem;
 
 /// How many steps are listed before the position, and how many after it.
 const ROUND: u64 = 5;
@@ -70,7 +69,7 @@ pub(crate) fn put_answer(
         Question::Txn(t) => put_one_txn(debugger.schedule(), machine, t, lines),
         Question::Version(v) => put_one_version(machine, v, lines),
         Question::Key(key) => put_key(machine, key, lines),
-        Question::Steps => put_steps(alloc, debugger, lines),
+        Question::Steps => put_steps(debugger, lines),
         Question::Why => put_last(alloc, debugger, WHY, lines),
         Question::Changes => put_last(alloc, debugger, CHANGES, lines),
         Question::Marks => put_marks(debugger, held, lines),
@@ -132,16 +131,15 @@ fn put_key(machine: &Machine, key: u64, lines: &mut Vec<u8>) -> Result<(), NoMem
 }
 
 #[tactic(auto, using(hek_asm::proofs::RowLemmas::steps_declared))]
-fn put_steps(alloc: Global, debugger: &Debugger, lines: &mut Vec<u8>) -> Result<(), NoMemory> {
+fn put_steps(debugger: &Debugger, lines: &mut Vec<u8>) -> Result<(), NoMemory> {
     let schedule = debugger.schedule();
     // `known` gives that each step of the schedule is well formed.
     schedule.known();
-    put_round(alloc, schedule, schedule.steps(), debugger.at(), lines)
+    put_round(schedule, schedule.steps(), debugger.at(), lines)
 }
 
 /// The steps around a position, each with its number, and a mark at the next one.
 fn put_round(
-    alloc: Global,
     schedule: &Schedule,
     steps: &[Event],
     at: u64,
@@ -153,7 +151,7 @@ fn put_round(
     for place in at.saturating_sub(ROUND)..last {
         let front = if place == at { "=> " } else { "   " };
         put_text(front, lines)?;
-        put_step(alloc, schedule, place + 1, &steps[place as usize], lines)?;
+        put_numbered_step(schedule, place + 1, &steps[place as usize], lines)?;
     }
     if last == at {
         return put_text("=> end\n", lines);
@@ -162,8 +160,7 @@ fn put_round(
 }
 
 /// A step, after its number.
-fn put_step(
-    alloc: Global,
+fn put_numbered_step(
     schedule: &Schedule,
     number: u64,
     event: &Event,
@@ -172,11 +169,7 @@ fn put_step(
     requires { NamesDeclared (length schedule.now.txns) event.now }
 {
     put_number(number, lines)?;
-    let mut sink = FromWrite::new(mem::replace(lines, Vec::new(alloc)));
-    if write_step(schedule, event, &mut sink).is_err() {
-        return Err(NoMemory);
-    }
-    *lines = sink.into_inner();
+    put_step(schedule, event, lines)?;
     put_text("\n", lines)
 }
 

@@ -4,7 +4,7 @@ use crate::heading::{Heading, put_heading};
 use crate::members::{Members, put_lines, put_lines_if, put_number, put_text, put_value, text_of};
 use crate::step_text::StepText;
 use crate::story::{StepRange, Story, story_of};
-use hek_commands::put_reply;
+use hek_asm::put_reply;
 use hek_rules::{Level, NoMemory, Schedule, Transcript, Verdict};
 use hek_serial::{check, check_at, serial_reply_at};
 use serde_json::{Map, Value, json};
@@ -102,7 +102,7 @@ fn put_serial_reply(
     let place = number.saturating_sub(1) as usize;
     let reply = serial_reply_at(alloc, transcript, Level::Serializable, place)?;
     match &reply {
-        Some(reply) => put_reply(alloc, reply, text),
+        Some(reply) => put_reply(reply, text),
         None => Ok(()),
     }
 }

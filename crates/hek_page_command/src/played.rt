@@ -65,7 +65,7 @@ fn outcome_line(
     }
     let outcome = outcome_of(alloc, schedule, play)?;
     let mut text = Vec::new(alloc);
-    put_outcome(alloc, schedule, &outcome, &mut text)?;
+    put_outcome(schedule, &outcome, &mut text)?;
     Ok(Some(text))
 }
 

@@ -11,7 +11,8 @@ ghost use Rattle.hek_page_command.specs.Tellings.{world_at, AreTold, IsStory, Is
 use crate::changed::put_clock;
 use crate::step_text::{StepText, Watch, step_text};
 use crate::waits::Waits;
-use hek_commands::{put_line, state_lines};
+use hek_asm::put_line;
+use hek_commands::state_lines;
 use hek_machine::Machine;
 use hek_rules::{Event, NoMemory, Reply, Schedule, Transcript};
 use hek_why::{Dooms, Step};
@@ -320,14 +321,7 @@ fn add_step(
 {
     let text = step_text(alloc, schedule, step, watch)?;
     watch.dooms.note(step.before, step.event, step.reply)?;
-    put_line(
-        alloc,
-        schedule,
-        number,
-        &step.event,
-        step.reply,
-        &mut story.trace,
-    )?;
+    put_line(schedule, number, &step.event, step.reply, &mut story.trace)?;
     story.steps.push(text)?;
     Ok(())
 }

@@ -71,6 +71,6 @@ fn text_played<'a, T: Threads + Sync>(
 
 fn tally_text(alloc: Global, schedule: &Schedule, tally: &Tally) -> Result<Vec<u8>, NoMemory> {
     let mut text = Vec::new(alloc);
-    put_tally(alloc, schedule, tally, &mut text)?;
+    put_tally(schedule, tally, &mut text)?;
     Ok(text)
 }

@@ -1,13 +1,11 @@
 //! The texts of orders and outcomes.
-use hek_commands::put_reply;
+use hek_asm::put_reply;
 use hek_permute::{Ending, Outcome, Row};
 use hek_rules::{NoMemory, Reply, Schedule, TxnId};
-use std::alloc::Global;
 use std::io::Write;
 
 /// Appends an outcome: how each transaction ended, the rows and the verdict, as a line of `hek permute` has them.
 pub fn put_outcome(
-    alloc: Global,
     schedule: &Schedule,
     outcome: &Outcome,
     text: &mut Vec<u8>,
@@ -15,10 +13,10 @@ pub fn put_outcome(
     for (place, end) in outcome.ends().iter().enumerate() {
         put_name(schedule, TxnId::new((place as u64).saturating_add(1)), text)?;
         text.push(b' ')?;
-        put_end(alloc, *end, text)?;
+        put_end(*end, text)?;
         text.extend_from_slice(b"; ")?;
     }
-    put_reply(alloc, &Reply::Rows(outcome.rows().copy()?), text)?;
+    put_reply(&Reply::Rows(outcome.rows().copy()?), text)?;
     let verdict = if outcome.serial() {
         "; serial"
     } else {
@@ -28,10 +26,10 @@ pub fn put_outcome(
     Ok(())
 }
 
-fn put_end(alloc: Global, end: Ending, text: &mut Vec<u8>) -> Result<(), NoMemory> {
+fn put_end(end: Ending, text: &mut Vec<u8>) -> Result<(), NoMemory> {
     match end {
-        Ending::Committed => put_reply(alloc, &Reply::Committed, text),
-        Ending::Aborted(cause) => put_reply(alloc, &Reply::Aborted(cause), text),
+        Ending::Committed => put_reply(&Reply::Committed, text),
+        Ending::Aborted(cause) => put_reply(&Reply::Aborted(cause), text),
         Ending::Unended => {
             text.extend_from_slice(b"unended")?;
             Ok(())
@@ -63,15 +61,10 @@ pub(crate) fn put_order(
 }
 
 /// A row of the tally.
-pub(crate) fn put_row(
-    alloc: Global,
-    schedule: &Schedule,
-    row: &Row,
-    text: &mut Vec<u8>,
-) -> Result<(), NoMemory> {
+pub(crate) fn put_row(schedule: &Schedule, row: &Row, text: &mut Vec<u8>) -> Result<(), NoMemory> {
     let orders = row.orders();
     put_written(write!(text, "{orders} ").is_ok())?;
-    put_outcome(alloc, schedule, row.outcome(), text)?;
+    put_outcome(schedule, row.outcome(), text)?;
     let waited = row.waited();
     put_written(write!(text, "; waited {waited}; first ").is_ok())?;
     put_order(schedule, row.first(), text)?;

@@ -181,7 +181,7 @@ fn put_counts<'a, E: Write>(
     let Some(tally) = tally_of(alloc, schedule, form, extent, progress)? else {
         return Ok(None);
     };
-    put_tally(alloc, schedule, &tally, text)?;
+    put_tally(schedule, &tally, text)?;
     Ok(Some(0))
 }
 
@@ -232,7 +232,6 @@ pub(crate) fn sorted<'a>(counted: Result<Tally, OrderFault>) -> Result<Tally, He
 
 /// A line with the number of orders, and a line for each outcome.
 pub(crate) fn put_tally(
-    alloc: Global,
     schedule: &Schedule,
     tally: &Tally,
     text: &mut Vec<u8>,
@@ -243,7 +242,7 @@ pub(crate) fn put_tally(
     }
     put_heading(orders, tally.rows().len(), text)?;
     for row in tally.rows() {
-        put_row(alloc, schedule, row, text)?;
+        put_row(schedule, row, text)?;
     }
     Ok(())
 }
@@ -255,7 +254,6 @@ fn put_heading(orders: u64, outcomes: usize, text: &mut Vec<u8>) -> Result<(), N
 /// A watcher that gathers a line for each order.
 #[derive(Drop)]
 struct Lines<'s, 'p, 'e, E: Write> {
-    alloc: Global,
     schedule: &'s Schedule,
     progress: &'p mut Progress<'e, E>,
     text: Vec<u8>,
@@ -264,12 +262,11 @@ struct Lines<'s, 'p, 'e, E: Write> {
 impl<E: Write> Watch for Lines<'_, '_, '_, E> {
     fn see(&mut self, order: &[TxnId], outcome: &Outcome) -> bool {
         self.progress.count();
-        put_line(self.alloc, self.schedule, order, outcome, &mut self.text).is_ok()
+        put_line(self.schedule, order, outcome, &mut self.text).is_ok()
     }
 }
 
 fn put_line(
-    alloc: Global,
     schedule: &Schedule,
     order: &[TxnId],
     outcome: &Outcome,
@@ -277,7 +274,7 @@ fn put_line(
 ) -> Result<(), NoMemory> {
     put_order(schedule, order, text)?;
     text.extend_from_slice(b" -> ")?;
-    put_outcome(alloc, schedule, outcome, text)?;
+    put_outcome(schedule, outcome, text)?;
     if outcome.waited() {
         text.extend_from_slice(b"; waited")?;
     }
@@ -295,7 +292,6 @@ fn put_each<'a, E: Write>(
     text: &mut Vec<u8>,
 ) -> Result<(), HekFault<'a>> {
     let mut lines = Lines {
-        alloc,
         schedule,
         progress,
         text: Vec::new(alloc),
@@ -321,7 +317,7 @@ fn put_levels<'a, E: Write>(
     let Some(tallies) = tallies_of(alloc, schedule, form, extent, progress)? else {
         return Ok(None);
     };
-    put_table(alloc, schedule, tallies.as_slice(), text)?;
+    put_table(schedule, tallies.as_slice(), text)?;
     Ok(Some(0))
 }
 

@@ -2,13 +2,11 @@
 use crate::lines::{put_outcome, put_written};
 use hek_permute::{Outcome, Tally};
 use hek_rules::{Level, NoMemory, Schedule};
-use std::alloc::Global;
 use std::io::Write;
 
 /// A line of the levels, and a line for each outcome: how many orders have it at each level, and the outcome. There is
 /// one tally for each level, in the order of the levels.
 pub(crate) fn put_table(
-    alloc: Global,
     schedule: &Schedule,
     tallies: &[Tally],
     text: &mut Vec<u8>,
@@ -18,7 +16,7 @@ pub(crate) fn put_table(
         for row in tally.rows() {
             if is_first(tallies, column, row.outcome()) {
                 put_counts(tallies, row.outcome(), text)?;
-                put_outcome(alloc, schedule, row.outcome(), text)?;
+                put_outcome(schedule, row.outcome(), text)?;
                 text.push(b'\n')?;
             }
         }

@@ -5,7 +5,7 @@ ghost use Rattle.hek_worker.specs.History.{IsSerialHistory};
 ghost use Rattle.hek_threads_command.specs.Threaded.{HasRun};
 ghost use Rattle.hek_threads_command.specs.Outcomes.{ending_reply, verdict_ending};
 
-use hek_commands::put_reply;
+use hek_asm::put_reply;
 use hek_rules::{Cause, NoMemory, Reply, Schedule, TxnId, Verdict};
 use hek_serial::check;
 use hek_threads::{Part, Report, transcript_of};
@@ -31,23 +31,18 @@ pub(crate) fn outcome_text(
 /// How each transaction ended, and the committed rows.
 fn ended_text(alloc: Global, schedule: &Schedule, report: &Report) -> Result<Vec<u8>, NoMemory> {
     let mut text = Vec::new(alloc);
-    put_ends(alloc, schedule, report.transcripts.as_slice(), &mut text)?;
-    put_reply(alloc, &Reply::Rows(report.machine.rows()?), &mut text)?;
+    put_ends(schedule, report.transcripts.as_slice(), &mut text)?;
+    put_reply(&Reply::Rows(report.machine.rows()?), &mut text)?;
     Ok(text)
 }
 
-fn put_ends(
-    alloc: Global,
-    schedule: &Schedule,
-    parts: &[Part],
-    text: &mut Vec<u8>,
-) -> Result<(), NoMemory> {
+fn put_ends(schedule: &Schedule, parts: &[Part], text: &mut Vec<u8>) -> Result<(), NoMemory> {
     for place in 0..schedule.txn_count() {
         let name = schedule.name_of(TxnId::new(place as u64 + 1));
         text.extend_from_slice(name.as_bytes())?;
         text.push(b' ')?;
         if let Some(part) = parts.get(place) {
-            put_reply(alloc, &end_of(part), text)?;
+            put_reply(&end_of(part), text)?;
         }
         text.extend_from_slice(b"; ")?;
     }

@@ -5,9 +5,9 @@ ghost use Rattle.hek_asm.specs.Trace.{NamesDeclared, trace};
 ghost use Rattle.hek_worker.specs.History.{IsHistory, history_events, replies_in};
 ghost use Rattle.hek_threads_command.specs.Threaded.{HasRun, IsRunFault, IsThreadsStop, RunsInThreads, ShowsHistory, ThreadsFail, thread_fault};
 
-use hek_asm::write_trace;
+use hek_asm::put_trace;
 use hek_commands::{HekFault, ScheduleFile, schedule_in, send};
-use hek_rules::{Event, FromWrite, NoMemory, Reply, Schedule, TxnId};
+use hek_rules::{Event, NoMemory, Reply, Schedule, TxnId};
 use hek_threads::{Entry, Gate, Lottery, Report, ThreadFault, run_workers};
 use std::alloc::Global;
 use std::io::{Read, Write};
@@ -177,9 +177,7 @@ fn text_of(
     requires paired { length replies.now ≡ length events.now }
     ensures { IfOk result (λ text. text.items ≡ trace schedule.now events.now replies.now) }
 {
-    let mut sink = FromWrite::new(Vec::new(alloc));
-    match write_trace(schedule, events, replies, &mut sink) {
-        Ok(()) => Ok(sink.into_inner()),
-        Err(_) => Err(NoMemory),
-    }
+    let mut text = Vec::new(alloc);
+    put_trace(schedule, events, replies, &mut text)?;
+    Ok(text)
 }

@@ -5,7 +5,7 @@ ghost use Rattle.hek_asm.specs.Trace.{NamesDeclared};
 
 use crate::changes::put_changes;
 use crate::reason_text::{put_reasons, put_ruled_reasons};
-use hek_commands::put_line;
+use hek_asm::put_line;
 use hek_machine::Machine;
 use hek_rules::{Event, NoMemory, Reply, Schedule, TxnId};
 use hek_why::{Dooms, Reason, Step, reasons};
@@ -72,7 +72,7 @@ fn tell_from(
 {
     let reply = machine.step(*event)?;
     telling.done = telling.done.saturating_add(1);
-    put_line(alloc, telling.schedule, telling.done, event, &reply, lines)?;
+    put_line(telling.schedule, telling.done, event, &reply, lines)?;
     let step = Step {
         before,
         event: *event,
