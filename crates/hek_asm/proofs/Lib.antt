@@ -14,5 +14,4 @@ mod SmallEntry
 mod OwnSteps
 mod TraceSteps
 mod TraceLaws
-mod Compares
 mod WordPass

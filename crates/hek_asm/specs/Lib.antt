@@ -5,4 +5,3 @@ pub mod Gives
 pub mod Laws
 pub mod Likely
 pub mod Reading
-pub mod Comparing

@@ -2,7 +2,6 @@
 #![tactic(auto)]
 
 mod assemble;
-mod comparing;
 mod fault;
 mod laws;
 mod likely;
@@ -19,6 +18,6 @@ pub use fault::{AsmFault, AsmKind, TraceFault};
 pub use laws::{canonical_text_is_exact, traces_are_exact};
 pub use line::level_named;
 pub use reading::read_trace;
-pub use reply::write_reply;
+pub use reply::put_reply;
 pub use schedule_text::canonical;
-pub use trace::{write_line, write_step, write_trace};
+pub use trace::{put_line, put_step, put_trace};

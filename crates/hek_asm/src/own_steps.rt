@@ -5,10 +5,9 @@ ghost use Rattle.hek_rules.specs.Plan.{IsStep};
 ghost use Rattle.hek_asm.specs.Reading.{is_small, IsSmallReply, IsFront, IsLineRest};
 ghost use Rattle.hek_asm.specs.Trace.{NamesDeclared, line_front, line_rest};
 
-use crate::comparing::Comparing;
 use crate::likely::likely_reply;
 use crate::line::read_words;
-use crate::trace::{write_front, write_rest};
+use crate::trace::{put_front, put_rest};
 use hek_rules::{Event, NoMemory, Reply, Schedule, Time, VersionId, next_line};
 use std::alloc::Global;
 
@@ -29,27 +28,28 @@ fn behind_front<'t>(
     schedule: &Schedule,
     number: u64,
     event: &Event,
+    scratch: &mut Vec<u8>,
     text: &'t [u8],
-) -> Option<&'t [u8]>
+) -> Result<Option<&'t [u8]>, NoMemory>
     requires { NamesDeclared (length schedule.now.txns) event.now }
-    ensures { IfSome result (λ after. text.now ≡ line_front schedule.now number event.now ++ after.now) }
+    ensures { IfOk result (λ o. IfSome o (λ after. text.now ≡ line_front schedule.now number event.now ++ after.now)) }
 {
-    let mut sink = Comparing::new(text);
-    match write_front(schedule, number, event, &mut sink) {
-        Ok(()) => Some(sink.rest()),
-        Err(_) => None,
-    }
+    scratch.clear();
+    put_front(schedule, number, event, scratch)?;
+    Ok(text.strip_prefix(scratch.as_slice()))
 }
 
 // The text after the reply and the line's end, if it begins with them. None says nothing about the text.
-fn behind_rest<'t>(reply: &Reply, text: &'t [u8]) -> Option<&'t [u8]>
-    ensures { IfSome result (λ after. text.now ≡ line_rest reply.now ++ after.now) }
+fn behind_rest<'t>(
+    reply: &Reply,
+    scratch: &mut Vec<u8>,
+    text: &'t [u8],
+) -> Result<Option<&'t [u8]>, NoMemory>
+    ensures { IfOk result (λ o. IfSome o (λ after. text.now ≡ line_rest reply.now ++ after.now)) }
 {
-    let mut sink = Comparing::new(text);
-    match write_rest(reply, &mut sink) {
-        Ok(()) => Some(sink.rest()),
-        Err(_) => None,
-    }
+    scratch.clear();
+    put_rest(reply, scratch)?;
+    Ok(text.strip_prefix(scratch.as_slice()))
 }
 
 // The number that the digits after these words write, or its last 64 bits.
@@ -114,18 +114,26 @@ fn reply_by_letters(text: &[u8]) -> Option<Reply>
 }
 
 // The reply by its first letters, and the text after the line, if the text begins so. None says nothing about the text.
-fn rest_by_letters<'t>(text: &'t [u8]) -> Option<(Reply, &'t [u8])>
-    ensures { IfSome result (λ x. IsLineRest x.0 text.now x.1.now) }
+fn rest_by_letters<'t>(
+    scratch: &mut Vec<u8>,
+    text: &'t [u8],
+) -> Result<Option<(Reply, &'t [u8])>, NoMemory>
+    ensures { IfOk result (λ o. IfSome o (λ x. IsLineRest x.0 text.now x.1.now)) }
 {
-    let reply = reply_by_letters(text)?;
-    let after = behind_rest(&reply, text)?;
-    Some((reply, after))
+    let Some(reply) = reply_by_letters(text) else {
+        return Ok(None);
+    };
+    let Some(after) = behind_rest(&reply, scratch, text)? else {
+        return Ok(None);
+    };
+    Ok(Some((reply, after)))
 }
 
 // The reply that the words of the line's rest give, and the text after the line. None says nothing about the text.
 fn rest_by_words<'t>(
     alloc: Global,
     words: &mut Vec<&'t [u8]>,
+    scratch: &mut Vec<u8>,
     text: &'t [u8],
 ) -> Result<Option<(Reply, &'t [u8])>, NoMemory>
     ensures { IfOk result (λ o. IfSome o (λ x. IsLineRest x.0 text.now x.1.now)) }
@@ -135,7 +143,7 @@ fn rest_by_words<'t>(
     };
     read_words(line, words)?;
     let reply = likely_reply(alloc, words.as_slice())?;
-    let Some(after) = behind_rest(&reply, text) else {
+    let Some(after) = behind_rest(&reply, scratch, text)? else {
         return Ok(None);
     };
     Ok(Some((reply, after)))
@@ -145,22 +153,24 @@ fn rest_by_words<'t>(
 fn likely_rest<'t>(
     alloc: Global,
     words: &mut Vec<&'t [u8]>,
+    scratch: &mut Vec<u8>,
     text: &'t [u8],
 ) -> Result<Option<(Reply, &'t [u8])>, NoMemory>
     ensures { IfOk result (λ o. IfSome o (λ x. IsLineRest x.0 text.now x.1.now)) }
 {
-    if let Some(rest) = rest_by_letters(text) {
+    if let Some(rest) = rest_by_letters(scratch, text)? {
         return Ok(Some(rest));
     }
-    rest_by_words(alloc, words, text)
+    rest_by_words(alloc, words, scratch, text)
 }
 
 /// The event and the reply of a text's first line, and the text after it, if the event is the schedule's step of the
-/// line's number. None says nothing about the text. The room of `words` is used again.
+/// line's number. None says nothing about the text. The room of `words` and of `scratch` is used again.
 pub(crate) fn entry_by_step<'t>(
     alloc: Global,
     schedule: &Schedule,
     words: &mut Vec<&'t [u8]>,
+    scratch: &mut Vec<u8>,
     number: u64,
     text: &'t [u8],
 ) -> Result<Option<(Event, Reply, &'t [u8])>, NoMemory>
@@ -170,10 +180,10 @@ pub(crate) fn entry_by_step<'t>(
     let Some(event) = own_step(schedule, number) else {
         return Ok(None);
     };
-    let Some(rest) = behind_front(schedule, number, &event, text) else {
+    let Some(rest) = behind_front(schedule, number, &event, scratch, text)? else {
         return Ok(None);
     };
-    let Some((reply, after)) = likely_rest(alloc, words, rest)? else {
+    let Some((reply, after)) = likely_rest(alloc, words, scratch, rest)? else {
         return Ok(None);
     };
     Ok(Some((event, reply, after)))

@@ -1,48 +1,37 @@
-//! Words and numbers that go to a sink.
-ghost use Rattle.std.specs.Prelude.{◌≡◌, ◌++◌, ◌∷◌, [], false, map, IsTrue, OnOk, is_err};
+//! Words and numbers that are appended to lists of bytes.
+ghost use Rattle.std.specs.Prelude.{◌≡◌, ◌++◌, ◌∷◌, [], OnOk};
 ghost use Rattle.std.specs.Fmt.{decimal};
 ghost use Rattle.hek_rules.specs.Lines.{spaced};
 
-use hek_rules::{Sink, WriteFault, put_all};
+use hek_rules::NoMemory;
 use itoa::Buffer;
 
-pub(crate) fn put_text<S: Sink>(text: &str, sink: &mut S) -> Result<(), WriteFault>
-    requires { S.failed sink.old ≡ false }
-    ensures ok { OnOk result (IsTrue (S.tells sink.old) → S.holds sink.new ≡ S.holds sink.old ++ text.now) }
-    ensures tells { IsTrue (S.tells sink.old) → IsTrue (S.tells sink.new) }
-    ensures fails { S.failed sink.new ≡ is_err result }
+pub(crate) fn put_text(text: &str, out: &mut Vec<u8>) -> Result<(), NoMemory>
+    ensures { OnOk result (out.new.items ≡ out.old.items ++ text.now) }
 {
-    put_all(sink, text.as_bytes())
+    out.extend_from_slice(text.as_bytes())?;
+    Ok(())
 }
 
-pub(crate) fn put_number<S: Sink>(number: u64, sink: &mut S) -> Result<(), WriteFault>
-    requires { S.failed sink.old ≡ false }
-    ensures ok { OnOk result (IsTrue (S.tells sink.old) → S.holds sink.new ≡ S.holds sink.old ++ decimal number) }
-    ensures tells { IsTrue (S.tells sink.old) → IsTrue (S.tells sink.new) }
-    ensures fails { S.failed sink.new ≡ is_err result }
+pub(crate) fn put_number(number: u64, out: &mut Vec<u8>) -> Result<(), NoMemory>
+    ensures { OnOk result (out.new.items ≡ out.old.items ++ decimal number) }
 {
     let mut buffer = Buffer::new();
-    put_all(sink, buffer.format(number).as_bytes())
+    put_text(buffer.format(number), out)
 }
 
 // A space and a word.
-pub(crate) fn put_word<S: Sink>(word: &str, sink: &mut S) -> Result<(), WriteFault>
-    requires { S.failed sink.old ≡ false }
-    ensures ok { OnOk result (IsTrue (S.tells sink.old) → S.holds sink.new ≡ S.holds sink.old ++ spaced (word.now ∷ [])) }
-    ensures tells { IsTrue (S.tells sink.old) → IsTrue (S.tells sink.new) }
-    ensures fails { S.failed sink.new ≡ is_err result }
+pub(crate) fn put_word(word: &str, out: &mut Vec<u8>) -> Result<(), NoMemory>
+    ensures { OnOk result (out.new.items ≡ out.old.items ++ spaced (word.now ∷ [])) }
 {
-    put_text(" ", sink)?;
-    put_text(word, sink)
+    put_text(" ", out)?;
+    put_text(word, out)
 }
 
 // A space and a number.
-pub(crate) fn put_item<S: Sink>(number: u64, sink: &mut S) -> Result<(), WriteFault>
-    requires { S.failed sink.old ≡ false }
-    ensures ok { OnOk result (IsTrue (S.tells sink.old) → S.holds sink.new ≡ S.holds sink.old ++ spaced (decimal number ∷ [])) }
-    ensures tells { IsTrue (S.tells sink.old) → IsTrue (S.tells sink.new) }
-    ensures fails { S.failed sink.new ≡ is_err result }
+pub(crate) fn put_item(number: u64, out: &mut Vec<u8>) -> Result<(), NoMemory>
+    ensures { OnOk result (out.new.items ≡ out.old.items ++ spaced (decimal number ∷ [])) }
 {
-    put_text(" ", sink)?;
-    put_number(number, sink)
+    put_text(" ", out)?;
+    put_number(number, out)
 }

@@ -5,13 +5,12 @@ ghost use Rattle.hek_asm.specs.Likely.{likely_entry};
 ghost use Rattle.hek_asm.specs.Reading.{HasNoLine, IsFront, IsTraceOf, TraceFails};
 ghost use Rattle.hek_asm.specs.Trace.{NamesDeclared, trace_line};
 
-use crate::comparing::Comparing;
 use crate::fault::TraceFault;
 use crate::likely::{behind, likely_event, likely_reply, step_len};
 use crate::line::read_words;
 use crate::own_steps::entry_by_step;
-use crate::trace::write_line;
-use hek_rules::{Event, FromWrite, NoMemory, Reply, Schedule, Transcript, next_line};
+use crate::trace::put_line;
+use hek_rules::{Event, NoMemory, Reply, Schedule, Transcript, next_line};
 use std::alloc::Global;
 
 // The only event and reply that a line can be of, if there is one. The room of `words` is used again.
@@ -37,76 +36,21 @@ fn likely_entry<'t>(
     Ok(Some((event, reply)))
 }
 
-// The text after the line of an event and a reply, if it begins with that line. None says nothing about the text.
+// The text after the line of an event and a reply, if it begins with that line. The room of `scratch` is used again.
 fn behind_line<'t>(
     schedule: &Schedule,
     number: u64,
-    event: Event,
+    event: &Event,
     reply: &Reply,
-    text: &'t [u8],
-) -> Option<&'t [u8]>
-    requires { NamesDeclared (length schedule.now.txns) event }
-    ensures { IfSome result (λ after. text.now ≡ trace_line schedule.now number event reply.now ++ after.now) }
-{
-    let mut sink = Comparing::new(text);
-    match write_line(schedule, number, event, reply, &mut sink) {
-        Ok(()) => Some(sink.rest()),
-        Err(_) => None,
-    }
-}
-
-// The line of an event and a reply, written into room for `room` bytes.
-fn line_text(
-    alloc: Global,
-    room: usize,
-    schedule: &Schedule,
-    number: u64,
-    event: Event,
-    reply: &Reply,
-) -> Result<Vec<u8>, NoMemory>
-    requires { NamesDeclared (length schedule.now.txns) event }
-    ensures { IfOk result (λ text. text.items ≡ trace_line schedule.now number event reply.now) }
-{
-    let mut sink = FromWrite::new(Vec::with_capacity(alloc, room)?);
-    match write_line(schedule, number, event, reply, &mut sink) {
-        Ok(()) => Ok(sink.into_inner()),
-        Err(_) => Err(NoMemory),
-    }
-}
-
-// The text after this front, if it begins with the front.
-fn without_front<'t>(text: &'t [u8], front: &[u8]) -> Option<&'t [u8]>
-    ensures { MatchOption result ((after : List ℕ) → text.now ≡ front.now ++ after → ⊥) (λ after. text.now ≡ front.now ++ after.now) }
-{
-    if text.len() < front.len() {
-        return None;
-    }
-    let (head, after) = text.split_at(front.len());
-    if head != front {
-        return None;
-    }
-    Some(after)
-}
-
-// The text after the line of an event and a reply, if it begins with that line.
-fn without_line<'t>(
-    alloc: Global,
-    room: usize,
-    schedule: &Schedule,
-    number: u64,
-    event: Event,
-    reply: &Reply,
+    scratch: &mut Vec<u8>,
     text: &'t [u8],
 ) -> Result<Option<&'t [u8]>, NoMemory>
-    requires { NamesDeclared (length schedule.now.txns) event }
-    ensures { IfOk result (λ o. let line = trace_line schedule.now number event reply.now in MatchOption o ((after : List ℕ) → text.now ≡ line ++ after → ⊥) (λ after. text.now ≡ line ++ after.now)) }
+    requires { NamesDeclared (length schedule.now.txns) event.now }
+    ensures { IfOk result (λ o. let line = trace_line schedule.now number event.now reply.now in MatchOption o ((after : List ℕ) → text.now ≡ line ++ after → ⊥) (λ after. text.now ≡ line ++ after.now)) }
 {
-    let step = event;
-    if let Some(after) = behind_line(schedule, number, step, reply, text) {
-        return Ok(Some(after));
-    }
-    let front = line_text(alloc, room, schedule, number, event, reply)?;
-    Ok(without_front(text, front.as_slice()))
+    scratch.clear();
+    put_line(schedule, number, event, reply, scratch)?;
+    Ok(text.strip_prefix(scratch.as_slice()))
 }
 
 // The event and the reply of a text's first line, by its words, and the text after it.
@@ -114,6 +58,7 @@ fn entry_by_words<'t>(
     alloc: Global,
     schedule: &Schedule,
     words: &mut Vec<&'t [u8]>,
+    scratch: &mut Vec<u8>,
     number: u64,
     text: &'t [u8],
 ) -> Result<Option<(Event, Reply, &'t [u8])>, NoMemory>
@@ -127,8 +72,7 @@ fn entry_by_words<'t>(
         return Ok(None);
     };
     let step = event;
-    let room = line.len() + 1;
-    match without_line(alloc, room, schedule, number, step, &reply, text)? {
+    match behind_line(schedule, number, &step, &reply, scratch, text)? {
         None => Ok(None),
         Some(after) => Ok(Some((event, reply, after))),
     }
@@ -139,15 +83,16 @@ fn next_entry<'t>(
     alloc: Global,
     schedule: &Schedule,
     words: &mut Vec<&'t [u8]>,
+    scratch: &mut Vec<u8>,
     number: u64,
     text: &'t [u8],
 ) -> Result<Option<(Event, Reply, &'t [u8])>, NoMemory>
     ensures { IfOk result (λ o. MatchOption o (HasNoLine schedule.now number text.now) (λ x. IsFront schedule.now number (x.0, x.1) text.now x.2.now)) }
 {
-    if let Some(entry) = entry_by_step(alloc, schedule, words, number, text)? {
+    if let Some(entry) = entry_by_step(alloc, schedule, words, scratch, number, text)? {
         return Ok(Some(entry));
     }
-    entry_by_words(alloc, schedule, words, number, text)
+    entry_by_words(alloc, schedule, words, scratch, number, text)
 }
 
 /// The transcript over the schedule's rows and levels whose trace, with the schedule's names, the text is; otherwise
@@ -159,9 +104,17 @@ pub fn read_trace(alloc: Global, schedule: &Schedule, text: &str) -> Result<Tran
     let mut rest = text.as_bytes();
     let mut number = 0u64;
     let mut words = Vec::new(alloc);
+    let mut scratch = Vec::new(alloc);
     while !rest.is_empty() {
         number += 1;
-        let Some((event, reply, after)) = next_entry(alloc, schedule, &mut words, number, rest)?
+        let Some((event, reply, after)) = next_entry(
+            alloc,
+            schedule,
+            &mut words,
+            &mut scratch,
+            number,
+            rest,
+        )?
         else {
             return Err(TraceFault::Line(number));
         };

@@ -1,11 +1,11 @@
 //! Replies as texts.
-ghost use Rattle.std.specs.Prelude.{◌≡◌, ◌++◌, ◌∷◌, [], false, map, IsTrue, OnOk, is_err};
+ghost use Rattle.std.specs.Prelude.{◌≡◌, ◌++◌, ◌∷◌, [], map, OnOk};
 ghost use Rattle.std.specs.Fmt.{decimal};
 ghost use Rattle.hek_rules.specs.Lines.{spaced, joined_words};
 ghost use Rattle.hek_asm.specs.Trace.{pair_word, writer_words, refusal_words, reply_words};
 
 use crate::putting::{put_item, put_number, put_text};
-use hek_rules::{Refusal, Reply, Sink, TxnId, WriteFault};
+use hek_rules::{NoMemory, Refusal, Reply, TxnId};
 
 fn refusal_text(refusal: Refusal) -> &'static str
     ensures { result.now ≡ joined_words (refusal_words refusal) }
@@ -21,115 +21,94 @@ fn refusal_text(refusal: Refusal) -> &'static str
 }
 
 // Words, the last with a space after it, and a number.
-fn put_counted<S: Sink>(words: &str, number: u64, sink: &mut S) -> Result<(), WriteFault>
-    requires { S.failed sink.old ≡ false }
-    ensures ok { OnOk result (IsTrue (S.tells sink.old) → S.holds sink.new ≡ S.holds sink.old ++ (words.now ++ joined_words (decimal number ∷ []))) }
-    ensures tells { IsTrue (S.tells sink.old) → IsTrue (S.tells sink.new) }
-    ensures fails { S.failed sink.new ≡ is_err result }
+fn put_counted(words: &str, number: u64, out: &mut Vec<u8>) -> Result<(), NoMemory>
+    ensures { OnOk result (out.new.items ≡ out.old.items ++ (words.now ++ joined_words (decimal number ∷ []))) }
 {
-    put_text(words, sink)?;
-    put_number(number, sink)
+    put_text(words, out)?;
+    put_number(number, out)
 }
 
 // Words, and a name directly after them.
-fn put_named<S: Sink>(words: &str, name: &str, sink: &mut S) -> Result<(), WriteFault>
-    requires { S.failed sink.old ≡ false }
-    ensures ok { OnOk result (IsTrue (S.tells sink.old) → S.holds sink.new ≡ S.holds sink.old ++ (words.now ++ name.now)) }
-    ensures tells { IsTrue (S.tells sink.old) → IsTrue (S.tells sink.new) }
-    ensures fails { S.failed sink.new ≡ is_err result }
+fn put_named(words: &str, name: &str, out: &mut Vec<u8>) -> Result<(), NoMemory>
+    ensures { OnOk result (out.new.items ≡ out.old.items ++ (words.now ++ name.now)) }
 {
-    put_text(words, sink)?;
-    put_text(name, sink)
+    put_text(words, out)?;
+    put_text(name, out)
 }
 
-fn put_pair<S: Sink>(pair: (u64, u64), sink: &mut S) -> Result<(), WriteFault>
-    requires { S.failed sink.old ≡ false }
-    ensures ok { OnOk result (IsTrue (S.tells sink.old) → S.holds sink.new ≡ S.holds sink.old ++ spaced (pair_word pair ∷ [])) }
-    ensures tells { IsTrue (S.tells sink.old) → IsTrue (S.tells sink.new) }
-    ensures fails { S.failed sink.new ≡ is_err result }
+fn put_pair(pair: (u64, u64), out: &mut Vec<u8>) -> Result<(), NoMemory>
+    ensures { OnOk result (out.new.items ≡ out.old.items ++ spaced (pair_word pair ∷ [])) }
 {
-    put_item(pair.0, sink)?;
-    put_text("=", sink)?;
-    put_number(pair.1, sink)
+    put_item(pair.0, out)?;
+    put_text("=", out)?;
+    put_number(pair.1, out)
 }
 
-fn put_pairs<S: Sink>(pairs: &[(u64, u64)], sink: &mut S) -> Result<(), WriteFault>
-    requires { S.failed sink.old ≡ false }
-    ensures ok { OnOk result (IsTrue (S.tells sink.old) → S.holds sink.new ≡ S.holds sink.old ++ spaced (map pair_word pairs.now)) }
-    ensures tells { IsTrue (S.tells sink.old) → IsTrue (S.tells sink.new) }
-    ensures fails { S.failed sink.new ≡ is_err result }
+fn put_pairs(pairs: &[(u64, u64)], out: &mut Vec<u8>) -> Result<(), NoMemory>
+    ensures { OnOk result (out.new.items ≡ out.old.items ++ spaced (map pair_word pairs.now)) }
 {
     for pair in pairs {
-        put_pair(*pair, sink)?;
+        put_pair(*pair, out)?;
     }
     Ok(())
 }
 
-fn put_members<S: Sink>(members: &[TxnId], sink: &mut S) -> Result<(), WriteFault>
-    requires { S.failed sink.old ≡ false }
-    ensures ok { OnOk result (IsTrue (S.tells sink.old) → S.holds sink.new ≡ S.holds sink.old ++ spaced (map decimal members.now)) }
-    ensures tells { IsTrue (S.tells sink.old) → IsTrue (S.tells sink.new) }
-    ensures fails { S.failed sink.new ≡ is_err result }
+fn put_members(members: &[TxnId], out: &mut Vec<u8>) -> Result<(), NoMemory>
+    ensures { OnOk result (out.new.items ≡ out.old.items ++ spaced (map decimal members.now)) }
 {
     for member in members {
-        put_item(member.number(), sink)?;
+        put_item(member.number(), out)?;
     }
     Ok(())
 }
 
-fn put_writer<S: Sink>(writer: Option<TxnId>, sink: &mut S) -> Result<(), WriteFault>
-    requires { S.failed sink.old ≡ false }
-    ensures ok { OnOk result (IsTrue (S.tells sink.old) → S.holds sink.new ≡ S.holds sink.old ++ spaced (writer_words writer)) }
-    ensures tells { IsTrue (S.tells sink.old) → IsTrue (S.tells sink.new) }
-    ensures fails { S.failed sink.new ≡ is_err result }
+fn put_writer(writer: Option<TxnId>, out: &mut Vec<u8>) -> Result<(), NoMemory>
+    ensures { OnOk result (out.new.items ≡ out.old.items ++ spaced (writer_words writer)) }
 {
     match writer {
         None => Ok(()),
-        Some(txn) => put_counted(" writer ", txn.number(), sink),
+        Some(txn) => put_counted(" writer ", txn.number(), out),
     }
 }
 
-/// Writes a reply as a trace has it. After a fault it is unknown how many bytes went out.
-pub fn write_reply<S: Sink>(reply: &Reply, sink: &mut S) -> Result<(), WriteFault>
-    requires { S.failed sink.old ≡ false }
-    ensures ok { OnOk result (IsTrue (S.tells sink.old) → S.holds sink.new ≡ S.holds sink.old ++ joined_words (reply_words reply.now)) }
-    ensures tells { IsTrue (S.tells sink.old) → IsTrue (S.tells sink.new) }
-    ensures fails { S.failed sink.new ≡ is_err result }
+/// Appends a reply as a trace has it. After NoMemory a part of it may have been appended.
+pub fn put_reply(reply: &Reply, out: &mut Vec<u8>) -> Result<(), NoMemory>
+    ensures { OnOk result (out.new.items ≡ out.old.items ++ joined_words (reply_words reply.now)) }
 {
     match reply {
-        Reply::Began(time) => put_counted("began ", time.number(), sink),
-        Reply::Found(value) => put_counted("found ", *value, sink),
-        Reply::Absent => put_text("absent", sink),
+        Reply::Began(time) => put_counted("began ", time.number(), out),
+        Reply::Found(value) => put_counted("found ", *value, out),
+        Reply::Absent => put_text("absent", out),
         Reply::Rows(pairs) => {
-            put_text("rows", sink)?;
-            put_pairs(pairs.items(), sink)
+            put_text("rows", out)?;
+            put_pairs(pairs.items(), out)
         }
-        Reply::Done => put_text("done", sink),
-        Reply::Exists => put_text("exists", sink),
-        Reply::Ready => put_text("ready", sink),
-        Reply::Waiting(count) => put_counted("waiting ", *count, sink),
-        Reply::Precommitted(time) => put_counted("precommitted ", time.number(), sink),
+        Reply::Done => put_text("done", out),
+        Reply::Exists => put_text("exists", out),
+        Reply::Ready => put_text("ready", out),
+        Reply::Waiting(count) => put_counted("waiting ", *count, out),
+        Reply::Precommitted(time) => put_counted("precommitted ", time.number(), out),
         Reply::ReleasedRead(version, writer) => {
-            put_counted("released read ", version.index(), sink)?;
-            put_writer(*writer, sink)
+            put_counted("released read ", version.index(), out)?;
+            put_writer(*writer, out)
         }
-        Reply::ReleasedBucket(bucket) => put_counted("released bucket ", *bucket, sink),
-        Reply::ReleasedWaiter(txn) => put_counted("released waiter ", txn.number(), sink),
-        Reply::Nothing => put_text("nothing", sink),
-        Reply::Committed => put_text("committed", sink),
-        Reply::WaitingCommits(count) => put_counted("waiting commits ", *count, sink),
-        Reply::Failed => put_text("failed", sink),
-        Reply::StampedBegin(version) => put_counted("stamped begin ", version.index(), sink),
-        Reply::StampedEnd(version) => put_counted("stamped end ", version.index(), sink),
-        Reply::Left(version) => put_counted("left ", version.index(), sink),
-        Reply::Over => put_text("over", sink),
-        Reply::NoCycle => put_text("no cycle", sink),
+        Reply::ReleasedBucket(bucket) => put_counted("released bucket ", *bucket, out),
+        Reply::ReleasedWaiter(txn) => put_counted("released waiter ", txn.number(), out),
+        Reply::Nothing => put_text("nothing", out),
+        Reply::Committed => put_text("committed", out),
+        Reply::WaitingCommits(count) => put_counted("waiting commits ", *count, out),
+        Reply::Failed => put_text("failed", out),
+        Reply::StampedBegin(version) => put_counted("stamped begin ", version.index(), out),
+        Reply::StampedEnd(version) => put_counted("stamped end ", version.index(), out),
+        Reply::Left(version) => put_counted("left ", version.index(), out),
+        Reply::Over => put_text("over", out),
+        Reply::NoCycle => put_text("no cycle", out),
         Reply::Victim(txn, members) => {
-            put_counted("victim ", txn.number(), sink)?;
-            put_text(" cycle", sink)?;
-            put_members(members.items(), sink)
+            put_counted("victim ", txn.number(), out)?;
+            put_text(" cycle", out)?;
+            put_members(members.items(), out)
         }
-        Reply::Aborted(cause) => put_named("aborted ", (*cause).word(), sink),
-        Reply::Refused(refusal) => put_named("refused ", refusal_text(*refusal), sink),
+        Reply::Aborted(cause) => put_named("aborted ", (*cause).word(), out),
+        Reply::Refused(refusal) => put_named("refused ", refusal_text(*refusal), out),
     }
 }

@@ -6,7 +6,7 @@ ghost use Rattle.hek_laws.specs.Runs.{IsPlaced};
 ghost use Rattle.hek_asm.specs.Trace.{NamesDeclared};
 
 use crate::laps::Laps;
-use hek_asm::{assemble_text, canonical, read_trace, write_trace};
+use hek_asm::{assemble_text, canonical, put_trace, read_trace};
 use hek_compare::Fault;
 use hek_image::{load_image, write_image};
 use hek_machine::Machine;
@@ -311,10 +311,10 @@ fn trace_once(
     // `known` gives that each step of the schedule is well formed.
     schedule.known();
     let start = Instant::now(rt)?;
-    let mut sink = FromWrite::new(Vec::with_capacity(alloc, trace_room(schedule))?);
-    write_trace(schedule, schedule.steps(), replies, &mut sink)?;
+    let mut trace = Vec::with_capacity(alloc, trace_room(schedule))?;
+    put_trace(schedule, schedule.steps(), replies, &mut trace)?;
     laps.done(rt, "write trace", &start)?;
-    Ok(sink.into_inner())
+    Ok(trace)
 }
 
 /// Reads a trace, and judges its transcript.

@@ -6,7 +6,7 @@ ghost use Rattle.hek_machine.specs.Steps.{recorded_of};
 use crate::agreement::{changed_at, checkers_agree};
 use crate::faults::Fault;
 use crate::files::{Raised, Stored, Summary};
-use hek_asm::{assemble_text, canonical, write_trace};
+use hek_asm::{assemble_text, canonical, put_trace};
 use hek_image::{load_image, write_image};
 use hek_machine::run;
 use hek_rules::{
@@ -174,14 +174,14 @@ fn is_trace_of(
     bytes: &[u8],
     schedule: &Schedule,
     replies: &[Reply],
-) -> Result<bool, WriteFault>
+) -> Result<bool, NoMemory>
     requires { length replies.now ≡ length schedule.now.steps }
     ensures { IfOk result (λ same. IsTrue same ↔ (trace schedule.now schedule.now.steps replies.now ≡ bytes.now)) }
 {
     let _buckets = schedule.buckets();
-    let mut sink = MemorySink::new(alloc, usize::MAX, usize::MAX);
-    write_trace(schedule, schedule.steps(), replies, &mut sink)?;
-    Ok(sink.bytes() == bytes)
+    let mut text = Vec::new(alloc);
+    put_trace(schedule, schedule.steps(), replies, &mut text)?;
+    Ok(text.as_slice() == bytes)
 }
 
 /// The steps of a schedule with these replies.

@@ -103,6 +103,6 @@ pub(crate) fn do_one<'a, W: Write>(
         return Err(HekFault::NoMemory);
     };
     let mut lines = Vec::new(alloc);
-    put_told(alloc, debugger, &stop, &mut lines)?;
+    put_told(debugger, &stop, &mut lines)?;
     send(&mut lines, out)
 }

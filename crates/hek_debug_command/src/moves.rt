@@ -103,7 +103,7 @@ impl Moves {
         out: &mut W,
     ) -> Result<(), HekFault<'a>> {
         let mut lines = Vec::new(alloc);
-        put_told_as(alloc, &self.debugger, stop, word, number, &mut lines)?;
+        put_told_as(&self.debugger, stop, word, number, &mut lines)?;
         send(&mut lines, out)
     }
 
@@ -198,12 +198,7 @@ impl Moves {
     ) -> Result<(), HekFault<'a>> {
         let Stop { at, last, .. } = stop_after(&mut self.debugger, command)?;
         let mut lines = Vec::new(alloc);
-        put_told(
-            alloc,
-            &self.debugger,
-            &Stop { at, last, reason },
-            &mut lines,
-        )?;
+        put_told(&self.debugger, &Stop { at, last, reason }, &mut lines)?;
         send(&mut lines, out)
     }
 }

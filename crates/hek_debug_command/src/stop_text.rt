@@ -9,25 +9,22 @@ ghost use Rattle.hek_debug_command.specs.Debugged.{reason_text, answer_text, sto
 use hek_asm::put_reply;
 use hek_debug::{Debugger, Mark, Reason, Stop};
 use hek_rules::{NoMemory, Reply, Schedule, TxnId};
-use std::alloc::Global;
 use std::io::Write;
 
 /// Where a debugger is, and what each of its watches looks at there.
 pub(crate) fn put_told(
-    alloc: Global,
     debugger: &Debugger,
     stop: &Stop,
     lines: &mut Vec<u8>,
 ) -> Result<(), NoMemory>
     ensures { OnOk result (lines.new.items ≡ lines.old.items ++ told_text debugger.now stop.now) }
 {
-    put_stop(alloc, stop, lines)?;
+    put_stop(stop, lines)?;
     put_watches(debugger, lines)
 }
 
 /// The same as `put_told`, with another reason of the stop: a word of a session, and a number.
 pub(crate) fn put_told_as(
-    alloc: Global,
     debugger: &Debugger,
     stop: &Stop,
     word: &str,
@@ -38,20 +35,20 @@ pub(crate) fn put_told_as(
     put_number(stop.at, lines)?;
     put_text(word, lines)?;
     put_number(number, lines)?;
-    put_answer(alloc, &stop.last, lines)?;
+    put_answer(&stop.last, lines)?;
     put_text("\n", lines)?;
     put_watches(debugger, lines)
 }
 
 /// The line of a stop.
-fn put_stop(alloc: Global, stop: &Stop, lines: &mut Vec<u8>) -> Result<(), NoMemory>
+fn put_stop(stop: &Stop, lines: &mut Vec<u8>) -> Result<(), NoMemory>
     ensures { OnOk result (lines.new.items ≡ lines.old.items ++ stop_line stop.now) }
 {
     let at = stop.at;
     put_text("at ", lines)?;
     put_number(at, lines)?;
     put_reason(stop.reason, lines)?;
-    put_answer(alloc, &stop.last, lines)?;
+    put_answer(&stop.last, lines)?;
     put_text("\n", lines)
 }
 
@@ -91,7 +88,7 @@ fn put_reason(reason: Reason, lines: &mut Vec<u8>) -> Result<(), NoMemory>
 }
 
 /// The reply to the last step, if there is one.
-fn put_answer(alloc: Global, last: &Option<Reply>, lines: &mut Vec<u8>) -> Result<(), NoMemory>
+fn put_answer(last: &Option<Reply>, lines: &mut Vec<u8>) -> Result<(), NoMemory>
     ensures { OnOk result (lines.new.items ≡ lines.old.items ++ answer_text last.now) }
 {
     match last {

@@ -4,8 +4,8 @@ ghost use Rattle.hek_asm.specs.Trace.{NamesDeclared};
 
 use crate::histories::{SCHEDULE, replies_to};
 use crate::tally::Tally;
-use hek_asm::{TraceFault, assemble_text, read_trace, write_line};
-use hek_rules::{Event, MemorySink, Reply, Schedule, Transcript};
+use hek_asm::{TraceFault, assemble_text, put_line, read_trace};
+use hek_rules::{Event, Reply, Schedule, Transcript};
 use std::alloc::Global;
 use std::str;
 
@@ -28,7 +28,7 @@ fn try_trace(alloc: Global, schedule: &Schedule, tally: &mut Tally) {
 
 fn try_replies(alloc: Global, schedule: &Schedule, replies: &[Reply], tally: &mut Tally) {
     let mut trace = Vec::new(alloc);
-    let written = put_trace(alloc, schedule, schedule.steps(), replies, &mut trace);
+    let written = put_lines(schedule, schedule.steps(), replies, &mut trace);
     match str::from_utf8(trace.as_slice()) {
         Ok(trace) if written => try_lines(alloc, schedule, trace, tally),
         _ => tally.note(false),
@@ -83,13 +83,12 @@ fn is_told(alloc: Global, schedule: &Schedule, text: &str, line: u64) -> bool {
 /// Whether a text is the trace of a transcript.
 fn is_trace(alloc: Global, schedule: &Schedule, told: &Transcript, text: &str) -> bool {
     let mut trace = Vec::new(alloc);
-    put_trace(alloc, schedule, told.events(), told.replies(), &mut trace)
+    put_lines(schedule, told.events(), told.replies(), &mut trace)
         && trace.as_slice() == text.as_bytes()
 }
 
 /// Puts the trace of these events with these replies. Whether all of it was put.
-fn put_trace(
-    alloc: Global,
+fn put_lines(
     schedule: &Schedule,
     events: &[Event],
     replies: &[Reply],
@@ -99,7 +98,7 @@ fn put_trace(
     for (at, event) in events.iter().enumerate() {
         all = all
             && match replies.get(at) {
-                Some(reply) => put_line(alloc, schedule, at, event, reply, trace),
+                Some(reply) => put_one(schedule, at, event, reply, trace),
                 None => false,
             };
     }
@@ -107,19 +106,15 @@ fn put_trace(
 }
 
 /// Puts the line of an event at a place, counted from 0. Whether it was put.
-fn put_line(
-    alloc: Global,
+fn put_one(
     schedule: &Schedule,
     at: usize,
     event: &Event,
     reply: &Reply,
     trace: &mut Vec<u8>,
 ) -> bool {
-    let mut line = MemorySink::new(alloc, usize::MAX, usize::MAX);
     let number = (at as u64).saturating_add(1);
-    is_declared(schedule, *event)
-        && write_line(schedule, number, *event, reply, &mut line).is_ok()
-        && trace.extend_from_slice(line.bytes()).is_ok()
+    is_declared(schedule, *event) && put_line(schedule, number, event, reply, trace).is_ok()
 }
 
 fn is_declared(schedule: &Schedule, event: Event) -> bool

@@ -1,7 +1,7 @@
 //! What a call answers, and its text.
 use crate::fault::LineFault;
-use hek_asm::write_reply;
-use hek_rules::{FromWrite, Reply, State, TxnId, VersionId, WriteEntry};
+use hek_asm::put_reply;
+use hek_rules::{Reply, State, TxnId, VersionId, WriteEntry};
 use std::alloc::Global;
 
 /// What a call answers.
@@ -65,11 +65,9 @@ pub(crate) fn txn_or_none(t: Option<TxnId>) -> Answer {
 
 /// A reply, as a trace has it.
 pub(crate) fn reply_text(alloc: Global, reply: &Reply) -> Result<String, LineFault> {
-    let mut sink = FromWrite::new(Vec::new(alloc));
-    if write_reply(reply, &mut sink).is_err() {
-        return Err(LineFault::NoMemory);
-    }
-    match String::from_utf8(sink.into_inner()) {
+    let mut text = Vec::new(alloc);
+    put_reply(reply, &mut text)?;
+    match String::from_utf8(text) {
         Ok(text) => Ok(text),
         Err(_) => Err(LineFault::Unread),
     }

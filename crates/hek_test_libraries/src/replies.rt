@@ -1,9 +1,8 @@
 //! Replies as texts, written and read back, and traces that are read.
 use crate::asserts::{holds, is};
-use hek_asm::{assemble_text, read_trace, write_reply};
+use hek_asm::{assemble_text, put_reply, read_trace};
 use hek_rules::{
-    Cause, Event, Members, MemorySink, Pairs, Refusal, Reply, Schedule, Time, Transcript, TxnId,
-    VersionId,
+    Cause, Event, Members, Pairs, Refusal, Reply, Schedule, Time, Transcript, TxnId, VersionId,
 };
 use std::alloc::Global;
 use std::process::Abort;
@@ -23,9 +22,9 @@ fn told(rt: &impl Abort, alloc: Global, schedule: &str, trace: &str) -> Transcri
 
 /// The reply is written as the text.
 fn is_written(rt: &impl Abort, alloc: Global, reply: &Reply, text: &str) {
-    let mut sink = MemorySink::new(alloc, 1_000, 1_000);
-    is(rt, write_reply(reply, &mut sink), Ok(()));
-    is(rt, sink.bytes(), text.as_bytes());
+    let mut written = Vec::new(alloc);
+    is(rt, put_reply(reply, &mut written), Ok(()));
+    is(rt, written.as_slice(), text.as_bytes());
 }
 
 /// A trace of one line has this event and this reply.

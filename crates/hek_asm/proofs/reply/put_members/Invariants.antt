@@ -1,12 +1,8 @@
-use Rattle.std.proofs.Common.{◌≡◌, ◌++◌, false, drop, map, IsTrue}
+use Rattle.std.proofs.Common.{◌≡◌, ◌++◌, drop, map}
 use Rattle.std.specs.Fmt.{decimal}
 use Rattle.hek_rules.specs.Lines.{spaced}
 use Rattle.hek_asm.proofs.reply.put_members.Given as goal
 
--- with the members left, the sink would hold what the contract asks
+-- with the members left, the list would hold what the contract asks
 abbrev pub invariant-loop-member : goal.invariant-loop-member
-invariant-loop-member g l = record {
-  works : g.S.Sink.failed l.sink ≡ false;
-  tells : IsTrue (g.S.Sink.tells l.fn.sink) → IsTrue (g.S.Sink.tells l.sink);
-  bytes : IsTrue (g.S.Sink.tells l.fn.sink) → g.S.Sink.holds l.sink ++ spaced (map decimal (drop l.member-index l.members)) ≡ g.S.Sink.holds l.fn.sink ++ spaced (map decimal l.members);
-}
+invariant-loop-member l = l.out.items ++ spaced (map decimal (drop l.member-index l.members)) ≡ l.fn.out.items ++ spaced (map decimal l.members)
