@@ -1,5 +1,5 @@
 //! The forms of replies in texts: the words that each begins with, and what follows these.
-ghost use Rattle.std.specs.Prelude.{◌≡◌, None, Some, MatchOption};
+ghost use Rattle.std.specs.Prelude.{◌≡◌, option_copied};
 ghost use Rattle.hek_rules.specs.Forms.{first_word, second_word, form_text, form_operands};
 
 /// The form of a reply: its kind, without its operands.
@@ -144,7 +144,7 @@ impl ReplyForm {
 
     /// The word after the first, if the form has one.
     pub fn second_word(self) -> Option<&'static str>
-        ensures { MatchOption result (second_word self ≡ None) (λ word. second_word self ≡ Some word.now) }
+        ensures { option_copied result ≡ second_word self }
     {
         match self {
             ReplyForm::WaitingCommits => Some("commits"),
