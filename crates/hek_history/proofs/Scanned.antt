@@ -3,7 +3,7 @@ use Rattle.std.proofs.Common.{◌≡◌, ◌==◌, ◌↔◌, ℕ, zero, suc, �
 use Rattle.std.proofs.lemmas.Bool.{cases_Bool, eqb-true}
 use Rattle.std.proofs.lemmas.Option.{slice_get_within}
 use Rattle.std.proofs.lemmas.Map.Views.{Contains-keys_from_lookup}
-use Rattle.std.specs.Prelude.{slice_get, nat_lt, IsSome, IsTrue}
+use Rattle.std.specs.Prelude.{slice_get, IsSome, IsTrue}
 use Rattle.std.specs.List.{list_all}
 use Rattle.std.specs.HashMap.{get, keys, HashMap}
 use Rattle.hek_rules.specs.Listing.{value_of}

@@ -6,6 +6,7 @@ use Rattle.hek_history.specs.declared.history.Point.{Point}
 use Rattle.hek_history.specs.declared.certificate.Claim.{Claim}
 use Rattle.hek_history.specs.declared.certificate.Claim.TheVariants.{Before, Among, Not, TakesPlace, Contradiction}
 use Rattle.hek_history.specs.declared.certificate.Writer.{Writer}
+use Rattle.hek_history.specs.declared.context.Context.{Context}
 use Rattle.hek_history.specs.declared.refutation.Outcome.{Outcome}
 use Rattle.hek_history.specs.declared.refutation.Outcome.TheVariants.{Refused, Accepted, Refuted}
 use Rattle.hek_history.specs.declared.shown.Shown.{Shown}
@@ -29,6 +30,9 @@ AllHold h rows points shown = (n : ℕ) (s : Shown) → slice_get shown n ≡ So
 abbrev pub Follows : History → Order → List Written → List Shown → Claim → Type 0
 Follows h order rows shown claim = (points : List Point) → IsExplanationIn h order points → AllHold h rows points shown → Holds h rows points claim
 
+abbrev pub FollowsFrom : Context → Claim → Type 0
+FollowsFrom context claim = Follows context.history.now context.order context.rows.now context.shown.now claim
+
 -- the assumed ones among the first n hold
 abbrev pub AssumedHold : History → List Written → List Point → List Shown → ℕ → Type 0
 AssumedHold h rows points shown n = (k : ℕ) (s : Shown) (c : Claim) → k < n → slice_get shown k ≡ Some s → s.contrary ≡ Some c → Holds h rows points s.claim
@@ -36,6 +40,9 @@ AssumedHold h rows points shown n = (k : ℕ) (s : Shown) (c : Claim) → k < n 
 -- where the one doesn't hold, the other does
 abbrev pub IsContrary : History → Order → List Written → Claim → Claim → Type 0
 IsContrary h order rows claim other = (points : List Point) → IsExplanationIn h order points → (Holds h rows points claim → ⊥) → Holds h rows points other
+
+abbrev pub IsContraryIn : Context → Claim → Claim → Type 0
+IsContraryIn context claim other = IsContrary context.history.now context.order context.rows.now claim other
 
 -- what is not assumed holds where all hold that are assumed before it; and what is assumed has its contrary
 pub record IsSound (h : History) (order : Order) (rows : List Written) (shown : List Shown) : Type 0 where

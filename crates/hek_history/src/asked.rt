@@ -1,16 +1,15 @@
 //! The rules of a certificate that come from the order that is asked for.
-ghost use Rattle.std.specs.Prelude.{◌≡◌, ◌↔◌, ◌⊎◌, ℕ, true, Option, Some, None, suc, List, IsTrue, IfSome};
+ghost use Rattle.std.specs.Prelude.{◌≡◌, ◌⊎◌, Option, Some, None, suc, List, IfSome};
 ghost use Rattle.hek_history.specs.declared.history.Point.{Point as ThePoint};
 ghost use Rattle.hek_history.specs.declared.history.Point.TheVariants.{Begin, Commit};
 ghost use Rattle.hek_history.specs.Moments.{rank, place};
 ghost use Rattle.hek_history.specs.Orders.{earlier as earlier_of, time_of as time_in};
-ghost use Rattle.hek_history.specs.Claims.{Follows};
+ghost use Rattle.hek_history.specs.Claims.{FollowsFrom};
 
 use crate::certificate::{Claim, Moment};
+use crate::context::Context;
 use crate::edges::takes_place;
 use crate::history::{History, Order, Point};
-use crate::shown::Shown;
-use crate::table::Written;
 use crate::transactions::{answered_of, begin_of, end_of, invoked_of, is_serializable, writes};
 
 /// Whether both times are given, and the first is less.
@@ -41,30 +40,27 @@ pub(crate) fn time_of(history: &History, point: Point) -> Option<u64>
 
 /// In the order of versions, both write the key, and the first ends before the second.
 pub(crate) fn version(
-    history: &History,
-    order: Order,
-    rows: &[Written],
-    shown: &[Shown],
+    context: &Context<'_>,
     t: usize,
     x: usize,
     key: u64,
     taken: Option<usize>,
 ) -> Option<Claim>
-    ensures { IfSome result (λ claim. Follows history.now order rows.now shown.now claim) }
+    ensures { IfSome result (λ claim. FollowsFrom context.now claim) }
 {
-    let Order::Versions = order else {
+    let Order::Versions = context.order else {
         return None;
     };
-    if !writes(history, t, key) {
+    if !writes(context.history, t, key) {
         return None;
     }
-    if !writes(history, x, key) {
+    if !writes(context.history, x, key) {
         return None;
     }
-    if !earlier(end_of(history, t), end_of(history, x)) {
+    if !earlier(end_of(context.history, t), end_of(context.history, x)) {
         return None;
     }
-    if !takes_place(history, shown, t, taken) {
+    if !takes_place(context.history, context.shown, t, taken) {
         return None;
     }
     Some(Claim::Before {
@@ -101,29 +97,29 @@ fn transaction_of(point: Point) -> usize
 
 /// In the order of times, the time of the first is less.
 pub(crate) fn time(
-    history: &History,
-    order: Order,
-    rows: &[Written],
-    shown: &[Shown],
+    context: &Context<'_>,
     first: Point,
     second: Point,
     taken: Option<usize>,
 ) -> Option<Claim>
-    ensures { IfSome result (λ claim. Follows history.now order rows.now shown.now claim) }
+    ensures { IfSome result (λ claim. FollowsFrom context.now claim) }
 {
-    let Order::Times = order else {
+    let Order::Times = context.order else {
         return None;
     };
-    let Some(p) = moment_at(history, first) else {
+    let Some(p) = moment_at(context.history, first) else {
         return None;
     };
-    let Some(q) = moment_at(history, second) else {
+    let Some(q) = moment_at(context.history, second) else {
         return None;
     };
-    if !earlier(time_of(history, first), time_of(history, second)) {
+    if !earlier(
+        time_of(context.history, first),
+        time_of(context.history, second),
+    ) {
         return None;
     }
-    if !takes_place(history, shown, transaction_of(first), taken) {
+    if !takes_place(context.history, context.shown, transaction_of(first), taken) {
         return None;
     }
     Some(Claim::Before {
@@ -133,24 +129,19 @@ pub(crate) fn time(
 }
 
 /// In real time, the first was answered before the second was invoked.
-pub(crate) fn real(
-    history: &History,
-    order: Order,
-    rows: &[Written],
-    shown: &[Shown],
-    t: usize,
-    x: usize,
-    taken: Option<usize>,
-) -> Option<Claim>
-    ensures { IfSome result (λ claim. Follows history.now order rows.now shown.now claim) }
+pub(crate) fn real(context: &Context<'_>, t: usize, x: usize, taken: Option<usize>) -> Option<Claim>
+    ensures { IfSome result (λ claim. FollowsFrom context.now claim) }
 {
-    let Order::Real = order else {
+    let Order::Real = context.order else {
         return None;
     };
-    if !earlier(answered_of(history, t), invoked_of(history, x)) {
+    if !earlier(
+        answered_of(context.history, t),
+        invoked_of(context.history, x),
+    ) {
         return None;
     }
-    if !takes_place(history, shown, t, taken) {
+    if !takes_place(context.history, context.shown, t, taken) {
         return None;
     }
     Some(Claim::Before {

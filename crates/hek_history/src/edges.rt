@@ -1,18 +1,17 @@
 //! The rules of a certificate by which one moment is before another.
-ghost use Rattle.std.specs.Prelude.{◌≡◌, ◌↔◌, ◌⊎◌, ◌<◌, ℕ, true, Option, Some, None, List, IsTrue, IfSome};
+ghost use Rattle.std.specs.Prelude.{◌≡◌, ◌↔◌, ◌<◌, true, Option, Some, None, List, IsTrue, IfSome};
 ghost use Rattle.hek_history.specs.declared.history.History.{History as TheHistory};
 ghost use Rattle.hek_history.specs.declared.history.Order.{Order as TheOrder};
 ghost use Rattle.hek_history.specs.declared.history.Point.{Point as ThePoint};
 ghost use Rattle.hek_history.specs.declared.table.Written.{Written as TheWritten};
 ghost use Rattle.hek_history.specs.Explanation.{IsExplanationIn, Occurs};
-ghost use Rattle.hek_history.specs.Moments.{settled as settled_in, moment_of as moment_by, rank, IsSource};
-ghost use Rattle.hek_history.specs.Claims.{AllHold, Holds, Follows};
+ghost use Rattle.hek_history.specs.Moments.{settled as settled_in, moment_of as moment_by, rank};
+ghost use Rattle.hek_history.specs.Claims.{AllHold, Holds};
 
 use crate::certificate::{Claim, Moment, Writer};
 use crate::history::History;
 use crate::shown::Shown;
-use crate::table::Written;
-use crate::transactions::{is_committed, is_serializable, writes};
+use crate::transactions::{is_committed, is_serializable};
 
 /// A moment; the begin of a serializable transaction is its commit.
 fn settled(history: &History, moment: Moment) -> Moment
@@ -35,12 +34,7 @@ fn settled(history: &History, moment: Moment) -> Moment
 pub(crate) fn is_same_moment(history: &History, first: Moment, second: Moment) -> bool
     ensures { IsTrue result ↔ settled_in history.now first ≡ settled_in history.now second }
 {
-    match (settled(history, first), settled(history, second)) {
-        (Moment::Opening, Moment::Opening) => true,
-        (Moment::Begin(t), Moment::Begin(x)) => t == x,
-        (Moment::Commit(t), Moment::Commit(x)) => t == x,
-        _ => false,
-    }
+    settled(history, first) == settled(history, second)
 }
 
 /// When a writer's rows come to be.

@@ -1,5 +1,5 @@
 //! What an answer says of the value that its transaction found at a key.
-ghost use Rattle.std.specs.Prelude.{◌≡◌, ◌<◌, ℕ, suc, Option, true, IsTrue};
+ghost use Rattle.std.specs.Prelude.{◌≡◌, ◌<◌, ℕ, Option, true, IsTrue};
 ghost use Rattle.hek_history.specs.Answers.{allows as allowed_by, tells as told_by, fits as fits_at, same_found as same_as};
 ghost use Rattle.hek_history.specs.Readings.{Meets};
 ghost use Rattle.hek_history.specs.Tables.{height};
@@ -48,7 +48,7 @@ pub(crate) fn allows(lenient: bool, key: u64, operation: &Operation, value: Opti
 }
 
 /// What the operation needs at its own key.
-fn own_need(operation: &Operation) -> Need
+pub fn own_need(operation: &Operation) -> Need
     ensures { (value : Option ℕ) → fits_at operation.now value ≡ true → Meets result value }
 {
     match operation {
@@ -129,7 +129,7 @@ pub(crate) fn is_high(need: Need, value: Option<u64>) -> bool
 }
 
 /// Whether nothing meets both needs.
-pub(crate) fn are_apart(first: Need, second: Need) -> bool
+pub fn are_apart(first: Need, second: Need) -> bool
     ensures { IsTrue result → (value : Option ℕ) → Meets first value → Meets second value → ⊥ }
 {
     match (first, second) {

@@ -1,28 +1,20 @@
 //! The rules of a certificate that order moments.
-ghost use Rattle.std.specs.Prelude.{◌≡◌, ◌↔◌, ◌⊎◌, ◌<◌, ℕ, true, Option, Some, None, List, IsTrue, IfSome};
+ghost use Rattle.std.specs.Prelude.{◌≡◌, ◌↔◌, ◌⊎◌, ◌<◌, Option, Some, None, IsTrue, IfSome};
 ghost use Rattle.hek_history.specs.declared.certificate.Moment.TheVariants.{Begin as BeginOf, Commit as CommitOf};
 ghost use Rattle.hek_history.specs.declared.certificate.Writer.TheVariants.{Transaction};
-ghost use Rattle.hek_history.specs.Claims.{AllHold, Holds, Follows};
+ghost use Rattle.hek_history.specs.Claims.{FollowsFrom};
 
 use crate::certificate::{Claim, Moment, Writer};
+use crate::context::Context;
 use crate::edges::{is_before, is_same_moment, moment_of, moments_at, takes_place};
-use crate::history::{History, Order};
-use crate::shown::Shown;
 use crate::sources::only_source;
-use crate::table::Written;
 use crate::transactions::{is_serializable, writes};
 
 /// The opening is before each other moment.
-pub(crate) fn first(
-    history: &History,
-    order: Order,
-    rows: &[Written],
-    shown: &[Shown],
-    second: Moment,
-) -> Option<Claim>
-    ensures { IfSome result (λ claim. Follows history.now order rows.now shown.now claim) }
+pub(crate) fn first(context: &Context<'_>, second: Moment) -> Option<Claim>
+    ensures { IfSome result (λ claim. FollowsFrom context.now claim) }
 {
-    if is_same_moment(history, Moment::Opening, second) {
+    if is_same_moment(context.history, Moment::Opening, second) {
         return None;
     }
     Some(Claim::Before {
@@ -32,16 +24,10 @@ pub(crate) fn first(
 }
 
 /// A snapshot transaction begins before it commits.
-pub(crate) fn own(
-    history: &History,
-    order: Order,
-    rows: &[Written],
-    shown: &[Shown],
-    t: usize,
-) -> Option<Claim>
-    ensures { IfSome result (λ claim. Follows history.now order rows.now shown.now claim) }
+pub(crate) fn own(context: &Context<'_>, t: usize) -> Option<Claim>
+    ensures { IfSome result (λ claim. FollowsFrom context.now claim) }
 {
-    if is_serializable(history, t) {
+    if is_serializable(context.history, t) {
         return None;
     }
     Some(Claim::Before {
@@ -51,16 +37,10 @@ pub(crate) fn own(
 }
 
 /// The only candidate is before its reader.
-pub(crate) fn read(
-    history: &History,
-    order: Order,
-    rows: &[Written],
-    shown: &[Shown],
-    among: usize,
-) -> Option<Claim>
-    ensures { IfSome result (λ claim. Follows history.now order rows.now shown.now claim) }
+pub(crate) fn read(context: &Context<'_>, among: usize) -> Option<Claim>
+    ensures { IfSome result (λ claim. FollowsFrom context.now claim) }
 {
-    let Some(only) = only_source(rows, shown, among) else {
+    let Some(only) = only_source(context.rows, context.shown, among) else {
         return None;
     };
     Some(Claim::Before {
@@ -71,28 +51,25 @@ pub(crate) fn read(
 
 /// Another writer of the key that commits after the only candidate does so after the reader begins.
 pub(crate) fn after(
-    history: &History,
-    order: Order,
-    rows: &[Written],
-    shown: &[Shown],
+    context: &Context<'_>,
     among: usize,
     other: usize,
     premise: usize,
 ) -> Option<Claim>
-    ensures { IfSome result (λ claim. Follows history.now order rows.now shown.now claim) }
+    ensures { IfSome result (λ claim. FollowsFrom context.now claim) }
 {
-    let Some(only) = only_source(rows, shown, among) else {
+    let Some(only) = only_source(context.rows, context.shown, among) else {
         return None;
     };
     if other == only.reader {
         return None;
     }
-    if !writes(history, other, only.key) {
+    if !writes(context.history, other, only.key) {
         return None;
     }
     if !is_before(
-        history,
-        shown,
+        context.history,
+        context.shown,
         premise,
         moment_of(only.writer),
         Moment::Commit(other),
@@ -117,28 +94,25 @@ pub(crate) fn is_writer(writer: Writer, t: usize) -> bool
 
 /// Another writer of the key that commits before the reader begins does so before the only candidate.
 pub(crate) fn before(
-    history: &History,
-    order: Order,
-    rows: &[Written],
-    shown: &[Shown],
+    context: &Context<'_>,
     among: usize,
     other: usize,
     premise: usize,
 ) -> Option<Claim>
-    ensures { IfSome result (λ claim. Follows history.now order rows.now shown.now claim) }
+    ensures { IfSome result (λ claim. FollowsFrom context.now claim) }
 {
-    let Some(only) = only_source(rows, shown, among) else {
+    let Some(only) = only_source(context.rows, context.shown, among) else {
         return None;
     };
     if is_writer(only.writer, other) {
         return None;
     }
-    if !writes(history, other, only.key) {
+    if !writes(context.history, other, only.key) {
         return None;
     }
     if !is_before(
-        history,
-        shown,
+        context.history,
+        context.shown,
         premise,
         Moment::Commit(other),
         Moment::Begin(only.reader),
@@ -154,27 +128,30 @@ pub(crate) fn before(
 /// Of two writers of a key, of which the first begins before the second commits, the first commits before the second
 /// begins.
 pub(crate) fn winner(
-    history: &History,
-    order: Order,
-    rows: &[Written],
-    shown: &[Shown],
+    context: &Context<'_>,
     t: usize,
     x: usize,
     key: u64,
     premise: usize,
 ) -> Option<Claim>
-    ensures { IfSome result (λ claim. Follows history.now order rows.now shown.now claim) }
+    ensures { IfSome result (λ claim. FollowsFrom context.now claim) }
 {
     if t == x {
         return None;
     }
-    if !writes(history, t, key) {
+    if !writes(context.history, t, key) {
         return None;
     }
-    if !writes(history, x, key) {
+    if !writes(context.history, x, key) {
         return None;
     }
-    if !is_before(history, shown, premise, Moment::Begin(t), Moment::Commit(x)) {
+    if !is_before(
+        context.history,
+        context.shown,
+        premise,
+        Moment::Begin(t),
+        Moment::Commit(x),
+    ) {
         return None;
     }
     Some(Claim::Before {
@@ -184,23 +161,16 @@ pub(crate) fn winner(
 }
 
 /// One before a second, and this one before a third.
-pub(crate) fn chain(
-    history: &History,
-    order: Order,
-    rows: &[Written],
-    shown: &[Shown],
-    first: usize,
-    second: usize,
-) -> Option<Claim>
-    ensures { IfSome result (λ claim. Follows history.now order rows.now shown.now claim) }
+pub(crate) fn chain(context: &Context<'_>, first: usize, second: usize) -> Option<Claim>
+    ensures { IfSome result (λ claim. FollowsFrom context.now claim) }
 {
-    let Some(one) = moments_at(shown, first) else {
+    let Some(one) = moments_at(context.shown, first) else {
         return None;
     };
-    let Some(next) = moments_at(shown, second) else {
+    let Some(next) = moments_at(context.shown, second) else {
         return None;
     };
-    if !is_same_moment(history, one.second, next.first) {
+    if !is_same_moment(context.history, one.second, next.first) {
         return None;
     }
     Some(Claim::Before {
@@ -221,17 +191,10 @@ pub(crate) fn transaction_of(moment: Moment) -> Option<usize>
 }
 
 /// Who is before one that takes place does so too.
-pub(crate) fn inside(
-    history: &History,
-    order: Order,
-    rows: &[Written],
-    shown: &[Shown],
-    premise: usize,
-    taken: Option<usize>,
-) -> Option<Claim>
-    ensures { IfSome result (λ claim. Follows history.now order rows.now shown.now claim) }
+pub(crate) fn inside(context: &Context<'_>, premise: usize, taken: Option<usize>) -> Option<Claim>
+    ensures { IfSome result (λ claim. FollowsFrom context.now claim) }
 {
-    let Some(turn) = moments_at(shown, premise) else {
+    let Some(turn) = moments_at(context.shown, premise) else {
         return None;
     };
     let Some(t) = transaction_of(turn.first) else {
@@ -240,7 +203,7 @@ pub(crate) fn inside(
     let Some(x) = transaction_of(turn.second) else {
         return None;
     };
-    if !takes_place(history, shown, x, taken) {
+    if !takes_place(context.history, context.shown, x, taken) {
         return None;
     }
     Some(Claim::TakesPlace(t))

@@ -1,33 +1,29 @@
 //! The rules of a certificate by which a transaction's own answers contradict each other.
-ghost use Rattle.std.specs.Prelude.{◌≡◌, Bool, ℕ, true, false, Option, Some, None, List, IsTrue, IfSome};
-ghost use Rattle.hek_history.specs.Claims.{Follows};
-ghost use Rattle.hek_history.specs.Answers.{allows as allowed_by, IsByKey};
+ghost use Rattle.std.specs.Prelude.{◌≡◌, Bool, ℕ, false, Option, Some, None, IsTrue, IfSome};
+ghost use Rattle.hek_history.specs.Claims.{FollowsFrom};
+ghost use Rattle.hek_history.specs.Answers.{allows as allowed_by};
 
 use crate::answers::{after, covers, is_change, last_change, value_of};
 use crate::certificate::Claim;
+use crate::context::Context;
 use crate::edges::takes_place;
-use crate::history::{History, Operation, Order};
+use crate::history::Operation;
 use crate::needs::{allows, are_apart, need_of};
 use crate::scans::is_by_key;
-use crate::shown::Shown;
 use crate::sources::first_reading;
-use crate::table::Written;
 use crate::transactions::{is_lenient, operations_of};
 
 /// An answer that the transaction's own operations before it contradict.
 pub(crate) fn contradicted(
-    history: &History,
-    order: Order,
-    rows: &[Written],
-    shown: &[Shown],
+    context: &Context<'_>,
     t: usize,
     n: usize,
     key: u64,
     taken: Option<usize>,
 ) -> Option<Claim>
-    ensures { IfSome result (λ claim. Follows history.now order rows.now shown.now claim) }
+    ensures { IfSome result (λ claim. FollowsFrom context.now claim) }
 {
-    let operations = operations_of(history, t);
+    let operations = operations_of(context.history, t);
     let Some(operation) = operations.get(n) else {
         return None;
     };
@@ -35,10 +31,15 @@ pub(crate) fn contradicted(
     if !is_change(own) {
         return None;
     }
-    if allows(is_lenient(history, t), key, operation, after(own, None)) {
+    if allows(
+        is_lenient(context.history, t),
+        key,
+        operation,
+        after(own, None),
+    ) {
         return None;
     }
-    if !takes_place(history, shown, t, taken) {
+    if !takes_place(context.history, context.shown, t, taken) {
         return None;
     }
     Some(Claim::Contradiction)
@@ -46,32 +47,29 @@ pub(crate) fn contradicted(
 
 /// Two answers of a transaction on a key, both before it changes the key, that no value makes right.
 pub(crate) fn disagree(
-    history: &History,
-    order: Order,
-    rows: &[Written],
-    shown: &[Shown],
+    context: &Context<'_>,
     t: usize,
     first: usize,
     second: usize,
     key: u64,
     taken: Option<usize>,
 ) -> Option<Claim>
-    ensures { IfSome result (λ claim. Follows history.now order rows.now shown.now claim) }
+    ensures { IfSome result (λ claim. FollowsFrom context.now claim) }
 {
-    let Some(operation) = first_reading(history, t, first, key) else {
+    let Some(operation) = first_reading(context.history, t, first, key) else {
         return None;
     };
-    let Some(other) = first_reading(history, t, second, key) else {
+    let Some(other) = first_reading(context.history, t, second, key) else {
         return None;
     };
-    let lenient = is_lenient(history, t);
+    let lenient = is_lenient(context.history, t);
     if !are_apart(
         need_of(lenient, key, operation),
         need_of(lenient, key, other),
     ) {
         return None;
     }
-    if !takes_place(history, shown, t, taken) {
+    if !takes_place(context.history, context.shown, t, taken) {
         return None;
     }
     Some(Claim::Contradiction)
@@ -79,23 +77,20 @@ pub(crate) fn disagree(
 
 /// A scan whose pairs are not by key.
 pub(crate) fn unordered(
-    history: &History,
-    order: Order,
-    rows: &[Written],
-    shown: &[Shown],
+    context: &Context<'_>,
     t: usize,
     n: usize,
     taken: Option<usize>,
 ) -> Option<Claim>
-    ensures { IfSome result (λ claim. Follows history.now order rows.now shown.now claim) }
+    ensures { IfSome result (λ claim. FollowsFrom context.now claim) }
 {
-    let Some(operation) = operations_of(history, t).get(n) else {
+    let Some(operation) = operations_of(context.history, t).get(n) else {
         return None;
     };
     if is_by_key(operation) {
         return None;
     }
-    if !takes_place(history, shown, t, taken) {
+    if !takes_place(context.history, context.shown, t, taken) {
         return None;
     }
     Some(Claim::Contradiction)
@@ -115,24 +110,21 @@ fn is_outside(operation: &Operation, key: u64) -> bool
 
 /// A scan with a pair whose key it is not of.
 pub(crate) fn outside(
-    history: &History,
-    order: Order,
-    rows: &[Written],
-    shown: &[Shown],
+    context: &Context<'_>,
     t: usize,
     n: usize,
     key: u64,
     taken: Option<usize>,
 ) -> Option<Claim>
-    ensures { IfSome result (λ claim. Follows history.now order rows.now shown.now claim) }
+    ensures { IfSome result (λ claim. FollowsFrom context.now claim) }
 {
-    let Some(operation) = operations_of(history, t).get(n) else {
+    let Some(operation) = operations_of(context.history, t).get(n) else {
         return None;
     };
     if !is_outside(operation, key) {
         return None;
     }
-    if !takes_place(history, shown, t, taken) {
+    if !takes_place(context.history, context.shown, t, taken) {
         return None;
     }
     Some(Claim::Contradiction)

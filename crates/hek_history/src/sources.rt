@@ -1,5 +1,5 @@
 //! The rules of a certificate by which a source is found among candidates.
-ghost use Rattle.std.specs.Prelude.{◌≡◌, ◌↔◌, ◌<◌, ℕ, true, Option, Some, None, List, IsTrue, IfSome};
+ghost use Rattle.std.specs.Prelude.{◌≡◌, ◌<◌, Option, Some, None, List, IsTrue, IfSome};
 ghost use Rattle.hek_history.specs.declared.history.History.{History as TheHistory};
 ghost use Rattle.hek_history.specs.declared.history.Point.{Point as ThePoint};
 ghost use Rattle.hek_history.specs.declared.table.Written.{Written as TheWritten};
@@ -9,14 +9,14 @@ ghost use Rattle.hek_history.specs.Explanation.{Occurs};
 ghost use Rattle.hek_history.specs.Moments.{IsSource};
 ghost use Rattle.hek_history.specs.Tables.{IsTable, IsAmong};
 ghost use Rattle.hek_history.specs.Readings.{IsReading};
-ghost use Rattle.hek_history.specs.Claims.{AllHold, Holds, Follows};
+ghost use Rattle.hek_history.specs.Claims.{AllHold, Holds, FollowsFrom};
 
 use crate::answers::{is_change, last_change, value_of};
 use crate::certificate::{Claim, Moment, Writer};
+use crate::context::Context;
 use crate::edges::{claim_at, is_before, moment_of, takes_place};
-use crate::history::{History, Operation, Order};
+use crate::history::{History, Operation};
 use crate::needs::{allows, need_of};
-use crate::ordering::is_writer;
 use crate::shown::Shown;
 use crate::table::{Written, ends_at, starts_at};
 use crate::transactions::{is_lenient, operations_of, writes};
@@ -115,10 +115,7 @@ pub(crate) fn only_source(rows: &[Written], shown: &[Shown], place: usize) -> Op
 
 /// The candidates for what an operation found at a key: the rows from..to, and the opening if its value fits.
 pub(crate) fn start(
-    history: &History,
-    order: Order,
-    rows: &[Written],
-    shown: &[Shown],
+    context: &Context<'_>,
     t: usize,
     n: usize,
     key: u64,
@@ -126,28 +123,28 @@ pub(crate) fn start(
     to: usize,
     taken: Option<usize>,
 ) -> Option<Claim>
-    requires { IsTable history.now rows.now }
-    ensures { IfSome result (λ claim. Follows history.now order rows.now shown.now claim) }
+    requires { IsTable context.now.history.now context.now.rows.now }
+    ensures { IfSome result (λ claim. FollowsFrom context.now claim) }
 {
-    let Some(operation) = first_reading(history, t, n, key) else {
+    let Some(operation) = first_reading(context.history, t, n, key) else {
         return None;
     };
-    if !takes_place(history, shown, t, taken) {
+    if !takes_place(context.history, context.shown, t, taken) {
         return None;
     }
-    let lenient = is_lenient(history, t);
+    let lenient = is_lenient(context.history, t);
     let need = need_of(lenient, key, operation);
-    if !starts_at(rows, key, need, from) {
+    if !starts_at(context.rows, key, need, from) {
         return None;
     }
-    if !ends_at(rows, key, need, to) {
+    if !ends_at(context.rows, key, need, to) {
         return None;
     }
     let opening = allows(
         lenient,
         key,
         operation,
-        value_of(history.rows.as_slice(), key),
+        value_of(context.history.rows.as_slice(), key),
     );
     Some(Claim::Among {
         reader: t,
@@ -159,15 +156,8 @@ pub(crate) fn start(
 }
 
 /// No transaction is the source of what it reads.
-pub(crate) fn not_self(
-    history: &History,
-    order: Order,
-    rows: &[Written],
-    shown: &[Shown],
-    reader: usize,
-    key: u64,
-) -> Option<Claim>
-    ensures { IfSome result (λ claim. Follows history.now order rows.now shown.now claim) }
+pub(crate) fn not_self(context: &Context<'_>, reader: usize, key: u64) -> Option<Claim>
+    ensures { IfSome result (λ claim. FollowsFrom context.now claim) }
 {
     Some(Claim::Not {
         reader,
@@ -178,20 +168,17 @@ pub(crate) fn not_self(
 
 /// Who commits after the reader begins is not the source.
 pub(crate) fn not_later(
-    history: &History,
-    order: Order,
-    rows: &[Written],
-    shown: &[Shown],
+    context: &Context<'_>,
     reader: usize,
     key: u64,
     writer: Writer,
     premise: usize,
 ) -> Option<Claim>
-    ensures { IfSome result (λ claim. Follows history.now order rows.now shown.now claim) }
+    ensures { IfSome result (λ claim. FollowsFrom context.now claim) }
 {
     if !is_before(
-        history,
-        shown,
+        context.history,
+        context.shown,
         premise,
         Moment::Begin(reader),
         moment_of(writer),
@@ -207,10 +194,7 @@ pub(crate) fn not_later(
 
 /// A writer is not the source if another writer of the key commits after it and before the reader begins.
 pub(crate) fn not_cover(
-    history: &History,
-    order: Order,
-    rows: &[Written],
-    shown: &[Shown],
+    context: &Context<'_>,
     reader: usize,
     key: u64,
     writer: Writer,
@@ -218,14 +202,14 @@ pub(crate) fn not_cover(
     later: usize,
     earlier: usize,
 ) -> Option<Claim>
-    ensures { IfSome result (λ claim. Follows history.now order rows.now shown.now claim) }
+    ensures { IfSome result (λ claim. FollowsFrom context.now claim) }
 {
-    if !writes(history, other, key) {
+    if !writes(context.history, other, key) {
         return None;
     }
     if !is_before(
-        history,
-        shown,
+        context.history,
+        context.shown,
         later,
         moment_of(writer),
         Moment::Commit(other),
@@ -233,8 +217,8 @@ pub(crate) fn not_cover(
         return None;
     }
     if !is_before(
-        history,
-        shown,
+        context.history,
+        context.shown,
         earlier,
         Moment::Commit(other),
         Moment::Begin(reader),
@@ -259,37 +243,19 @@ fn is_not(shown: &[Shown], place: usize, reader: usize, key: u64, writer: Writer
                 key: k,
                 writer: w,
             },
-        ) => t == reader && k == key && is_same_writer(w, writer),
-        _ => false,
-    }
-}
-
-/// Whether two writers are one.
-fn is_same_writer(first: Writer, second: Writer) -> bool
-    ensures { IsTrue result ↔ first ≡ second }
-{
-    match (first, second) {
-        (Writer::Opening, Writer::Opening) => true,
-        (Writer::Transaction(t), Writer::Transaction(x)) => t == x,
+        ) => t == reader && k == key && w == writer,
         _ => false,
     }
 }
 
 /// Without the opening.
-pub(crate) fn drop_opening(
-    history: &History,
-    order: Order,
-    rows: &[Written],
-    shown: &[Shown],
-    among: usize,
-    not: usize,
-) -> Option<Claim>
-    ensures { IfSome result (λ claim. Follows history.now order rows.now shown.now claim) }
+pub(crate) fn drop_opening(context: &Context<'_>, among: usize, not: usize) -> Option<Claim>
+    ensures { IfSome result (λ claim. FollowsFrom context.now claim) }
 {
-    let Some(range) = range_at(rows, shown, among) else {
+    let Some(range) = range_at(context.rows, context.shown, among) else {
         return None;
     };
-    if !is_not(shown, not, range.reader, range.key, Writer::Opening) {
+    if !is_not(context.shown, not, range.reader, range.key, Writer::Opening) {
         return None;
     }
     Some(Claim::Among {
@@ -302,24 +268,17 @@ pub(crate) fn drop_opening(
 }
 
 /// Without the first of the rows.
-pub(crate) fn drop_lowest(
-    history: &History,
-    order: Order,
-    rows: &[Written],
-    shown: &[Shown],
-    among: usize,
-    not: usize,
-) -> Option<Claim>
-    ensures { IfSome result (λ claim. Follows history.now order rows.now shown.now claim) }
+pub(crate) fn drop_lowest(context: &Context<'_>, among: usize, not: usize) -> Option<Claim>
+    ensures { IfSome result (λ claim. FollowsFrom context.now claim) }
 {
-    let Some(range) = range_at(rows, shown, among) else {
+    let Some(range) = range_at(context.rows, context.shown, among) else {
         return None;
     };
-    let Some(row) = rows.get(range.from) else {
+    let Some(row) = context.rows.get(range.from) else {
         return None;
     };
     if !is_not(
-        shown,
+        context.shown,
         not,
         range.reader,
         range.key,
@@ -337,28 +296,21 @@ pub(crate) fn drop_lowest(
 }
 
 /// Without the last of the rows.
-pub(crate) fn drop_highest(
-    history: &History,
-    order: Order,
-    rows: &[Written],
-    shown: &[Shown],
-    among: usize,
-    not: usize,
-) -> Option<Claim>
-    ensures { IfSome result (λ claim. Follows history.now order rows.now shown.now claim) }
+pub(crate) fn drop_highest(context: &Context<'_>, among: usize, not: usize) -> Option<Claim>
+    ensures { IfSome result (λ claim. FollowsFrom context.now claim) }
 {
-    let Some(range) = range_at(rows, shown, among) else {
+    let Some(range) = range_at(context.rows, context.shown, among) else {
         return None;
     };
     if range.to == 0 {
         return None;
     }
     let last = range.to - 1;
-    let Some(row) = rows.get(last) else {
+    let Some(row) = context.rows.get(last) else {
         return None;
     };
     if !is_not(
-        shown,
+        context.shown,
         not,
         range.reader,
         range.key,

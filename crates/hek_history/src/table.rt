@@ -1,5 +1,5 @@
 //! The table of all last writes.
-ghost use Rattle.std.specs.Prelude.{◌≡◌, ◌∷◌, length, IfSome, ◌<◌, ◌≤◌, ◌+◌, ◌++◌, ◌↔◌, ℕ, suc, List, Option, Some, None, true, false, slice_get, drop, IsTrue, IfOk, OnOk};
+ghost use Rattle.std.specs.Prelude.{◌≡◌, ◌∷◌, length, IfSome, ◌<◌, ◌≤◌, ◌+◌, ◌↔◌, ℕ, Option, Some, None, true, false, slice_get, IsTrue, IfOk, OnOk};
 ghost use Rattle.hek_history.specs.declared.table.Written.{Written as TheWritten};
 ghost use Rattle.hek_history.specs.Answers.{after as value_after_change};
 ghost use Rattle.hek_history.specs.Readings.{Meets, IsBelow, IsAbove};

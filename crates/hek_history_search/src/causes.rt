@@ -4,7 +4,7 @@ use crate::facts::{Rule, Says};
 use crate::known::Known;
 use crate::lists::add;
 use crate::problem::Reading;
-use hek_history::{Need, Operation, Order, Status, Writer};
+use hek_history::{Change, Need, Operation, Order, Status, Writer, change_of, key_of};
 use hek_rules::NoMemory;
 
 /// What is counted while a cycle is gathered.
@@ -17,25 +17,9 @@ struct Gathered {
     entered: Option<usize>,
 }
 
-/// Whether two writers are one.
-fn is_same(first: Writer, second: Writer) -> bool {
-    match (first, second) {
-        (Writer::Opening, Writer::Opening) => true,
-        (Writer::Transaction(t), Writer::Transaction(x)) => t == x,
-        _ => false,
-    }
-}
-
 /// Whether an operation writes a value at a key.
 fn writes_value(operation: &Operation, key: u64, wanted: u64) -> bool {
-    let (name, value, done) = match operation {
-        Operation::Put(name, value) => (*name, *value, true),
-        Operation::Insert(name, value, done) | Operation::Update(name, value, done) => {
-            (*name, *value, *done)
-        }
-        _ => return false,
-    };
-    done && name == key && value == wanted
+    key_of(operation) == key && change_of(operation) == Change::Set(wanted)
 }
 
 /// Whether one of these operations writes a value at a key.
@@ -295,7 +279,7 @@ impl Gathered {
             self.key = edge.key;
         }
         for one in others {
-            if is_same(one.first, edge.first) {
+            if one.first == edge.first {
                 return;
             }
         }

@@ -1,6 +1,6 @@
 //! The clock of the order that is asked for: a point that goes by times is before the tick of its time, each tick before the next
 //! one, and the last tick before a time is before the points that come after it.
-use crate::facts::{Rule, Says, Stop};
+use crate::facts::{Rule, Stop};
 use crate::known::Known;
 use crate::lists::{add, at};
 use crate::nodes::Nodes;

@@ -1,6 +1,6 @@
 //! The keys that a history names, in rising order, and those of a scan among them.
 use crate::lists::{add, at, place_from};
-use hek_history::{History, Operation, Scope};
+use hek_history::{History, Operation, Scope, key_of};
 use hek_rules::NoMemory;
 use std::alloc::Global;
 
@@ -12,26 +12,6 @@ pub(crate) struct Keys {
     divisions: Vec<u64>,
     /// Into how many buckets keys are divided, the bucket, and the place of the key.
     bucketed: Vec<(u64, u64, usize)>,
-}
-
-/// The key of an operation that isn't a scan.
-pub(crate) fn key_of(operation: &Operation) -> Option<u64> {
-    match operation {
-        Operation::Read(key, _)
-        | Operation::Put(key, _)
-        | Operation::Insert(key, _, _)
-        | Operation::Update(key, _, _)
-        | Operation::Delete(key, _) => Some(*key),
-        Operation::Scan(_, _) => None,
-    }
-}
-
-/// Whether a scan is of a key.
-pub(crate) fn covers(scope: Scope, key: u64) -> bool {
-    match scope {
-        Scope::Range(from, to) => from <= key && key < to,
-        Scope::Bucket(buckets, bucket) => buckets != 0 && key % buckets == bucket,
-    }
 }
 
 impl Keys {
@@ -74,9 +54,8 @@ impl Keys {
             if let Operation::Scan(scope, pairs) = operation {
                 self.add_division(*scope)?;
                 self.add_pairs(pairs.as_slice())?;
-            }
-            if let Some(key) = key_of(operation) {
-                add(&mut self.names, key)?;
+            } else {
+                add(&mut self.names, key_of(operation))?;
             }
         }
         Ok(())

@@ -1,7 +1,7 @@
 //! A history as the search sees it: what each transaction must have found at which keys, and what it left there.
 use crate::keys::Keys;
 use crate::lists::{at, part};
-use hek_history::{History, Level, Need, Order, Status};
+use hek_history::{History, Level, Need, Order, is_committed, is_possible};
 
 /// What an operation tells of the value that its transaction found at a key.
 #[derive(Clone, Copy)]
@@ -133,13 +133,6 @@ pub(crate) fn meets(need: Need, value: Option<u64>) -> bool {
     span.least <= its && its <= span.most
 }
 
-/// Whether nothing meets both needs.
-pub(crate) fn are_apart(first: Need, second: Need) -> bool {
-    let one = span_of(first);
-    let other = span_of(second);
-    one.most < other.least || other.most < one.least
-}
-
 /// How many of the rows of a key have a value below a rank.
 fn rows_below(rows: &[Left], least: u128) -> usize {
     rows.partition_point(|row| rank(row.value) < least)
@@ -223,21 +216,13 @@ impl Problem<'_> {
         }
     }
 
-    /// What became of a transaction.
-    fn status(&self, t: usize) -> Status {
-        match self.history.transactions.get(t) {
-            Some(transaction) => transaction.status,
-            None => Status::Aborted,
-        }
-    }
-
     pub(crate) fn is_committed(&self, t: usize) -> bool {
-        self.status(t) == Status::Committed
+        is_committed(self.history, t)
     }
 
     /// Whether the transaction may have committed.
     pub(crate) fn is_possible(&self, t: usize) -> bool {
-        self.status(t) != Status::Aborted
+        is_possible(self.history, t)
     }
 
     pub(crate) fn is_snapshot(&self, t: usize) -> bool {

@@ -1,8 +1,11 @@
 //! Makes of a history what the search works on: needs, what is left, and contradictions within a transaction.
-use crate::keys::{Keys, covers, key_of};
+use crate::keys::Keys;
 use crate::lists::{add, at, put};
-use crate::problem::{AtKey, Left, OwnFault, Problem, Reading, are_apart, meets};
-use hek_history::{Change, History, Level, Need, Operation, Order, Scope, Status};
+use crate::problem::{AtKey, Left, OwnFault, Problem, Reading, meets};
+use hek_history::{
+    Change, History, Level, Need, Operation, Order, Scope, Status, are_apart, change_of, covers,
+    key_of, own_need,
+};
 use hek_rules::NoMemory;
 use std::alloc::Global;
 
@@ -21,35 +24,6 @@ const NOT_NAMED: AtKey = AtKey {
     reading: None,
     left: None,
 };
-
-/// What an operation that isn't a scan tells of the value that it found.
-fn need_of(operation: &Operation) -> Need {
-    match operation {
-        Operation::Read(_, Some(value)) => Need::Value(*value),
-        Operation::Read(_, None) => Need::Absent,
-        Operation::Put(_, _) | Operation::Scan(_, _) => Need::Anything,
-        Operation::Insert(_, _, done) => { if *done { Need::Absent } else { Need::Present } }
-        Operation::Update(_, _, done) | Operation::Delete(_, done) => {
-            if *done { Need::Present } else { Need::Absent }
-        }
-    }
-}
-
-/// What an operation does to its key.
-fn change_of(operation: &Operation) -> Change {
-    match operation {
-        Operation::Read(_, _) | Operation::Scan(_, _) => Change::Keep,
-        Operation::Put(_, value) => Change::Set(*value),
-        Operation::Insert(_, value, done) | Operation::Update(_, value, done) => {
-            if *done {
-                Change::Set(*value)
-            } else {
-                Change::Keep
-            }
-        }
-        Operation::Delete(_, done) => { if *done { Change::Remove } else { Change::Keep } }
-    }
-}
 
 /// What a scan tells of a key.
 fn need_by_scan(pairs: &[(u64, u64)], key: u64) -> Need {
@@ -207,13 +181,10 @@ impl Problem<'_> {
         if let Operation::Scan(scope, pairs) = operation {
             return self.scan(by, *scope, pairs.as_slice());
         }
-        let Some(name) = key_of(operation) else {
+        let Some(key) = self.keys.place_of(key_of(operation)) else {
             return Ok(());
         };
-        let Some(key) = self.keys.place_of(name) else {
-            return Ok(());
-        };
-        self.want(by, key, need_of(operation))?;
+        self.want(by, key, own_need(operation))?;
         match change_of(operation) {
             Change::Keep => Ok(()),
             Change::Remove => self.leave(by.transaction, key, None),
@@ -253,7 +224,7 @@ impl Problem<'_> {
                 transaction: t,
                 operation,
                 lenient: transaction.level == Level::Repeatable,
-                scanned: key_of(answered).is_none(),
+                scanned: matches!(answered, Operation::Scan(_, _)),
             };
             self.take(by, answered)?;
         }

@@ -8,10 +8,10 @@ use Rattle.hek_history.proofs.asked.real.Goals as goal
 
 pub returns : goal.returns
 returns c points e hold =
-    let o = c.if-not-takes_place.ensures refl c.args.order c.args.rows.now points e hold in
+    let o = c.if-not-takes_place.ensures refl c.args.context.now.order c.args.context.now.rows.now points e hold in
     let first = c.answered_of.ensures in
     let second = c.invoked_of.ensures in
-    let less : earlier (answered_of c.args.history.now c.args.t) (invoked_of c.args.history.now c.args.x) ≡ true = rw (first, second) at (sym c.if-not-earlier.ensures) in
-    let k : IsAsked c.args.history.now c.args.order (Commit c.args.t) (Begin c.args.x) =
-    subst (λ (o : Order). IsAsked c.args.history.now o (Commit c.args.t) (Begin c.args.x)) (sym c.in-Real.is) less in
-    real c.args.history.now points e.0 c.args.order e c.args.t c.args.x k o
+    let less : earlier (answered_of c.args.context.now.history.now c.args.t) (invoked_of c.args.context.now.history.now c.args.x) ≡ true = rw (first, second) at (sym c.if-not-earlier.ensures) in
+    let k : IsAsked c.args.context.now.history.now c.args.context.now.order (Commit c.args.t) (Begin c.args.x) =
+    subst (λ (o : Order). IsAsked c.args.context.now.history.now o (Commit c.args.t) (Begin c.args.x)) (sym c.in-Real.is) less in
+    real c.args.context.now.history.now points e.0 c.args.context.now.order e c.args.t c.args.x k o

@@ -6,5 +6,5 @@ use Rattle.hek_history.proofs.refutation.source_case.Goals as goal
 
 pub returns : goal.returns
 returns c points e not_so o s =
-    let there = slice_get_read c.args.rows.now _ c.args.row c.in-Some.written.now refl c.in-Some.ensures.lookup.3.0 c.in-Some.ensures.lookup.1 in
-    not_so (o, writer.Transaction c.in-Some.written.now.writer, s, among_row c.args.rows.now c.args.row c.in-Some.written.now there)
+    let there = slice_get_read c.args.context.now.rows.now _ c.args.row c.in-Some.written.now refl c.in-Some.ensures.lookup.3.0 c.in-Some.ensures.lookup.1 in
+    not_so (o, writer.Transaction c.in-Some.written.now.writer, s, among_row c.args.context.now.rows.now c.args.row c.in-Some.written.now there)

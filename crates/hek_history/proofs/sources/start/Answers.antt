@@ -8,14 +8,14 @@ use Rattle.hek_history.proofs.sources.start.Goals as goal
 
 pub returns : goal.returns
 returns c points e hold =
-    let o = c.if-not-takes_place.ensures refl c.args.order c.args.rows.now points e hold in
+    let o = c.if-not-takes_place.ensures refl c.args.context.now.order c.args.context.now.rows.now points e hold in
     let lenient = c.is_lenient-lenient.ensures in
-    let needs : (v : Option ℕ) → allows (is_lenient c.args.history.now c.args.t) c.args.key c.in-Some.operation.now v ≡ true → Meets c.need_of-need.result v =
+    let needs : (v : Option ℕ) → allows (is_lenient c.args.context.now.history.now c.args.t) c.args.key c.in-Some.operation.now v ≡ true → Meets c.need_of-need.result v =
     λ v a. c.need_of-need.ensures v (subst (λ (b : Bool). allows b c.args.key c.in-Some.operation.now v ≡ true) (sym lenient) a) in
-    let opening : c.value_of.result ≡ value_of c.args.history.now.rows.items c.args.key =
+    let opening : c.value_of.result ≡ value_of c.args.context.now.history.now.rows.items c.args.key =
     c.value_of.ensures ∙ ap (λ (rows : List (ℕ × ℕ)). value_of rows c.args.key) c.as_slice.ensures.value in
-    started c.args.history.now points e.0 c.args.rows.now c.requires c.args.t c.args.n c.args.key c.in-Some.operation.now c.need_of-need.result c.args.from c.args.to c.allows-opening.result
+    started c.args.context.now.history.now points e.0 c.args.context.now.rows.now c.requires c.args.t c.args.n c.args.key c.in-Some.operation.now c.need_of-need.result c.args.from c.args.to c.allows-opening.result
     o c.in-Some.ensures needs (c.if-not-starts_at.ensures refl) (c.if-not-ends_at.ensures refl)
     (c.allows-opening.ensures
     ∙ ap (λ (b : Bool). allows b c.args.key c.in-Some.operation.now c.value_of.result) lenient
-    ∙ ap (allows (is_lenient c.args.history.now c.args.t) c.args.key c.in-Some.operation.now) opening)
+    ∙ ap (allows (is_lenient c.args.context.now.history.now c.args.t) c.args.key c.in-Some.operation.now) opening)
