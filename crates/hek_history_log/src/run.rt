@@ -1,8 +1,9 @@
 //! A run of the machine as a log.
 use hek_history::Status;
 use hek_rules::{Event, Level, NoMemory, Reply, Schedule, Transcript, TxnId};
+use json::Writer;
 use std::alloc::Global;
-use std::io::{self, Write};
+use std::mem;
 
 /// What a run says of a transaction: how it ended, its times, and the places of its events.
 #[derive(Drop)]
@@ -23,11 +24,11 @@ pub fn write_run(
     lines: &mut Vec<u8>,
 ) -> Result<(), NoMemory> {
     let courses = courses_of(alloc, transcript)?;
-    put_opening(transcript, lines)?;
+    put_opening(alloc, transcript, lines)?;
     for (place, course) in courses.iter().enumerate() {
         if course.begin.is_some() {
             let txn = TxnId::new((place as u64).saturating_add(1));
-            put_transaction(schedule, transcript, txn, course, lines)?;
+            put_transaction(alloc, schedule, transcript, txn, course, lines)?;
         }
     }
     Ok(())
@@ -92,32 +93,57 @@ fn course_of(courses: &mut Vec<Course>, txn: TxnId) -> Option<&mut Course> {
     courses.get_mut(place as usize)
 }
 
-fn put_opening(transcript: &Transcript, lines: &mut Vec<u8>) -> Result<(), NoMemory> {
-    let buckets = transcript.buckets();
-    put(write!(lines, r#"{{"buckets":{buckets},"rows":"#))?;
-    put_pairs(transcript.rows(), lines)?;
-    put(writeln!(lines, "}}"))
+/// Appends the opening line: how many buckets there are, and the loaded rows.
+fn put_opening(
+    alloc: Global,
+    transcript: &Transcript,
+    lines: &mut Vec<u8>,
+) -> Result<(), NoMemory> {
+    let mut line = Writer::new(mem::replace(lines, Vec::new(alloc)));
+    line.begin_object()?;
+    line.key("buckets")?;
+    line.u64(transcript.buckets())?;
+    line.key("rows")?;
+    put_pairs(transcript.rows(), &mut line)?;
+    line.end_object()?;
+    *lines = line.into_inner();
+    lines.push(b'\n')?;
+    Ok(())
 }
 
+/// Appends the line of a transaction.
 fn put_transaction(
+    alloc: Global,
     schedule: &Schedule,
     transcript: &Transcript,
     txn: TxnId,
     course: &Course,
     lines: &mut Vec<u8>,
 ) -> Result<(), NoMemory> {
+    let mut line = Writer::new(mem::replace(lines, Vec::new(alloc)));
+    line.begin_object()?;
+    put_course(schedule, txn, course, &mut line)?;
+    line.key("ops")?;
+    put_operations(transcript, course.places.as_slice(), &mut line)?;
+    line.end_object()?;
+    *lines = line.into_inner();
+    lines.push(b'\n')?;
+    Ok(())
+}
+
+/// The name, level, status and times of a transaction.
+fn put_course(
+    schedule: &Schedule,
+    txn: TxnId,
+    course: &Course,
+    line: &mut Writer,
+) -> Result<(), NoMemory> {
     let (name, level) = declared(schedule, txn);
-    let level = level.word();
-    let status = status_word(course.status);
-    put(write!(
-        lines,
-        r#"{{"txn":"{name}","level":"{level}","status":"{status}""#
-    ))?;
-    put_time("begin", course.begin, lines)?;
-    put_time("end", course.end, lines)?;
-    put(write!(lines, r#","ops":["#))?;
-    put_operations(transcript, course.places.as_slice(), lines)?;
-    put(writeln!(lines, "]}}"))
+    put_text("txn", name, line)?;
+    put_text("level", level.word(), line)?;
+    put_text("status", status_word(course.status), line)?;
+    put_time("begin", course.begin, line)?;
+    put_time("end", course.end, line)
 }
 
 /// The name and level of a transaction, if the schedule declares it.
@@ -137,78 +163,111 @@ fn status_word(status: Status) -> &'static str {
     }
 }
 
-fn put_time(name: &str, time: Option<u64>, lines: &mut Vec<u8>) -> Result<(), NoMemory> {
-    match time {
-        Some(time) => put(write!(lines, r#","{name}":{time}"#)),
-        None => Ok(()),
+fn put_text(name: &str, text: &str, line: &mut Writer) -> Result<(), NoMemory> {
+    line.key(name)?;
+    line.string(text)?;
+    Ok(())
+}
+
+fn put_time(name: &str, time: Option<u64>, line: &mut Writer) -> Result<(), NoMemory> {
+    if let Some(time) = time {
+        line.key(name)?;
+        line.u64(time)?;
     }
+    Ok(())
 }
 
 fn put_operations(
     transcript: &Transcript,
     places: &[usize],
-    lines: &mut Vec<u8>,
+    line: &mut Writer,
 ) -> Result<(), NoMemory> {
-    let mut is_first = true;
+    line.begin_array()?;
     for place in places {
         let event = transcript.events().get(*place);
         let reply = transcript.replies().get(*place);
         if let (Some(event), Some(reply)) = (event, reply) {
-            if !is_first {
-                lines.push(b',')?;
-            }
-            is_first = false;
-            put_operation(*event, reply, lines)?;
+            put_operation(*event, reply, line)?;
         }
     }
+    line.end_array()?;
     Ok(())
 }
 
-fn put_operation(event: Event, reply: &Reply, lines: &mut Vec<u8>) -> Result<(), NoMemory> {
+fn put_operation(event: Event, reply: &Reply, line: &mut Writer) -> Result<(), NoMemory> {
     let done = matches!(reply, Reply::Done);
     match event {
-        Event::Read(_, key) => put_read(key, reply, lines),
-        Event::Scan(_, bucket) => put_scan(bucket, reply, lines),
-        Event::Insert(_, key, value) => { put(write!(lines, r#"["insert",{key},{value},{done}]"#)) }
-        Event::Update(_, key, value) => { put(write!(lines, r#"["update",{key},{value},{done}]"#)) }
-        Event::Delete(_, key) => put(write!(lines, r#"["delete",{key},{done}]"#)),
-        _ => Ok(()),
-    }
-}
-
-fn put_read(key: u64, reply: &Reply, lines: &mut Vec<u8>) -> Result<(), NoMemory> {
-    match reply {
-        Reply::Found(value) => put(write!(lines, r#"["read",{key},{value}]"#)),
-        _ => put(write!(lines, r#"["read",{key},null]"#)),
-    }
-}
-
-fn put_scan(bucket: u64, reply: &Reply, lines: &mut Vec<u8>) -> Result<(), NoMemory> {
-    put(write!(lines, r#"["scan",{bucket},"#))?;
-    match reply {
-        Reply::Rows(pairs) => put_pairs(pairs.items(), lines)?,
-        _ => put_pairs(&[], lines)?,
-    }
-    lines.push(b']')?;
-    Ok(())
-}
-
-fn put_pairs(pairs: &[(u64, u64)], lines: &mut Vec<u8>) -> Result<(), NoMemory> {
-    lines.push(b'[')?;
-    for (place, (key, value)) in pairs.iter().enumerate() {
-        if place > 0 {
-            lines.push(b',')?;
+        Event::Read(_, key) => put_read(key, reply, line),
+        Event::Scan(_, bucket) => put_scan(bucket, reply, line),
+        Event::Insert(_, key, value) | Event::Update(_, key, value) => {
+            put_write(event.kind().word(), key, Some(value), done, line)
         }
-        put(write!(lines, "[{key},{value}]"))?;
+        Event::Delete(_, key) => put_write(event.kind().word(), key, None, done, line),
+        Event::Begin(_)
+        | Event::Finish(_)
+        | Event::Precommit(_)
+        | Event::Release(_)
+        | Event::Commit(_)
+        | Event::Fail(_)
+        | Event::Stamp(_)
+        | Event::End(_)
+        | Event::Detect => Ok(()),
     }
-    lines.push(b']')?;
+}
+
+/// `["update",KEY,VALUE,true]`, or without a value.
+fn put_write(
+    kind: &str,
+    key: u64,
+    value: Option<u64>,
+    done: bool,
+    line: &mut Writer,
+) -> Result<(), NoMemory> {
+    line.begin_array()?;
+    line.string(kind)?;
+    line.u64(key)?;
+    if let Some(value) = value {
+        line.u64(value)?;
+    }
+    line.boolean(done)?;
+    line.end_array()?;
     Ok(())
 }
 
-/// NoMemory if a text could not be written.
-fn put(written: io::Result<()>) -> Result<(), NoMemory> {
-    match written {
-        Ok(()) => Ok(()),
-        Err(_) => Err(NoMemory),
+/// `["read",KEY,VALUE]`, the value null if the key is absent.
+fn put_read(key: u64, reply: &Reply, line: &mut Writer) -> Result<(), NoMemory> {
+    line.begin_array()?;
+    line.string("read")?;
+    line.u64(key)?;
+    match reply {
+        Reply::Found(value) => line.u64(*value)?,
+        _ => line.null()?,
     }
+    line.end_array()?;
+    Ok(())
+}
+
+/// `["scan",BUCKET,[[KEY,VALUE],..]]`.
+fn put_scan(bucket: u64, reply: &Reply, line: &mut Writer) -> Result<(), NoMemory> {
+    line.begin_array()?;
+    line.string("scan")?;
+    line.u64(bucket)?;
+    match reply {
+        Reply::Rows(pairs) => put_pairs(pairs.items(), line)?,
+        _ => put_pairs(&[], line)?,
+    }
+    line.end_array()?;
+    Ok(())
+}
+
+fn put_pairs(pairs: &[(u64, u64)], line: &mut Writer) -> Result<(), NoMemory> {
+    line.begin_array()?;
+    for (key, value) in pairs {
+        line.begin_array()?;
+        line.u64(*key)?;
+        line.u64(*value)?;
+        line.end_array()?;
+    }
+    line.end_array()?;
+    Ok(())
 }

@@ -24,16 +24,6 @@ impl fmt::Display for Label<'_> {
     }
 }
 
-impl Label<'_> {
-    /// Writes a number, or a text as a JSON string.
-    pub fn write_json<W: fmt::Write>(&self, f: &mut fmt::Formatter<W>) -> fmt::Result {
-        match *self {
-            Label::Number(number) => write!(f, "{number}"),
-            Label::Text(text) => write_quoted(f, text),
-        }
-    }
-}
-
 /// Whether a text can be printed without quotes: it is no number and not `absent`, and has no blank, quote, comma,
 /// backslash or control character.
 fn is_plain(text: &str) -> bool {
