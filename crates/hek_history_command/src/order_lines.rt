@@ -1,7 +1,7 @@
 //! The order that was found, a line for each point.
 use hek_history::{Level, Point};
 use hek_history_log::Log;
-use hek_report::{HekFault, send};
+use hek_report::{HekFault, put, send};
 use hek_rules::NoMemory;
 use std::alloc::Global;
 use std::io::Write;
@@ -40,10 +40,7 @@ fn put_point(log: &Log, point: Point, lines: &mut Vec<u8>) -> Result<(), NoMemor
     } else {
         Ok(())
     };
-    match written {
-        Ok(()) => Ok(()),
-        Err(_) => Err(NoMemory),
-    }
+    put(written)
 }
 
 fn is_snapshot(log: &Log, place: usize) -> bool {

@@ -61,10 +61,10 @@ fn header_at(alloc: Global, place: Place<'_>) -> Result<(Schedule, Header, Place
 {
     let (_, place) = magic_at(place)?;
     let (version, place) = version_at(place)?;
-    let (buckets, place) = u32_within(1, 1_024, place)?;
-    let (rows, place) = u32_within(0, 65_536, place)?;
-    let (txns, place) = u32_within(0, 1_024, place)?;
-    let (steps, place) = u32_within(0, 1_000_000, place)?;
+    let (buckets, place) = u32_within(1, MAX_BUCKETS as u32, place)?;
+    let (rows, place) = u32_within(0, MAX_ROWS as u32, place)?;
+    let (txns, place) = u32_within(0, MAX_TXNS as u32, place)?;
+    let (steps, place) = u32_within(0, MAX_STEPS as u32, place)?;
     let schedule = Schedule::new(alloc, u64::from(buckets));
     let header = Header {
         version: version as u8,

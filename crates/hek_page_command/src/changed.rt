@@ -1,5 +1,6 @@
 //! What a step changed, in the lines of a state.
 use hek_machine::Machine;
+use hek_report::{is_named, put};
 use hek_rules::{NoMemory, Schedule, TxnId, VersionId};
 use hek_step_report::text::{clock_line, put_bucket, put_txn, put_version};
 use hek_why::Change;
@@ -94,7 +95,7 @@ fn put_txn_line(
     t: TxnId,
     lines: &mut Vec<u8>,
 ) -> Result<(), NoMemory> {
-    if t.number() > 0 && t.number() <= schedule.txn_count() as u64 {
+    if is_named(schedule, t) {
         put_txn(schedule, machine, t, lines)?;
     }
     Ok(())
@@ -117,8 +118,5 @@ fn put_bucket_line(
 
 /// Appends a bucket that has no line any more.
 fn put_gone(bucket: u64, gone: &mut Vec<u8>) -> Result<(), NoMemory> {
-    match writeln!(gone, "bucket {bucket}") {
-        Ok(()) => Ok(()),
-        Err(_) => Err(NoMemory),
-    }
+    put(writeln!(gone, "bucket {bucket}"))
 }

@@ -2,6 +2,7 @@
 ghost use Rattle.hek_txn.specs.TxnTable.{Declared};
 
 use hek_machine::Machine;
+use hek_report::{is_named, put};
 use hek_rules::{Event, NoMemory, Reply, Schedule, Sight, State, TxnId, VersionId};
 use hek_why::{Reason, Step, looks, read_time, sights};
 use std::alloc::Global;
@@ -87,7 +88,7 @@ fn put_seen(
         return Ok(());
     }
     let time = read_time(machine, t).number();
-    put(writeln!(lines, "at {time}").is_ok())?;
+    put(writeln!(lines, "at {time}"))?;
     for reason in seen {
         if let Reason::Looked { version, sight } = reason {
             put_sight(schedule, *version, *sight, lines)?;
@@ -114,19 +115,14 @@ fn put_sight(
         }
         _ => writeln!(lines, "{index} {how}"),
     };
-    put(written.is_ok())
+    put(written)
 }
 
 /// The name of a transaction that the schedule declares.
 fn name_of(schedule: &Schedule, u: TxnId) -> &str {
-    if u.number() > 0 && u.number() <= schedule.txn_count() as u64 {
+    if is_named(schedule, u) {
         schedule.name_of(u)
     } else {
         "?"
     }
-}
-
-/// NoMemory if a line could not be written.
-fn put(written: bool) -> Result<(), NoMemory> {
-    if written { Ok(()) } else { Err(NoMemory) }
 }

@@ -7,6 +7,7 @@ use crate::members::{
 use crate::tree::{Node, StepPlaces, Tree};
 use hek_permute::{Form, Moves};
 use hek_rules::{Event, NoMemory, Schedule, TxnId};
+use hek_report::put;
 use indexmap::IndexSet;
 use serde_json::{Map, Value};
 use std::alloc::Global;
@@ -135,18 +136,15 @@ fn last_texts(form: Form, fails: bool) -> &'static [&'static str] {
 /// A read or a write as a schedule text has it, without the name.
 fn work_text(alloc: Global, event: &Event) -> Result<Vec<u8>, NoMemory> {
     let mut text = Vec::new(alloc);
-    let written = match event {
-        Event::Read(_, key) => write!(text, "read {key}"),
-        Event::Scan(_, bucket) => write!(text, "scan {bucket}"),
-        Event::Insert(_, key, value) => write!(text, "insert {key} {value}"),
-        Event::Update(_, key, value) => write!(text, "update {key} {value}"),
-        Event::Delete(_, key) => write!(text, "delete {key}"),
-        _ => Ok(()),
-    };
-    match written {
-        Ok(()) => Ok(text),
-        Err(_) => Err(NoMemory),
+    let kind = event.kind();
+    put(write!(text, "{}", kind.word()))?;
+    if kind.operand_count() > 0 {
+        put(write!(text, " {}", event.first()))?;
     }
+    if kind.operand_count() > 1 {
+        put(write!(text, " {}", event.second()))?;
+    }
+    Ok(text)
 }
 
 fn text_values(alloc: Global, texts: &IndexSet<Vec<u8>>) -> Result<Value, NoMemory> {

@@ -2,6 +2,7 @@
 ghost use Rattle.hek_txn.specs.TxnTable.{Declared};
 
 use hek_machine::Machine;
+use hek_report::put;
 use hek_rules::{Event, NoMemory, Reply, State, TxnId};
 use hek_why::{Reason, Step, commit_reasons, wait_reasons};
 use std::alloc::Global;
@@ -90,7 +91,7 @@ impl Waits {
         for ask in &self.asked {
             let number = ask.txn.number();
             let kind = if ask.is_commit { "commits" } else { "waits" };
-            put(writeln!(lines, "{number} {kind}").is_ok())?;
+            put(writeln!(lines, "{number} {kind}"))?;
         }
         Ok(())
     }
@@ -179,7 +180,7 @@ fn put_reason(t: u64, reason: &Reason, lines: &mut Vec<u8>) -> Result<(), NoMemo
         Reason::Listed { holder, bucket } => put_listed(t, holder.number(), *bucket, lines),
         Reason::Depends(u) => {
             let u = u.number();
-            put(writeln!(lines, "{t} {u} commit").is_ok())
+            put(writeln!(lines, "{t} {u} commit"))
         }
         _ => Ok(()),
     }
@@ -193,7 +194,7 @@ fn put_readers(
 ) -> Result<(), NoMemory> {
     for reader in readers {
         let reader = reader.number();
-        put(writeln!(lines, "{t} {reader} version {version}").is_ok())?;
+        put(writeln!(lines, "{t} {reader} version {version}"))?;
     }
     Ok(())
 }
@@ -206,17 +207,12 @@ fn put_listed(
     lines: &mut Vec<u8>,
 ) -> Result<(), NoMemory> {
     match bucket {
-        Some(bucket) => put(writeln!(lines, "{t} {holder} bucket {bucket}").is_ok()),
-        None => put(writeln!(lines, "{t} {holder} bucket").is_ok()),
+        Some(bucket) => put(writeln!(lines, "{t} {holder} bucket {bucket}")),
+        None => put(writeln!(lines, "{t} {holder} bucket")),
     }
 }
 
 fn put_number(t: TxnId, lines: &mut Vec<u8>) -> Result<(), NoMemory> {
     let number = t.number();
-    put(writeln!(lines, "{number}").is_ok())
-}
-
-/// NoMemory if a line could not be written.
-fn put(written: bool) -> Result<(), NoMemory> {
-    if written { Ok(()) } else { Err(NoMemory) }
+    put(writeln!(lines, "{number}"))
 }

@@ -1,7 +1,7 @@
 //! The shortest beginning of an order in which something comes, as a schedule.
 use crate::one::{Played, fault_of, leveled};
 use crate::progress::Progress;
-use hek_asm::read_trace;
+use hek_asm::{TraceFault, read_trace};
 use hek_permute::{
     Form, Moves, OrderFault, Outcome, Play, Sought, Watch, find_order, first_order, moves_of,
     play_all, play_order,
@@ -69,7 +69,8 @@ fn reply_named<'a>(
             Some(reply) => Ok(Some(reply.copy()?)),
             None => Ok(None),
         },
-        Err(_) => Ok(None),
+        Err(TraceFault::Line(_)) => Ok(None),
+        Err(TraceFault::NoMemory) => Err(HekFault::NoMemory),
     }
 }
 

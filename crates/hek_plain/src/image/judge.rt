@@ -32,11 +32,11 @@ fn judge(alloc: Global, bytes: &[u8]) -> Result<Schedule, LoadFault> {
     if version != 1 && version != 2 {
         return Err(LoadFault::BadVersion);
     }
-    let buckets = front.within(4, 1, 1_024)?;
+    let buckets = front.within(4, 1, MAX_BUCKETS)?;
     let counts = Counts {
-        rows: front.within(4, 0, 65_536)?,
-        txns: front.within(4, 0, 1_024)?,
-        steps: front.within(4, 0, 1_000_000)?,
+        rows: front.within(4, 0, MAX_ROWS as u64)?,
+        txns: front.within(4, 0, MAX_TXNS as u64)?,
+        steps: front.within(4, 0, MAX_STEPS as u64)?,
     };
     let mut schedule = Schedule::new(alloc, buckets);
     items(&mut front, version, counts, &mut schedule)?;
