@@ -13,7 +13,7 @@ use crate::item::Item;
 use crate::pieces::{ROOM, is_short, take_more};
 use crate::place::Place;
 use crate::reading::{next_items, next_txns};
-use hek_rules::{Schedule, Source};
+use hek_rules::{MAX_BUCKETS, MAX_ROWS, MAX_STEPS, MAX_TXNS, Schedule, Source};
 use std::alloc::Global;
 
 /// How many bytes the header has.

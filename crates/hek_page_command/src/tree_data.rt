@@ -6,8 +6,8 @@ use crate::members::{
 };
 use crate::tree::{Node, StepPlaces, Tree};
 use hek_permute::{Form, Moves};
-use hek_rules::{Event, NoMemory, Schedule, TxnId};
 use hek_report::put;
+use hek_rules::{Event, NoMemory, Schedule, TxnId};
 use indexmap::IndexSet;
 use serde_json::{Map, Value};
 use std::alloc::Global;

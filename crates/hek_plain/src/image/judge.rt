@@ -4,7 +4,9 @@ ghost use Rattle.std.specs.Prelude.{◌≡◌, ◌≤◌, false};
 use crate::image::front::Front;
 use crate::image::gather::gather;
 use hek_image::LoadFault;
-use hek_rules::{Event, Level, Schedule, Source, TxnId};
+use hek_rules::{
+    Event, Level, MAX_BUCKETS, MAX_ROWS, MAX_STEPS, MAX_TXNS, Schedule, Source, TxnId,
+};
 use std::alloc::Global;
 use std::str;
 
