@@ -1,2 +1,2 @@
 mod WholeText
-pub mod Sending
+pub mod SentLemmas

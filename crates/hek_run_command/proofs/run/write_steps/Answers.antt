@@ -4,7 +4,7 @@ use Rattle.hek_machine.proofs.RunRules.{step_stands}
 use Rattle.hek_asm.specs.Trace.{trace_line}
 use Rattle.hek_run_command.specs.Ran.{trace_of}
 use Rattle.hek_report.specs.Sent.{Passes}
-use Rattle.hek_report.proofs.Sending.{passes-on, passes-line, passes-end}
+use Rattle.hek_report.proofs.SentLemmas.{passes-on, passes-line, passes-end}
 use Rattle.hek_run_command.proofs.Stepping.{to_come, next_line, none_to_come}
 use Rattle.hek_run_command.proofs.run.write_steps.Goals as goal
 
