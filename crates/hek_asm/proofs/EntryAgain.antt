@@ -13,15 +13,11 @@ use Rattle.hek_asm.specs.Likely.{likely_entry}
 use Rattle.hek_asm.specs.Reading.{is_small, IsTraceEntry, HasNoLine}
 use Rattle.hek_asm.proofs.Joined.{IsWord, words_of-joined, in_joined, lines_then}
 use Rattle.hek_asm.proofs.Again.{decimal_word}
-use Rattle.hek_asm.proofs.LikelyReply.{plain_word, reply_again, reply_is_words}
+use Rattle.hek_asm.proofs.LikelyReply.{plain_word, all_words, reply_again, reply_is_words}
 use Rattle.hek_asm.proofs.LikelyEvent.{event_again, behind_step, step_is_words}
 
 abbrev entry_words : Plan → ℕ → Event × Reply → List (List ℕ)
 entry_words p n x = decimal n ∷ (step_words p x.0 ++ codes "->" ∷ reply_words x.1)
-
-all_words : (vs ws : List (List ℕ)) → AllByRecursion IsWord vs → AllByRecursion IsWord ws → AllByRecursion IsWord (vs ++ ws)
-all_words [] ws h k = k
-all_words (v ∷ vs) ws h k = (h.0, all_words vs ws h.1 k)
 
 entry_is_words : (p : Plan) (n : ℕ) (x : Event × Reply) → IsPlan p → is_small n → IsTraceEntry (length p.txns) x → AllByRecursion IsWord (entry_words p n x)
 entry_is_words p n x is h entry =

@@ -2,10 +2,11 @@
 use Rattle.std.proofs.Common.{◌≡◌, ℕ, Bool, true, false, ◌&&◌, not, eqb, leb, List, [], ◌∷◌, ◌++◌, length, map, take, drop, Option, Some, None, refl, ap, ◌∙◌, arith, codes, subst, length-append}
 use Rattle.std.specs.Prelude.{nat_le, nat_lt, ◌==◌, unwrap_or}
 use Rattle.std.specs.List.{AllByRecursion, list_all, position_or_len}
-use Rattle.std.specs.Str.{all_ascii_digits}
+use Rattle.std.specs.Str.{all_ascii_digits, bytes_eq}
 use Rattle.std.specs.Fmt.{decimal}
 use Rattle.std.proofs.lemmas.Bool.{and_parts, leb-true, ltb-true, not-true, ne_eqb}
 use Rattle.std.proofs.lemmas.Fmt.{digits_decimal}
+use Rattle.std.proofs.lemmas.Slice.Eq.{bytes_eq-Decides}
 use Rattle.std.proofs.Math.Seq.{drop-append_seam}
 use Rattle.hek_rules.specs.declared.event.Cause.{Cause}
 use Rattle.hek_rules.specs.declared.event.Cause.TheVariants as cause
@@ -13,9 +14,13 @@ use Rattle.hek_rules.specs.declared.reply.Refusal.{Refusal}
 use Rattle.hek_rules.specs.declared.reply.Refusal.TheVariants as refusal
 use Rattle.hek_rules.specs.declared.reply.Reply.{Reply}
 use Rattle.hek_rules.specs.declared.reply.Reply.TheVariants as reply
-use Rattle.hek_asm.specs.Trace.{refusal_words, pair_word, reply_words}
-use Rattle.hek_rules.specs.Names.{cause_word}
-use Rattle.hek_asm.specs.Likely.{number_else_zero, cause_named, is_equals, pair_of, of_few_words, likely_reply}
+use Rattle.hek_rules.specs.declared.form.ReplyForm.{ReplyForm}
+use Rattle.hek_rules.specs.declared.form.ReplyForm.TheVariants as form
+use Rattle.hek_rules.specs.Forms.{form_words}
+use Rattle.hek_rules.specs.Names.{cause_word, refusal_number, refusal_name}
+use Rattle.hek_rules.specs.Replies.{form_of}
+use Rattle.hek_asm.specs.Trace.{refusal_words, pair_word, reply_operands, reply_words}
+use Rattle.hek_asm.specs.Likely.{number_else_zero, is_equals, pair_of, cause_at, refusal_at, likely_reply}
 use Rattle.hek_asm.specs.Reading.{is_small, AreSmall, IsSmallReply}
 use Rattle.hek_asm.proofs.Joined.{IsPlain, IsWord, all_append}
 use Rattle.hek_asm.proofs.Again.{own, number_again, decimal_word}
@@ -54,51 +59,44 @@ pairs_again [] h = refl
 pairs_again (p ∷ ps) h = ap (λ (q : ℕ × ℕ). q ∷ map pair_of (map pair_word ps)) (pair_again p h.0) ∙ ap (λ (qs : List (ℕ × ℕ)). p ∷ qs) (pairs_again ps h.1)
 
 -- ---- causes and refusals
-cause_again : (c : Cause) → cause_named (cause_word c) ≡ c
+cause_again : (c : Cause) → cause_at (cause_word c ∷ []) ≡ c
 cause_again cause.Cascade = refl
-cause_again cause.Conflict = refl
-cause_again cause.NoMoreReads = refl
-cause_again cause.ReadersFull = refl
-cause_again cause.NoMoreWaits = refl
-cause_again cause.Deadlock = refl
-cause_again cause.Asked = refl
+cause_again other = refl
 
-refusal_again : (r : Refusal) → likely_reply (codes "refused" ∷ refusal_words r) ≡ reply.Refused r
-unfolding likely_reply of_few_words
+refusal_again : (r : Refusal) → refusal_at (refusal_words r) ≡ r
 refusal_again refusal.UnknownTxn = refl
-refusal_again refusal.NotBegun = refl
-refusal_again refusal.BegunTwice = refl
-refusal_again refusal.Ended = refl
-refusal_again refusal.WrongPhase = refl
-refusal_again refusal.ClockFull = refl
+refusal_again other = refl
+
+-- a number is not the word `commits`
+no_commits : (n : ℕ) → is_small n → bytes_eq (decimal n) (codes "commits") ≡ false
+no_commits n h = by (bytes_eq (decimal n) (codes "commits")) refl
+  where
+    by : (b : Bool) → bytes_eq (decimal n) (codes "commits") ≡ b → bytes_eq (decimal n) (codes "commits") ≡ false
+    by false e = e
+    by true e =
+        let same : decimal n ≡ codes "commits" = (bytes_eq-Decides (decimal n) (codes "commits")).0 e in
+        let digits : all_ascii_digits (codes "commits") ≡ true = subst (λ (w : List ℕ). all_ascii_digits w ≡ true) same (digits_decimal own n h) in
+        absurd cc
 
 pub reply_again : (r : Reply) → IsSmallReply r → likely_reply (reply_words r) ≡ r
-unfolding likely_reply of_few_words
+unfolding likely_reply
 reply_again (reply.Began time) h = ap (λ (n : ℕ). reply.Began n) (value_again time h)
 reply_again (reply.Found value) h = ap (λ (n : ℕ). reply.Found n) (value_again value h)
-reply_again reply.Absent h = refl
 reply_again (reply.Rows pairs) h = ap (λ (ps : List (ℕ × ℕ)). reply.Rows ps) (pairs_again pairs h)
-reply_again reply.Done h = refl
-reply_again reply.Exists h = refl
-reply_again reply.Ready h = refl
-reply_again (reply.Waiting count) h = ap (λ (n : ℕ). reply.Waiting n) (value_again count h)
+reply_again (reply.Waiting count) h = rw (no_commits count h) (ap (λ (n : ℕ). reply.Waiting n) (value_again count h))
+reply_again (reply.WaitingCommits count) h = ap (λ (n : ℕ). reply.WaitingCommits n) (value_again count h)
 reply_again (reply.Precommitted time) h = ap (λ (n : ℕ). reply.Precommitted n) (value_again time h)
-reply_again (reply.ReleasedRead v None) h = ap (λ (n : ℕ). reply.ReleasedRead n None) (value_again v h)
+reply_again (reply.ReleasedRead v None) h = ap (λ (n : ℕ). reply.ReleasedRead n None) (value_again v h.0)
 reply_again (reply.ReleasedRead v (Some u)) h = ap (λ (n : ℕ). reply.ReleasedRead n (Some (number_else_zero (decimal u)))) (value_again v h.0) ∙ ap (λ (n : ℕ). reply.ReleasedRead v (Some n)) (value_again u h.1)
 reply_again (reply.ReleasedBucket b) h = ap (λ (n : ℕ). reply.ReleasedBucket n) (value_again b h)
 reply_again (reply.ReleasedWaiter u) h = ap (λ (n : ℕ). reply.ReleasedWaiter n) (value_again u h)
-reply_again reply.Nothing h = refl
-reply_again reply.Committed h = refl
-reply_again (reply.WaitingCommits count) h = ap (λ (n : ℕ). reply.WaitingCommits n) (value_again count h)
-reply_again reply.Failed h = refl
 reply_again (reply.StampedBegin v) h = ap (λ (n : ℕ). reply.StampedBegin n) (value_again v h)
 reply_again (reply.StampedEnd v) h = ap (λ (n : ℕ). reply.StampedEnd n) (value_again v h)
 reply_again (reply.Left v) h = ap (λ (n : ℕ). reply.Left n) (value_again v h)
-reply_again reply.Over h = refl
-reply_again reply.NoCycle h = refl
 reply_again (reply.Victim t cycle) h = ap (λ (n : ℕ). reply.Victim n (map number_else_zero (map decimal cycle))) (value_again t h.0) ∙ ap (λ (ns : List ℕ). reply.Victim t ns) (values_again cycle h.1)
 reply_again (reply.Aborted c) h = ap (λ (d : Cause). reply.Aborted d) (cause_again c)
-reply_again (reply.Refused r) h = refusal_again r
+reply_again (reply.Refused r) h = ap (λ (q : Refusal). reply.Refused q) (refusal_again r)
+reply_again other h = refl
 
 -- ---- a reply is written in words
 abbrev is_plain : ℕ → Bool
@@ -136,49 +134,61 @@ numbers_are_words : (ns : List ℕ) → AllByRecursion is_small ns → AllByRecu
 numbers_are_words [] h = tt
 numbers_are_words (n ∷ ns) h = (decimal_word n h.0, numbers_are_words ns h.1)
 
+-- the words of forms, causes and refusals
+abbrev is_plain_word : List ℕ → Bool
+is_plain_word w = nat_lt 0 (length w) && list_all is_plain w
+
+plain_words : (ws : List (List ℕ)) → list_all is_plain_word ws ≡ true → AllByRecursion IsWord ws
+plain_words [] h = tt
+plain_words (w ∷ ws) h = let both = and_parts (is_plain_word w) (list_all is_plain_word ws) h in (plain_word w both.0, plain_words ws both.1)
+
+form_is_words : (f : ReplyForm) → AllByRecursion IsWord (form_words f)
+form_is_words f = plain_words (form_words f) (plain f)
+  where
+    plain : (g : ReplyForm) → list_all is_plain_word (form_words g) ≡ true
+    plain form.Began = refl
+    plain other = refl
+
 cause_is_word : (c : Cause) → IsWord (cause_word c)
-cause_is_word cause.Cascade = plain_word (codes "cascade") refl
-cause_is_word cause.Conflict = plain_word (codes "conflict") refl
-cause_is_word cause.NoMoreReads = plain_word (codes "no-more-reads") refl
-cause_is_word cause.ReadersFull = plain_word (codes "readers-full") refl
-cause_is_word cause.NoMoreWaits = plain_word (codes "no-more-waits") refl
-cause_is_word cause.Deadlock = plain_word (codes "deadlock") refl
-cause_is_word cause.Asked = plain_word (codes "asked") refl
+cause_is_word c = plain_word (cause_word c) (plain c)
+  where
+    plain : (d : Cause) → is_plain_word (cause_word d) ≡ true
+    plain cause.Cascade = refl
+    plain other = refl
 
 refusal_is_words : (r : Refusal) → AllByRecursion IsWord (refusal_words r)
-refusal_is_words refusal.UnknownTxn = (plain_word (codes "1") refl, (plain_word (codes "UnknownTxn") refl, tt))
-refusal_is_words refusal.NotBegun = (plain_word (codes "2") refl, (plain_word (codes "NotBegun") refl, tt))
-refusal_is_words refusal.BegunTwice = (plain_word (codes "3") refl, (plain_word (codes "BegunTwice") refl, tt))
-refusal_is_words refusal.Ended = (plain_word (codes "4") refl, (plain_word (codes "Ended") refl, tt))
-refusal_is_words refusal.WrongPhase = (plain_word (codes "5") refl, (plain_word (codes "WrongPhase") refl, tt))
-refusal_is_words refusal.ClockFull = (plain_word (codes "6") refl, (plain_word (codes "ClockFull") refl, tt))
+refusal_is_words r = (decimal_word (refusal_number r) (small r), (plain_word (refusal_name r) (plain r), tt))
+  where
+    small : (q : Refusal) → is_small (refusal_number q)
+    small refusal.UnknownTxn = omega arith
+    small other = omega arith
 
-counted : (w : List ℕ) (n : ℕ) → IsWord w → is_small n → AllByRecursion IsWord (w ∷ decimal n ∷ [])
-counted w n h k = (h, (decimal_word n k, tt))
+    plain : (q : Refusal) → is_plain_word (refusal_name q) ≡ true
+    plain refusal.UnknownTxn = refl
+    plain other = refl
+
+operands_are_words : (r : Reply) → IsSmallReply r → AllByRecursion IsWord (reply_operands r)
+operands_are_words (reply.Began time) h = (decimal_word time h, tt)
+operands_are_words (reply.Found value) h = (decimal_word value h, tt)
+operands_are_words (reply.Rows pairs) h = pairs_are_words pairs h
+operands_are_words (reply.Waiting count) h = (decimal_word count h, tt)
+operands_are_words (reply.WaitingCommits count) h = (decimal_word count h, tt)
+operands_are_words (reply.Precommitted time) h = (decimal_word time h, tt)
+operands_are_words (reply.ReleasedRead v None) h = (decimal_word v h.0, tt)
+operands_are_words (reply.ReleasedRead v (Some u)) h = (decimal_word v h.0, (plain_word (codes "writer") refl, (decimal_word u h.1, tt)))
+operands_are_words (reply.ReleasedBucket b) h = (decimal_word b h, tt)
+operands_are_words (reply.ReleasedWaiter u) h = (decimal_word u h, tt)
+operands_are_words (reply.StampedBegin v) h = (decimal_word v h, tt)
+operands_are_words (reply.StampedEnd v) h = (decimal_word v h, tt)
+operands_are_words (reply.Left v) h = (decimal_word v h, tt)
+operands_are_words (reply.Victim t cycle) h = (decimal_word t h.0, (plain_word (codes "cycle") refl, numbers_are_words cycle h.1))
+operands_are_words (reply.Aborted c) h = (cause_is_word c, tt)
+operands_are_words (reply.Refused r) h = refusal_is_words r
+operands_are_words other h = tt
+
+pub all_words : (vs ws : List (List ℕ)) → AllByRecursion IsWord vs → AllByRecursion IsWord ws → AllByRecursion IsWord (vs ++ ws)
+all_words [] ws h k = k
+all_words (v ∷ vs) ws h k = (h.0, all_words vs ws h.1 k)
 
 pub reply_is_words : (r : Reply) → IsSmallReply r → AllByRecursion IsWord (reply_words r)
-reply_is_words (reply.Began time) h = counted (codes "began") time (plain_word (codes "began") refl) h
-reply_is_words (reply.Found value) h = counted (codes "found") value (plain_word (codes "found") refl) h
-reply_is_words reply.Absent h = (plain_word (codes "absent") refl, tt)
-reply_is_words (reply.Rows pairs) h = (plain_word (codes "rows") refl, pairs_are_words pairs h)
-reply_is_words reply.Done h = (plain_word (codes "done") refl, tt)
-reply_is_words reply.Exists h = (plain_word (codes "exists") refl, tt)
-reply_is_words reply.Ready h = (plain_word (codes "ready") refl, tt)
-reply_is_words (reply.Waiting count) h = counted (codes "waiting") count (plain_word (codes "waiting") refl) h
-reply_is_words (reply.Precommitted time) h = counted (codes "precommitted") time (plain_word (codes "precommitted") refl) h
-reply_is_words (reply.ReleasedRead v None) h = (plain_word (codes "released") refl, counted (codes "read") v (plain_word (codes "read") refl) h)
-reply_is_words (reply.ReleasedRead v (Some u)) h = (plain_word (codes "released") refl, (plain_word (codes "read") refl, (decimal_word v h.0, counted (codes "writer") u (plain_word (codes "writer") refl) h.1)))
-reply_is_words (reply.ReleasedBucket b) h = (plain_word (codes "released") refl, counted (codes "bucket") b (plain_word (codes "bucket") refl) h)
-reply_is_words (reply.ReleasedWaiter u) h = (plain_word (codes "released") refl, counted (codes "waiter") u (plain_word (codes "waiter") refl) h)
-reply_is_words reply.Nothing h = (plain_word (codes "nothing") refl, tt)
-reply_is_words reply.Committed h = (plain_word (codes "committed") refl, tt)
-reply_is_words (reply.WaitingCommits count) h = (plain_word (codes "waiting") refl, counted (codes "commits") count (plain_word (codes "commits") refl) h)
-reply_is_words reply.Failed h = (plain_word (codes "failed") refl, tt)
-reply_is_words (reply.StampedBegin v) h = (plain_word (codes "stamped") refl, counted (codes "begin") v (plain_word (codes "begin") refl) h)
-reply_is_words (reply.StampedEnd v) h = (plain_word (codes "stamped") refl, counted (codes "end") v (plain_word (codes "end") refl) h)
-reply_is_words (reply.Left v) h = counted (codes "left") v (plain_word (codes "left") refl) h
-reply_is_words reply.Over h = (plain_word (codes "over") refl, tt)
-reply_is_words reply.NoCycle h = (plain_word (codes "no") refl, (plain_word (codes "cycle") refl, tt))
-reply_is_words (reply.Victim t cycle) h = (plain_word (codes "victim") refl, (decimal_word t h.0, (plain_word (codes "cycle") refl, numbers_are_words cycle h.1)))
-reply_is_words (reply.Aborted c) h = (plain_word (codes "aborted") refl, (cause_is_word c, tt))
-reply_is_words (reply.Refused r) h = (plain_word (codes "refused") refl, refusal_is_words r)
+reply_is_words r h = all_words (form_words (form_of r)) (reply_operands r) (form_is_words (form_of r)) (operands_are_words r h)

@@ -10,11 +10,13 @@ use Rattle.hek_rules.specs.declared.event.Event.TheVariants as event
 use Rattle.hek_rules.specs.declared.kind.EventKind.{EventKind}
 use Rattle.hek_rules.specs.declared.kind.EventKind.TheVariants as kind
 use Rattle.hek_rules.specs.declared.reply.Reply.{Reply}
-use Rattle.hek_rules.specs.declared.reply.Reply.TheVariants as reply
+use Rattle.hek_rules.specs.declared.form.ReplyForm.{ReplyForm}
+use Rattle.hek_rules.specs.declared.form.ReplyForm.TheVariants as form
 use Rattle.hek_rules.specs.Events.{kind_named, event_of, first_of, second_of}
+use Rattle.hek_rules.specs.Forms.{all_forms, form_words}
 use Rattle.hek_rules.specs.Plan.{Plan, id_of}
 use Rattle.hek_rules.specs.Text.{is_number}
-use Rattle.hek_asm.specs.Likely.{◌>>=◌, number_else_zero, first_value, cause_named, refusal_named, is_equals, pair_of, of_one_word, of_two_words, of_three_words, of_few_words, likely_reply, step_named, likely_event, step_len, likely_entry}
+use Rattle.hek_asm.specs.Likely.{◌>>=◌, number_else_zero, first_value, is_equals, pair_of, form_among, writer_at, plain_reply, reply_from, reply_of, likely_reply, step_named, likely_event, step_len, likely_entry}
 use Rattle.hek_asm.specs.Reading.{is_small, AreSmall, IsSmallReply}
 
 -- a choice of two that both have a property
@@ -43,49 +45,40 @@ pairs_small [] = tt
 pairs_small (w ∷ ws) = ((value_small (take (position_or_len is_equals w) w), value_small (drop 1 (drop (position_or_len is_equals w) w))), pairs_small ws)
 
 -- ---- replies
-one_small : (w : List ℕ) → IsSmallReply (of_one_word w)
-one_small w =
-    pick IsSmallReply (bytes_eq w (codes "done")) _ _ tt
-    (pick IsSmallReply (bytes_eq w (codes "exists")) _ _ tt
-    (pick IsSmallReply (bytes_eq w (codes "ready")) _ _ tt
-    (pick IsSmallReply (bytes_eq w (codes "nothing")) _ _ tt
-    (pick IsSmallReply (bytes_eq w (codes "committed")) _ _ tt
-    (pick IsSmallReply (bytes_eq w (codes "failed")) _ _ tt
-    (pick IsSmallReply (bytes_eq w (codes "over")) reply.Over reply.Absent tt tt))))))
+pub plain_small : (f : ReplyForm) (n : ℕ) → is_small n → IsSmallReply (plain_reply f n)
+plain_small form.Began n h = h
+plain_small form.Found n h = h
+plain_small form.Waiting n h = h
+plain_small form.WaitingCommits n h = h
+plain_small form.Precommitted n h = h
+plain_small form.ReleasedRead n h = (h, tt)
+plain_small form.ReleasedBucket n h = h
+plain_small form.ReleasedWaiter n h = h
+plain_small form.StampedBegin n h = h
+plain_small form.StampedEnd n h = h
+plain_small form.Left n h = h
+plain_small other n h = tt
 
-two_small : (w v : List ℕ) → IsSmallReply (of_two_words w v)
-two_small w v =
-    pick IsSmallReply (bytes_eq w (codes "began")) (reply.Began (number_else_zero v)) _ (value_small v)
-    (pick IsSmallReply (bytes_eq w (codes "found")) (reply.Found (number_else_zero v)) _ (value_small v)
-    (pick IsSmallReply (bytes_eq w (codes "waiting")) (reply.Waiting (number_else_zero v)) _ (value_small v)
-    (pick IsSmallReply (bytes_eq w (codes "precommitted")) (reply.Precommitted (number_else_zero v)) _ (value_small v)
-    (pick IsSmallReply (bytes_eq w (codes "left")) (reply.Left (number_else_zero v)) _ (value_small v)
-    (pick IsSmallReply (bytes_eq w (codes "aborted")) (reply.Aborted (cause_named v)) reply.NoCycle tt tt)))))
+writer_small : (ws : List (List ℕ)) → IfSome (writer_at ws) is_small
+writer_small [] = tt
+writer_small (w ∷ []) = tt
+writer_small (w ∷ u ∷ ws) = value_small u
 
-three_small : (w v u : List ℕ) → IsSmallReply (of_three_words w v u)
-three_small w v u =
-    pick IsSmallReply (bytes_eq w (codes "refused")) (reply.Refused (refusal_named u)) _ tt
-    (pick IsSmallReply (bytes_eq v (codes "bucket")) (reply.ReleasedBucket (number_else_zero u)) _ (value_small u)
-    (pick IsSmallReply (bytes_eq v (codes "waiter")) (reply.ReleasedWaiter (number_else_zero u)) _ (value_small u)
-    (pick IsSmallReply (bytes_eq v (codes "commits")) (reply.WaitingCommits (number_else_zero u)) _ (value_small u)
-    (pick IsSmallReply (bytes_eq v (codes "begin")) (reply.StampedBegin (number_else_zero u)) _ (value_small u)
-    (pick IsSmallReply (bytes_eq v (codes "end")) (reply.StampedEnd (number_else_zero u)) (reply.ReleasedRead (number_else_zero u) None) (value_small u) (value_small u))))))
+from_small : (f : ReplyForm) (ws : List (List ℕ)) → IsSmallReply (reply_from f ws)
+from_small form.Rows ws = pairs_small ws
+from_small form.ReleasedRead ws = (first_small ws, writer_small (drop 1 ws))
+from_small form.Victim ws = (first_small ws, values_small (drop 2 ws))
+from_small form.Aborted ws = tt
+from_small form.Refused ws = tt
+from_small other ws = plain_small other (first_value ws) (first_small ws)
 
-few_small : (ws : List (List ℕ)) → IsSmallReply (of_few_words ws)
-unfolding of_few_words
-few_small [] = tt
-few_small (a ∷ []) = one_small a
-few_small (a ∷ b ∷ []) = two_small a b
-few_small (a ∷ b ∷ c ∷ []) = three_small a b c
-few_small (a ∷ b ∷ c ∷ d ∷ []) = tt
-few_small (a ∷ b ∷ c ∷ d ∷ e ∷ ws) = (value_small c, value_small e)
+reply_of_small : (o : Option ReplyForm) (ws : List (List ℕ)) → IsSmallReply (reply_of o ws)
+reply_of_small None ws = tt
+reply_of_small (Some f) ws = from_small f (drop (length (form_words f)) ws)
 
 pub reply_small : (ws : List (List ℕ)) → IsSmallReply (likely_reply ws)
 unfolding likely_reply
-reply_small [] = tt
-reply_small (w ∷ ws) =
-    pick IsSmallReply (bytes_eq w (codes "rows")) (reply.Rows (map pair_of ws)) _ (pairs_small ws)
-    (pick IsSmallReply (bytes_eq w (codes "victim")) (reply.Victim (first_value ws) (map number_else_zero (drop 2 ws))) (of_few_words (w ∷ ws)) (first_small ws, values_small (drop 2 ws)) (few_small (w ∷ ws)))
+reply_small ws = reply_of_small (form_among all_forms ws) ws
 
 -- ---- events
 abbrev pub IsSmallEvent : Event → Type 0

@@ -1,16 +1,20 @@
 -- The one event and the one reply that the words of a trace line can be of. Writing them shows if the line is theirs.
-use Rattle.std.specs.Prelude.{ℕ, ◌+◌, ◌==◌, Bool, List, [], ◌∷◌, codes, map, drop, take, Option, None, Some, unwrap_or, if◌then◌else◌}
+use Rattle.std.specs.Prelude.{ℕ, ◌+◌, ◌==◌, Bool, true, false, ◌&&◌, List, [], ◌∷◌, codes, length, map, drop, take, Option, None, Some, unwrap_or, find, if◌then◌else◌}
 use Rattle.std.specs.List.{position_or_len}
 use Rattle.std.specs.Str.{bytes_eq}
 use Rattle.hek_rules.specs.declared.event.Cause.{Cause}
 use Rattle.hek_rules.specs.declared.event.Cause.TheVariants as cause
 use Rattle.hek_rules.specs.declared.event.Event.{Event}
 use Rattle.hek_rules.specs.declared.event.Event.TheVariants.{Detect}
+use Rattle.hek_rules.specs.declared.form.ReplyForm.{ReplyForm}
+use Rattle.hek_rules.specs.declared.form.ReplyForm.TheVariants as form
 use Rattle.hek_rules.specs.declared.reply.Refusal.{Refusal}
 use Rattle.hek_rules.specs.declared.reply.Refusal.TheVariants as refusal
 use Rattle.hek_rules.specs.declared.reply.Reply.{Reply}
 use Rattle.hek_rules.specs.declared.reply.Reply.TheVariants as reply
 use Rattle.hek_rules.specs.Events.{kind_named, operand_count, event_of, kind_of, txn_of}
+use Rattle.hek_rules.specs.Forms.{all_forms, first_word, second_word, form_words}
+use Rattle.hek_rules.specs.Names.{cause_named, refusal_named}
 use Rattle.hek_rules.specs.Plan.{Plan, id_of}
 use Rattle.hek_rules.specs.Text.{number_of}
 
@@ -28,23 +32,6 @@ abbrev pub first_value : List (List ℕ) → ℕ
 first_value [] = 0
 first_value (w ∷ ws) = number_else_zero w
 
-abbrev pub cause_named : List ℕ → Cause
-cause_named w = if bytes_eq w (codes "cascade") then cause.Cascade
-    else if bytes_eq w (codes "conflict") then cause.Conflict
-    else if bytes_eq w (codes "no-more-reads") then cause.NoMoreReads
-    else if bytes_eq w (codes "readers-full") then cause.ReadersFull
-    else if bytes_eq w (codes "no-more-waits") then cause.NoMoreWaits
-    else if bytes_eq w (codes "deadlock") then cause.Deadlock
-    else cause.Asked
-
-abbrev pub refusal_named : List ℕ → Refusal
-refusal_named w = if bytes_eq w (codes "UnknownTxn") then refusal.UnknownTxn
-    else if bytes_eq w (codes "NotBegun") then refusal.NotBegun
-    else if bytes_eq w (codes "BegunTwice") then refusal.BegunTwice
-    else if bytes_eq w (codes "Ended") then refusal.Ended
-    else if bytes_eq w (codes "WrongPhase") then refusal.WrongPhase
-    else refusal.ClockFull
-
 abbrev pub is_equals : ℕ → Bool
 is_equals b = b == 61
 
@@ -52,48 +39,74 @@ is_equals b = b == 61
 abbrev pub pair_of : List ℕ → ℕ × ℕ
 pair_of w = (number_else_zero (take (position_or_len is_equals w) w), number_else_zero (drop 1 (drop (position_or_len is_equals w) w)))
 
--- ---- replies, by how many words they have
-abbrev pub of_one_word : List ℕ → Reply
-of_one_word w = if bytes_eq w (codes "done") then reply.Done
-    else if bytes_eq w (codes "exists") then reply.Exists
-    else if bytes_eq w (codes "ready") then reply.Ready
-    else if bytes_eq w (codes "nothing") then reply.Nothing
-    else if bytes_eq w (codes "committed") then reply.Committed
-    else if bytes_eq w (codes "failed") then reply.Failed
-    else if bytes_eq w (codes "over") then reply.Over
-    else reply.Absent
+-- ---- replies, by their forms
+abbrev pub has_second : Option (List ℕ) → List (List ℕ) → Bool
+has_second None ws = true
+has_second (Some second) [] = false
+has_second (Some second) (w ∷ ws) = bytes_eq w second
 
-abbrev pub of_two_words : List ℕ → List ℕ → Reply
-of_two_words w v = if bytes_eq w (codes "began") then reply.Began (number_else_zero v)
-    else if bytes_eq w (codes "found") then reply.Found (number_else_zero v)
-    else if bytes_eq w (codes "waiting") then reply.Waiting (number_else_zero v)
-    else if bytes_eq w (codes "precommitted") then reply.Precommitted (number_else_zero v)
-    else if bytes_eq w (codes "left") then reply.Left (number_else_zero v)
-    else if bytes_eq w (codes "aborted") then reply.Aborted (cause_named v)
-    else reply.NoCycle
+-- whether words begin with those of a form
+abbrev pub begins : ReplyForm → List (List ℕ) → Bool
+begins f [] = false
+begins f (w ∷ ws) = bytes_eq w (first_word f) && has_second (second_word f) ws
 
-abbrev pub of_three_words : List ℕ → List ℕ → List ℕ → Reply
-of_three_words w v u = if bytes_eq w (codes "refused") then reply.Refused (refusal_named u)
-    else if bytes_eq v (codes "bucket") then reply.ReleasedBucket (number_else_zero u)
-    else if bytes_eq v (codes "waiter") then reply.ReleasedWaiter (number_else_zero u)
-    else if bytes_eq v (codes "commits") then reply.WaitingCommits (number_else_zero u)
-    else if bytes_eq v (codes "begin") then reply.StampedBegin (number_else_zero u)
-    else if bytes_eq v (codes "end") then reply.StampedEnd (number_else_zero u)
-    else reply.ReleasedRead (number_else_zero u) None
+-- the first of some forms whose words these begin with
+abbrev pub form_among : List ReplyForm → List (List ℕ) → Option ReplyForm
+form_among forms ws = find (λ (f : ReplyForm). begins f ws) forms
 
-unfoldable pub of_few_words : List (List ℕ) → Reply
-of_few_words [] = reply.Absent
-of_few_words (a ∷ []) = of_one_word a
-of_few_words (a ∷ b ∷ []) = of_two_words a b
-of_few_words (a ∷ b ∷ c ∷ []) = of_three_words a b c
-of_few_words (a ∷ b ∷ c ∷ d ∷ []) = reply.Absent
-of_few_words (a ∷ b ∷ c ∷ d ∷ e ∷ ws) = reply.ReleasedRead (number_else_zero c) (Some (number_else_zero e))
+-- the transaction after the word `writer`, if there is one
+abbrev pub writer_at : List (List ℕ) → Option ℕ
+writer_at (w ∷ u ∷ ws) = Some (number_else_zero u)
+writer_at ws = None
+
+-- the cause that the first word is, or the last one
+abbrev pub cause_at : List (List ℕ) → Cause
+cause_at [] = cause.Asked
+cause_at (w ∷ ws) = unwrap_or (cause_named w) cause.Asked
+
+-- the refusal whose name the second word is, or the last one
+abbrev pub refusal_at : List (List ℕ) → Refusal
+refusal_at (n ∷ w ∷ ws) = unwrap_or (refusal_named w) refusal.ClockFull
+refusal_at ws = refusal.ClockFull
+
+-- the reply of a form with one number or none; of another form any
+abbrev pub plain_reply : ReplyForm → ℕ → Reply
+plain_reply form.Began n = reply.Began n
+plain_reply form.Found n = reply.Found n
+plain_reply form.Done n = reply.Done
+plain_reply form.Exists n = reply.Exists
+plain_reply form.Ready n = reply.Ready
+plain_reply form.Waiting n = reply.Waiting n
+plain_reply form.WaitingCommits n = reply.WaitingCommits n
+plain_reply form.Precommitted n = reply.Precommitted n
+plain_reply form.ReleasedRead n = reply.ReleasedRead n None
+plain_reply form.ReleasedBucket n = reply.ReleasedBucket n
+plain_reply form.ReleasedWaiter n = reply.ReleasedWaiter n
+plain_reply form.Nothing n = reply.Nothing
+plain_reply form.Committed n = reply.Committed
+plain_reply form.Failed n = reply.Failed
+plain_reply form.StampedBegin n = reply.StampedBegin n
+plain_reply form.StampedEnd n = reply.StampedEnd n
+plain_reply form.Left n = reply.Left n
+plain_reply form.Over n = reply.Over
+plain_reply form.NoCycle n = reply.NoCycle
+plain_reply other n = reply.Absent
+
+-- the reply of a form with these words after those of the form
+abbrev pub reply_from : ReplyForm → List (List ℕ) → Reply
+reply_from form.Rows ws = reply.Rows (map pair_of ws)
+reply_from form.ReleasedRead ws = reply.ReleasedRead (first_value ws) (writer_at (drop 1 ws))
+reply_from form.Victim ws = reply.Victim (first_value ws) (map number_else_zero (drop 2 ws))
+reply_from form.Aborted ws = reply.Aborted (cause_at ws)
+reply_from form.Refused ws = reply.Refused (refusal_at ws)
+reply_from other ws = plain_reply other (first_value ws)
+
+abbrev pub reply_of : Option ReplyForm → List (List ℕ) → Reply
+reply_of None ws = reply.Absent
+reply_of (Some f) ws = reply_from f (drop (length (form_words f)) ws)
 
 unfoldable pub likely_reply : List (List ℕ) → Reply
-likely_reply [] = reply.Absent
-likely_reply (w ∷ ws) = if bytes_eq w (codes "rows") then reply.Rows (map pair_of ws)
-    else if bytes_eq w (codes "victim") then reply.Victim (first_value ws) (map number_else_zero (drop 2 ws))
-    else of_few_words (w ∷ ws)
+likely_reply ws = reply_of (form_among all_forms ws) ws
 
 -- ---- events
 unfoldable pub step_named : Plan → List ℕ → List (List ℕ) → Option Event

@@ -1,5 +1,5 @@
 -- What a text is read as: the history whose trace it is, or the first line that no trace has there.
-use Rattle.std.specs.Prelude.{◌≡◌, ℕ, ◌+◌, ◌<◌, ◌^◌, List, ◌++◌, length, map, Some, None}
+use Rattle.std.specs.Prelude.{◌≡◌, ℕ, ◌+◌, ◌<◌, ◌^◌, List, ◌++◌, length, map, IfSome}
 use Rattle.std.specs.List.{AllByRecursion}
 use Rattle.hek_rules.specs.declared.event.Event.{Event}
 use Rattle.hek_rules.specs.declared.reply.Reply.{Reply}
@@ -21,29 +21,18 @@ AreSmall ps = AllByRecursion (λ (p : ℕ × ℕ). is_small p.0 × is_small p.1)
 abbrev pub IsSmallReply : Reply → Type 0
 IsSmallReply (reply.Began time) = is_small time
 IsSmallReply (reply.Found value) = is_small value
-IsSmallReply reply.Absent = Unit {0}
 IsSmallReply (reply.Rows pairs) = AreSmall pairs
-IsSmallReply reply.Done = Unit {0}
-IsSmallReply reply.Exists = Unit {0}
-IsSmallReply reply.Ready = Unit {0}
 IsSmallReply (reply.Waiting count) = is_small count
+IsSmallReply (reply.WaitingCommits count) = is_small count
 IsSmallReply (reply.Precommitted time) = is_small time
-IsSmallReply (reply.ReleasedRead v None) = is_small v
-IsSmallReply (reply.ReleasedRead v (Some u)) = is_small v × is_small u
+IsSmallReply (reply.ReleasedRead v writer) = is_small v × IfSome writer is_small
 IsSmallReply (reply.ReleasedBucket b) = is_small b
 IsSmallReply (reply.ReleasedWaiter u) = is_small u
-IsSmallReply reply.Nothing = Unit {0}
-IsSmallReply reply.Committed = Unit {0}
-IsSmallReply (reply.WaitingCommits count) = is_small count
-IsSmallReply reply.Failed = Unit {0}
 IsSmallReply (reply.StampedBegin v) = is_small v
 IsSmallReply (reply.StampedEnd v) = is_small v
 IsSmallReply (reply.Left v) = is_small v
-IsSmallReply reply.Over = Unit {0}
-IsSmallReply reply.NoCycle = Unit {0}
 IsSmallReply (reply.Victim t cycle) = is_small t × AllByRecursion is_small cycle
-IsSmallReply (reply.Aborted cause) = Unit {0}
-IsSmallReply (reply.Refused why) = Unit {0}
+IsSmallReply other = Unit {0}
 
 -- an entry that a line can be of: an event of a declared transaction, or detect, and a reply, with numbers below 2^64
 pub record IsTraceEntry (txns : ℕ) (x : Event × Reply) : Type 0 where

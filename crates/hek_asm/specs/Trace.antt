@@ -3,22 +3,18 @@ use Rattle.std.specs.Prelude.{ℕ, ◌+◌, List, [], ◌∷◌, ◌++◌, codes
 use Rattle.std.specs.Fmt.{decimal}
 use Rattle.hek_rules.specs.declared.event.Event.{Event}
 use Rattle.hek_rules.specs.declared.reply.Refusal.{Refusal}
-use Rattle.hek_rules.specs.declared.reply.Refusal.TheVariants as refusal
 use Rattle.hek_rules.specs.declared.reply.Reply.{Reply}
 use Rattle.hek_rules.specs.declared.reply.Reply.TheVariants as reply
 use Rattle.hek_rules.specs.Events.{txn_of}
-use Rattle.hek_rules.specs.Names.{cause_word}
+use Rattle.hek_rules.specs.Forms.{form_words}
+use Rattle.hek_rules.specs.Names.{cause_word, refusal_number, refusal_name}
 use Rattle.hek_rules.specs.Plan.{Plan, IsDeclared}
 use Rattle.hek_rules.specs.Lines.{spaced, joined_words, line_text}
+use Rattle.hek_rules.specs.Replies.{form_of}
 use Rattle.hek_asm.specs.Canonical.{step_words}
 
 abbrev pub refusal_words : Refusal → List (List ℕ)
-refusal_words refusal.UnknownTxn = codes "1" ∷ codes "UnknownTxn" ∷ []
-refusal_words refusal.NotBegun = codes "2" ∷ codes "NotBegun" ∷ []
-refusal_words refusal.BegunTwice = codes "3" ∷ codes "BegunTwice" ∷ []
-refusal_words refusal.Ended = codes "4" ∷ codes "Ended" ∷ []
-refusal_words refusal.WrongPhase = codes "5" ∷ codes "WrongPhase" ∷ []
-refusal_words refusal.ClockFull = codes "6" ∷ codes "ClockFull" ∷ []
+refusal_words r = decimal (refusal_number r) ∷ refusal_name r ∷ []
 
 -- KEY=VALUE
 abbrev pub pair_word : ℕ × ℕ → List ℕ
@@ -28,31 +24,27 @@ abbrev pub writer_words : Option ℕ → List (List ℕ)
 writer_words None = []
 writer_words (Some u) = codes "writer" ∷ decimal u ∷ []
 
+-- the words of a reply after those of its form
+abbrev pub reply_operands : Reply → List (List ℕ)
+reply_operands (reply.Began time) = decimal time ∷ []
+reply_operands (reply.Found value) = decimal value ∷ []
+reply_operands (reply.Rows pairs) = map pair_word pairs
+reply_operands (reply.Waiting count) = decimal count ∷ []
+reply_operands (reply.WaitingCommits count) = decimal count ∷ []
+reply_operands (reply.Precommitted time) = decimal time ∷ []
+reply_operands (reply.ReleasedRead v writer) = decimal v ∷ writer_words writer
+reply_operands (reply.ReleasedBucket b) = decimal b ∷ []
+reply_operands (reply.ReleasedWaiter u) = decimal u ∷ []
+reply_operands (reply.StampedBegin v) = decimal v ∷ []
+reply_operands (reply.StampedEnd v) = decimal v ∷ []
+reply_operands (reply.Left v) = decimal v ∷ []
+reply_operands (reply.Victim t cycle) = decimal t ∷ codes "cycle" ∷ map decimal cycle
+reply_operands (reply.Aborted cause) = cause_word cause ∷ []
+reply_operands (reply.Refused why) = refusal_words why
+reply_operands other = []
+
 abbrev pub reply_words : Reply → List (List ℕ)
-reply_words (reply.Began time) = codes "began" ∷ decimal time ∷ []
-reply_words (reply.Found value) = codes "found" ∷ decimal value ∷ []
-reply_words reply.Absent = codes "absent" ∷ []
-reply_words (reply.Rows pairs) = codes "rows" ∷ map pair_word pairs
-reply_words reply.Done = codes "done" ∷ []
-reply_words reply.Exists = codes "exists" ∷ []
-reply_words reply.Ready = codes "ready" ∷ []
-reply_words (reply.Waiting count) = codes "waiting" ∷ decimal count ∷ []
-reply_words (reply.Precommitted time) = codes "precommitted" ∷ decimal time ∷ []
-reply_words (reply.ReleasedRead v writer) = codes "released" ∷ codes "read" ∷ decimal v ∷ writer_words writer
-reply_words (reply.ReleasedBucket b) = codes "released" ∷ codes "bucket" ∷ decimal b ∷ []
-reply_words (reply.ReleasedWaiter u) = codes "released" ∷ codes "waiter" ∷ decimal u ∷ []
-reply_words reply.Nothing = codes "nothing" ∷ []
-reply_words reply.Committed = codes "committed" ∷ []
-reply_words (reply.WaitingCommits count) = codes "waiting" ∷ codes "commits" ∷ decimal count ∷ []
-reply_words reply.Failed = codes "failed" ∷ []
-reply_words (reply.StampedBegin v) = codes "stamped" ∷ codes "begin" ∷ decimal v ∷ []
-reply_words (reply.StampedEnd v) = codes "stamped" ∷ codes "end" ∷ decimal v ∷ []
-reply_words (reply.Left v) = codes "left" ∷ decimal v ∷ []
-reply_words reply.Over = codes "over" ∷ []
-reply_words reply.NoCycle = codes "no" ∷ codes "cycle" ∷ []
-reply_words (reply.Victim t cycle) = codes "victim" ∷ decimal t ∷ codes "cycle" ∷ map decimal cycle
-reply_words (reply.Aborted cause) = codes "aborted" ∷ cause_word cause ∷ []
-reply_words (reply.Refused why) = codes "refused" ∷ refusal_words why
+reply_words r = form_words (form_of r) ++ reply_operands r
 
 -- an event's transaction, if it has one, is declared
 abbrev pub NamesDeclared : ℕ → Event → Type 0

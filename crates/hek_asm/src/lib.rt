@@ -16,7 +16,6 @@ mod trace;
 pub use assemble::assemble_text;
 pub use fault::{AsmFault, AsmKind, TraceFault};
 pub use laws::{canonical_text_is_exact, traces_are_exact};
-pub use line::level_named;
 pub use reading::read_trace;
 pub use reply::put_reply;
 pub use schedule_text::canonical;

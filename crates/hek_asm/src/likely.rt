@@ -1,12 +1,14 @@
 //! The one event and the one reply that the words of a trace line can be of. Writing them shows if the line is theirs.
-ghost use Rattle.std.specs.Prelude.{◌≡◌, ◌≤◌, map, drop, length, IfOk, IfSome};
+ghost use Rattle.std.specs.Prelude.{◌≡◌, ◌≤◌, map, drop, length, IfOk, IfSome, option_copied};
 ghost use Rattle.std.specs.List.{position_or_len};
-ghost use Rattle.hek_asm.specs.Likely.{number_else_zero, first_value, cause_named, refusal_named, is_equals, pair_of, of_one_word, of_two_words, of_three_words, of_few_words, likely_reply, step_named, likely_event, step_len};
+ghost use Rattle.hek_rules.specs.declared.form.ReplyForm.TheVariants as form;
+ghost use Rattle.hek_rules.specs.Forms.{form_words};
+ghost use Rattle.hek_asm.specs.Likely.{number_else_zero, first_value, is_equals, pair_of, has_second, begins, form_among, writer_at, cause_at, refusal_at, plain_reply, reply_from, likely_reply, step_named, likely_event, step_len};
 ghost use Rattle.hek_asm.specs.Trace.{NamesDeclared};
 
 use hek_rules::{
-    Cause, Event, EventKind, Members, NoMemory, Pairs, Refusal, Reply, Schedule, Time, TxnId,
-    VersionId, number, same_bytes,
+    Cause, Event, EventKind, Members, NoMemory, Pairs, Refusal, Reply, ReplyForm, Schedule, Time,
+    TxnId, VersionId, number, same_bytes,
 };
 use std::alloc::Global;
 
@@ -30,51 +32,6 @@ pub(crate) fn behind<'w, 't>(words: &'w [&'t [u8]], count: usize) -> &'w [&'t [u
     ensures { map (λ w. w.now) result.now ≡ drop count (map (λ w. w.now) words.now) }
 {
     words.split_at(count.min(words.len())).1
-}
-
-fn cause_named(word: &[u8]) -> Cause
-    ensures { result ≡ cause_named word.now }
-{
-    if same_bytes(word, b"cascade") {
-        return Cause::Cascade;
-    }
-    if same_bytes(word, b"conflict") {
-        return Cause::Conflict;
-    }
-    if same_bytes(word, b"no-more-reads") {
-        return Cause::NoMoreReads;
-    }
-    if same_bytes(word, b"readers-full") {
-        return Cause::ReadersFull;
-    }
-    if same_bytes(word, b"no-more-waits") {
-        return Cause::NoMoreWaits;
-    }
-    if same_bytes(word, b"deadlock") {
-        return Cause::Deadlock;
-    }
-    Cause::Asked
-}
-
-fn refusal_named(word: &[u8]) -> Refusal
-    ensures { result ≡ refusal_named word.now }
-{
-    if same_bytes(word, b"UnknownTxn") {
-        return Refusal::UnknownTxn;
-    }
-    if same_bytes(word, b"NotBegun") {
-        return Refusal::NotBegun;
-    }
-    if same_bytes(word, b"BegunTwice") {
-        return Refusal::BegunTwice;
-    }
-    if same_bytes(word, b"Ended") {
-        return Refusal::Ended;
-    }
-    if same_bytes(word, b"WrongPhase") {
-        return Refusal::WrongPhase;
-    }
-    Refusal::ClockFull
 }
 
 // The place of the first '=', or the length.
@@ -120,95 +77,131 @@ fn members(alloc: Global, words: &[&[u8]]) -> Result<Vec<TxnId>, NoMemory>
     Ok(members)
 }
 
-fn of_one_word(word: &[u8]) -> Reply
-    ensures { result ≡ of_one_word word.now }
+fn has_second(second: Option<&str>, words: &[&[u8]]) -> bool
+    ensures { result ≡ has_second (option_copied second.entry) (map (λ w. w.now) words.now) }
 {
-    if same_bytes(word, b"done") {
-        return Reply::Done;
+    match second {
+        None => true,
+        Some(second) => match words {
+            [] => false,
+            [word, ..] => same_bytes(word, second.as_bytes()),
+        },
     }
-    if same_bytes(word, b"exists") {
-        return Reply::Exists;
-    }
-    if same_bytes(word, b"ready") {
-        return Reply::Ready;
-    }
-    if same_bytes(word, b"nothing") {
-        return Reply::Nothing;
-    }
-    if same_bytes(word, b"committed") {
-        return Reply::Committed;
-    }
-    if same_bytes(word, b"failed") {
-        return Reply::Failed;
-    }
-    if same_bytes(word, b"over") {
-        return Reply::Over;
-    }
-    Reply::Absent
 }
 
-fn of_two_words(word: &[u8], behind: &[u8]) -> Reply
-    ensures { result ≡ of_two_words word.now behind.now }
+// Whether words begin with those of a form.
+fn begins(form: ReplyForm, words: &[&[u8]]) -> bool
+    ensures { result ≡ begins form (map (λ w. w.now) words.now) }
 {
-    if same_bytes(word, b"began") {
-        return Reply::Began(Time::new(value(behind)));
-    }
-    if same_bytes(word, b"found") {
-        return Reply::Found(value(behind));
-    }
-    if same_bytes(word, b"waiting") {
-        return Reply::Waiting(value(behind));
-    }
-    if same_bytes(word, b"precommitted") {
-        return Reply::Precommitted(Time::new(value(behind)));
-    }
-    if same_bytes(word, b"left") {
-        return Reply::Left(VersionId::new(value(behind)));
-    }
-    if same_bytes(word, b"aborted") {
-        return Reply::Aborted(cause_named(behind));
-    }
-    Reply::NoCycle
+    let [word, rest @ ..] = words else {
+        return false;
+    };
+    same_bytes(word, form.first_word().as_bytes()) && has_second(form.second_word(), rest)
 }
 
-fn of_three_words(first: &[u8], second: &[u8], third: &[u8]) -> Reply
-    ensures { result ≡ of_three_words first.now second.now third.now }
+// The first of the forms whose words these begin with.
+fn form_among(forms: &[ReplyForm], words: &[&[u8]]) -> Option<ReplyForm>
+    ensures { result ≡ form_among forms.now (map (λ w. w.now) words.now) }
 {
-    if same_bytes(first, b"refused") {
-        return Reply::Refused(refusal_named(third));
+    for form in forms {
+        if begins(*form, words) {
+            return Some(*form);
+        }
     }
-    if same_bytes(second, b"bucket") {
-        return Reply::ReleasedBucket(value(third));
-    }
-    if same_bytes(second, b"waiter") {
-        return Reply::ReleasedWaiter(TxnId::new(value(third)));
-    }
-    if same_bytes(second, b"commits") {
-        return Reply::WaitingCommits(value(third));
-    }
-    if same_bytes(second, b"begin") {
-        return Reply::StampedBegin(VersionId::new(value(third)));
-    }
-    if same_bytes(second, b"end") {
-        return Reply::StampedEnd(VersionId::new(value(third)));
-    }
-    Reply::ReleasedRead(VersionId::new(value(third)), None)
+    None
 }
 
-#[tactic(auto, unfolding(crate::specs::Likely::of_few_words))]
-fn of_few_words(words: &[&[u8]]) -> Reply
-    ensures { result ≡ of_few_words (map (λ w. w.now) words.now) }
+// How many words a form has.
+fn form_len(form: ReplyForm) -> usize
+    ensures { result ≡ length (form_words form) }
+{
+    match form.second_word() {
+        None => 1,
+        Some(_) => 2,
+    }
+}
+
+fn writer_at(words: &[&[u8]]) -> Option<TxnId>
+    ensures { result ≡ writer_at (map (λ w. w.now) words.now) }
 {
     match words {
-        [] => Reply::Absent,
-        [word] => of_one_word(word),
-        [word, behind] => of_two_words(word, behind),
-        [first, second, third] => of_three_words(first, second, third),
-        [_, _, _, _] => Reply::Absent,
-        [_, _, version, _, writer, ..] => Reply::ReleasedRead(
-            VersionId::new(value(version)),
-            Some(TxnId::new(value(writer))),
-        ),
+        [_, txn, ..] => Some(TxnId::new(value(txn))),
+        _ => None,
+    }
+}
+
+fn cause_at(words: &[&[u8]]) -> Cause
+    ensures { result ≡ cause_at (map (λ w. w.now) words.now) }
+{
+    match words {
+        [] => Cause::Asked,
+        [word, ..] => Cause::named(word).unwrap_or(Cause::Asked),
+    }
+}
+
+fn refusal_at(words: &[&[u8]]) -> Refusal
+    ensures { result ≡ refusal_at (map (λ w. w.now) words.now) }
+{
+    match words {
+        [_, name, ..] => Refusal::named(name).unwrap_or(Refusal::ClockFull),
+        _ => Refusal::ClockFull,
+    }
+}
+
+/// The reply of a form with one number or none; of another form any.
+pub(crate) fn plain_reply(form: ReplyForm, number: u64) -> Reply
+    ensures { result ≡ plain_reply form number }
+{
+    match form {
+        ReplyForm::Began => Reply::Began(Time::new(number)),
+        ReplyForm::Found => Reply::Found(number),
+        ReplyForm::Done => Reply::Done,
+        ReplyForm::Exists => Reply::Exists,
+        ReplyForm::Ready => Reply::Ready,
+        ReplyForm::Waiting => Reply::Waiting(number),
+        ReplyForm::WaitingCommits => Reply::WaitingCommits(number),
+        ReplyForm::Precommitted => Reply::Precommitted(Time::new(number)),
+        ReplyForm::ReleasedRead => Reply::ReleasedRead(VersionId::new(number), None),
+        ReplyForm::ReleasedBucket => Reply::ReleasedBucket(number),
+        ReplyForm::ReleasedWaiter => Reply::ReleasedWaiter(TxnId::new(number)),
+        ReplyForm::Nothing => Reply::Nothing,
+        ReplyForm::Committed => Reply::Committed,
+        ReplyForm::Failed => Reply::Failed,
+        ReplyForm::StampedBegin => Reply::StampedBegin(VersionId::new(number)),
+        ReplyForm::StampedEnd => Reply::StampedEnd(VersionId::new(number)),
+        ReplyForm::Left => Reply::Left(VersionId::new(number)),
+        ReplyForm::Over => Reply::Over,
+        ReplyForm::NoCycle => Reply::NoCycle,
+        ReplyForm::Absent
+        | ReplyForm::Rows
+        | ReplyForm::Victim
+        | ReplyForm::Aborted
+        | ReplyForm::Refused => Reply::Absent,
+    }
+}
+
+fn victim(alloc: Global, words: &[&[u8]]) -> Result<Reply, NoMemory>
+    ensures { IfOk result (λ r. r ≡ reply_from form.Victim (map (λ w. w.now) words.now)) }
+{
+    let txn = TxnId::new(first_value(words));
+    let members = members(alloc, behind(words, 2))?;
+    Ok(Reply::Victim(txn, Members::new(Box::new(alloc, members)?)))
+}
+
+// The reply of a form with these words after those of the form.
+fn reply_from(alloc: Global, form: ReplyForm, words: &[&[u8]]) -> Result<Reply, NoMemory>
+    ensures { IfOk result (λ r. r ≡ reply_from form (map (λ w. w.now) words.now)) }
+{
+    match form {
+        ReplyForm::Rows => Ok(Reply::Rows(Pairs::new(pairs(alloc, words)?))),
+        ReplyForm::Victim => victim(alloc, words),
+        ReplyForm::ReleasedRead => {
+            let version = VersionId::new(first_value(words));
+            Ok(Reply::ReleasedRead(version, writer_at(behind(words, 1))))
+        }
+        ReplyForm::Aborted => Ok(Reply::Aborted(cause_at(words))),
+        ReplyForm::Refused => Ok(Reply::Refused(refusal_at(words))),
+        _ => Ok(plain_reply(form, first_value(words))),
     }
 }
 
@@ -217,19 +210,10 @@ fn of_few_words(words: &[&[u8]]) -> Reply
 pub(crate) fn likely_reply(alloc: Global, words: &[&[u8]]) -> Result<Reply, NoMemory>
     ensures { IfOk result (λ r. r ≡ likely_reply (map (λ w. w.now) words.now)) }
 {
-    let [word, rest @ ..] = words else {
-        return Ok(Reply::Absent);
-    };
-    if same_bytes(word, b"rows") {
-        let pairs = pairs(alloc, rest)?;
-        return Ok(Reply::Rows(Pairs::new(pairs)));
+    match form_among(&ReplyForm::ALL, words) {
+        None => Ok(Reply::Absent),
+        Some(form) => reply_from(alloc, form, behind(words, form_len(form))),
     }
-    if same_bytes(word, b"victim") {
-        let txn = TxnId::new(first_value(rest));
-        let members = members(alloc, behind(rest, 2))?;
-        return Ok(Reply::Victim(txn, Members::new(Box::new(alloc, members)?)));
-    }
-    Ok(of_few_words(words))
 }
 
 #[tactic(auto, unfolding(crate::specs::Likely::step_named))]

@@ -1,14 +1,14 @@
 //! Lines of a run of the schedule itself: the step of such a line is the schedule's own step of the line's number, so
 //! its words are not read, only compared with the text. All other lines are read by their words.
-ghost use Rattle.std.specs.Prelude.{◌≡◌, ◌++◌, length, IfOk, IfSome};
+ghost use Rattle.std.specs.Prelude.{◌≡◌, ◌++◌, List, ℕ, length, IfOk, IfSome, MatchOption};
 ghost use Rattle.hek_rules.specs.Plan.{IsStep};
-ghost use Rattle.hek_asm.specs.Reading.{is_small, IsSmallReply, IsFront, IsLineRest};
+ghost use Rattle.hek_asm.specs.Reading.{is_small, IsFront, IsLineRest};
 ghost use Rattle.hek_asm.specs.Trace.{NamesDeclared, line_front, line_rest};
 
-use crate::likely::likely_reply;
+use crate::likely::{likely_reply, plain_reply};
 use crate::line::read_words;
 use crate::trace::{put_front, put_rest};
-use hek_rules::{Event, NoMemory, Reply, Schedule, Time, VersionId, next_line};
+use hek_rules::{Event, NoMemory, Reply, ReplyForm, Schedule, next_line};
 use std::alloc::Global;
 
 // The schedule's step of this number, counted from 1, if there is one.
@@ -21,6 +21,13 @@ fn own_step(schedule: &Schedule, number: u64) -> Option<Event>
         return None;
     }
     Some(steps[(number - 1) as usize])
+}
+
+/// The text after a front, if it begins with it.
+pub(crate) fn without_front<'t>(text: &'t [u8], front: &[u8]) -> Option<&'t [u8]>
+    ensures { MatchOption result ((after : List ℕ) → text.now ≡ front.now ++ after → ⊥) (λ after. text.now ≡ front.now ++ after.now) }
+{
+    text.strip_prefix(front)
 }
 
 // The text after the number, the step and the arrow, if it begins with them. None says nothing about the text.
@@ -36,7 +43,7 @@ fn behind_front<'t>(
 {
     scratch.clear();
     put_front(schedule, number, event, scratch)?;
-    Ok(text.strip_prefix(scratch.as_slice()))
+    Ok(without_front(text, scratch.as_slice()))
 }
 
 // The text after the reply and the line's end, if it begins with them. None says nothing about the text.
@@ -49,15 +56,16 @@ fn behind_rest<'t>(
 {
     scratch.clear();
     put_rest(reply, scratch)?;
-    Ok(text.strip_prefix(scratch.as_slice()))
+    Ok(without_front(text, scratch.as_slice()))
 }
 
-// The number that the digits after these words write, or its last 64 bits.
-fn number_behind(text: &[u8], words: &str) -> u64
+// The number that the digits after the words of a form write, or its last 64 bits.
+fn number_behind(form: ReplyForm, text: &[u8]) -> u64
     ensures { is_small result }
 {
+    let front = form.text().len() + 1;
     let mut value = 0u64;
-    for byte in text.split_at(words.len().min(text.len())).1 {
+    for byte in text.split_at(front.min(text.len())).1 {
         if !byte.is_ascii_digit() {
             return value;
         }
@@ -66,49 +74,37 @@ fn number_behind(text: &[u8], words: &str) -> u64
     value
 }
 
-// The reply `stamped ..`, by the first letter of its second word.
-fn stamped(text: &[u8]) -> Option<Reply>
-    ensures { IfSome result IsSmallReply }
-{
-    let letter = text.get("stamped ".len())?;
-    if *letter == b'b' {
-        return Some(Reply::StampedBegin(VersionId::new(number_behind(text, "stamped begin "))));
+// One of two forms, by the letter at a place: whether it is `b`.
+fn form_by_b(text: &[u8], place: usize, with: ReplyForm, without: ReplyForm) -> ReplyForm {
+    match text.get(place) {
+        Some(b'b') => with,
+        _ => without,
     }
-    Some(Reply::StampedEnd(VersionId::new(number_behind(text, "stamped end "))))
 }
 
-// The reply `released ..` without a writer, by the first letter of its second word.
-fn released(text: &[u8]) -> Option<Reply>
-    ensures { IfSome result IsSmallReply }
-{
-    let letter = text.get("released ".len())?;
-    if *letter == b'b' {
-        return Some(Reply::ReleasedBucket(number_behind(text, "released bucket ")));
-    }
-    let version = VersionId::new(number_behind(text, "released read "));
-    Some(Reply::ReleasedRead(version, None))
-}
-
-// One of the frequent replies, by its first letters. Writing it shows whether the text has it.
-fn reply_by_letters(text: &[u8]) -> Option<Reply>
-    ensures { IfSome result IsSmallReply }
-{
+// The form of one of the frequent replies, by its first letters. Writing the reply shows whether the text has it.
+fn form_by_letters(text: &[u8]) -> Option<ReplyForm> {
     let [first, _, third, ..] = text else {
         return None;
     };
     match (*first, *third) {
-        (b'a', b's') => Some(Reply::Absent),
-        (b'b', _) => Some(Reply::Began(Time::new(number_behind(text, "began ")))),
-        (b'c', _) => Some(Reply::Committed),
-        (b'd', _) => Some(Reply::Done),
-        (b'f', b'u') => Some(Reply::Found(number_behind(text, "found "))),
-        (b'l', _) => Some(Reply::Left(VersionId::new(number_behind(text, "left ")))),
-        (b'n', b't') => Some(Reply::Nothing),
-        (b'o', _) => Some(Reply::Over),
-        (b'p', _) => Some(Reply::Precommitted(Time::new(number_behind(text, "precommitted ")))),
-        (b'r', b'a') => Some(Reply::Ready),
-        (b'r', b'l') => released(text),
-        (b's', _) => stamped(text),
+        (b'a', b's') => Some(ReplyForm::Absent),
+        (b'b', _) => Some(ReplyForm::Began),
+        (b'c', _) => Some(ReplyForm::Committed),
+        (b'd', _) => Some(ReplyForm::Done),
+        (b'f', b'u') => Some(ReplyForm::Found),
+        (b'l', _) => Some(ReplyForm::Left),
+        (b'n', b't') => Some(ReplyForm::Nothing),
+        (b'o', _) => Some(ReplyForm::Over),
+        (b'p', _) => Some(ReplyForm::Precommitted),
+        (b'r', b'a') => Some(ReplyForm::Ready),
+        (b'r', b'l') => Some(form_by_b(
+            text,
+            9,
+            ReplyForm::ReleasedBucket,
+            ReplyForm::ReleasedRead,
+        )),
+        (b's', _) => Some(form_by_b(text, 8, ReplyForm::StampedBegin, ReplyForm::StampedEnd)),
         _ => None,
     }
 }
@@ -120,9 +116,10 @@ fn rest_by_letters<'t>(
 ) -> Result<Option<(Reply, &'t [u8])>, NoMemory>
     ensures { IfOk result (λ o. IfSome o (λ x. IsLineRest x.0 text.now x.1.now)) }
 {
-    let Some(reply) = reply_by_letters(text) else {
+    let Some(form) = form_by_letters(text) else {
         return Ok(None);
     };
+    let reply = plain_reply(form, number_behind(form, text));
     let Some(after) = behind_rest(&reply, scratch, text)? else {
         return Ok(None);
     };

@@ -8,7 +8,7 @@ ghost use Rattle.hek_asm.specs.Trace.{NamesDeclared, trace_line};
 use crate::fault::TraceFault;
 use crate::likely::{behind, likely_event, likely_reply, step_len};
 use crate::line::read_words;
-use crate::own_steps::entry_by_step;
+use crate::own_steps::{entry_by_step, without_front};
 use crate::trace::put_line;
 use hek_rules::{Event, NoMemory, Reply, Schedule, Transcript, next_line};
 use std::alloc::Global;
@@ -50,7 +50,7 @@ fn behind_line<'t>(
 {
     scratch.clear();
     put_line(schedule, number, event, reply, scratch)?;
-    Ok(text.strip_prefix(scratch.as_slice()))
+    Ok(without_front(text, scratch.as_slice()))
 }
 
 // The event and the reply of a text's first line, by its words, and the text after it.

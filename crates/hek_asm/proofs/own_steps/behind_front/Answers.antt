@@ -1,0 +1,10 @@
+use Rattle.std.proofs.Common.{◌≡◌, List, ℕ, ◌++◌, ◌∙◌, ap}
+use Rattle.hek_asm.specs.Trace.{line_front}
+use Rattle.hek_asm.proofs.Fronts.{behind_some}
+use Rattle.hek_asm.proofs.own_steps.behind_front.Goals as goal
+
+pub returns : goal.returns
+returns c =
+    let line : List ℕ = line_front c.args.schedule.now c.args.number c.args.event.now in
+    let front : c.as_slice.result.now ≡ line = c.as_slice.ensures.value ∙ c.in_ok-put_front.ensures ∙ ap (λ (bs : List ℕ). bs ++ line) c.clear.ensures.items in
+    behind_some c.args.text.now c.as_slice.result.now line c.without_front.result front c.without_front.ensures
