@@ -113,5 +113,6 @@ class Edits(Tree):
         self.assertTrue(tried.is_done(edit))
         self.write("crates/cups/src/cup.rt", SOURCE.replace("n + n", "2 * n"))
         self.assertEqual(self.edits.Tried().stale(), {"cups/add": "it was tried over other sources"})
+        self.assertEqual(self.said(self.edits.name_stale)[1], "cups/add: it was tried over other sources\n1 results, 1 stale, 0 without a verdict\n")
         self.said(self.edits.forget)
         self.assertEqual(self.edits.Tried().lines, {})

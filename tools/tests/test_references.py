@@ -97,8 +97,8 @@ class References(Tree):
     def test_a_stale_edit_is_found(self):
         self.write("crates/hek_low/edits/add.edit", "file: src/lib.rt\nold: there\nnew: here\n")
         self.write("tools/edits-tried.txt", "# head\nhek_low/add | refused | add: goal returns | 0123456789\nhek_low/old | refused | x | 0123456789\n")
-        wrong = [*self.references.stale_edits()]
-        self.assertEqual([it.split(": tools")[0] for it in wrong], ["hek_low/add: it was tried over other sources", "hek_low/old: there is no such edit"])
+        lost, old = self.references.stale_edits()
+        self.assertEqual((lost, old), (["hek_low/old: there is no such edit: tools/edits forget"], ["hek_low/add"]))
 
     def test_a_script_without_a_row_is_found(self):
         self.write("tools/new", "")
