@@ -114,5 +114,12 @@ class Edits(Tree):
         self.write("crates/cups/src/cup.rt", SOURCE.replace("n + n", "2 * n"))
         self.assertEqual(self.edits.Tried().stale(), {"cups/add": "it was tried over other sources"})
         self.assertEqual(self.said(self.edits.name_stale)[1], "cups/add: it was tried over other sources\n1 results, 1 stale, 0 without a verdict\n")
-        self.said(self.edits.forget)
+        self.said(self.edits.forget, False)
+        self.assertEqual([*self.edits.Tried().lines], ["cups/add"])
+        self.said(self.edits.forget, True)
         self.assertEqual(self.edits.Tried().lines, {})
+
+    def test_the_result_of_an_edit_that_is_not_there_goes(self):
+        self.write("tools/edits-tried.txt", "cups/old | refused | x | 0123456789\n")
+        self.assertEqual(self.edits.Tried().stale(), {"cups/old": self.edits.NOT_THERE})
+        self.assertEqual(self.said(self.edits.forget, False)[1], "1 results dropped, 0 kept\n")
