@@ -1,5 +1,5 @@
 """Whether an edit matches, what its try came to, and what is noted."""
-from tree import Tree, kit
+from tree import Tree
 
 SOURCE = "impl Cup {\n    pub fn add(&mut self) {\n        self.count += 1;\n        self.sum += 1;\n    }\n}\n\npub fn twice(n: u64) -> u64 {\n    n + n\n}\n"
 FAILED = "./proofs/cup/Cup/add/Answers.antt:12:5: error: `returns`: the two types differ\nfn cups::cup::Cup::add: not proved\n"

@@ -1,5 +1,5 @@
 """What the pages, the lists and the crates lack of each other."""
-from tree import Tree, kit
+from tree import Tree
 
 PAGE = """# Title
 
