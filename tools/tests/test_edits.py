@@ -1,5 +1,5 @@
 """Whether an edit matches, what its try came to, and what is noted."""
-from tree import Tree
+from tree import Tree, kit
 
 SOURCE = "impl Cup {\n    pub fn add(&mut self) {\n        self.count += 1;\n        self.sum += 1;\n    }\n}\n\npub fn twice(n: u64) -> u64 {\n    n + n\n}\n"
 FAILED = "./proofs/cup/Cup/add/Answers.antt:12:5: error: `returns`: the two types differ\nfn cups::cup::Cup::add: not proved\n"
@@ -67,6 +67,16 @@ class Edits(Tree):
         self.assertEqual((list(chosen), others), ([one, free], [other]))
         self.assertIn("self.count += 2;", texts["src/cup.rt"])
         self.assertIn("    n\n", texts["src/cup.rt"])
+
+    def test_an_edit_that_takes_away_what_a_proof_cites_is_named(self):
+        body = "pub fn half(n: u64) -> u64 {\n    let rest = n % 2;\n    (n - rest) / 2\n}\n"
+        self.write("crates/cups/src/cup.rt", SOURCE + body)
+        self.write("crates/cups/proofs/cup/half/Answers.antt", "returns c = exact rest\n")
+        keeps = self.edit("keeps", self.one("(n - rest) / 2", "n / 2"))
+        takes = self.edit("takes", self.one("let rest = n % 2;", "let left = n % 2;") + "old: (n - rest) / 2\nnew: (n - left) / 2\n")
+        sources, proofs = kit.texts("cups", ("src",)), kit.texts("cups", ("proofs",))
+        self.assertEqual(self.edits.cited_names(keeps, sources, proofs), set())
+        self.assertEqual(self.edits.cited_names(takes, sources, proofs), {"rest"})
 
     def test_a_failed_proof_of_the_function_refuses(self):
         error = self.edits.failed_in(FAILED, "Cup::add")
