@@ -68,6 +68,16 @@ class Edits(Tree):
         self.assertIn("self.count += 2;", texts["src/cup.rt"])
         self.assertIn("    n\n", texts["src/cup.rt"])
 
+    def test_an_edit_that_takes_away_what_a_proof_cites_is_named(self):
+        body = "pub fn half(n: u64) -> u64 {\n    let rest = n % 2;\n    (n - rest) / 2\n}\n"
+        self.write("crates/cups/src/cup.rt", SOURCE + body)
+        self.write("crates/cups/proofs/cup/half/Answers.antt", "returns c = exact rest\n")
+        keeps = self.edit("keeps", self.one("(n - rest) / 2", "n / 2"))
+        takes = self.edit("takes", self.one("let rest = n % 2;", "let left = n % 2;") + "old: (n - rest) / 2\nnew: (n - left) / 2\n")
+        sources, proofs = kit.texts("cups", ("src",)), kit.texts("cups", ("proofs",))
+        self.assertEqual(self.edits.cited_names(keeps, sources, proofs), set())
+        self.assertEqual(self.edits.cited_names(takes, sources, proofs), {"rest"})
+
     def test_a_failed_proof_of_the_function_refuses(self):
         error = self.edits.failed_in(FAILED, "Cup::add")
         self.assertEqual(error, "add: goal returns")
@@ -113,5 +123,13 @@ class Edits(Tree):
         self.assertTrue(tried.is_done(edit))
         self.write("crates/cups/src/cup.rt", SOURCE.replace("n + n", "2 * n"))
         self.assertEqual(self.edits.Tried().stale(), {"cups/add": "it was tried over other sources"})
-        self.said(self.edits.forget)
+        self.assertEqual(self.said(self.edits.name_stale)[1], "cups/add: it was tried over other sources\n1 results, 1 stale, 0 without a verdict\n")
+        self.said(self.edits.forget, False)
+        self.assertEqual([*self.edits.Tried().lines], ["cups/add"])
+        self.said(self.edits.forget, True)
         self.assertEqual(self.edits.Tried().lines, {})
+
+    def test_the_result_of_an_edit_that_is_not_there_goes(self):
+        self.write("tools/edits-tried.txt", "cups/old | refused | x | 0123456789\n")
+        self.assertEqual(self.edits.Tried().stale(), {"cups/old": self.edits.NOT_THERE})
+        self.assertEqual(self.said(self.edits.forget, False)[1], "1 results dropped, 0 kept\n")

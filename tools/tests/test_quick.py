@@ -1,5 +1,5 @@
 """Which crates a change touches, which see it from above, and which tests say most of it."""
-from tree import Tree, kit
+from tree import Tree
 
 WAS = "/// Adds.\npub fn add(n: u64) -> u64\n    ensures { result ≡ n + 1 }\n{\n    n + 1\n}\n"
 

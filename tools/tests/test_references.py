@@ -1,0 +1,106 @@
+"""What the pages, the lists and the crates lack of each other."""
+from tree import Tree
+
+PAGE = """# Title
+
+Prose names `Words.lock` and `Words.key`, [one](#a-heading) and [another](#none), crates/low/src/lib.rt, crates/low/src/none.rt,
+[there](docs/A.md), [nowhere](docs/B.md), low_crate, hek_low and hek_none.
+
+## A heading
+
+<!-- of: crates/hek_low/src/lib.rt -->
+```
+fn there()
+fn gone()
+```
+"""
+ARCHITECTURE = """Hek is 3 small crates.
+
+<!-- the crates that hek runs -->
+```
+program   hek
+machine   hek_top
+words     hek_low
+```
+
+<!-- written by tools/references --write -->
+| Crate | old |
+| hek_top | row |
+
+After.
+"""
+
+
+class References(Tree):
+    def setUp(self):
+        super().setUp()
+        self.crates("# words\nhek_low:\n# machine\nhek_top: hek_low\n# program\nhek: hek_top\n", hek_low="//! a\nfn there()\n")
+        self.references = self.script("references")
+
+    def test_a_bad_link_is_found(self):
+        self.write("docs/A.md", "# A\n")
+        self.write("README.md", PAGE)
+        wrong = [*self.references.missing_links("README.md", PAGE, {"README.md": PAGE})]
+        self.assertEqual(wrong, ["no heading #none", "no file docs/B.md"])
+
+    def test_missing_names_are_found(self):
+        for path in ("crates/low/src/lib.rt", "docs/A.md"):
+            self.write(path, "")
+        self.assertEqual([*self.references.missing_definitions(PAGE, {"Words": {"lock"}})], ["no definition Words.key"])
+        self.assertEqual([*self.references.missing_paths(PAGE)], ["no path crates/low/src/none.rt", "no path docs/B.md"])
+        self.assertEqual([*self.references.missing_crates(PAGE, {"hek_low"})], ["no crate or function hek_none"])
+        self.assertEqual([*self.references.missing_lines(PAGE)], ["crates/hek_low/src/lib.rt has no line fn gone()"])
+
+    def test_headings_that_are_equal_have_anchors_of_their_own(self):
+        self.assertEqual(self.references.anchors("# A b\n## A b\n```\n# no\n```\n"), {"a-b", "a-b-1"})
+
+    def test_the_tables_of_crates_follow_crates_txt(self):
+        text = "| **Words** | |\n| hek_low | words |\n| hek_old | none |\n## Machine\n| **Program** | |\n| hek | main |\n"
+        wrong = ["a row for hek_old below words, where crates.txt has none", "no row for hek_top below machine"]
+        self.assertEqual([*self.references.missing_rows(text)], wrong)
+
+    def test_another_number_of_crates_is_found(self):
+        self.assertEqual([*self.references.wrong_count(ARCHITECTURE)], [])
+        self.crates("hek_low:\nhek_new:\n")
+        self.assertEqual([*self.references.wrong_count(ARCHITECTURE)], ["3 crates, where crates.txt has 2: tools/references --write"])
+        self.assertEqual([*self.references.wrong_count("Hek has crates.")], ["no sentence `Hek is N small crates`"])
+
+    def test_a_crate_that_the_diagram_lacks_is_found(self):
+        self.assertEqual([*self.references.wrong_diagram(ARCHITECTURE)], [])
+        lacking = ARCHITECTURE.replace("hek_top\nwords", "\nwords")
+        self.assertEqual([*self.references.wrong_diagram(lacking)], ["the diagram lacks hek_top, which hek runs"])
+        more = ARCHITECTURE.replace("words     hek_low", "words     hek_low hek_old")
+        self.assertEqual([*self.references.wrong_diagram(more)], ["the diagram has hek_old, which hek doesn't run"])
+
+    def test_a_crate_above_one_that_uses_it_is_found(self):
+        turned = ARCHITECTURE.replace("hek_top", "hek_mid").replace("hek_low", "hek_top").replace("hek_mid", "hek_low")
+        self.assertEqual([*self.references.wrong_diagram(turned)], ["the diagram has hek_low above hek_top, which uses it"])
+
+    def test_a_crate_that_the_table_of_what_to_touch_lacks_is_found(self):
+        self.write("crates/hek_top/src/level.rt", "Level::Snapshot => 1\n")
+        self.write("crates/hek_top/specs/Levels.antt", "f Snapshot = 1\n")
+        self.write("crates/hek_low/src/cause.rt", "Cause::Cascade => Snapshots\n")
+        rows = ["| hek_low | | | | src: cause |", "| hek_top | | src: level; specs: Levels | | |"]
+        self.assertEqual(self.references.touched().splitlines()[2:], rows)
+        wrong = [*self.references.wrong_table(ARCHITECTURE)]
+        self.assertIn("what to touch: the row of hek_low isn't what the sources give: tools/references --write", wrong)
+        made = self.references.written(ARCHITECTURE)
+        self.assertEqual([*self.references.wrong_table(made)], [])
+        self.assertTrue(made.endswith(rows[1] + "\n\nAfter.\n"))
+
+    def test_a_module_that_a_readme_lacks_is_found(self):
+        for path in ("src/one.rt", "src/two/three.rt"):
+            self.write(f"crates/hek_low/{path}", "")
+        text = "# hek_low\n\n`one` in prose.\n\n| Module | What it has |\n|---|---|\n| three, old | things |\n\n| File | Its |\n|---|---|\n| one | two |\n"
+        self.assertEqual([*self.references.missing_modules("hek_low", text)], ["no module one", "a module old, where there is none"])
+
+    def test_a_stale_edit_is_found(self):
+        self.write("crates/hek_low/edits/add.edit", "file: src/lib.rt\nold: there\nnew: here\n")
+        self.write("tools/edits-tried.txt", "# head\nhek_low/add | refused | add: goal returns | 0123456789\nhek_low/old | refused | x | 0123456789\n")
+        lost, old = self.references.stale_edits()
+        self.assertEqual((lost, old), (["hek_low/old: there is no such edit: tools/edits forget"], ["hek_low/add"]))
+
+    def test_a_script_without_a_row_is_found(self):
+        self.write("tools/new", "")
+        self.write("tools/old", "")
+        self.assertEqual([*self.references.missing_tools("| `tools/old` | does |")], ["no row for tools/new"])
