@@ -71,7 +71,7 @@ async function logOfSchedule() {
 
 function startLogs() {
   for (const name of Object.keys(DATA.logs)) $("log-examples").append(new Option(name.replace(/\.jsonl$/, "").replace(/-/g, " "), name));
-  log.value = kept("log") ?? Object.values(DATA.logs)[0];
+  log.value = kept("log") ?? DATA.logs["lost-update.jsonl"];
   $("log-examples").value = Object.keys(DATA.logs).find(name => DATA.logs[name] === log.value) ?? "";
   $("log-examples").addEventListener("change", () => {
     if ($("log-examples").value) setLog(DATA.logs[$("log-examples").value]);

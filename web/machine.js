@@ -19,7 +19,11 @@ function hek(args, files, input = "") {
   if (waiting) end({isEnded: true});
   if (!worker) {
     worker = new Worker(URL.createObjectURL(new Blob([$("worker").textContent], {type: "text/javascript"})));
-    worker.onmessage = ({data}) => { if (data.id === waiting?.id) answered(data); };
+    worker.onmessage = ({data}) => {
+      if (data.id !== waiting?.id) return;
+      if (data.progress) progress = data.progress.replace(/^hek: permute: /, "");
+      else answered(data);
+    };
     worker.onerror = event => stop(`the machine ended: ${event.message}`);
     worker.postMessage({wasm});
   }
@@ -53,21 +57,23 @@ function end(answer) {
 
 // ---- what is said while a run goes on
 
-let began = 0, ticking = null;
+let began = 0, ticking = null, progress = "";
 
-function say(said, canEnd = false) {
+// `more` changes all the time, and is for the eyes alone.
+function say(said, more = "", canEnd = false) {
   $("wait").hidden = said === "";
-  $("wait-said").textContent = said;
+  if ($("wait-said").textContent !== said) $("wait-said").textContent = said;
+  $("wait-more").textContent = more;
   $("wait-end").hidden = !canEnd;
 }
 
-// Says, of what takes longer, for how long.
+// Says, of what takes longer, for how long, and how far it is.
 function working() {
   clearInterval(ticking);
-  began = performance.now();
+  [began, progress] = [performance.now(), ""];
   ticking = setInterval(() => {
     const seconds = Math.floor((performance.now() - began) / 1000);
-    say(seconds < 2 ? "Working\u2026" : `Working for ${seconds} seconds; ended after ${longest / 1000}`, true);
+    say("Working\u2026", seconds < 2 ? "" : `${seconds} of ${longest / 1000} seconds${progress && `: ${progress}`}`, true);
   }, SLOW);
 }
 

@@ -20,10 +20,18 @@ function tableOf(names) {
   return table.createTBody();
 }
 
+// Words that stay in one line.
+function unbroken(said) {
+  const it = document.createElement("span");
+  it.className = "unbroken";
+  it.textContent = said;
+  return it;
+}
+
 function outcome(row, counts, parts) {
   for (const count of counts) cell(row, BigInt(count).toLocaleString("en")).className = count === "0" ? "n none" : "n";
   const verdict = parts.pop(), left = parts.pop();
-  cell(row, parts.join("; "));
+  cell(row, "").append(...parts.flatMap((it, at) => at ? ["; ", unbroken(it)] : [unbroken(it)]));
   cell(row, (left ?? "").replace(/^rows ?/, ""));
   cell(row, verdict).className = verdict === "not serial" ? "bad" : "";
   return row;

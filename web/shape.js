@@ -1,7 +1,7 @@
 // ---- the shape of the page: the column beside the story, the whole screen, nothing at all
 
-// From this width on the column stands beside the story; below it lies over the story, or above it on a phone.
-const BESIDE = matchMedia("(min-width: 941px)"), OVER = matchMedia("(min-width: 761px) and (max-width: 940px)");
+// The column stands beside the story; in a narrower window it lies over it, and on a phone it is above it.
+const OVER = matchMedia("(min-width: 761px) and (max-width: 940px)"), PHONE = matchMedia("(max-width: 760px)");
 const main = document.querySelector("main");
 // The widths that the column may have, in parts of the window.
 const NARROWEST = 0.18, WIDEST = 0.7, BY = 0.02;
@@ -15,6 +15,11 @@ function setWide(isNow) {
 }
 
 const showLeft = () => setWide(false);
+
+// A phone has no room for the lesson where neither history nor words have to do with it.
+function makeRoom(name) {
+  if (PHONE.matches && (name === "history" || name === "words")) setWide(true);
+}
 
 // ---- how wide the column is
 

@@ -227,6 +227,7 @@ function choose(name) {
     $("shown").classList.remove("stale");
     reveal(name === "history" ? "logs" : "word-panel");
   }
+  makeRoom(name);
   tellAddress();
   show();
 }
