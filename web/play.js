@@ -76,7 +76,8 @@ function takeLevel() {
   const level = $("levels").value, side = main.dataset.side;
   if (level) writeAll(atLevel(text.value, level));
   chooseSide(side);
-  $("levels").focus();
+  if (isByHand) text.blur();
+  else $("levels").focus();
 }
 
 function reset() {

@@ -70,6 +70,16 @@ const OWN_KEYS = {
   print: () => print(),
 };
 
+// Whether the last thing that was pressed was no key: a list that was chosen from by hand gives the keys back.
+let isByHand = false;
+
+function startKeys() {
+  document.addEventListener("keydown", () => { isByHand = false; }, true);
+  document.addEventListener("pointerdown", () => { isByHand = true; }, true);
+  document.addEventListener("change", event => { if (isByHand && event.target.matches("select, [type=checkbox]")) event.target.blur(); });
+  document.addEventListener("keydown", pageKey);
+}
+
 const ownKey = key => OWN_KEYS[key]?.();
 
 function go(way) {
@@ -79,7 +89,7 @@ function go(way) {
 
 function pageKey(event) {
   if (event.defaultPrevented || event.ctrlKey || event.altKey || event.metaKey || $("share-dialog").open) return;
-  if (event.target.closest("input, textarea, select, [role=separator]")) return;
+  if (event.target.closest("input, textarea, select")) return;
   const isFrame = frame && !$("frames").hidden;
   if (!$("blank").hidden) unblank();
   else if (!isFrame && /^[b.]$/.test(event.key)) $("blank").hidden = false;
@@ -107,5 +117,5 @@ function startShape() {
   OVER.addEventListener("change", () => setWide(OVER.matches));
   $("column").addEventListener("click", () => setWide(!isWide()));
   $("blank").addEventListener("click", unblank);
-  document.addEventListener("keydown", pageKey);
+  startKeys();
 }
