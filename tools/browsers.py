@@ -1,7 +1,8 @@
-"""Browsers without a window, for tools/page_test: Chromium by the pipe of its DevTools, Firefox by Marionette.
+"""Browsers without a window, for tools/page_test and tools/play_test: Chromium by the pipe of its DevTools, Firefox by Marionette.
 
-Both have the same methods: `open` a page from disk, `press` a key, `eval` an expression of the page, `size` the window, `scheme` light or
-dark, `shoot` a picture, `close`. Both want Debian's package on the path, and install nothing.
+Both have the same methods: `open` a page from disk, `visit` an address without waiting, `press` a key that a script takes, `tap` one that the
+browser takes too, `type` a text, `eval` an expression of the page, `size` the window, `scheme` light or dark, `shoot` a picture, `close`.
+Both want Debian's package on the path, and install nothing.
 """
 import base64
 import json
@@ -11,15 +12,21 @@ import subprocess
 import sys
 import time
 
-CODES = {" ": "Space"}
+CODES = {" ": "Space", "/": "Slash"}
+# The numbers by which Chromium knows keys; a letter's is that of its capital.
+NUMBERS = {"Tab": 9, "Enter": 13, "Escape": 27, " ": 32, "End": 35, "Home": 36, "ArrowLeft": 37, "ArrowUp": 38, "ArrowRight": 39, "ArrowDown": 40,
+           "Backspace": 8, "F8": 119, "/": 191}
+# What Chromium does at a letter with Control.
+COMMANDS = {"z": ["undo"], "a": ["selectAll"]}
 # The keys that WebDriver names by a character of Unicode's private area.
 DRIVER_KEYS = {"ArrowLeft": "\ue012", "ArrowUp": "\ue013", "ArrowRight": "\ue014", "ArrowDown": "\ue015", "PageUp": "\ue00e", "PageDown": "\ue00f",
-               "Home": "\ue011", "End": "\ue010", "Enter": "\ue007", "Escape": "\ue00c", "Backspace": "\ue003"}
+               "Home": "\ue011", "End": "\ue010", "Enter": "\ue007", "Escape": "\ue00c", "Backspace": "\ue003", "Tab": "\ue004", "F8": "\ue038",
+               "Control": "\ue009"}
 READY = "document.readyState === 'complete' && !!document.body && document.body.dataset.position !== undefined"
 
 
 def stop(why):
-    sys.exit(f"page_test: {why}")
+    sys.exit(f"browsers: {why}")
 
 
 class Chromium:
@@ -73,11 +80,29 @@ class Chromium:
                     stop(f"{method}: {got['error']}")
                 return got["result"]
 
-    def open(self, path, place=""):
+    def visit(self, url):
         self.call("Page.navigate", url="about:blank")
-        self.call("Page.navigate", url=f"file://{path}{place}")
+        self.call("Page.navigate", url=url)
+
+    def open(self, path, place=""):
+        self.visit(f"file://{path}{place}")
         while self.eval(READY) is not True:
             time.sleep(0.01)
+
+    def tap(self, key, control=False):
+        number, text = NUMBERS.get(key) or ord(key.upper()), {"text": "\r"} if key == "Enter" and not control else {}
+        code = CODES.get(key) or (f"Key{key.upper()}" if len(key) == 1 else key)
+        words = {"key": key, "code": code, "windowsVirtualKeyCode": number, "modifiers": 2 if control else 0}
+        commands = {"commands": COMMANDS[key]} if control and key in COMMANDS else {}
+        self.call("Input.dispatchKeyEvent", type="keyDown" if text else "rawKeyDown", **words, **text, **commands)
+        self.call("Input.dispatchKeyEvent", type="keyUp", **words)
+
+    def type(self, said):
+        for char in said:
+            if char == "\n":
+                self.tap("Enter")
+            else:
+                self.call("Input.dispatchKeyEvent", type="char", text=char)
 
     def press(self, key):
         for kind in ("keyDown", "keyUp"):
@@ -164,17 +189,28 @@ class Firefox:
                     stop(f"{command}: {fault.get('message', fault)}")
                 return result
 
-    def open(self, path, place=""):
+    def visit(self, url):
         self.call("WebDriver:Navigate", url="about:blank")
-        self.call("WebDriver:Navigate", url=f"file://{path}{place}")
+        self.call("WebDriver:Navigate", url=url)
+
+    def open(self, path, place=""):
+        self.visit(f"file://{path}{place}")
         while self.eval(READY) is not True:
             time.sleep(0.01)
         self.scheme(self.theme)
 
+    def tap(self, key, control=False):
+        value, held = DRIVER_KEYS.get(key, key), [DRIVER_KEYS["Control"]] * control
+        taps = [*(("keyDown", it) for it in [*held, value]), *(("keyUp", it) for it in [value, *held])]
+        acts = [{"type": kind, "value": it} for kind, it in taps]
+        self.call("WebDriver:PerformActions", actions=[{"type": "key", "id": "keys", "actions": acts}])
+
     def press(self, key):
-        value = DRIVER_KEYS.get(key, key)
-        taps = [{"type": "keyDown", "value": value}, {"type": "keyUp", "value": value}]
-        self.call("WebDriver:PerformActions", actions=[{"type": "key", "id": "keys", "actions": taps}])
+        self.tap(key)
+
+    def type(self, said):
+        for char in said:
+            self.tap("Enter" if char == "\n" else char)
 
     def eval(self, expression):
         script = "return Promise.resolve(window.wrappedJSObject.eval(arguments[0])).then((it) => JSON.stringify(it === undefined ? null : it));"

@@ -557,6 +557,8 @@ let viewHeight = 0;
 const rem = () => unit;
 /** Whether the page is one column, as the style has it. */
 const isSmall = () => isOneColumn;
+/** Whether the page is for the last row of a room: versions and words have no room then. */
+const isFar = () => document.documentElement.classList.contains("far");
 
 function measure() {
   unit = parseFloat(getComputedStyle(document.documentElement).fontSize);
@@ -570,7 +572,7 @@ const watcher = new ResizeObserver((entries) => {
     const [width, height] = sizes[id];
     const isSame = width === clientWidth && (height === clientHeight || id === "lanes" || (id === "because" && isSmall()));
     sizes[id] = [clientWidth, clientHeight];
-    if (!isSame) (DRAWN[id] ?? show)();
+    if (!isSame && clientWidth > 0) (DRAWN[id] ?? show)();
   }
 });
 
@@ -1480,10 +1482,11 @@ function show() {
   showLanes();
   showSay();
   if (isTree) showTree();
-  showChains();
+  if (!isFar()) showChains();
   showGraph();
-  if (!isTree || pinned) showWord();
+  if ((!isTree || pinned) && !isFar()) showWord();
   showScore();
+  tellParent();
 }
 
 function move(position) {
@@ -1493,10 +1496,16 @@ function move(position) {
   telling = setTimeout(tellAddress, 120);
 }
 
+/** The place, as the address has it: the number of steps done; in the explorer the moves, and the step where one isn't over. */
+function placeSaid() {
+  if (!isTree) return String(run.done + here);
+  return tree.path.slice(1).map((at) => tree.names[tree.nodes[at].who]).join(".") + (here < run.last ? "@" + here : "");
+}
+
 let telling = 0;
 function tellAddress() {
-  const hash = isTree ? "#" + tree.path.slice(1).map((at) => tree.names[tree.nodes[at].who]).join(".") + (here < run.last ? "@" + here : "") : "#" + (run.done + here);
-  history.replaceState(null, "", hash);
+  // A page that is a text within another one has no address of its own.
+  if (location.protocol !== "about:") history.replaceState(null, "", "#" + placeSaid());
   const step = here > 0 ? run.steps[here - 1] : null;
   document.title = step && !coveredStep() ? `${run.done + here} ${step.name ? step.name + " " : ""}${step.event} \u2192 ${step.reply} \u00b7 ${data.title}` : `${data.title} \u00b7 Hek`;
 }
@@ -1524,7 +1533,8 @@ const DOES = {
   predict: () => { if (isTree) return DOES.secret(); isPredict = !isPredict; guess = null; if (isPredict) { isFuture = false; press("future", false); } press("predict", isPredict); show(); },
   future: () => { isFuture = !isFuture; press("future", isFuture); show(); },
   present: () => { const isOn = document.documentElement.classList.toggle("present"); press("present", isOn); resized(); },
-  theme: () => { const isDark = document.documentElement.dataset.theme ? document.documentElement.dataset.theme === "dark" : matchMedia("(prefers-color-scheme: dark)").matches; document.documentElement.dataset.theme = isDark ? "light" : "dark"; },
+  far: () => { document.documentElement.classList.toggle("far"); resized(); },
+  theme: () => { const isDark = document.documentElement.dataset.theme ? document.documentElement.dataset.theme === "dark" : matchMedia("(prefers-color-scheme: dark)").matches; document.documentElement.dataset.theme = isDark ? "light" : "dark"; tellParent(); },
   help: () => tell(HELP),
   pin: () => {
     const its = run.versionIds.filter((v) => run.version(v, here)).map(Number).sort((a, b) => a - b);
@@ -1535,12 +1545,12 @@ const DOES = {
   fields: () => { const step = run.steps[here - 1]; tellTxn(step?.name ? run.ids.get(step.name) : run.txnIds[0]); },
   unpin: () => { pinned = null; show(); },
   undo: () => { const place = placeHere(); if (place > 0) { tree.path = tree.path.slice(0, place); run = runOfPath(); move(run.last); } },
-  blank: () => { $("blank").hidden = !$("blank").hidden; },
+  blank: () => { $("blank").hidden = !$("blank").hidden; tellParent(); },
 };
 
 const HELP = `<h2>Keys</h2><table><tr><td><kbd>\u2192</kbd> <kbd>\u2193</kbd> <kbd>Space</kbd> <kbd>Page Down</kbd><td>one step on<tr><td><kbd>\u2190</kbd> <kbd>\u2191</kbd> <kbd>Shift Space</kbd> <kbd>Page Up</kbd><td>one step back
 <tr><td><kbd>Home</kbd> <kbd>End</kbd><td>to the start, to the end<tr><td><kbd>1</kbd> .. <kbd>9</kbd>, then <kbd>Enter</kbd><td>to that step (at a question or in the explorer: that choice)<tr><td><kbd>?</kbd><td>guess each reply before it is shown
-<tr><td><kbd>f</kbd><td>show the steps to come<tr><td><kbd>p</kbd><td>larger type<tr><td><kbd>d</kbd><td>light or dark<tr><td><kbd>w</kbd><td>the words of the next version, pinned until <kbd>Esc</kbd><tr><td><kbd>t</kbd><td>all fields of the transaction that moves<tr><td><kbd>.</kbd> <kbd>b</kbd><td>blank the screen<tr><td><kbd>Backspace</kbd><td>explorer: take a move back<tr><td><kbd>Esc</kbd><td>unpin a word</table>
+<tr><td><kbd>f</kbd><td>show the steps to come<tr><td><kbd>p</kbd><td>larger type<tr><td><kbd>l</kbd><td>for the last row: the step, the lanes and the waits alone, as large as they go<tr><td><kbd>d</kbd><td>light or dark<tr><td><kbd>w</kbd><td>the words of the next version, pinned until <kbd>Esc</kbd><tr><td><kbd>t</kbd><td>all fields of the transaction that moves<tr><td><kbd>.</kbd> <kbd>b</kbd><td>blank the screen<tr><td><kbd>Backspace</kbd><td>explorer: take a move back<tr><td><kbd>Esc</kbd><td>unpin a word</table>
 <p>A click on a step goes there; on a version it shows its words; on a name all fields of that transaction. Swipe left and right on a touch screen. The address ends in the step: <code>#6</code>.</p>`;
 
 function tell(html) { $("dialog-body").innerHTML = html; $("dialog").showModal(); }
@@ -1555,17 +1565,17 @@ function tellTxn(id) {
 
 let digits = "";
 const MOVES = { ArrowRight: 1, ArrowDown: 1, PageDown: 1, ArrowLeft: -1, ArrowUp: -1, PageUp: -1 };
-const LETTERS = { "?": "predict", f: "future", p: "present", d: "theme", h: "help", w: "pin", t: "fields", ".": "blank", b: "blank" };
+const LETTERS = { "?": "predict", f: "future", p: "present", l: "far", d: "theme", h: "help", w: "pin", t: "fields", ".": "blank", b: "blank" };
 
 function onKey(event) {
-  if (event.ctrlKey || event.altKey || event.metaKey) return;
+  if (event.ctrlKey || event.altKey || event.metaKey) { tellPrint(event); return; }
   const { key } = event;
   // A dialog is shut by whatever a presenter's remote sends; Tab and Enter stay with it.
   if ($("dialog").open) {
     if (key === "Escape" || key === "h" || key in MOVES) { $("dialog").close(); event.preventDefault(); }
     return;
   }
-  if (!$("blank").hidden) { $("blank").hidden = true; event.preventDefault(); return; }
+  if (!$("blank").hidden) { DOES.blank(); event.preventDefault(); return; }
   if (key === " " && event.target.tagName === "BUTTON") return;
   if (key === " ") (event.shiftKey ? back : on)();
   else if (key in MOVES) (MOVES[key] > 0 ? on : back)();
@@ -1577,7 +1587,7 @@ function onKey(event) {
   else if (key === "Enter" && digits) { jump(Number(digits) - run.done); digits = ""; }
   else if (key === "Enter" && event.target.closest("g[tabindex]")) event.target.dispatchEvent(new MouseEvent("click", { bubbles: true }));
   else if (key in LETTERS) DOES[LETTERS[key]]();
-  else return;
+  else { tellKey(event); return; }
   event.preventDefault();
 }
 
@@ -1614,7 +1624,7 @@ document.addEventListener("click", (event) => {
   if (find) return findOutcome(Number(find.dataset.find));
 });
 $("slider").addEventListener("input", () => jump(Number($("slider").value)));
-$("blank").addEventListener("click", () => { $("blank").hidden = true; });
+$("blank").addEventListener("click", () => DOES.blank());
 addEventListener("hashchange", () => fromHash());
 
 let touch = null;
@@ -1624,6 +1634,53 @@ addEventListener("touchend", (event) => {
   const [dx, dy] = [event.changedTouches[0].clientX - touch.x, event.changedTouches[0].clientY - touch.y];
   if (Math.abs(dx) > 50 && Math.abs(dx) > 2 * Math.abs(dy)) (dx < 0 ? on : back)();
   touch = null;
+});
+
+/* ---- in a frame: the page around it learns where this one is, and sends it elsewhere */
+
+const isFramed = parent !== window;
+let isGoing = false;
+
+/** What stays from one page to the next. */
+function modesNow() {
+  const all = document.documentElement;
+  return { present: all.classList.contains("present"), far: isFar(), theme: all.dataset.theme ?? "", ...(isTree ? { secret: isSecret } : { predict: isPredict, future: isFuture }) };
+}
+
+/** Tells the page around this one the place, the modes, and for each guess its step and whether it was right. `went`: it was sent here. */
+function tellParent(went = false) {
+  if (!isFramed || isGoing) return;
+  const guesses = [...told.answers].map(([at, reply]) => [run.done + at + 1, reply === run.steps[at].reply]);
+  parent.postMessage({ hek: "place", place: placeSaid(), modes: modesNow(), isBlank: !$("blank").hidden, guesses, went }, "*");
+}
+
+/** A key that means nothing here is one for the page around this one. */
+function tellKey({ key }) { if (isFramed) parent.postMessage({ hek: "key", key }, "*"); }
+
+/** The page around this one is printed in its place. */
+function tellPrint(event) {
+  if (!isFramed || event.key !== "p" || event.altKey) return;
+  event.preventDefault();
+  tellKey({ key: "print" });
+}
+
+function takeModes(modes) {
+  if (modes.theme) document.documentElement.dataset.theme = modes.theme;
+  for (const [name, isOn] of Object.entries(modesNow())) if (name !== "theme" && name in modes && modes[name] !== isOn) DOES[name]();
+}
+
+function go({ modes, place, key, isShift }) {
+  if (modes) takeModes(modes);
+  if (place !== undefined) fromHash(place);
+  if (key) document.body.dispatchEvent(new KeyboardEvent("keydown", { key, shiftKey: isShift, bubbles: true }));
+}
+
+addEventListener("message", ({ source, data: sent }) => {
+  if (!isFramed || source !== parent || sent?.hek !== "go") return;
+  isGoing = true;
+  go(sent);
+  isGoing = false;
+  tellParent(true);
 });
 
 /* ---- in print all steps are a table */

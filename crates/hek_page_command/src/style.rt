@@ -29,6 +29,9 @@ pub(crate) const STYLE: &str = r#":root {
 html { font-size: clamp(13px, min(max(1.25vw, 0.55vw + 9px), 2.05vh), 80px); }
 html.present { font-size: clamp(16px, min(max(1.52vw, 0.66vw + 11px), 2.45vh), 100px); }
 html.present main { grid-template-rows: auto minmax(7.1rem, 0.75fr) minmax(0, 1.25fr); } @media (min-width: 40.01rem) { html.present #say { height: 7.4rem !important; } } @media (min-width: 52rem) { html.present .hex { display: none; } }
+html.far { font-size: clamp(16px, min(2.1vw, 3.4vh), 140px); } html.far :is(#versions, #words, .note, .modes, #about, .legend), html.far body:not(.tree) #say:not(.asks) #because { display: none; }
+html.far main { grid-template-columns: minmax(0, 1fr); grid-template-rows: auto minmax(0, 1fr); } html.far #waits { grid-column: 1; grid-row: 2; }
+html.far body:not(.tree) #say { height: 6.4rem !important; } html.far body:not(.tree) #say:not(.asks) { grid-template-columns: minmax(0, 1fr); } html.far .tree #waits { display: none; } html.far .tree #words { display: flex; grid-column: 1; grid-row: 2; }
 html.present .sub { display: none; } html.present .legend { margin-left: 0; }
 html, body { overscroll-behavior-x: none; touch-action: pan-y pinch-zoom; }
 * { box-sizing: border-box; }
@@ -265,7 +268,7 @@ dialog::backdrop { background: #0009; }
 @media (max-width: 40rem) {
   html { font-size: 16px; } html.present { font-size: 19px; }
   body { display: block; height: auto; overflow: auto; }
-  #bar { flex-wrap: wrap; padding: 0.3rem 0.5rem; gap: 0.3rem; } #bar > :is(h1, .way) { order: -1; } #about { display: none; } #bar h1 { font-size: 1.05rem; flex: 1 1 40%; } #bar .space { display: none; } .modes { flex: 1 1 0 !important; min-width: 0; overflow-x: auto; } .modes button { min-height: 2.4rem; white-space: nowrap; } #bar nav { flex: none; gap: 0.15rem; } #bar nav button { min-width: 2.3rem; min-height: 2.4rem; padding: 0; } #position { min-width: 3.7rem; font-size: 1rem; }
+  #bar { flex-wrap: wrap; padding: 0.3rem 0.5rem; gap: 0.3rem; } #bar > :is(h1, .way) { order: -1; } #about { display: none; } #bar h1 { font-size: 1.05rem; flex: 1 1 40%; } #bar .space { display: none; } .modes { flex: 1 1 14rem !important; min-width: 0; overflow-x: auto; } .modes button { min-height: 2.4rem; white-space: nowrap; } #bar nav { flex: none; gap: 0.15rem; } #bar nav button { min-width: 2.3rem; min-height: 2.4rem; padding: 0; } #position { min-width: 3.7rem; font-size: 1rem; }
   [data-do="present"] { display: none; }
   main { display: block; padding: 0.2rem 0.5rem; }
   #top { position: sticky; top: 0; background: var(--bg); z-index: 2; padding-bottom: 0.3rem; }

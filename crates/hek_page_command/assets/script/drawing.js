@@ -79,6 +79,8 @@ let viewHeight = 0;
 const rem = () => unit;
 /** Whether the page is one column, as the style has it. */
 const isSmall = () => isOneColumn;
+/** Whether the page is for the last row of a room: versions and words have no room then. */
+const isFar = () => document.documentElement.classList.contains("far");
 
 function measure() {
   unit = parseFloat(getComputedStyle(document.documentElement).fontSize);
@@ -92,7 +94,7 @@ const watcher = new ResizeObserver((entries) => {
     const [width, height] = sizes[id];
     const isSame = width === clientWidth && (height === clientHeight || id === "lanes" || (id === "because" && isSmall()));
     sizes[id] = [clientWidth, clientHeight];
-    if (!isSame) (DRAWN[id] ?? show)();
+    if (!isSame && clientWidth > 0) (DRAWN[id] ?? show)();
   }
 });
 
