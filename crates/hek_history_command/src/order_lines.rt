@@ -1,5 +1,5 @@
 //! The order that was found, a line for each point.
-use hek_history::{Level, Point};
+use hek_history::Point;
 use hek_history_log::Log;
 use hek_report::{HekFault, put, send};
 use hek_rules::NoMemory;
@@ -45,7 +45,7 @@ fn put_point(log: &Log, point: Point, lines: &mut Vec<u8>) -> Result<(), NoMemor
 
 fn is_snapshot(log: &Log, place: usize) -> bool {
     match log.history.transactions.get(place) {
-        Some(transaction) => transaction.level == Level::Snapshot,
+        Some(transaction) => transaction.level.is_snapshot(),
         None => false,
     }
 }

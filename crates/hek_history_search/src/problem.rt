@@ -1,7 +1,7 @@
 //! A history as the search sees it: what each transaction must have found at which keys, and what it left there.
 use crate::keys::Keys;
 use crate::lists::{at, part};
-use hek_history::{History, Level, Need, Order, is_committed, is_possible};
+use hek_history::{History, Need, Order, is_committed, is_possible};
 
 /// What an operation tells of the value that its transaction found at a key.
 #[derive(Clone, Copy)]
@@ -227,7 +227,7 @@ impl Problem<'_> {
 
     pub(crate) fn is_snapshot(&self, t: usize) -> bool {
         match self.history.transactions.get(t) {
-            Some(transaction) => transaction.level == Level::Snapshot,
+            Some(transaction) => transaction.level.is_snapshot(),
             None => false,
         }
     }
