@@ -21,19 +21,8 @@ same-declared ts ss t e = sym (declared-timeless ts t) ∙ ap (λ l. declared l 
 
 check-timeless : (x : Txn) (idle : Bool) (c : ℕ) (e : Event) → (c == clock_end) ≡ false → check_of x idle c e ≡ check_of (timeless_txn x) idle 0 e
 check-timeless x idle c (event.Begin t) h = rw h refl
-check-timeless x idle c (event.Read t key) h = refl
-check-timeless x idle c (event.Scan t bucket) h = refl
-check-timeless x idle c (event.Insert t key value) h = refl
-check-timeless x idle c (event.Update t key value) h = refl
-check-timeless x idle c (event.Delete t key) h = refl
-check-timeless x idle c (event.Finish t) h = refl
 check-timeless x idle c (event.Precommit t) h = rw h refl
-check-timeless x idle c (event.Release t) h = refl
-check-timeless x idle c (event.Commit t) h = refl
-check-timeless x idle c (event.Fail t) h = refl
-check-timeless x idle c (event.Stamp t) h = refl
-check-timeless x idle c (event.End t) h = refl
-check-timeless x idle c event.Detect h = refl
+check-timeless x idle c e h = refl
 
 pub same-check : (x y : Txn) (idle : Bool) (c d : ℕ) (e : Event) → timeless_txn x ≡ timeless_txn y → (c == clock_end) ≡ false → (d == clock_end) ≡ false → check_of x idle c e ≡ check_of y idle d e
 same-check x y idle c d e s h k = check-timeless x idle c e h ∙ ap (λ z. check_of z idle 0 e) s ∙ sym (check-timeless y idle d e k)

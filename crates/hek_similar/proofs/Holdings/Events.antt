@@ -14,6 +14,7 @@ use Rattle.hek_rules.specs.declared.reply.Reply.TheVariants as reply
 use Rattle.hek_rules.specs.declared.reply.Refusal.TheVariants as refusal
 use Rattle.hek_rules.specs.declared.check.Check.{Check}
 use Rattle.hek_rules.specs.declared.check.Check.TheVariants.{Refused, Doomed, StillAborted, Passed}
+use Rattle.hek_rules.specs.Events.{txn_of}
 use Rattle.hek_rules.specs.Listing.{leave, seconds_of}
 use Rattle.hek_rules.specs.World.{World, Version, Txn, txn_in, set_txn, version_in, declared, bucket_of, is_committed}
 use Rattle.hek_rules.specs.Waits.{waits, commit_deps, readers}
@@ -21,7 +22,7 @@ use Rattle.hek_rules.specs.Locks.{set_ender, add_version}
 use Rattle.hek_rules.specs.Checks.{check_of}
 use Rattle.hek_rules.specs.Walk.{Judgement, Refuse, Allow, Purpose, ToRead, ToWrite, walk, apply_all, seen_of, last, of_key, of_bucket}
 use Rattle.hek_rules.specs.WaitGraph.{victim}
-use Rattle.hek_rules.specs.Table.{Outcome, outcome, checked, answered, rule, unchanged, aborted, abort, doom, found, after_read, after_scan, is_claimed, after_insert, after_update, after_delete, precommit_rule, prepare, commit_rule, commit, writer_left, sealed, drop_read, release_read, release_waiter, release_bucket, release_first, release_rule, entries_of, without_entry, stamp_committed, stamp_aborted, stamp_rule, holds_nothing, detect_rule}
+use Rattle.hek_rules.specs.Table.{Outcome, outcome, outcome_of, checked, answered, rule, unchanged, aborted, abort, doom, found, after_read, after_scan, is_claimed, after_insert, after_update, after_delete, precommit_rule, prepare, commit_rule, commit, writer_left, sealed, drop_read, release_read, release_waiter, release_bucket, release_first, release_rule, entries_of, without_entry, stamp_committed, stamp_aborted, stamp_rule, holds_nothing, detect_rule}
 use Rattle.hek_similar.specs.Holdings.{Regrouped, holding}
 use Rattle.hek_similar.proofs.Agree.{two_tests}
 use Rattle.hek_similar.proofs.Holdings.Pairs.{like-leave, like-without_first, like-without_entry, like-count, like-seconds, like-entries}
@@ -202,21 +203,12 @@ module _ (w y : World) (h : Held (lists w) (lists y)) where
       (two_tests (not (declared w.txns t)) (not (declared w.txns t)) _ _ _ _ Equal refl
       (λ _. unchanged-equal (reply.Refused refusal.UnknownTxn)) (λ _. answered-equal t e (check_of (txn_in w.txns t) (holds_nothing w t) w.clock e)))
 
+  outcome_of-equal : (e : Event) (o : Option ℕ) → Equal (outcome_of w e o) (outcome_of x e o)
+  outcome_of-equal e (Some t) = checked-equal t e
+  outcome_of-equal e None = rule-equal 0 e
+
   outcome-beside : (e : Event) → Equal (outcome w e) (outcome x e)
-  outcome-beside (event.Begin t) = checked-equal t (event.Begin t)
-  outcome-beside (event.Read t key) = checked-equal t (event.Read t key)
-  outcome-beside (event.Scan t bucket) = checked-equal t (event.Scan t bucket)
-  outcome-beside (event.Insert t key value) = checked-equal t (event.Insert t key value)
-  outcome-beside (event.Update t key value) = checked-equal t (event.Update t key value)
-  outcome-beside (event.Delete t key) = checked-equal t (event.Delete t key)
-  outcome-beside (event.Finish t) = checked-equal t (event.Finish t)
-  outcome-beside (event.Precommit t) = checked-equal t (event.Precommit t)
-  outcome-beside (event.Release t) = checked-equal t (event.Release t)
-  outcome-beside (event.Commit t) = checked-equal t (event.Commit t)
-  outcome-beside (event.Fail t) = checked-equal t (event.Fail t)
-  outcome-beside (event.Stamp t) = checked-equal t (event.Stamp t)
-  outcome-beside (event.End t) = checked-equal t (event.End t)
-  outcome-beside event.Detect = rule-equal 0 event.Detect
+  outcome-beside e = outcome_of-equal e (txn_of e)
 
 pub outcome-equal : (w x : World) (e : Event) → Regrouped w x → Equal (outcome w e) (outcome x e)
 outcome-equal w x e g = subst (λ y. Equal (outcome w e) (outcome y e)) (holding-is w x g) (outcome-beside w x (held w x g) e)

@@ -14,6 +14,7 @@ use Rattle.hek_rules.specs.declared.check.Check.{Check}
 use Rattle.hek_rules.specs.declared.check.Check.TheVariants.{Refused, Doomed, StillAborted, Passed}
 use Rattle.hek_rules.specs.declared.word.BeginRecord.TheVariants.{At}
 use Rattle.hek_rules.specs.Words.{infinity}
+use Rattle.hek_rules.specs.Events.{txn_of}
 use Rattle.hek_rules.specs.Listing.{put, leave, seconds_of}
 use Rattle.hek_rules.specs.World.{World, Version, EndedAt, txn_in, version_in, declared, is_held_by, bucket_of, is_committed}
 use Rattle.hek_rules.specs.Waits.{waits, commit_deps, readers}
@@ -21,7 +22,7 @@ use Rattle.hek_rules.specs.Locks.{set_ender, with_ender, add_version}
 use Rattle.hek_rules.specs.Checks.{check_of}
 use Rattle.hek_rules.specs.Walk.{Judgement, Refuse, Allow, Purpose, ToRead, ToWrite, walk, apply_all, seen_of, last, of_key, of_bucket}
 use Rattle.hek_rules.specs.WaitGraph.{victim}
-use Rattle.hek_rules.specs.Table.{Outcome, outcome, checked, answered, rule, unchanged, aborted, found, after_read, pairs_of, after_scan, scan_rule, is_claim, is_claimed, after_insert, after_update, after_delete, precommit_rule, prepare, commit_rule, commit, writer_left, sealed, drop_read, release_read, release_waiter, release_bucket, release_first, release_rule, entries_of, without_entry, stamp_committed, given_back, stamp_aborted, stamp_rule, holds_nothing, detect_rule}
+use Rattle.hek_rules.specs.Table.{Outcome, outcome, outcome_of, checked, answered, rule, unchanged, aborted, found, after_read, pairs_of, after_scan, scan_rule, is_claim, is_claimed, after_insert, after_update, after_delete, precommit_rule, prepare, commit_rule, commit, writer_left, sealed, drop_read, release_read, release_waiter, release_bucket, release_first, release_rule, entries_of, without_entry, stamp_committed, given_back, stamp_aborted, stamp_rule, holds_nothing, detect_rule}
 use Rattle.hek_similar.specs.Places.{Renumbering, IsRenumbering, renumbered, renumbered_versions, renumbered_lock, renumbered_entry, renumbered_write, renumbered_reply}
 use Rattle.hek_similar.proofs.Places.Renumbered.{Trades, trades, readers-to, leave-to, seconds-to, entries-to, without-to}
 use Rattle.hek_similar.proofs.Places.Ordered.{key-order, bucket-order}
@@ -224,18 +225,9 @@ module _ (r : Renumbering) (w : World) (i : IsRenumbering r w) where
       ∙ ap (λ o. if not (declared w.txns t) then unchanged x (reply.Refused refusal.UnknownTxn) else o) (answered-to t e (check_of (txn_in w.txns t) (holds_nothing w t) w.clock e))
       ∙ through (outcome-to r) (not (declared w.txns t)) (unchanged w (reply.Refused refusal.UnknownTxn)) (answered w t e (check_of (txn_in w.txns t) (holds_nothing w t) w.clock e))
 
+  outcome_of-to : (e : Event) (o : Option ℕ) → outcome_of x e o ≡ outcome-to r (outcome_of w e o)
+  outcome_of-to e (Some t) = checked-to t e
+  outcome_of-to e None = rule-to 0 e
+
   pub outcome-is : (e : Event) → outcome x e ≡ outcome-to r (outcome w e)
-  outcome-is (event.Begin t) = checked-to t (event.Begin t)
-  outcome-is (event.Read t key) = checked-to t (event.Read t key)
-  outcome-is (event.Scan t bucket) = checked-to t (event.Scan t bucket)
-  outcome-is (event.Insert t key value) = checked-to t (event.Insert t key value)
-  outcome-is (event.Update t key value) = checked-to t (event.Update t key value)
-  outcome-is (event.Delete t key) = checked-to t (event.Delete t key)
-  outcome-is (event.Finish t) = checked-to t (event.Finish t)
-  outcome-is (event.Precommit t) = checked-to t (event.Precommit t)
-  outcome-is (event.Release t) = checked-to t (event.Release t)
-  outcome-is (event.Commit t) = checked-to t (event.Commit t)
-  outcome-is (event.Fail t) = checked-to t (event.Fail t)
-  outcome-is (event.Stamp t) = checked-to t (event.Stamp t)
-  outcome-is (event.End t) = checked-to t (event.End t)
-  outcome-is event.Detect = rule-to 0 event.Detect
+  outcome-is e = outcome_of-to e (txn_of e)

@@ -120,14 +120,7 @@ same-part w x (event.Insert u key value) r same t ps qs = plain-part w x (event.
 same-part w x (event.Update u key value) r same t ps qs = plain-part w x (event.Update u key value) r same t ps qs (checked-plain w u (event.Update u key value) (update-plain w u key value (last (seen_of w u (of_key w key))) (walk w u ToWrite (bucket_of w key) (of_key w key))))
 same-part w x (event.Delete u key) r same t ps qs = plain-part w x (event.Delete u key) r same t ps qs (checked-plain w u (event.Delete u key) (delete-plain w u (last (seen_of w u (of_key w key))) (walk w u ToWrite (bucket_of w key) (of_key w key))))
 same-part w x (event.Commit u) r same t ps qs = plain-part w x (event.Commit u) r same t ps qs (checked-plain w u (event.Commit u) (commit-plain w u))
-same-part w x (event.Begin u) r same t ps qs = idle-part w x (event.Begin u) r same t ps qs (λ a. refl)
-same-part w x (event.Finish u) r same t ps qs = idle-part w x (event.Finish u) r same t ps qs (λ a. refl)
-same-part w x (event.Precommit u) r same t ps qs = idle-part w x (event.Precommit u) r same t ps qs (λ a. refl)
-same-part w x (event.Release u) r same t ps qs = idle-part w x (event.Release u) r same t ps qs (λ a. refl)
-same-part w x (event.Fail u) r same t ps qs = idle-part w x (event.Fail u) r same t ps qs (λ a. refl)
-same-part w x (event.Stamp u) r same t ps qs = idle-part w x (event.Stamp u) r same t ps qs (λ a. refl)
-same-part w x (event.End u) r same t ps qs = idle-part w x (event.End u) r same t ps qs (λ a. refl)
-same-part w x event.Detect r same t ps qs = idle-part w x event.Detect r same t ps qs (λ a. refl)
+same-part w x e r same t ps qs = idle-part w x e r same t ps qs (λ a. refl)
 
 -- ---- runs
 runs-told : (w x : World) (events : List Event) → Alike w x → IsReachable w → IsReachable x → All (IsPlaced w.buckets) events → w.clock + length events ≤ clock_end → x.clock + length events ≤ clock_end →
