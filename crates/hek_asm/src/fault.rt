@@ -5,40 +5,37 @@ ghost use Rattle.hek_asm.specs.declared.fault.TraceFault.TheVariants as trace;
 
 use hek_rules::NoMemory;
 use std::alloc::{AllocError, AllocFailed};
+use std::fmt;
+use std::fmt::{Display, Formatter};
 use thiserror::Error;
 
 /// What is wrong with a line. Its text is its number and name.
-#[derive(Clone, Copy, Debug, PartialEq, Eq, Error)]
+#[derive(Clone, Copy, Debug, PartialEq, Eq)]
 pub enum AsmKind {
     /// The first line with words doesn't begin with `buckets`, or no line has words.
-    #[error("1 NoBuckets")]
     NoBuckets,
     /// The line is none of the format's, or is out of order.
-    #[error("2 BadWord")]
     BadWord,
-    #[error("3 BadNumber")]
     BadNumber,
     /// A step's transaction isn't declared.
-    #[error("4 UnknownName")]
     UnknownName,
-    #[error("5 NameTwice")]
     NameTwice,
-    #[error("6 KeyTwice")]
     KeyTwice,
     /// A limit is exceeded.
-    #[error("7 TooMany")]
     TooMany,
     /// A scan's bucket isn't below the number of buckets.
-    #[error("8 BadBucket")]
     BadBucket,
     /// A character that is not ASCII occurs outside the comment.
-    #[error("9 NotAscii")]
     NotAscii,
 }
 
 impl AsmKind {
-    /// The number of the fault, 1 to 9.
-    pub fn number(self) -> u64 {
+    ghost use Rattle.hek_asm.specs.Kinds.{kind_number, kind_name};
+
+    /// The number of the kind in texts, 1 to 9.
+    pub fn number(self) -> u64
+        ensures { result ≡ kind_number self }
+    {
         match self {
             AsmKind::NoBuckets => 1,
             AsmKind::BadWord => 2,
@@ -52,8 +49,10 @@ impl AsmKind {
         }
     }
 
-    /// The name of the fault.
-    pub fn name(self) -> &'static str {
+    /// The name of the kind in texts.
+    pub fn name(self) -> &'static str
+        ensures { result.now ≡ kind_name self }
+    {
         match self {
             AsmKind::NoBuckets => "NoBuckets",
             AsmKind::BadWord => "BadWord",
@@ -65,6 +64,14 @@ impl AsmKind {
             AsmKind::BadBucket => "BadBucket",
             AsmKind::NotAscii => "NotAscii",
         }
+    }
+}
+
+impl Display for AsmKind {
+    fn fmt<W: fmt::Write>(&self, f: &mut Formatter<W>) -> fmt::Result {
+        let number = (*self).number();
+        let name = (*self).name();
+        write!(f, "{number} {name}")
     }
 }
 

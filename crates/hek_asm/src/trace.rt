@@ -2,14 +2,13 @@
 ghost use Rattle.std.specs.Prelude.{◌≡◌, ◌++◌, ◌∷◌, [], length, OnOk, IfSome};
 ghost use Rattle.std.specs.List.{AllByRecursion};
 ghost use Rattle.hek_rules.specs.Plan.{IsDeclared};
-ghost use Rattle.hek_rules.specs.Events.{word_of};
 ghost use Rattle.hek_rules.specs.Lines.{spaced};
 ghost use Rattle.hek_asm.specs.Canonical.{name_words, operand_words, step_words};
 ghost use Rattle.hek_asm.specs.Trace.{NamesDeclared, line_front, line_rest, trace_line, trace};
 
 use crate::putting::{put_item, put_number, put_text, put_word};
 use crate::reply::put_reply;
-use hek_rules::{Event, EventKind, NoMemory, Reply, Schedule, TxnId};
+use hek_rules::{Event, NoMemory, Reply, Schedule, TxnId};
 
 fn put_name(schedule: &Schedule, txn: Option<TxnId>, out: &mut Vec<u8>) -> Result<(), NoMemory>
     requires { IfSome txn (λ t. IsDeclared (length schedule.now.txns) t) }
@@ -18,28 +17,6 @@ fn put_name(schedule: &Schedule, txn: Option<TxnId>, out: &mut Vec<u8>) -> Resul
     match txn {
         None => Ok(()),
         Some(txn) => put_word(schedule.name_of(txn), out),
-    }
-}
-
-// A space and the word of a kind, in one text.
-fn put_kind(kind: EventKind, out: &mut Vec<u8>) -> Result<(), NoMemory>
-    ensures { OnOk result (out.new.items ≡ out.old.items ++ spaced (word_of kind ∷ [])) }
-{
-    match kind {
-        EventKind::Begin => put_text(" begin", out),
-        EventKind::Read => put_text(" read", out),
-        EventKind::Scan => put_text(" scan", out),
-        EventKind::Insert => put_text(" insert", out),
-        EventKind::Update => put_text(" update", out),
-        EventKind::Delete => put_text(" delete", out),
-        EventKind::Finish => put_text(" finish", out),
-        EventKind::Precommit => put_text(" precommit", out),
-        EventKind::Release => put_text(" release", out),
-        EventKind::Commit => put_text(" commit", out),
-        EventKind::Fail => put_text(" fail", out),
-        EventKind::Stamp => put_text(" stamp", out),
-        EventKind::End => put_text(" end", out),
-        EventKind::Detect => put_text(" detect", out),
     }
 }
 
@@ -63,7 +40,7 @@ pub fn put_step(schedule: &Schedule, event: &Event, out: &mut Vec<u8>) -> Result
 {
     let kind = event.kind();
     put_name(schedule, event.txn(), out)?;
-    put_kind(kind, out)?;
+    put_word(kind.word(), out)?;
     put_operands(kind.operand_count(), event.first(), event.second(), out)
 }
 
