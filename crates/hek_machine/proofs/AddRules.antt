@@ -18,11 +18,10 @@ use Rattle.hek_laws.proofs.Lists.Pairs.{few, once-firsts, firsts-In}
 use Rattle.hek_laws.proofs.Sound.Grounded.{begun-range, present-begun}
 use Rattle.hek_store.specs.Stored.{Stored}
 use Rattle.hek_txn.specs.Entries.{joined, same_entry}
-use Rattle.hek_txn.specs.TxnTable.{TxnTable, Declared, IsEven, waits_of, write_set_of, with_write_set, waiting_list_of}
+use Rattle.hek_txn.specs.TxnTable.{TxnTable, Declared, waits_of, write_set_of, with_write_set, waiting_list_of}
 use Rattle.hek_buckets.specs.LockLists.{holders_of}
 use Rattle.hek_buckets.specs.Waited.{IsReady, with_waiting, waiting_of, waiting_for_all}
 use Rattle.hek_refinement.proofs.Known.{present-known, among-at, has-first}
-use Rattle.hek_refinement.proofs.Entries.{even-write_set}
 use Rattle.hek_refinement.proofs.Inserts.{shows-added_store, shows-made_txns, shows-waiting}
 use Rattle.hek_machine.specs.declared.engine.Engine.{Engine}
 use Rattle.hek_machine.specs.Stands.{Shows}
@@ -69,12 +68,6 @@ add_counted m t b x a is =
     let same = ap (λ (y : TxnTable). waits_of y t) is in let count = a.can.shows.txns.waits t in let bound = a.can.sound.waits_bound t in
     let holders = ap length (a.can.shows.buckets.holders b) in let less = holders-few w b a.can.sound in
     let s = a.can.small in let n = a.can.named in omega (arith, same, count, bound, holders, less, s, n)
-
-pub add_even : (m : Engine) (t : ℕ) (x : TxnTable) → IsAdding m t → x ≡ with_write_set m.txns t (write_set_of x t) → IsEven x
-add_even m t x a is = subst IsEven (sym is) (even-write_set m.txns t (write_set_of x t) a.can.shows.txns.even)
-
-pub add_declared : (m : Engine) (t : ℕ) (x : TxnTable) → IsAdding m t → x ≡ with_write_set m.txns t (write_set_of x t) → Declared x t
-add_declared m t x a is = let d = a.can.walker in subst (λ (y : TxnTable). Declared y t) (sym is) (record { named = d.named; within = d.within })
 
 pub add_bucket : (m : Engine) (t key : ℕ) → IsAdding m t → key % m.store.buckets < length m.buckets
 add_bucket m t key a =

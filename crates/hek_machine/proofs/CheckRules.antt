@@ -1,5 +1,5 @@
 -- The checks of the machine, on what it shows, are those of the table.
-use Rattle.std.proofs.Common.{◌≡◌, ℕ, zero, suc, Bool, true, false, not, refl, Some, None, ◌∙◌, ap, sym, arith, length}
+use Rattle.std.proofs.Common.{◌≡◌, ℕ, zero, suc, Bool, true, false, not, refl, Some, ◌∙◌, ap, sym, arith, length}
 use Rattle.std.specs.Prelude.{◌==◌, ◌&&◌}
 use Rattle.std.proofs.lemmas.Bool.{cond-false}
 use Rattle.hek_rules.specs.declared.event.Event.{Event}
@@ -58,6 +58,3 @@ needs-none m t e o d c is none =
     ∙ ap (λ b. b && is_passed (check_of (txn_in w.txns t) (holds_nothing w t) w.clock e)) known
     ∙ ap is_passed (check-same m w t e o.stands.shows ∙ c) in
     left-false (takes_memory e) (passes w e) passed (none w o.stands)
-
-pub finds-none : (m : Engine) (e : Event) → StandsForSome m → txn_of e ≡ None → NeedsNone m e → takes_memory e ≡ false
-finds-none m e o is none = left-false (takes_memory e) (passes o.world e) (ap (passes_by o.world e) is) (none o.world o.stands)

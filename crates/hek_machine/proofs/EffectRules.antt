@@ -1,11 +1,11 @@
 -- The calls for each effect of a walk: what they require, and what they leave.
 use Rattle.std.proofs.Common.{◌≡◌, ℕ, ◌+◌, ◌<◌, ◌^◌, true, false, List, ◌∙◌, ap, sym, arith, length}
 use Rattle.hek_rules.specs.Listing.{is_among}
-use Rattle.hek_rules.specs.Words.{IsTxn, CanAdd, CanTakeWriter, readers_of}
+use Rattle.hek_rules.specs.Words.{CanAdd, CanTakeWriter, readers_of}
 use Rattle.hek_rules.specs.declared.event.Effect.{Effect}
 use Rattle.hek_rules.specs.declared.event.Effect.TheVariants.{LockBucket, DependOn, MakeWait, ReadLock, WriteLock}
 use Rattle.hek_store.specs.Stored.{version_at}
-use Rattle.hek_txn.specs.TxnTable.{Declared, waits_of, commit_deps_of, bucket_set_of, read_set_of}
+use Rattle.hek_txn.specs.TxnTable.{Declared, waits_of, bucket_set_of, read_set_of}
 use Rattle.hek_buckets.specs.LockLists.{holders_of}
 use Rattle.hek_locks.specs.Locked.{KnowsWriter, CanFree, CanWait, cleared_word, cleared_waits, reads_freely, to_write}
 use Rattle.hek_refinement.proofs.Pairs.{among-seconds, among-firsts}
@@ -19,23 +19,11 @@ use Rattle.hek_machine.specs.Applied.{IsAble}
 
 -- ---- what the calls require
 
-pub able_txn : (m : Engine) (t : ℕ) (e : Effect) → IsAble m t e → Declared m.txns t
-able_txn m t e a = a.can.walker
-
-pub able_bucket : (m : Engine) (t b : ℕ) → IsAble m t (LockBucket b) → b < length m.buckets
-able_bucket m t b a = let l = a.can.may in let c = a.can.shows.buckets.count in omega (arith, l, c)
-
 pub able_depended : (m : Engine) (t u : ℕ) → IsAble m t (DependOn u) → Declared m.txns u
 able_depended m t u a = begun-known m.txns a.world u a.can.shows.txns a.can.may
 
-pub able_deps : (m : Engine) (t u : ℕ) → IsAble m t (DependOn u) → commit_deps_of m.txns t + 1 < 2 ^ 64
-able_deps m t u a = let d = a.can.shows.txns.commit_deps t in let l = a.can.sound.deps_bound t in let f = a.can.few in omega (arith, d, l, f)
-
 pub able_waiter : (m : Engine) (t u : ℕ) → IsAble m t (MakeWait u) → Declared m.txns u
 able_waiter m t u a = begun-known m.txns a.world u a.can.shows.txns a.can.may
-
-pub able_waits : (m : Engine) (t u : ℕ) → IsAble m t (MakeWait u) → waits_of m.txns u + 1 < 2 ^ 64
-able_waits m t u a = let d = a.can.shows.txns.waits u in let l = a.can.sound.waits_bound u in let f = a.can.few in omega (arith, d, l, f)
 
 pub able_version : (m : Engine) (t v : ℕ) → IsAble m t (ReadLock v) → v < length m.store.versions
 able_version m t v a = let l = a.can.may.made in let c = a.can.shows.store.count in omega (arith, l, c)
@@ -45,10 +33,6 @@ able_target m t v a = let l = a.can.may.made in let c = a.can.shows.store.count 
 
 pub able_writer : (m : Engine) (t v : ℕ) (e : Effect) → IsAble m t e → KnowsWriter m.txns (version_at m.store v).end
 able_writer m t v e a = knows-writer m.store m.txns a.world v a.can.sound a.can.shows.store a.can.shows.txns
-
-pub able_named : (m : Engine) (t : ℕ) (e : Effect) → IsAble m t e → IsTxn t
-able_named m t e a =
-    let d = a.can.walker in let n = d.named in let l = d.within in let c = ap length a.can.shows.txns.cores in let k = a.can.named in (n, omega (arith, l, c, k))
 
 pub able_freed : (m : Engine) (t v : ℕ) (e : Effect) → IsAble m t e → v < length m.store.versions → CanFree m.txns (version_at m.store v).end
 able_freed m t v e a l =

@@ -23,7 +23,7 @@ use Rattle.hek_refinement.proofs.Known.{begun-known}
 use Rattle.hek_refinement.proofs.Joins.{join-there, joined-there, joined-new, shows-locked, shows-locked_txns, shows-depended, shows-waited}
 use Rattle.hek_refinement.proofs.ReadLocks.{shows-read_store, shows-read_txns}
 use Rattle.hek_refinement.proofs.WriteLocks.{shows-write_store, shows-write_txns}
-use Rattle.hek_refinement.proofs.OnlyWaits.{imposed-only, read-only, write-only, depended-only}
+use Rattle.hek_refinement.proofs.OnlyWaits.{read-only, write-only, depended-only}
 use Rattle.hek_machine.specs.declared.engine.Engine.{Engine}
 use Rattle.hek_machine.specs.Room.{IsEffectReady, KeepsRoom}
 use Rattle.hek_buckets.specs.Waited.{IsReady as CanWait}
@@ -104,10 +104,6 @@ ready-same m s x t same (MakeWait u) r = tt
 ready-same m s x t same (ReadLock v) r = tt
 ready-same m s x t same (WriteLock v) r = tt
 
-waited-table : (m : Engine) (t u : ℕ) (x : TxnTable) → x ≡ with_waiting_list (imposed_waits m.txns t u) t (waiting_list_of x t) →
-    x ≡ with_waiting_list (record m.txns { waits = (imposed_waits m.txns t u).waits }) t (waiting_list_of x t)
-waited-table m t u x is = is ∙ ap (λ (y : TxnTable). with_waiting_list y t (waiting_list_of x t)) (imposed-only m.txns t u)
-
 still-joins : (m : Engine) (x : TxnTable) (t : ℕ) → x.waiting_lists ≡ m.txns.waiting_lists → (h : ℕ) → (h ≡ t → ⊥) → CanWait m.txns t h → CanWait x t h
 still-joins m x t same h ne r = record {
   room = subst (λ (ls : List (Entries ℕ)). is_among (entry_at no_entries ls h).items t ≡ false → 0 < (entry_at no_entries ls h).room) (sym same) r.room;
@@ -125,28 +121,6 @@ among-joined xs n h k =
         alone true z = refl
         alone false z = z
     appended (y ∷ ys) e = ⊎_elim (λ here. inl (ap (λ b. b || is_among ys h) here)) (λ other. ⊎_elim (λ k. inl (ap (λ b. b || is_among ys h) other ∙ k)) (λ k. inr k) (appended ys (sym (ap (λ b. b || is_among (ys ++ n ∷ []) h) other) ∙ e))) (cases_Bool (y == h))
-
-pub keeps_wait : (m : Engine) (t u : ℕ) (x : TxnTable) → x ≡ with_waiting_list (imposed_waits m.txns t u) t (waiting_list_of x t) →
-    (waiting_list_of m.txns t).room ≤ (waiting_list_of x t).room + 1 → KeepsRoom m (record m { txns = x }) t (MakeWait u)
-keeps_wait m t u x is room =
-    let e = waited-table m t u x is in
-    let a = ap (λ (y : TxnTable). (read_set_of y t).room) e in let b = ap (λ (y : TxnTable). (write_set_of y t).room) e in
-    let c = ap (λ (y : TxnTable). (bucket_set_of y t).room) e in
-    record {
-      reads = omega (arith, a);
-      writes = omega (arith, b);
-      waits = omega (arith, room);
-      buckets = omega (arith, c);
-      others = ready-same m m.store x t (ap (λ (y : TxnTable). y.dependents) e);
-      adding = record {
-        versions = omega arith;
-        joins = λ h ne r. record {
-          room = subst (λ (l : Entries ℕ). is_among l.items t ≡ false → 0 < l.room)
-              (sym (ap (λ (y : TxnTable). waiting_list_of y h) e ∙ entry_at-other no_entries m.txns.waiting_lists t h (waiting_list_of x t) ne)) r.room;
-        };
-        holders = λ b h k. inl k;
-      };
-    }
 
 pub room_read : (s : Stored) (x : TxnTable) (t v : ℕ) → s.room ≤ (read_locked s x t v).room
 room_read s x t v = cond_both (reads_free s x t v) s _ (λ (z : Stored). s.room ≤ z.room) (λ _. omega arith) (λ _. omega arith)
@@ -251,6 +225,3 @@ keeps_bucket m t b lists x fresh is members like room =
     others (MakeWait u) r = tt
     others (ReadLock v) r = tt
     others (WriteLock v) r = tt
-
-pub keeps_all : (m : Engine) (t : ℕ) (e : Effect) → KeepsRoom m m t e
-keeps_all m t e = record { reads = omega arith; writes = omega arith; waits = omega arith; buckets = omega arith; others = λ x r. r; adding = record { versions = omega arith; joins = λ h ne r. r; holders = λ b h k. inl k } }

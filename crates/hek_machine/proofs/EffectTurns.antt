@@ -143,19 +143,6 @@ pub record RoomNow (m : Engine) (t : ℕ) (e : Effect) : Type 0 where
   pub waits : wait_effects (e ∷ []) ≤ (waiting_list_of m.txns t).room
   pub buckets : buckets_in (e ∷ []) ≤ (bucket_set_of m.txns t).room
 
-pub room_now : (m cur : Engine) (t made i : ℕ) (e : Effect) (es : List Effect) → i < length es → e ≡ get_or es i e → Done m t made es i cur → RoomNow cur t e
-room_now m cur t made i e es l at d =
-    let r : HasRoom cur t made (e ∷ drop (i + 1) es) = subst (HasRoom cur t made) (first-left es i e l at) d.room in
-    let a = reads-first e (drop (i + 1) es) in let b = writes-first e (drop (i + 1) es) in let c = waits-first e (drop (i + 1) es) in let k = buckets-first e (drop (i + 1) es) in
-    let x = r.reads in let y = r.writes in let z = r.waits in let u = r.buckets in
-    record {
-      ready = r.others e (inl refl);
-      reads = omega (arith, a, x);
-      writes = omega (arith, b, y);
-      waits = omega (arith, c, z);
-      buckets = omega (arith, k, u);
-    }
-
 left-room : (cur new : Engine) (t made : ℕ) (e : Effect) (es : List Effect) → KeepsRoom cur new t e → HasRoom cur t made (e ∷ es) → HasRoom new t made es
 left-room cur new t made e es k r =
     let a = reads-first e es in let b = writes-first e es in let c = waits-first e es in let d = buckets-first e es in
@@ -177,9 +164,6 @@ kept-more a b c t p q = record {
   joins = λ h ne r. q.joins h ne (p.joins h ne r);
   holders = λ n h k. ⊎_elim (λ y. p.holders n h y) (λ y. inr y) (q.holders n h k);
 }
-
-pub kept-none : (a : Engine) (t : ℕ) → KeepsAdding a a t
-kept-none a t = record { versions = omega arith; joins = λ h ne r. r; holders = λ b h k. inl k }
 
 apply-more : (t : ℕ) (w : World) (xs : List Effect) (e : Effect) → apply_all t w (xs ++ e ∷ []) ≡ apply t (apply_all t w xs) e
 apply-more t w [] e = refl

@@ -13,22 +13,6 @@ use Rattle.hek_machine.specs.declared.engine.Engine.{Engine}
 use Rattle.hek_machine.specs.Room.{Reserved, CanMake, KeepsAdding, AreJoined}
 use Rattle.hek_machine.proofs.Reserves.{reserved_more, reserved_waiters, items-index}
 
-pub reserved_store : (m : Engine) (s : Stored) → s.buckets ≡ m.store.buckets → s.versions ≡ m.store.versions → m.store.room ≤ s.room → Reserved m (record m { store = s })
-reserved_store m s b v r = record {
-  clock = refl;
-  store_buckets = b;
-  versions = v;
-  txns = record { cores = refl; waits = refl; commit_deps = refl; read_sets = refl; write_sets = refl; bucket_sets = refl; waiting_lists = refl; dependents = refl };
-  holders = refl;
-  more_reads = λ u. omega arith;
-  more_writes = λ u. omega arith;
-  more_buckets = λ u. omega arith;
-  more_waiters = λ u. omega arith;
-  more_dependents = λ u. omega arith;
-  more_holders = λ c. omega arith;
-  more_versions = r;
-}
-
 pub wait-kept : (m n : Engine) (t h : ℕ) → Reserved m n → IsReady m.txns t h → IsReady n.txns t h
 wait-kept m n t h r k = record {
   room = λ no.
@@ -75,10 +59,6 @@ can_make_kept m n t b k c = record {
   version = let a = k.versions in let v = c.version in omega (arith, a, v);
   joins = λ h ne a. ⊎_elim (λ old. k.joins h ne (c.joins h ne old)) (λ same. absurd (ne same)) (k.holders b h a);
 }
-
--- room in the store, and then in the waiting lists
-pub version_reserved : (m n : Engine) (s : Stored) → s.buckets ≡ m.store.buckets → s.versions ≡ m.store.versions → m.store.room ≤ s.room → Reserved (record m { store = s }) n → Reserved m n
-version_reserved m n s b v r k = reserved_more m (record m { store = s }) n (reserved_store m s b v r) k
 
 pub can_make_now : (m n : Engine) (t bucket : ℕ) (s : Stored) (holders : List ℕ) → 0 < s.room → Reserved (record m { store = s }) n → holders ≡ (holders_of m.buckets bucket).items →
     AreJoined n t holders → CanMake n t bucket

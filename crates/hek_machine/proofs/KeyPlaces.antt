@@ -1,10 +1,9 @@
 -- The versions of a key or a bucket in the store are those of the world.
-use Rattle.std.proofs.Common.{◌≡◌, ℕ, zero, suc, ◌+◌, ◌<◌, ◌%◌, Bool, List, [], ◌∷◌, refl, ◌∙◌, sym, ap, arith, Option, Some, None, length}
+use Rattle.std.proofs.Common.{◌≡◌, ℕ, zero, suc, ◌+◌, ◌<◌, ◌%◌, Bool, List, [], ◌∷◌, refl, ◌∙◌, ap, arith, length}
 use Rattle.std.proofs.lemmas.Bool.{cond_both}
-use Rattle.std.specs.Prelude.{IfSome, ◌==◌, if◌then◌else◌, slice_index_or, filter}
+use Rattle.std.specs.Prelude.{◌==◌, if◌then◌else◌, slice_index_or, filter}
 use Rattle.std.specs.List.{All}
 use Rattle.hek_rules.specs.World.{World, Version, version_in, places}
-use Rattle.hek_rules.specs.Walk.{last}
 use Rattle.hek_rules.specs.Walk as walk
 use Rattle.hek_store.specs.declared.version.Version.{Version as StoredVersion}
 use Rattle.hek_store.specs.Stored.{Stored, version_at, no_version, of_key, of_bucket}
@@ -49,19 +48,9 @@ of_key-below s key = places-below (λ x. x.key == key) 0 (length s.versions) s.v
 pub of_bucket-below : (s : Stored) (bucket : ℕ) → All (λ v. v < length s.versions) (of_bucket s.buckets s.versions bucket)
 of_bucket-below s bucket = places-below (λ x. x.key % s.buckets == bucket) 0 (length s.versions) s.versions (omega arith)
 
--- the last of some versions is one of them
-pub last_below : (n : ℕ) (xs : List ℕ) (v : ℕ) → All (λ x. x < n) xs → last xs ≡ Some v → v < n
-last_below n [] v a h = cc
-last_below n (x ∷ []) v a h = let e : x ≡ v = cc in let l = a 0 0 (omega arith) in omega (arith, l, e)
-last_below n (x ∷ y ∷ ys) v a h = last_below n (y ∷ ys) v (λ k d l. a (suc k) d (omega (arith, l))) h
-
 -- places that a filter keeps are those of versions
 pub filter_below : (test : ℕ → Bool) (n : ℕ) (xs : List ℕ) → All (λ x. x < n) xs → All (λ x. x < n) (filter test xs)
 filter_below test n [] a = λ k d l. absurd (omega (arith, l))
 filter_below test n (x ∷ xs) a =
     let rest : All (λ v. v < n) (filter test xs) = filter_below test n xs (λ k d l. a (suc k) d (omega (arith, l))) in
     cond_both (test x) (x ∷ filter test xs) (filter test xs) (All (λ v. v < n)) (λ _. all-first n x (filter test xs) (a 0 0 (omega arith)) rest) (λ _. rest)
-
-pub if_last_below : (n : ℕ) (xs : List ℕ) (o : Option ℕ) → All (λ x. x < n) xs → o ≡ last xs → IfSome o (λ v. v < n)
-if_last_below n xs None a e = tt
-if_last_below n xs (Some v) a e = last_below n xs v a (sym e)

@@ -1,6 +1,5 @@
 -- The count of effects by list, and those left to count.
-use Rattle.std.proofs.Common.{◌≡◌, ℕ, ◌+◌, ◌<◌, ◌≤◌, List, [], ◌∷◌, refl, ◌∙◌, ap, sym, arith, length, drop, get_or}
-use Rattle.std.proofs.lemmas.List.{drop_more}
+use Rattle.std.proofs.Common.{◌≡◌, ℕ, ◌+◌, ◌≤◌, List, [], ◌∷◌, refl, arith, length, drop}
 use Rattle.hek_rules.specs.declared.event.Effect.{Effect}
 use Rattle.hek_rules.specs.declared.event.Effect.TheVariants.{LockBucket, DependOn, MakeWait, ReadLock, WriteLock}
 use Rattle.hek_machine.specs.Room.{reads_in, writes_in, wait_effects, buckets_in}
@@ -39,16 +38,6 @@ few : (f : List Effect → ℕ) → f [] ≡ 0 → ((e : Effect) (es : List Effe
 few f none first one [] = omega (arith, none)
 few f none first one (e ∷ es) = let rest = few f none first one es in let a = first e es in let b = one e in omega (arith, rest, a, b)
 
-pub reads-few : (es : List Effect) → reads_in es ≤ length es
-reads-few es = few reads_in refl reads-first one es
-  where
-    one : (e : Effect) → reads_in (e ∷ []) ≤ 1
-    one (LockBucket b) = omega arith
-    one (DependOn u) = omega arith
-    one (MakeWait u) = omega arith
-    one (ReadLock v) = omega arith
-    one (WriteLock v) = omega arith
-
 pub writes-few : (es : List Effect) → writes_in es ≤ length es
 writes-few es = few writes_in refl writes-first one es
   where
@@ -69,24 +58,7 @@ waits-few es = few wait_effects refl waits-first one es
     one (ReadLock v) = omega arith
     one (WriteLock v) = omega arith
 
-pub buckets-few : (es : List Effect) → buckets_in es ≤ length es
-buckets-few es = few buckets_in refl buckets-first one es
-  where
-    one : (e : Effect) → buckets_in (e ∷ []) ≤ 1
-    one (LockBucket b) = omega arith
-    one (DependOn u) = omega arith
-    one (MakeWait u) = omega arith
-    one (ReadLock v) = omega arith
-    one (WriteLock v) = omega arith
-
 -- the count so far and that of the effects left are the whole count, and it is at most the number counted
 pub record Counted (f : List Effect → ℕ) (es : List Effect) (i n : ℕ) : Type 0 where
   pub whole : n + f (drop i es) ≡ f es
   pub small : n ≤ i
-
-pub counted-more : (f : List Effect → ℕ) → ((e : Effect) (es : List Effect) → f (e ∷ es) ≡ f (e ∷ []) + f es) → ((e : Effect) → f (e ∷ []) ≤ 1) →
-    (es : List Effect) (i n more : ℕ) (e : Effect) → i < length es → e ≡ get_or es i e → more ≡ n + f (e ∷ []) → Counted f es i n → Counted f es (i + 1) more
-counted-more f first one es i n more e below at is c =
-    let next = ap f (drop_more es i e below ∙ ap (λ x. x ∷ drop (i + 1) es) (sym at)) ∙ first e (drop (i + 1) es) in
-    let whole = c.whole in let small = c.small in let few = one e in
-    record { whole = omega (arith, next, whole, is); small = omega (arith, small, few, is) }

@@ -15,20 +15,8 @@ use Rattle.hek_machine.specs.Observed.{opening_of}
 use Rattle.hek_machine.specs.Steps.{IsRun}
 
 step_placed : (buckets txns : ℕ) (e : Event) → IsStep buckets txns e → IsPlaced buckets e
-step_placed b n (event.Begin t) h = tt
-step_placed b n (event.Read t k) h = tt
 step_placed b n (event.Scan t k) h = h.1
-step_placed b n (event.Insert t k v) h = tt
-step_placed b n (event.Update t k v) h = tt
-step_placed b n (event.Delete t k) h = tt
-step_placed b n (event.Finish t) h = tt
-step_placed b n (event.Precommit t) h = tt
-step_placed b n (event.Release t) h = tt
-step_placed b n (event.Commit t) h = tt
-step_placed b n (event.Fail t) h = tt
-step_placed b n (event.Stamp t) h = tt
-step_placed b n (event.End t) h = tt
-step_placed b n event.Detect h = tt
+step_placed b n e h = tt
 
 all_placed : (buckets txns : ℕ) (es : List Event) → AllByRecursion (IsStep buckets txns) es → All (IsPlaced buckets) es
 all_placed b n [] h = All-nil (IsPlaced b)

@@ -158,10 +158,3 @@ row_of_release_waiter m t u x d none free first is items =
     })
 
 -- ---- nothing
-
-pub row_of_release_nothing : (m : Engine) (t : ℕ) → slice_get (read_set_of m.txns t).items 0 ≡ None → slice_get (bucket_set_of m.txns t).items 0 ≡ None →
-    slice_get (waiting_list_of m.txns t).items 0 ≡ None → IsRule (λ w. release_rule w t) m m reply.Nothing
-row_of_release_nothing m t none free alone =
-    rule-is m m (λ w. release_rule w t) (λ w. record { reply = reply.Nothing; world = w }) reply.Nothing
-    (λ w s. no_buckets m w t s none free ∙ ap (release_waiter w t) (sym (s.shows.txns.waiting_lists t) ∙ no_first (waiting_list_of m.txns t).items alone))
-    (record { reply = λ w s. refl; shows = λ w s. s.shows })

@@ -13,7 +13,7 @@ use Rattle.hek_txn.proofs.EntryLemmas.{set_at-same, items-entry, items-set}
 use Rattle.hek_buckets.specs.LockLists.{holders_of, with_holders}
 use Rattle.hek_machine.specs.declared.engine.Engine.{Engine}
 use Rattle.hek_machine.specs.Stands.{StillShows}
-use Rattle.hek_machine.specs.Room.{Reserved, IsThere, IsEffectReady, HasRoom, AreReady, reads_in, writes_in, wait_effects, buckets_in}
+use Rattle.hek_machine.specs.Room.{Reserved, IsThere, IsEffectReady}
 use Rattle.hek_machine.proofs.Loads.{copied-shows}
 
 -- ---- one list
@@ -51,22 +51,6 @@ module _ {T : Type 0} where
   items-length (x ∷ xs) = ap suc (items-length xs)
 
 -- ---- the relation
-
-pub reserved_none : (m : Engine) → Reserved m m
-reserved_none m = record {
-  clock = refl;
-  store_buckets = refl;
-  versions = refl;
-  txns = record { cores = refl; waits = refl; commit_deps = refl; read_sets = refl; write_sets = refl; bucket_sets = refl; waiting_lists = refl; dependents = refl };
-  holders = refl;
-  more_reads = λ t. omega arith;
-  more_writes = λ t. omega arith;
-  more_buckets = λ t. omega arith;
-  more_waiters = λ t. omega arith;
-  more_dependents = λ t. omega arith;
-  more_holders = λ b. omega arith;
-  more_versions = omega arith;
-}
 
 pub reserved_more : (a b c : Engine) → Reserved a b → Reserved b c → Reserved a c
 reserved_more a b c p q = let x = p.txns in let y = q.txns in record {
@@ -234,9 +218,3 @@ ready_more old new t i e es l at r this before x h =
     (In-split x (take i es) (get_or es i e ∷ []) (subst (In x) (take_more es i e l) h))
 
 -- ---- the whole
-
-pub has-room : (m n : Engine) (t made : ℕ) (es : List Effect) → Reserved m n → reads_in es ≤ (read_set_of m.txns t).room → writes_in es + made ≤ (write_set_of m.txns t).room →
-    wait_effects es + made ≤ (waiting_list_of m.txns t).room → buckets_in es ≤ (bucket_set_of m.txns t).room → AreReady n t es → HasRoom n t made es
-has-room m n t made es r reads writes waits buckets ready =
-    let a = r.more_reads t in let b = r.more_writes t in let c = r.more_waiters t in let d = r.more_buckets t in
-    record { reads = omega (arith, a, reads); writes = omega (arith, b, writes); waits = omega (arith, c, waits); buckets = omega (arith, d, buckets); others = ready }

@@ -10,7 +10,7 @@ use Rattle.hek_rules.specs.declared.event.State.TheVariants.{Active}
 use Rattle.hek_rules.specs.declared.reply.Reply.{Reply}
 use Rattle.hek_rules.specs.declared.reply.Reply.TheVariants as reply
 use Rattle.hek_rules.specs.World.{World, Txn, txn_in}
-use Rattle.hek_rules.specs.Walk.{Judgement, Refuse, Allow, walk, apply_all, last, seen_of}
+use Rattle.hek_rules.specs.Walk.{Judgement, Refuse, Allow, walk, apply_all}
 use Rattle.hek_rules.specs.Walk as walking
 use Rattle.hek_rules.specs.Table.{Outcome, aborted}
 use Rattle.hek_rules.specs.Checks.{is_open}
@@ -98,10 +98,6 @@ allowed_by m t bucket vs aim o es p open_now none judged w s = record {
 }
 
 -- ---- after the walk
-
-pub after_done : (m n : Engine) (t bucket : ℕ) (vs : List ℕ) (aim : Aim) (o : Option Cause) (es : List Effect) → o ≡ None → IsShown m (λ w. walk w t (purpose_of aim) bucket vs) (verdict o es) →
-    ((w : World) → StandsFor m w → Shows n (apply_all t w es)) → (w : World) → StandsFor m w → After n t w (walk w t (purpose_of aim) bucket vs) None
-after_done m n t bucket vs aim o es none judged done w s = subst (λ j. After n t w j None) (sym (judged w s ∙ ap (λ c. verdict c es) none)) (done w s)
 
 -- a rule that aborts its transaction if the walk is refused
 pub rule_refused : (m n : Engine) (t : ℕ) (rule : World → Outcome) (judged : World → Judgement) (cause : Cause) →

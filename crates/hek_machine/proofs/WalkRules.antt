@@ -102,9 +102,6 @@ read_by m t v j now shown w s = by (txn_in w.txns t).level (subst (λ ts. IsNow 
     by Repeatable n = shown w s
     by Snapshot n = absurd n
 
-pub read_past : (m : Engine) (t v : ℕ) → (txn_in m.txns.cores t).level ≡ Snapshot → IsShown m (λ w. read_judged w t v (txn_in w.txns t).level) (Allow [])
-read_past m t v l w s = ap (read_judged w t v) (ap (λ ts. (txn_in ts t).level) (sym s.shows.txns.cores) ∙ l)
-
 -- ---- waits
 
 -- the judgement of a wait, by the level, an earlier wait, and NoMoreWaitFors

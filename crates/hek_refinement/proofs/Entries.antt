@@ -4,7 +4,7 @@ use Rattle.std.proofs.lemmas.Bool.{cases_eq}
 use Rattle.hek_rules.specs.declared.event.WriteEntry.{WriteEntry}
 use Rattle.hek_rules.specs.World.{Txn}
 use Rattle.hek_txn.specs.Entries.{Entries, no_entries}
-use Rattle.hek_txn.specs.TxnTable.{TxnTable, IsEven, entry_at, set_at, with_waits, with_commit_deps, with_read_set, with_write_set, with_bucket_set, with_waiting_list, with_dependents}
+use Rattle.hek_txn.specs.TxnTable.{TxnTable, IsEven, entry_at, set_at, with_read_set, with_write_set, with_bucket_set, with_waiting_list, with_dependents}
 use Rattle.hek_txn.specs.TxnLemmas.{entry_at_set, length_set_at}
 use Rattle.hek_txn.proofs.EntryLemmas.{entry_at-other}
 
@@ -63,12 +63,6 @@ even-all_deps x commit_deps e h = record {
   waiting_lists = h.waiting_lists;
   dependents = h.dependents;
 }
-
-pub even-waits : (x : TxnTable) (t n : ℕ) → IsEven x → IsEven (with_waits x t n)
-even-waits x t n h = even-all_waits x (set_at x.waits t n) (length_set_at x.waits t n) h
-
-pub even-deps : (x : TxnTable) (t n : ℕ) → IsEven x → IsEven (with_commit_deps x t n)
-even-deps x t n h = even-all_deps x (set_at x.commit_deps t n) (length_set_at x.commit_deps t n) h
 
 pub even-read_set : (x : TxnTable) (t : ℕ) (e : Entries ℕ) → IsEven x → IsEven (with_read_set x t e)
 even-read_set x t e h = record {

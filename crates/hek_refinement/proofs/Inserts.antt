@@ -123,9 +123,6 @@ record ShowsWaiting (z : Waiting) (t base : ℕ) (P : List (ℕ × ℕ)) : Type 
   lists : (h : ℕ) → entry_at [] z.lists h ≡ seconds_of P h
   waits : z.waits ≡ base + length (firsts_of P t)
 
-wait_one : List (ℕ × ℕ) → ℕ → ℕ → List (ℕ × ℕ)
-wait_one P h t = if h == t then P else join P h t
-
 shows-one : (z : Waiting) (t base h : ℕ) (P : List (ℕ × ℕ)) → HasPlace z.lists h → ShowsWaiting z t base P → ShowsWaiting (waiting_for t z h) t base (if h == t then P else join P h t)
 shows-one z t base h P place s = ⊎_elim (λ e. own e) (λ ne. other ne) (cases_Bool (h == t))
   where

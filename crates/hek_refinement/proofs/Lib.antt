@@ -5,7 +5,6 @@ pub mod Counts
 pub mod Loads
 pub mod Copies
 pub mod Stores
-pub mod Cores
 pub mod Rooms
 pub mod Changes
 pub mod Known

@@ -6,8 +6,7 @@ use Rattle.hek_rules.specs.Words.{readers_of}
 use Rattle.hek_rules.specs.declared.word.EndRecord.{EndRecord}
 use Rattle.hek_rules.specs.declared.word.EndRecord.TheVariants.{Until, Lock}
 use Rattle.hek_store.specs.Stored.{Stored, version_at}
-use Rattle.hek_txn.specs.TxnTable.{TxnTable, commit_deps_of, with_commit_deps, waiting_list_of, dependents_of}
-use Rattle.hek_buckets.specs.Waited.{imposed_waits}
+use Rattle.hek_txn.specs.TxnTable.{TxnTable, commit_deps_of, with_commit_deps, dependents_of}
 use Rattle.hek_commit.specs.Committed.{depended_deps}
 use Rattle.hek_locks.specs.Locked.{fewer_waits, more_waits, writer_freed, is_stale, cleared_word, cleared_waits, writer_waits, reads_freely, read_lock_waits, to_write, write_lock_waits}
 
@@ -20,9 +19,6 @@ either x y z false p q = q
 
 onward : (x y z : TxnTable) → OnlyWaits x y → OnlyWaits y z → OnlyWaits x z
 onward x y z p q = q ∙ ap (λ (k : TxnTable). record k { waits = z.waits }) p
-
-pub imposed-only : (x : TxnTable) (t u : ℕ) → OnlyWaits x (imposed_waits x t u)
-imposed-only x t u = either x x (more_waits x u) (is_among (waiting_list_of x t).items u) refl refl
 
 freed-only : (x : TxnTable) (e : EndRecord) → OnlyWaits x (writer_freed x e)
 freed-only x (Until time) = refl
