@@ -7,8 +7,9 @@ import shutil
 import subprocess
 import tempfile
 
+from kit import LEVELS
+
 NAME, TRACE, LOG = "schedule.hek", "trace", "log.jsonl"
-LEVELS = ("serializable", "repeatable", "snapshot")
 # Seconds that the program may take.
 LONGEST = 300
 
