@@ -8,7 +8,8 @@ import re
 
 LESSON = re.compile(r"^## (\d+)\. (.+): ([a-z0-9-]+(?:, [a-z0-9-]+)*)$", re.M)
 STEPS = re.compile(r"\b([Ss]teps?) (\d+(?:(?:, | and | to )\d+)*)")
-NAME = re.compile(r"(?<![\w-])[a-z]+(?:-[a-z]+)+(?![\w-])")
+# A lesson by its number, or a schedule by a name with a hyphen.
+PLACE = re.compile(r"\blesson (\d+)|(?<![\w-])[a-z]+(?:-[a-z]+)+(?![\w-])")
 MARKED = re.compile(r"(`[^`]+`|\[[^\]]+\]\([^)]+\)|\*\*[^*]+\*\*)")
 # The line of a lesson or an anomaly that links to this page.
 HERE = re.compile(r"(?m)^In a browser: (.*)$\n?")
@@ -46,13 +47,18 @@ class Prose:
     def linked(self, name, said):
         return f'<a href="#{self.names[name]}">{said}</a>' if name in self.names else said
 
+    def to_place(self, found):
+        """A link to a lesson by its number, or to a schedule by its name, if there is such a one."""
+        if not found[1]:
+            return self.linked(found[0], found[0])
+        return f'<a href="#{self.numbered[found[1]]}">{found[0]}</a>' if found[1] in self.numbered else found[0]
+
     def plain(self, said):
         """Text without marks. Steps, lessons and names with a hyphen can be clicked."""
-        said = escaped(said)
+        said = PLACE.sub(self.to_place, escaped(said))
         if self.has_steps:
             said = STEPS.sub(lambda it: f"{it[1]} {buttons(it[2])}", said)
-        said = re.sub(r"\blesson (\d+)", lambda it: f'<a href="#{self.numbered[it[1]]}">{it[0]}</a>' if it[1] in self.numbered else it[0], said)
-        return NAME.sub(lambda it: self.linked(it[0], it[0]), said)
+        return said
 
     def code(self, said):
         short = ' class="short"' if len(said) < WHOLE else ""

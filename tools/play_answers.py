@@ -7,7 +7,11 @@ import shutil
 import subprocess
 import tempfile
 
+<<<<<<< HEAD
 import kit
+=======
+from kit import LEVELS
+>>>>>>> f6ac859baf9739afed70ea77005a2c75574a290e
 
 NAME, TRACE, LOG = "schedule.hek", "trace", "log.jsonl"
 # Seconds that the program may take.
