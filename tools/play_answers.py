@@ -7,11 +7,7 @@ import shutil
 import subprocess
 import tempfile
 
-<<<<<<< HEAD
-import kit
-=======
 from kit import LEVELS
->>>>>>> f6ac859baf9739afed70ea77005a2c75574a290e
 
 NAME, TRACE, LOG = "schedule.hek", "trace", "log.jsonl"
 # Seconds that the program may take.
@@ -40,7 +36,7 @@ def random_schedule(dice):
     names = "abcde"[: dice.randrange(1, 6)]
     lines = [f"buckets {dice.choice((1, 2, 2, 3))}"]
     lines += [f"row {key} {key * 10}" for key in range(5) if dice.random() < 0.7]
-    lines += [f"txn {name} {dice.choice(kit.LEVELS)}" for name in names]
+    lines += [f"txn {name} {dice.choice(LEVELS)}" for name in names]
     left = [random_transaction(dice, name) for name in names]
     while any(left):
         if dice.random() < 0.05:
@@ -56,7 +52,7 @@ def random_schedule(dice):
 def random_moves(dice):
     """A schedule of moves alone, as `hek permute` and `hek run --auto` want."""
     names = "abc"[: dice.randrange(2, 4)]
-    lines = ["buckets 2", *(f"row {key} {key}" for key in range(3)), *(f"txn {name} {dice.choice(kit.LEVELS)}" for name in names)]
+    lines = ["buckets 2", *(f"row {key} {key}" for key in range(3)), *(f"txn {name} {dice.choice(LEVELS)}" for name in names)]
     lines += [random_work(dice, name) for name in names for _ in range(dice.randrange(1, 4))]
     return "\n".join(lines) + "\n"
 
