@@ -74,9 +74,9 @@ fn number_behind(form: ReplyForm, text: &[u8]) -> u64
     value
 }
 
-// One of two forms, by the letter at a place: whether it is `b`.
-fn form_by_b(text: &[u8], place: usize, with: ReplyForm, without: ReplyForm) -> ReplyForm {
-    match text.get(place) {
+// One of two forms with the same first word, by whether the second word begins with `b`.
+fn form_by_b(text: &[u8], with: ReplyForm, without: ReplyForm) -> ReplyForm {
+    match text.get(with.first_word().len() + 1) {
         Some(b'b') => with,
         _ => without,
     }
@@ -98,13 +98,8 @@ fn form_by_letters(text: &[u8]) -> Option<ReplyForm> {
         (b'o', _) => Some(ReplyForm::Over),
         (b'p', _) => Some(ReplyForm::Precommitted),
         (b'r', b'a') => Some(ReplyForm::Ready),
-        (b'r', b'l') => Some(form_by_b(
-            text,
-            9,
-            ReplyForm::ReleasedBucket,
-            ReplyForm::ReleasedRead,
-        )),
-        (b's', _) => Some(form_by_b(text, 8, ReplyForm::StampedBegin, ReplyForm::StampedEnd)),
+        (b'r', b'l') => Some(form_by_b(text, ReplyForm::ReleasedBucket, ReplyForm::ReleasedRead)),
+        (b's', _) => Some(form_by_b(text, ReplyForm::StampedBegin, ReplyForm::StampedEnd)),
         _ => None,
     }
 }

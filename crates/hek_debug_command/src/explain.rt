@@ -4,7 +4,7 @@ use crate::mistake::{Meant, Medium, Mistake, Wanted, mistake_of};
 use crate::name::{NAMES, NameText, Place};
 use crate::stop_text::put_text;
 use hek_diagnostics::nearest_word;
-use hek_report::{HekFault, ScheduleFile, report, schedule_in};
+use hek_report::{HekFault, ScheduleFile, put, report, schedule_in};
 use hek_rules::{NoMemory, Schedule, TxnId, next_line};
 use std::alloc::Global;
 use std::io::{Read, Write};
@@ -228,22 +228,11 @@ fn put_wanted(
 ) -> Result<(), NoMemory> {
     match mistake.wanted {
         Wanted::Form(form) => put_form(mistake, form, lines),
-        Wanted::Among(words) => put_words(words, lines),
+        Wanted::Among(words) => put(write!(lines, "{words}")),
         Wanted::Names => put_names(schedule, lines),
         Wanted::Commands(medium) => put_commands(medium, b"", lines),
         Wanted::Longer => put_commands(Medium::Session, mistake.word.text, lines),
     }
-}
-
-/// Words, with a space between two.
-fn put_words(words: &[&str], lines: &mut Vec<u8>) -> Result<(), NoMemory> {
-    for (place, word) in words.iter().enumerate() {
-        if place > 0 {
-            put_byte(b' ', lines)?;
-        }
-        put_text(*word, lines)?;
-    }
-    Ok(())
 }
 
 /// The first names of transactions.
@@ -336,11 +325,7 @@ fn gather<'s>(
     words: &mut Vec<&'s str>,
 ) -> Result<(), NoMemory> {
     match wanted {
-        Wanted::Among(known) => {
-            for word in known {
-                words.push(*word)?;
-            }
-        }
+        Wanted::Among(known) => known.add_to(words)?,
         Wanted::Names => {
             for place in 0..schedule.txn_count() {
                 words.push(name_at(schedule, place))?;

@@ -1,6 +1,7 @@
 //! What is wrong with a line that is not a command.
 use crate::name::{Meaning, Name, NameText, Place, meant_by, name_of};
 use crate::operand::{BREAKS, FILE_BREAKS, Operand, SHOWS, WATCHES, operand_mistake};
+use hek_diagnostics::Vocabulary;
 use hek_rules::{EventKind, Schedule, next_word, number};
 
 /// Where a line is.
@@ -23,7 +24,7 @@ pub(crate) enum Wanted {
     /// A form, in which letters stand for words as in the sentence.
     Form(&'static str),
     /// One of these words.
-    Among(&'static [&'static str]),
+    Among(Vocabulary),
     /// The name of a transaction.
     Names,
     /// The first word of a command.

@@ -1,33 +1,17 @@
 //! Mistakes in what is named after `break at`, `watch end`, `show txn` and the like.
 use crate::mistake::{Meant, Mistake, NUMBER, Wanted, Word, is_digits, nth_word, number_form};
-use crate::reply_kind::{FIRSTS, kind_named};
+use crate::reply_kind::kind_named;
+use hek_diagnostics::Vocabulary;
 use hek_rules::{EventKind, Schedule, number};
 
 /// The words after `break`, in a session and in a file.
-pub(crate) const BREAKS: &[&str] = &["at", "event", "txn", "reply"];
+pub(crate) const BREAKS: Vocabulary = Vocabulary::These(&["at", "event", "txn", "reply"]);
 
-pub(crate) const FILE_BREAKS: &[&str] = &["at", "event", "txn"];
+pub(crate) const FILE_BREAKS: Vocabulary = Vocabulary::These(&["at", "event", "txn"]);
 
-pub(crate) const WATCHES: &[&str] = &["begin", "end", "waits"];
+pub(crate) const WATCHES: Vocabulary = Vocabulary::These(&["begin", "end", "waits"]);
 
-pub(crate) const SHOWS: &[&str] = &["txn", "version", "key"];
-
-const EVENTS: &[&str] = &[
-    "begin",
-    "read",
-    "scan",
-    "insert",
-    "update",
-    "delete",
-    "finish",
-    "precommit",
-    "release",
-    "commit",
-    "fail",
-    "stamp",
-    "end",
-    "detect",
-];
+pub(crate) const SHOWS: Vocabulary = Vocabulary::These(&["txn", "version", "key"]);
 
 /// What is named.
 #[derive(Clone, Copy, PartialEq, Eq)]
@@ -132,7 +116,7 @@ impl Operand {
     fn whole(self) -> Wanted {
         match self {
             Operand::Position => Wanted::Form("`% ^ N`"),
-            Operand::Event => Wanted::Among(EVENTS),
+            Operand::Event => Wanted::Among(Vocabulary::AllEvents),
             Operand::Txn => Wanted::Form("`% ^ NAME`"),
             Operand::Version => Wanted::Form("`% ^ V`"),
             Operand::Key => Wanted::Form("`% ^ K`"),
@@ -158,11 +142,15 @@ impl Operand {
             }
             Operand::Event => {
                 let form = "no event is called @";
-                Mistake::new(word, command, form, Wanted::Among(EVENTS)).meaning(Meant::Nearest)
+                Mistake::new(word, command, form, Wanted::Among(Vocabulary::AllEvents)).meaning(
+                    Meant::Nearest,
+                )
             }
             Operand::Reply => {
                 let form = "no reply begins with @";
-                Mistake::new(word, command, form, Wanted::Among(FIRSTS)).meaning(Meant::Nearest)
+                Mistake::new(word, command, form, Wanted::Among(Vocabulary::Replies)).meaning(
+                    Meant::Nearest,
+                )
             }
             Operand::Txn => {
                 Mistake::new(word, command, name_form(word.text), Wanted::Names).meaning(

@@ -8,6 +8,7 @@ use crate::numbers::meant_number;
 use crate::place::{Place, count_chars};
 use crate::sentence::Sentence;
 use crate::token::meant_pair;
+use crate::vocabulary::Vocabulary;
 use hek_rules::NoMemory;
 use std::alloc::Global;
 use std::fmt::{Display, Formatter};
@@ -88,7 +89,7 @@ fn meant<'t>(
     match hint {
         Hint::None => Ok(None),
         Hint::Word(word) => Ok(Some(String::from_str(alloc, word)?)),
-        Hint::Among(words) => near(alloc, found, words),
+        Hint::Among(words) => near_known(alloc, found, words),
         Hint::Names => near_bytes(alloc, found, names),
         Hint::Starts => near_bytes(alloc, found, starts),
         Hint::Number => match meant_number(alloc, found)? {
@@ -114,6 +115,12 @@ fn near(alloc: Global, found: &[u8], words: &[&str]) -> Result<Option<String>, N
         Some(word) => Ok(Some(String::from_str(alloc, word)?)),
         None => Ok(None),
     }
+}
+
+fn near_known(alloc: Global, found: &[u8], known: Vocabulary) -> Result<Option<String>, NoMemory> {
+    let mut words = Vec::new(alloc);
+    known.add_to(&mut words)?;
+    near(alloc, found, words.as_slice())
 }
 
 fn near_bytes(alloc: Global, found: &[u8], words: &[&[u8]]) -> Result<Option<String>, NoMemory> {

@@ -1,5 +1,6 @@
 //! What is found wrong with a line, before it is put into words for a reader.
-use crate::sentence::Sentence;
+use crate::sentence::{Listed, Sentence};
+use crate::vocabulary::Vocabulary;
 use crate::words::Word;
 
 /// What is wrong with bytes of a line.
@@ -31,7 +32,7 @@ pub(crate) enum Wanted<'t> {
 pub(crate) enum Hint {
     None,
     Word(&'static str),
-    Among(&'static [&'static str]),
+    Among(Vocabulary),
     Names,
     Starts,
     /// The number that the bytes mean.
@@ -71,6 +72,19 @@ impl<'t> Finding<'t> {
         self
     }
 
+    /// The same with what the form of what is wanted lists.
+    pub(crate) fn wanting_listed(mut self, form: &'static str, listed: Listed) -> Finding<'t> {
+        let mut sentence = Sentence::new(form, self.sentence.word);
+        sentence.listed = listed;
+        self.wanted = Wanted::Form(sentence);
+        self
+    }
+
+    /// One of these words is wanted.
+    pub(crate) fn wanting_words(self, words: Vocabulary) -> Finding<'t> {
+        self.wanting_listed("^", Listed::Words(words))
+    }
+
     pub(crate) fn wanting_names(mut self) -> Finding<'t> {
         self.wanted = Wanted::Names;
         self.hint = Hint::Names;
@@ -89,11 +103,11 @@ impl<'t> Finding<'t> {
     }
 
     /// The same where nothing is known yet of what is wanted.
-    pub(crate) fn or_wanting(self, form: &'static str) -> Finding<'t> {
+    pub(crate) fn or_wanting(self, form: &'static str, listed: Listed) -> Finding<'t> {
         if self.is_wanting() {
             self
         } else {
-            self.wanting(form)
+            self.wanting_listed(form, listed)
         }
     }
 
@@ -113,6 +127,14 @@ impl<'t> Finding<'t> {
     /// The number that the sentence has as `$`.
     pub(crate) fn with_number(mut self, number: u64) -> Finding<'t> {
         self.sentence.number = number;
+        self
+    }
+
+    /// The word that the sentence has as `^`.
+    pub(crate) fn with_known(mut self, word: &'static str) -> Finding<'t> {
+        let mut sentence = self.sentence;
+        sentence.listed = Listed::Word(word);
+        self.sentence = sentence;
         self
     }
 

@@ -3,7 +3,7 @@ use crate::finding::{Finding, Hint};
 use crate::known::Known;
 use crate::line::wanted_at;
 use crate::place::part;
-use crate::step::EVENT_WORDS;
+use crate::vocabulary::Vocabulary;
 use crate::words::Word;
 
 /// A character that looks like an ASCII letter, and that letter: Cyrillic small letters.
@@ -67,7 +67,7 @@ fn wanted_there<'t>(
         return finding.wanting_names().hinting(Hint::None);
     }
     if place == 1 && known.has_name(first.text) {
-        return finding.wanting(EVENT_WORDS);
+        return finding.wanting_words(Vocabulary::Events);
     }
     wanted_at(finding, *first, place)
 }

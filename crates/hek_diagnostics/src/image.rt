@@ -1,13 +1,14 @@
 //! The fault of a schedule image: the field with its bytes, what is wrong and what is wanted.
+use crate::choice::Choice;
 use crate::image_field::{
     Field, Kind, end_of_steps, field_at, header_number, number_in, row_with_key, txn_with_name,
 };
 use crate::names::RESERVED;
 use crate::place::part;
-use crate::sentence::Sentence;
+use crate::sentence::{Listed, Sentence};
 use crate::words::is_one_of;
 use hek_image::LoadFault;
-use hek_rules::EventKind;
+use hek_rules::{EventKind, Level};
 use std::fmt;
 use std::fmt::{Display, Formatter};
 
@@ -56,6 +57,15 @@ impl<'t> Problem<'t> {
         let mut sentence = self.sentence;
         sentence.word = word;
         self.sentence = sentence;
+        self
+    }
+
+    /// The choice that what is wanted has as `^`, with the word of the sentence.
+    fn choice(mut self, choice: Choice) -> Problem<'t> {
+        let mut wanted = self.wanted;
+        wanted.listed = Listed::OneOf(choice);
+        wanted.word = self.sentence.word;
+        self.wanted = wanted;
         self
     }
 
@@ -245,23 +255,23 @@ fn bad_key<'t>(field: Field, image: &[u8], found: &[u8]) -> Problem<'t> {
 
 fn bad_level<'t>(field: Field, image: &[u8], value: u64) -> Problem<'t> {
     let is_first = number_in(part(image, 4, 6)) == 1;
+    let snapshot = Level::Snapshot.word();
     if is_first && value == 3 {
         return Problem::new(
-            "transaction % is at level snapshot, which version 1 does not have",
-            "1 serializable or 2 repeatable, and in version 2 also 3 snapshot",
+            "transaction % is at level ~, which version 1 does not have",
+            "^, and in version 2 also 3 ~",
         )
-        .numbers(value, field.item);
+        .numbers(value, field.item)
+        .word(snapshot.as_bytes())
+        .choice(Choice::LevelBytes(2));
     }
-    let wanted = if is_first {
-        "1 serializable or 2 repeatable"
-    } else {
-        "1 serializable, 2 repeatable or 3 snapshot"
-    };
+    let count = if is_first { 2 } else { 3 };
     Problem::new(
         "transaction % is at level `$`, and no level has that byte",
-        wanted,
+        "^",
     )
     .numbers(value, field.item)
+    .choice(Choice::LevelBytes(count))
 }
 
 fn bad_name<'t>(field: Field, image: &[u8], found: &'t [u8]) -> Problem<'t> {

@@ -2,6 +2,7 @@
 //! of a fault.
 #![tactic(auto)]
 
+mod choice;
 mod diagnostic;
 mod finding;
 mod foreign;
@@ -20,6 +21,7 @@ mod sentence;
 mod step;
 mod token;
 mod trace;
+mod vocabulary;
 mod words;
 
 pub use diagnostic::{Diagnostic, Diagnostics};
@@ -29,3 +31,4 @@ pub use nearest::nearest_word;
 pub use place::Place;
 pub use schedule::explain_text;
 pub use trace::explain_trace;
+pub use vocabulary::Vocabulary;

@@ -1,4 +1,5 @@
 //! What is wrong with a line of a schedule text, after what the lines before it have said.
+use crate::choice::Choice;
 use crate::finding::{Finding, Hint};
 use crate::foreign::not_ascii;
 use crate::known::{Known, Row};
@@ -7,9 +8,11 @@ use crate::names::{NAME, RESERVED, no_name};
 use crate::nearest::nearest_word;
 use crate::numbers::{Role, has_byte, no_number};
 use crate::place::part;
+use crate::sentence::Listed;
 use crate::step::{judge_detect, judge_step};
-use crate::words::{LEVELS, Word, read_words};
-use hek_rules::{EventKind, MAX_BUCKETS, NoMemory, name_ok, number};
+use crate::vocabulary::Vocabulary;
+use crate::words::{Word, read_words};
+use hek_rules::{EventKind, Level, MAX_BUCKETS, NoMemory, name_ok, number};
 use std::alloc::Global;
 use std::str;
 
@@ -81,14 +84,14 @@ fn judge_buckets<'t>(known: &mut Known<'t>, count: Word<'t>) -> Option<Finding<'
 }
 
 /// The words with which a text may begin.
-const HEAD: &[&str] = &["buckets"];
+const HEAD: Vocabulary = Vocabulary::These(&["buckets"]);
 
 /// A text whose first line doesn't give the number of buckets.
 fn no_buckets<'t>(first: Word<'t>, line: &'t [u8]) -> Finding<'t> {
     if let Some(finding) = other_input(first, line) {
         return finding;
     }
-    let form = if first.has_capitals_of(HEAD) {
+    let form = if HEAD.has_but_for_capitals(first.text) {
         "the text begins with @: words are in lower case"
     } else {
         "the text begins with @, and its first line gives the number of buckets"
@@ -230,8 +233,12 @@ fn judge_key<'t>(
     ))
 }
 
-/// What the words after `txn` are.
-const TXN: &str = "`txn NAME LEVEL`, the level serializable, repeatable or snapshot";
+/// What the words after `txn` are, with the levels as `^`.
+const TXN: &str = "`txn NAME LEVEL`, the level ^";
+
+fn wanting_txn(finding: Finding<'_>) -> Finding<'_> {
+    finding.wanting_listed(TXN, Listed::OneOf(Choice::Levels))
+}
 
 fn judge_txn<'t>(
     known: &mut Known<'t>,
@@ -248,10 +255,11 @@ fn judge_txn<'t>(
         [name, level] => (*name, *level),
         [_, _, more, ..] => {
             let form = "`txn` takes a name and a level, and @ is one word too many";
-            return Ok(Some(Finding::at(*more, form).wanting(TXN)));
+            return Ok(Some(wanting_txn(Finding::at(*more, form))));
         }
         _ => {
-            return Ok(Some(Finding::at(first, "@ wants a name and a level after it").wanting(TXN)));
+            let form = "@ wants a name and a level after it";
+            return Ok(Some(wanting_txn(Finding::at(first, form))));
         }
     };
     if known.first_step > 0 {
@@ -287,7 +295,7 @@ fn judge_name_and_level<'t>(
     if !name_ok(name.text) {
         return Some(no_name(name));
     }
-    if !level.is_one_of(LEVELS) {
+    if Level::named(level.text).is_none() {
         return Some(no_level(level));
     }
     if let Some(line) = before {
@@ -307,14 +315,14 @@ fn judge_name_and_level<'t>(
 }
 
 fn no_level(level: Word<'_>) -> Finding<'_> {
-    let form = if level.has_capitals_of(LEVELS) {
+    let form = if Vocabulary::Levels.has_but_for_capitals(level.text) {
         "no level is called @: levels are in lower case"
     } else {
         "no level is called @"
     };
     Finding::at(level, form)
-        .wanting("serializable repeatable snapshot")
-        .hinting(Hint::Among(LEVELS))
+        .wanting_words(Vocabulary::Levels)
+        .hinting(Hint::Among(Vocabulary::Levels))
 }
 
 /// The words that a line may begin with besides a name.
@@ -351,7 +359,7 @@ fn misspelled<'t>(
             _ => None,
         };
     }
-    let form = if first.has_capitals_of(STARTS) {
+    let form = if Vocabulary::These(STARTS).has_but_for_capitals(first.text) {
         "no line begins with @: words are in lower case"
     } else {
         "no line begins with @"
@@ -365,7 +373,7 @@ pub(crate) fn wanted_at<'t>(finding: Finding<'t>, first: Word<'t>, place: usize)
         return finding.wanting(NAME);
     }
     if first.is("txn") && place > 1 {
-        return finding.wanting("serializable repeatable snapshot");
+        return finding.wanting_words(Vocabulary::Levels);
     }
     if first.is("row") || place > 1 {
         return finding.wanting(crate::numbers::NUMBER);

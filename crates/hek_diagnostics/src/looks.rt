@@ -2,6 +2,7 @@
 use crate::finding::{Finding, Hint};
 use crate::numbers::is_digits;
 use crate::place::part;
+use crate::vocabulary::Vocabulary;
 use crate::words::{Word, is_one_of};
 use std::fmt;
 use std::fmt::{Display, Formatter};
@@ -48,7 +49,9 @@ fn form_of(first: Word<'_>, line: &[u8]) -> Option<&'static str> {
     if is_one_of(first.text, COMMANDS) {
         return Some("this looks like debugger commands, and a schedule is wanted here");
     }
-    if (first.is_one_of(SQL) || first.has_capitals_of(SQL)) && contains(line, b";") {
+    if (first.is_one_of(SQL) || Vocabulary::These(SQL).has_but_for_capitals(first.text))
+        && contains(line, b";")
+    {
         return Some("this looks like SQL, and a schedule is wanted here");
     }
     None

@@ -1,12 +1,34 @@
 //! Sentences with words and numbers of a text in them.
+use crate::choice::Choice;
+use crate::vocabulary::Vocabulary;
 use std::fmt::{Display, Formatter};
 use std::{fmt, str};
 
 /// How many characters of a word a sentence shows.
 const SHOWN: usize = 60;
 
+/// What a sentence lists.
+#[derive(Clone, Copy)]
+pub(crate) enum Listed {
+    Nothing,
+    Word(&'static str),
+    Words(Vocabulary),
+    OneOf(Choice),
+}
+
+impl Display for Listed {
+    fn fmt<W: fmt::Write>(&self, f: &mut Formatter<W>) -> fmt::Result {
+        match *self {
+            Listed::Nothing => Ok(()),
+            Listed::Word(word) => f.write_str(word),
+            Listed::Words(words) => write!(f, "{words}"),
+            Listed::OneOf(choice) => write!(f, "{choice}"),
+        }
+    }
+}
+
 /// A sentence. In its form `@` stands for a word between back-ticks, `~` for the same word without them, `&` for another
-/// word, and `$`, `%` and `*` for numbers.
+/// word, `$`, `%` and `*` for numbers, and `^` for what the sentence lists.
 #[derive(Clone, Copy)]
 pub(crate) struct Sentence<'t> {
     form: &'static str,
@@ -15,6 +37,7 @@ pub(crate) struct Sentence<'t> {
     pub(crate) number: u64,
     pub(crate) more: u64,
     pub(crate) third: u64,
+    pub(crate) listed: Listed,
 }
 
 impl<'t> Sentence<'t> {
@@ -26,6 +49,7 @@ impl<'t> Sentence<'t> {
             number: 0,
             more: 0,
             third: 0,
+            listed: Listed::Nothing,
         }
     }
 
@@ -45,6 +69,7 @@ impl Display for Sentence<'_> {
                 '$' => write_number(f, self.number)?,
                 '%' => write_number(f, self.more)?,
                 '*' => write_number(f, self.third)?,
+                '^' => write_listed(f, self.listed)?,
                 _ => f.write_char(mark)?,
             }
         }
@@ -54,6 +79,10 @@ impl Display for Sentence<'_> {
 
 fn write_number<W: fmt::Write>(f: &mut Formatter<W>, number: u64) -> fmt::Result {
     write!(f, "{number}")
+}
+
+fn write_listed<W: fmt::Write>(f: &mut Formatter<W>, listed: Listed) -> fmt::Result {
+    write!(f, "{listed}")
 }
 
 fn write_quoted<W: fmt::Write>(f: &mut Formatter<W>, word: &[u8]) -> fmt::Result {

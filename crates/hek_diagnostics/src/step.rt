@@ -3,15 +3,13 @@ use crate::finding::{Finding, Hint};
 use crate::known::Known;
 use crate::numbers::{Role, has_byte, no_number};
 use crate::place::part;
-use crate::words::{EVENTS, Word, is_one_of};
+use crate::sentence::Listed;
+use crate::vocabulary::Vocabulary;
+use crate::words::Word;
 use hek_rules::{EventKind, number};
 
 /// One more than the steps that a schedule can have.
 const TOO_MANY_STEPS: u64 = 1_000_001;
-
-/// The words that name events.
-pub(crate) const EVENT_WORDS: &str =
-    "begin read scan insert update delete finish precommit release commit fail stamp end";
 
 /// A line `detect`.
 pub(crate) fn judge_detect<'t>(
@@ -65,8 +63,10 @@ pub(crate) fn judge_step<'t>(
 ) -> Option<Finding<'t>> {
     note_step(known, at);
     let [event, operands @ ..] = rest else {
-        return Some(Finding::at(first, "@ has no event after it").wanting(
-            "an event after the name: begin read scan insert update delete finish precommit release commit fail stamp end",
+        let listed = Listed::Words(Vocabulary::Events);
+        return Some(Finding::at(first, "@ has no event after it").wanting_listed(
+            "an event after the name: ^",
+            listed,
         ));
     };
     let Some(kind) = EventKind::named(event.text) else {
@@ -89,13 +89,13 @@ pub(crate) fn judge_step<'t>(
 
 /// A word that names no event.
 fn no_event<'t>(known: &Known<'t>, first: Word<'t>, event: Word<'t>) -> Finding<'t> {
-    let is_turned = is_one_of(first.text, EVENTS) && known.has_name(event.text);
+    let is_turned = Vocabulary::Events.has(first.text) && known.has_name(event.text);
     unknown_event(event, is_turned)
 }
 
 /// A word that names no event; `is_turned` where the event is before its transaction.
 pub(crate) fn unknown_event(event: Word<'_>, is_turned: bool) -> Finding<'_> {
-    let form = if event.has_capitals_of(EVENTS) {
+    let form = if Vocabulary::Events.has_but_for_capitals(event.text) {
         "no event is called @: events are in lower case"
     } else if is_in_brackets(event.text) {
         "no event is called @: its operand is a separate word"
@@ -107,15 +107,15 @@ pub(crate) fn unknown_event(event: Word<'_>, is_turned: bool) -> Finding<'_> {
         "no event is called @"
     };
     Finding::at(event, form)
-        .wanting(EVENT_WORDS)
-        .hinting(Hint::Among(EVENTS))
+        .wanting_words(Vocabulary::Events)
+        .hinting(Hint::Among(Vocabulary::Events))
 }
 
 /// Whether an event comes first in a word, and a bracket after it.
 fn is_in_brackets(word: &[u8]) -> bool {
     for (place, byte) in word.iter().enumerate() {
         if *byte == b'(' {
-            return is_one_of(part(word, 0, place), EVENTS);
+            return Vocabulary::Events.has(part(word, 0, place));
         }
     }
     false
@@ -188,30 +188,24 @@ pub(crate) fn too_many(kind: EventKind) -> &'static str {
 
 /// Adds the form of a kind of event.
 pub(crate) fn wanting_form(finding: Finding<'_>, kind: EventKind, buckets: u64) -> Finding<'_> {
-    match kind {
-        EventKind::Scan if buckets > 0 => {
-            finding.wanting_number("`scan BUCKET`, the bucket from 0 to $", buckets - 1)
-        }
-        _ => finding.wanting(form_of(kind)),
+    if kind.is_scan() && buckets > 0 {
+        return finding.wanting_number("`scan BUCKET`, the bucket from 0 to $", buckets - 1);
     }
+    finding.wanting_listed(form_of(kind), Listed::Word(kind.word()))
 }
 
+/// The form of a kind of event, in which `^` stands for its word.
 fn form_of(kind: EventKind) -> &'static str {
-    match kind {
-        EventKind::Begin => "`begin` alone",
-        EventKind::Read => "`read KEY`",
-        EventKind::Scan => "`scan BUCKET`",
-        EventKind::Insert => "`insert KEY VALUE`",
-        EventKind::Update => "`update KEY VALUE`",
-        EventKind::Delete => "`delete KEY`",
-        EventKind::Finish => "`finish` alone",
-        EventKind::Precommit => "`precommit` alone",
-        EventKind::Release => "`release` alone",
-        EventKind::Commit => "`commit` alone",
-        EventKind::Fail => "`fail` alone",
-        EventKind::Stamp => "`stamp` alone",
-        EventKind::End => "`end` alone",
-        EventKind::Detect => DETECT,
+    if kind.is_detect() {
+        return DETECT;
+    }
+    if kind.is_scan() {
+        return "`^ BUCKET`";
+    }
+    match kind.operand_count() {
+        0 => "`^` alone",
+        1 => "`^ KEY`",
+        _ => "`^ KEY VALUE`",
     }
 }
 

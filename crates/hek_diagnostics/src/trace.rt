@@ -8,7 +8,7 @@ use crate::numbers::{Role, is_digits};
 use crate::place::{line_at, part};
 use crate::reply::judge_reply;
 use crate::sentence::Sentence;
-use crate::step::{EVENT_WORDS, missing, too_many, unknown_event, wanting_form};
+use crate::step::{missing, too_many, unknown_event, wanting_form};
 use crate::token::{Tokens, trace_number};
 use crate::words::Word;
 use hek_rules::{EventKind, NoMemory, Schedule, TxnId, number};
@@ -196,7 +196,7 @@ fn judge_event<'t>(schedule: &Schedule, tokens: &mut Tokens<'t>) -> Result<Event
             "`detect` alone",
         )),
         Some(kind) => Ok(kind),
-        None => Err(unknown_event(event, false).wanting(EVENT_WORDS)),
+        None => Err(unknown_event(event, false)),
     }
 }
 

@@ -1,24 +1,5 @@
-//! Words of a line, with the places where they begin; and words that texts know.
+//! Words of a line, with the places where they begin.
 use hek_rules::{NoMemory, next_word, same_bytes};
-
-/// The words that name events.
-pub(crate) const EVENTS: &[&str] = &[
-    "begin",
-    "read",
-    "scan",
-    "insert",
-    "update",
-    "delete",
-    "finish",
-    "precommit",
-    "release",
-    "commit",
-    "fail",
-    "stamp",
-    "end",
-];
-
-pub(crate) const LEVELS: &[&str] = &["serializable", "repeatable", "snapshot"];
 
 /// A word, and the byte of its line at which it begins.
 #[derive(Clone, Copy)]
@@ -44,19 +25,6 @@ impl<'t> Word<'t> {
     /// Whether this is one of the words.
     pub(crate) fn is_one_of(&self, words: &[&str]) -> bool {
         is_one_of(self.text, words)
-    }
-
-    /// Whether this is one of the words but for capitals, and is written with a capital.
-    pub(crate) fn has_capitals_of(&self, words: &[&str]) -> bool {
-        if self.is_one_of(words) {
-            return false;
-        }
-        for word in words {
-            if self.text.eq_ignore_ascii_case(word.as_bytes()) {
-                return true;
-            }
-        }
-        false
     }
 }
 
