@@ -1,5 +1,5 @@
 -- Histories as transcripts.
-use Rattle.std.proofs.Common.{◌≡◌, List, [], ◌∷◌, ◌++◌, refl, ap, sym, subst, ◌∙◌, append_assoc, length, arith}
+use Rattle.std.proofs.Common.{◌≡◌, List, [], ◌∷◌, ◌++◌, refl, ap, sym, ◌∙◌, length, arith}
 use Rattle.std.specs.Prelude.{map}
 use Rattle.std.proofs.lemmas.List.{append-nil}
 use Rattle.hek_rules.specs.declared.event.Event.{Event}
@@ -19,17 +19,6 @@ over p ps = record { buckets = p.buckets; rows = p.rows; levels = levels_of p; h
 pub record IsFront (p : Plan) (xs rest : List Entry) (told : Recorded) : Type 0 where
   pub plan : told ≡ over p told.history
   pub all : told.history ++ pairs_of rest ≡ pairs_of xs
-
-pub IsFront-more : (p : Plan) (xs was rest : List Entry) (x : Entry) (old new : Recorded) → IsFront p xs was old → was ≡ x ∷ rest
-    → new ≡ record old { history = old.history ++ (x.event, x.reply) ∷ [] } → IsFront p xs rest new
-IsFront-more p xs was rest x old new h is grown =
-    let P : Recorded → Type 0 = IsFront p xs rest in
-    let more : List (Event × Reply) = old.history ++ (x.event, x.reply) ∷ [] in
-    let f : Recorded → Recorded = λ t. record t { history = more } in
-    subst P (sym grown) (record {
-      plan = ap f h.plan;
-      all = append_assoc old.history ((x.event, x.reply) ∷ []) (pairs_of rest) ∙ ap (λ (ys : List Entry). old.history ++ pairs_of ys) (sym is) ∙ h.all;
-    })
 
 empty : (xs : List Entry) → length xs ≡ 0 → xs ≡ []
 empty [] h = refl

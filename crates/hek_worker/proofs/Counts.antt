@@ -6,7 +6,7 @@ use Rattle.std.proofs.lemmas.List.{map-append}
 use Rattle.std.proofs.lemmas.List.Elements.{filter-append}
 use Rattle.std.proofs.lemmas.List.Sums.{sum_by-append, sum_by-cons}
 use Rattle.hek_rules.specs.declared.event.Event.{Event}
-use Rattle.hek_rules.specs.declared.event.Event.TheVariants.{Begin, Read, Scan, Insert, Update, Delete, Finish, Precommit, Release, Commit, Fail, Stamp, End, Detect}
+use Rattle.hek_rules.specs.declared.event.Event.TheVariants.{Begin, Finish, Precommit, Release, Commit, Fail, Stamp, End, Detect}
 use Rattle.hek_rules.specs.declared.reply.Reply.{Reply}
 use Rattle.hek_rules.specs.declared.reply.Reply.TheVariants.{Began, Waiting, Precommitted, ReleasedRead, ReleasedBucket, ReleasedWaiter, Nothing, Committed, WaitingCommits, StampedBegin, StampedEnd, Left, Over, NoCycle, Victim, Aborted}
 use Rattle.hek_worker.specs.declared.stage.Stage.{Stage}
@@ -74,20 +74,8 @@ calm_work (Fail t) r h = absurd (cc)
 calm_work e r h = (refl, refl)
 
 not_committed : (e : Event) → answers e Committed ≡ false
-not_committed (Begin t) = refl
-not_committed (Read t k) = refl
-not_committed (Scan t b) = refl
-not_committed (Insert t k v) = refl
-not_committed (Update t k v) = refl
-not_committed (Delete t k) = refl
-not_committed (Finish t) = refl
-not_committed (Precommit t) = refl
-not_committed (Release t) = refl
-not_committed (Commit t) = refl
-not_committed (Fail t) = refl
-not_committed (Stamp t) = refl
-not_committed (End t) = refl
 not_committed Detect = refl
+not_committed e = refl
 
 no_commit : (e : Event) (r : Reply) → answers e r ≡ true → is_commit_reply r ≡ false
 no_commit e Committed h = let bad = not_committed e in absurd (cc)

@@ -4,7 +4,7 @@ use Rattle.std.specs.Prelude.{◌↔◌}
 use Rattle.std.proofs.lemmas.List.Elements.{filter_passes, recursion_from_All}
 use Rattle.hek_rules.specs.declared.event.Cause.{Cause}
 use Rattle.hek_rules.specs.declared.event.Event.{Event}
-use Rattle.hek_rules.specs.declared.event.Event.TheVariants.{Begin, Read, Scan, Insert, Update, Delete, Finish, Precommit, Release, Commit, Fail, Stamp, End, Detect}
+use Rattle.hek_rules.specs.declared.event.Event.TheVariants.{Read, Scan, Insert, Update, Delete, Finish, Precommit, Release, Commit, Fail, Stamp, End, Detect}
 use Rattle.hek_rules.specs.declared.reply.Reply.{Reply}
 use Rattle.hek_rules.specs.declared.reply.Reply.TheVariants.{Waiting, ReleasedRead, ReleasedBucket, ReleasedWaiter, Nothing, Committed, WaitingCommits, Failed, StampedBegin, StampedEnd, Left, Over, Aborted}
 use Rattle.hek_worker.specs.declared.stage.Stage.{Stage}
@@ -123,36 +123,12 @@ stops_open Committing h = refl
 stops_open s h = absurd (cc)
 
 no_wait : (e : Event) (c : Cause) → waits_at e (Aborted c) ≡ false
-no_wait (Begin t) c = refl
-no_wait (Read t k) c = refl
-no_wait (Scan t b) c = refl
-no_wait (Insert t k v) c = refl
-no_wait (Update t k v) c = refl
-no_wait (Delete t k) c = refl
-no_wait (Finish t) c = refl
-no_wait (Precommit t) c = refl
-no_wait (Release t) c = refl
-no_wait (Commit t) c = refl
-no_wait (Fail t) c = refl
-no_wait (Stamp t) c = refl
-no_wait (End t) c = refl
 no_wait Detect c = refl
+no_wait e c = refl
 
 no_commit_waits : (e : Event) → waits_at e Committed ≡ false
-no_commit_waits (Begin t) = refl
-no_commit_waits (Read t k) = refl
-no_commit_waits (Scan t b) = refl
-no_commit_waits (Insert t k v) = refl
-no_commit_waits (Update t k v) = refl
-no_commit_waits (Delete t k) = refl
-no_commit_waits (Finish t) = refl
-no_commit_waits (Precommit t) = refl
-no_commit_waits (Release t) = refl
-no_commit_waits (Commit t) = refl
-no_commit_waits (Fail t) = refl
-no_commit_waits (Stamp t) = refl
-no_commit_waits (End t) = refl
 no_commit_waits Detect = refl
+no_commit_waits e = refl
 
 waits_on : (e : Event) (r : Reply) → waits_at e r ≡ true → is_commit_reply r ≡ false
 waits_on e Committed h = let bad = no_commit_waits e in absurd (cc)

@@ -2,7 +2,7 @@
 use Rattle.std.proofs.Common.{◌≡◌, ◌≢◌, ℕ, List, [], ◌∷◌, false, Some, All, refl, subst}
 use Rattle.std.proofs.lemmas.List.Elements.{All-nil, All-cons}
 use Rattle.hek_rules.specs.declared.event.Event.{Event}
-use Rattle.hek_rules.specs.declared.event.Event.TheVariants.{Begin, Read, Scan, Insert, Update, Delete, Finish, Precommit, Release, Commit, Fail, Stamp, End, Detect}
+use Rattle.hek_rules.specs.declared.event.Event.TheVariants.{Detect}
 use Rattle.hek_rules.specs.declared.reply.Reply.{Reply}
 use Rattle.hek_rules.specs.declared.reply.Reply.TheVariants.{Refused}
 use Rattle.hek_rules.specs.declared.reply.Refusal.{Refusal}
@@ -12,20 +12,8 @@ use Rattle.hek_worker.specs.declared.stage.Position.{Position}
 use Rattle.hek_worker.specs.Grammar.{Leads, IsTranscript, event_at, position_after, answers, begin_at, end_at}
 
 never : (e : Event) (why : Refusal) → answers e (Refused why) ≡ false
-never (Begin t) why = refl
-never (Read t k) why = refl
-never (Scan t b) why = refl
-never (Insert t k v) why = refl
-never (Update t k v) why = refl
-never (Delete t k) why = refl
-never (Finish t) why = refl
-never (Precommit t) why = refl
-never (Release t) why = refl
-never (Commit t) why = refl
-never (Fail t) why = refl
-never (Stamp t) why = refl
-never (End t) why = refl
 never Detect why = refl
+never e why = refl
 
 stops : (t : ℕ) (work : List Event) (s : Stage) (n : ℕ) (why : Refusal) (m : Position) → position_after t work s n (Refused why) ≡ Some m → ⊥
 stops t work Start n why m h = cc

@@ -5,7 +5,7 @@ use Rattle.std.specs.List.{AllByRecursion, AllZip, zip, flat_map}
 use Rattle.std.proofs.lemmas.Bool.{lt-ltb, le-ltb}
 use Rattle.hek_rules.specs.declared.event.Cause.{Cause}
 use Rattle.hek_rules.specs.declared.event.Event.{Event}
-use Rattle.hek_rules.specs.declared.event.Event.TheVariants.{Begin, Read, Scan, Insert, Update, Delete, Finish, Precommit, Release, Commit, Fail, Stamp, End, Detect}
+use Rattle.hek_rules.specs.declared.event.Event.TheVariants.{Finish, Precommit, Detect}
 use Rattle.hek_rules.specs.declared.reply.Reply.{Reply}
 use Rattle.hek_rules.specs.declared.reply.Reply.TheVariants.{Ready, Waiting, Precommitted, NoCycle, Victim, Aborted}
 use Rattle.hek_worker.specs.declared.stage.Stage.TheVariants.{Working, Preparing, Looking, Releasing}
@@ -32,20 +32,8 @@ no_work (w ∷ ws) zero h = absurd (cc)
 no_work (w ∷ ws) (suc i) h = let k = no_work ws i h in (k.0, omega (arith, k.1))
 
 pub not_aborted : (e : Event) (c : Cause) → answers e (Aborted c) ≡ false
-not_aborted (Begin t) c = refl
-not_aborted (Read t k) c = refl
-not_aborted (Scan t b) c = refl
-not_aborted (Insert t k v) c = refl
-not_aborted (Update t k v) c = refl
-not_aborted (Delete t k) c = refl
-not_aborted (Finish t) c = refl
-not_aborted (Precommit t) c = refl
-not_aborted (Release t) c = refl
-not_aborted (Commit t) c = refl
-not_aborted (Fail t) c = refl
-not_aborted (Stamp t) c = refl
-not_aborted (End t) c = refl
 not_aborted Detect c = refl
+not_aborted e c = refl
 
 answered : (b : Bool) (o : Option Position) (m : Position) → (if b then o else None) ≡ Some m → (b ≡ true) × (o ≡ Some m)
 answered true o m h = (refl, h)
