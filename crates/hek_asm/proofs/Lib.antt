@@ -7,6 +7,7 @@ pub mod RoundTrip
 pub mod TextOnly
 pub mod CanonicalTidy
 mod Fronts
+mod FormsFirst
 mod LikelyReply
 mod LikelyEvent
 mod EntryAgain

@@ -54,6 +54,11 @@ begins f (w ∷ ws) = bytes_eq w (first_word f) && has_second (second_word f) ws
 abbrev pub form_among : List ReplyForm → List (List ℕ) → Option ReplyForm
 form_among forms ws = find (λ (f : ReplyForm). begins f ws) forms
 
+-- whether a form is `waiting`: another form begins with the same word, and has one more
+abbrev pub is_waiting : ReplyForm → Bool
+is_waiting form.Waiting = true
+is_waiting other = false
+
 -- the transaction after the word `writer`, if there is one
 abbrev pub writer_at : List (List ℕ) → Option ℕ
 writer_at (w ∷ u ∷ ws) = Some (number_else_zero u)

@@ -1,9 +1,9 @@
 //! The one event and the one reply that the words of a trace line can be of. Writing them shows if the line is theirs.
-ghost use Rattle.std.specs.Prelude.{◌≡◌, ◌≤◌, map, drop, length, IfOk, IfSome, option_copied};
+ghost use Rattle.std.specs.Prelude.{◌≡◌, ◌≤◌, map, drop, length, IfOk, IfSome, Some, option_copied};
 ghost use Rattle.std.specs.List.{position_or_len};
 ghost use Rattle.hek_rules.specs.declared.form.ReplyForm.TheVariants as form;
-ghost use Rattle.hek_rules.specs.Forms.{form_words};
-ghost use Rattle.hek_asm.specs.Likely.{number_else_zero, first_value, is_equals, pair_of, has_second, begins, form_among, writer_at, cause_at, refusal_at, plain_reply, reply_from, likely_reply, step_named, likely_event, step_len};
+ghost use Rattle.hek_rules.specs.Forms.{all_forms, form_words};
+ghost use Rattle.hek_asm.specs.Likely.{number_else_zero, first_value, is_equals, pair_of, has_second, begins, form_among, is_waiting, writer_at, cause_at, refusal_at, plain_reply, reply_from, likely_reply, step_named, likely_event, step_len};
 ghost use Rattle.hek_asm.specs.Trace.{NamesDeclared};
 
 use hek_rules::{
@@ -111,6 +111,82 @@ fn form_among(forms: &[ReplyForm], words: &[&[u8]]) -> Option<ReplyForm>
     None
 }
 
+/// A form that a word tells by its first and its third letter, if they tell one: one of those that begin with that word.
+pub(crate) fn form_by_letters(word: &[u8]) -> Option<ReplyForm> {
+    let [first, _, third, ..] = word else {
+        return None;
+    };
+    match (*first, *third) {
+        (b'a', b's') => Some(ReplyForm::Absent),
+        (b'a', _) => Some(ReplyForm::Aborted),
+        (b'b', _) => Some(ReplyForm::Began),
+        (b'c', _) => Some(ReplyForm::Committed),
+        (b'd', _) => Some(ReplyForm::Done),
+        (b'e', _) => Some(ReplyForm::Exists),
+        (b'f', b'u') => Some(ReplyForm::Found),
+        (b'f', _) => Some(ReplyForm::Failed),
+        (b'l', _) => Some(ReplyForm::Left),
+        (b'n', _) => Some(ReplyForm::Nothing),
+        (b'o', _) => Some(ReplyForm::Over),
+        (b'p', _) => Some(ReplyForm::Precommitted),
+        (b'r', b'a') => Some(ReplyForm::Ready),
+        (b'r', b'f') => Some(ReplyForm::Refused),
+        (b'r', b'l') => Some(ReplyForm::ReleasedRead),
+        (b'r', _) => Some(ReplyForm::Rows),
+        (b's', _) => Some(ReplyForm::StampedEnd),
+        (b'v', _) => Some(ReplyForm::Victim),
+        (b'w', _) => Some(ReplyForm::Waiting),
+        _ => None,
+    }
+}
+
+/// The same with the first letter of the word after.
+pub(crate) fn form_by_second(form: ReplyForm, letter: u8) -> ReplyForm {
+    match (form, letter) {
+        (ReplyForm::ReleasedRead, b'b') => ReplyForm::ReleasedBucket,
+        (ReplyForm::ReleasedRead, b'w') => ReplyForm::ReleasedWaiter,
+        (ReplyForm::StampedEnd, b'b') => ReplyForm::StampedBegin,
+        (ReplyForm::Waiting, b'c') => ReplyForm::WaitingCommits,
+        _ => form,
+    }
+}
+
+// The form that the letters of words tell, if the words begin with those of the form, and no other form comes first.
+#[tactic(auto, using(crate::proofs::FormsFirst::form_first))]
+fn form_told(words: &[&[u8]]) -> Option<ReplyForm>
+    ensures { IfSome result (λ f. form_among all_forms (map (λ w. w.now) words.now) ≡ Some f) }
+{
+    let [word, rest @ ..] = words else {
+        return None;
+    };
+    let form = form_by_letters(word)?;
+    let told = match rest {
+        [[letter, ..], ..] => form_by_second(form, *letter),
+        _ => form,
+    };
+    if !is_waiting(told) && begins(told, words) {
+        return Some(told);
+    }
+    None
+}
+
+// Whether a form is that of `waiting`, with which the words of another form begin.
+fn is_waiting(form: ReplyForm) -> bool
+    ensures { result ≡ is_waiting form }
+{
+    matches!(form, ReplyForm::Waiting)
+}
+
+// The first form whose words these begin with.
+fn form_at(words: &[&[u8]]) -> Option<ReplyForm>
+    ensures { result ≡ form_among all_forms (map (λ w. w.now) words.now) }
+{
+    if let Some(form) = form_told(words) {
+        return Some(form);
+    }
+    form_among(&ReplyForm::ALL, words)
+}
+
 // How many words a form has.
 fn form_len(form: ReplyForm) -> usize
     ensures { result ≡ length (form_words form) }
@@ -210,7 +286,7 @@ fn reply_from(alloc: Global, form: ReplyForm, words: &[&[u8]]) -> Result<Reply, 
 pub(crate) fn likely_reply(alloc: Global, words: &[&[u8]]) -> Result<Reply, NoMemory>
     ensures { IfOk result (λ r. r ≡ likely_reply (map (λ w. w.now) words.now)) }
 {
-    match form_among(&ReplyForm::ALL, words) {
+    match form_at(words) {
         None => Ok(Reply::Absent),
         Some(form) => reply_from(alloc, form, behind(words, form_len(form))),
     }

@@ -5,7 +5,7 @@ ghost use Rattle.hek_rules.specs.Plan.{IsStep};
 ghost use Rattle.hek_asm.specs.Reading.{is_small, IsFront, IsLineRest};
 ghost use Rattle.hek_asm.specs.Trace.{NamesDeclared, line_front, line_rest};
 
-use crate::likely::{likely_reply, plain_reply};
+use crate::likely::{form_by_letters, form_by_second, likely_reply, plain_reply};
 use crate::line::read_words;
 use crate::trace::{put_front, put_rest};
 use hek_rules::{Event, NoMemory, Reply, ReplyForm, Schedule, next_line};
@@ -74,34 +74,21 @@ fn number_behind(form: ReplyForm, text: &[u8]) -> u64
     value
 }
 
-// One of two forms with the same first word, by whether the second word begins with `b`.
-fn form_by_b(text: &[u8], with: ReplyForm, without: ReplyForm) -> ReplyForm {
-    match text.get(with.first_word().len() + 1) {
-        Some(b'b') => with,
-        _ => without,
+// The form that the letters of a text tell.
+fn form_of_text(text: &[u8]) -> Option<ReplyForm> {
+    let form = form_by_letters(text)?;
+    match text.get(form.first_word().len() + 1) {
+        Some(letter) => Some(form_by_second(form, *letter)),
+        None => Some(form),
     }
 }
 
-// The form of one of the frequent replies, by its first letters. Writing the reply shows whether the text has it.
-fn form_by_letters(text: &[u8]) -> Option<ReplyForm> {
-    let [first, _, third, ..] = text else {
-        return None;
-    };
-    match (*first, *third) {
-        (b'a', b's') => Some(ReplyForm::Absent),
-        (b'b', _) => Some(ReplyForm::Began),
-        (b'c', _) => Some(ReplyForm::Committed),
-        (b'd', _) => Some(ReplyForm::Done),
-        (b'f', b'u') => Some(ReplyForm::Found),
-        (b'l', _) => Some(ReplyForm::Left),
-        (b'n', b't') => Some(ReplyForm::Nothing),
-        (b'o', _) => Some(ReplyForm::Over),
-        (b'p', _) => Some(ReplyForm::Precommitted),
-        (b'r', b'a') => Some(ReplyForm::Ready),
-        (b'r', b'l') => Some(form_by_b(text, ReplyForm::ReleasedBucket, ReplyForm::ReleasedRead)),
-        (b's', _) => Some(form_by_b(text, ReplyForm::StampedBegin, ReplyForm::StampedEnd)),
-        _ => None,
-    }
+// Whether a form has at most one operand, and that a number; or often has no more.
+fn is_plain(form: ReplyForm) -> bool {
+    !matches!(
+        form,
+        ReplyForm::Rows | ReplyForm::Victim | ReplyForm::Aborted | ReplyForm::Refused
+    )
 }
 
 // The reply by its first letters, and the text after the line, if the text begins so. None says nothing about the text.
@@ -111,9 +98,12 @@ fn rest_by_letters<'t>(
 ) -> Result<Option<(Reply, &'t [u8])>, NoMemory>
     ensures { IfOk result (λ o. IfSome o (λ x. IsLineRest x.0 text.now x.1.now)) }
 {
-    let Some(form) = form_by_letters(text) else {
+    let Some(form) = form_of_text(text) else {
         return Ok(None);
     };
+    if !is_plain(form) {
+        return Ok(None);
+    }
     let reply = plain_reply(form, number_behind(form, text));
     let Some(after) = behind_rest(&reply, scratch, text)? else {
         return Ok(None);
