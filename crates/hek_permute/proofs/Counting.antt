@@ -8,7 +8,7 @@ use Rattle.hek_permute.specs.declared.moves.Form.{Form}
 use Rattle.hek_permute.specs.Moves.{Work, counts_of, move_count}
 use Rattle.hek_permute.specs.Numbers.{begun_by, begun_below, orders_of, all_orders, order_total, AreTooMany, IsCount, IsFirstMove}
 use Rattle.hek_permute.proofs.Begun.{sum_cons, sum_less, place_within}
-use Rattle.hek_permute.proofs.Ways.{ways, share, share_none, share_some, share_is, total_at}
+use Rattle.hek_permute.proofs.Ways.{share, share_none, share_some, share_is, total_at}
 use Rattle.hek_permute.proofs.Numbered.{begun_number}
 use Rattle.hek_permute.proofs.Growth.{one_more, sum_last, total_none, too_many_transactions}
 
@@ -30,17 +30,6 @@ counted_once_more before many moves next orders h e = record {
 
 pub counted_none : (before : List ℕ) (moves orders : ℕ) → IsCount before moves orders → IsCount (before ++ 0 ∷ []) moves orders
 counted_none before moves orders h = record { moves_are = omega (arith, h.moves_are, sum_last before 0); orders_are = h.orders_are ∙ sym (total_none before) }
-
-counts_more_at : (form : Form) (works : List Work) (i : ℕ) (work : Work) → i < length works → work ≡ get_or works i work
-    → counts_of form (take (suc i) works) ≡ counts_of form (take i works) ++ move_count form work ∷ []
-counts_more_at form [] i work low h = absurd (omega arith)
-counts_more_at form (w ∷ works) zero work low h = ap (λ (x : Work). move_count form x ∷ []) (sym h)
-counts_more_at form (w ∷ works) (suc i) work low h = ap (λ (cs : List ℕ). move_count form w ∷ cs) (counts_more_at form works i work (omega arith) h)
-
-pub counts_more : (form : Form) (works : List Work) (i : ℕ) (work : Work) → i < length works → work ≡ get_or works i work
-    → counts_of form (take (i + 1) works) ≡ counts_of form (take i works) ++ move_count form work ∷ []
-counts_more form works i work low h =
-    ap (λ (k : ℕ). counts_of form (take k works)) (let e : i + 1 ≡ suc i = omega arith in e) ∙ counts_more_at form works i work low h
 
 counts_whole : (form : Form) (works : List Work) (i : ℕ) (work : Work) → i < length works → work ≡ get_or works i work
     → counts_of form works ≡ (counts_of form (take i works) ++ move_count form work ∷ []) ++ counts_of form (drop (suc i) works)
@@ -114,12 +103,6 @@ passes counts number place many moves orders later part h some is e at low =
     let more : length (begun_below (orders_of n) counts (suc place)) ≡ length (begun_below (orders_of n) counts place) + share n counts place =
     length-append (begun_below (orders_of n) counts place) (begun_by (orders_of n) counts place (slice_index counts place)) in
     omega (arith, ap (passed counts moves) (next_place place))
-
-pub not_past_all : (counts : List ℕ) (number moves orders later : ℕ) → IsCount counts moves orders → 0 < moves → number < orders
-    → later + passed counts moves (length counts) ≡ number → ⊥
-not_past_all counts number moves orders later h some low at =
-    let all : order_total counts ≡ ways (suc (moves - 1)) counts = total_at counts (suc (moves - 1)) (omega (arith, h.moves_are)) in
-    omega (arith, h.orders_are)
 
 -- an order has begun; the rest of it has a number among the orders of the moves that are left
 pub record HasBegun (counts : List ℕ) (number : ℕ) (order left : List ℕ) (moves later orders : ℕ) : Type 0 where

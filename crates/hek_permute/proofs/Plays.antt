@@ -131,14 +131,6 @@ made_one form t w p m q old h new g may d =
       moves = d.moves ∙ g.moves;
     }
 
-pub gone_none : (form : Form) (t : ℕ) (w : Work) (p q : Place) (old new : List Entry) → q ≡ p → new ≡ old → HasGone form t w p q old new
-gone_none form t w p q old new e h = record {
-  made = [];
-  grown = h ∙ sym (append-nil old);
-  walk = ap standing_of (sym e);
-  moves = ap (λ (p : Place). p.moves) e;
-}
-
 same_or_not : (a b : ℕ) → (a ≡ b) ⊎ (a ≡ b → ⊥)
 same_or_not zero zero = inl refl
 same_or_not zero (suc b) = inr (λ e. absurd (omega arith))
@@ -248,15 +240,6 @@ pub came_later : (form : Form) (works : List Work) (t k : ℕ) (w : Work) (p q :
     → slice_get places k ≡ Some p → HasCome form t w p q old new → IsLater form works places old (slice_set places k q) new
 came_later form works t k w p q places old new is gw gp come = came_after form works k w p q places old new gw gp (subst (λ (u : ℕ). HasCome form u w p q old new) is come)
 
--- IsLater is reflexive and transitive
-pub later_none : (form : Form) (works : List Work) (places : List Place) (h : List Entry) → IsLater form works places h places h
-later_none form works places h = record {
-  more = [];
-  grown = sym (append-nil h);
-  moves = λ i p g. (p, g, refl);
-  walks = λ i w p q gw gp gq. ap standing_of (same_some (slice_get places i) p q gp gq);
-}
-
 walk_further : (form : Form) (works : List Work) (ps qs rs : List Place) (xs ys : List Entry) (i : ℕ) (w : Work) (p q r : Place) → WalkOn form works ps qs xs → WalkOn form works qs rs ys
     → r.moves ≡ q.moves → slice_get works i ≡ Some w → slice_get ps i ≡ Some p → slice_get qs i ≡ Some q → slice_get rs i ≡ Some r
     → Walks form (i + 1) w r.moves (standing_of p) (part_of (i + 1) (xs ++ ys)) (standing_of r)
@@ -265,6 +248,7 @@ walk_further form works ps qs rs xs ys i w p q r a b same gw gp gq gr =
     (walk_on form (i + 1) w r.moves (standing_of p) (standing_of q) (standing_of r) (part_of (i + 1) xs) (part_of (i + 1) ys)
     (subst (λ (n : ℕ). Walks form (i + 1) w n (standing_of p) (part_of (i + 1) xs) (standing_of q)) (sym same) (a i w p q gw gp gq)) (b i w q r gw gq gr))
 
+-- IsLater is transitive
 pub later_on : (form : Form) (works : List Work) (ps qs rs : List Place) (x y z : List Entry) → IsLater form works ps x qs y → IsLater form works qs y rs z → IsLater form works ps x rs z
 later_on form works ps qs rs x y z h g = record {
   more = h.more ++ g.more;

@@ -67,9 +67,6 @@ none-more p form works s n below here = λ k some low. elim (less_or_same k (n +
     less_or_same (suc k) zero h = absurd (omega (arith, h))
     less_or_same (suc k) (suc n) h = elim (less_or_same k n (omega (arith, h))) [ inl l ↦ inl (omega (arith, l)) | inr e ↦ inr (ap suc e) ]
 
-pub none-yet : (p : Plan) (form : Form) (works : List Work) (s : Sought) → NoneBelow p form works s (0 + 1)
-none-yet p form works s = λ k some low. absurd (omega (arith, some, low))
-
 -- ---- what the functions of the search have
 
 pub when_true : (A B : Type 0) (b : Bool) → b ≡ true → MatchBool b A B → A

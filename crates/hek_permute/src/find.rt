@@ -1,7 +1,6 @@
 //! The shortest beginning of an order in which a reply comes.
-ghost use Rattle.std.specs.Prelude.{◌≡◌, ◌↔◌, ◌<◌, IfOk, IfSome, IsTrue, MatchBool, Option, List, Some, ℕ, length, take};
+ghost use Rattle.std.specs.Prelude.{◌≡◌, ◌↔◌, ◌<◌, IfOk, IfSome, IsTrue, MatchBool, Option, Some, length, take};
 ghost use Rattle.std.specs.Option.{option_map};
-ghost use Rattle.hek_permute.specs.Moves.{AreMoves};
 ghost use Rattle.hek_permute.specs.Searches.{HasHit, IsAnswer, IsFoundAt, IsHit, Meets, Misses, IsFound};
 ghost use Rattle.hek_permute.specs.Wholes.{first_in};
 
@@ -152,28 +151,9 @@ fn is_that(tried: &Option<Vec<TxnId>>, front: &[TxnId]) -> bool
     ensures { IsTrue result → option_map (λ v. v.items) tried.now ≡ Some front.now }
 {
     match tried {
-        Some(tried) => are_same(tried.as_slice(), front),
+        Some(tried) => tried.as_slice() == front,
         None => false,
     }
-}
-
-/// Whether the moves are equal.
-fn are_same(moves: &[TxnId], others: &[TxnId]) -> bool
-    ensures { IsTrue result ↔ (moves.now ≡ others.now) }
-{
-    let mut rest = moves;
-    let mut others_rest = others;
-    while let Some((first, later)) = rest.split_first() {
-        let Some((other, others_later)) = others_rest.split_first() else {
-            return false;
-        };
-        if *first != *other {
-            return false;
-        }
-        rest = later;
-        others_rest = others_later;
-    }
-    others_rest.is_empty()
 }
 
 /// Whether a play of these moves has the reply.

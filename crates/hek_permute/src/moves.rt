@@ -1,5 +1,5 @@
 //! The moves of transactions, and the orders in which they can come.
-ghost use Rattle.std.specs.Prelude.{◌≡◌, ◌+◌, ◌++◌, IfOk, OnOk, length, replicate};
+ghost use Rattle.std.specs.Prelude.{◌≡◌, ◌+◌, ◌++◌, IfOk, OnOk, replicate};
 ghost use Rattle.hek_permute.specs.Moves.{AreMoves, counts_of, move_count, other_moves, has_fail, first_order_from};
 ghost use Rattle.hek_worker.specs.Grammar.{work_of};
 

@@ -1,5 +1,5 @@
 //! Orders of moves, one after another, as words in a dictionary.
-ghost use Rattle.std.specs.Prelude.{◌≡◌, ◌+◌, ◌<◌, ◌≤◌, ◌++◌, ℕ, MatchBool, MatchOption, length, slice_index, drop, take, slice_set, reverse};
+ghost use Rattle.std.specs.Prelude.{◌≡◌, ◌+◌, ◌<◌, MatchBool, MatchOption, length, slice_index, reverse};
 ghost use Rattle.hek_permute.specs.Orders.{IsLast, IsNext};
 ghost use Rattle.hek_permute.specs.Falls.{IsFalling, IsLastAbove, IsTurn};
 

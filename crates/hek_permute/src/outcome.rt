@@ -1,5 +1,5 @@
 //! The outcome of an order: how each transaction ended, the rows at the end, and the checker's verdict.
-ghost use Rattle.std.specs.Prelude.{◌≡◌, ◌↔◌, IfOk, IsTrue, length};
+ghost use Rattle.std.specs.Prelude.{◌≡◌, ◌↔◌, IfOk, IsTrue};
 ghost use Rattle.hek_worker.specs.History.{Replays};
 ghost use Rattle.hek_permute.specs.Outcomes.{IsOutcomeOf, end_in, ends_upto, told_as_serializable, has_wait};
 ghost use Rattle.hek_rules.specs.Faults.{IsVerdict};
@@ -73,31 +73,13 @@ impl Outcome {
         ensures { IsTrue result ↔ IsSame self.now other.now }
     {
         let serial = self.serial == other.serial;
-        let ends = same_ends(self.ends.as_slice(), other.ends.as_slice());
+        let ends = self.ends == other.ends;
         let rows = self.rows.same(&other.rows);
-        serial && ends && rows
+        serial & ends & rows
     }
 }
 
 ghost use Rattle.hek_permute.specs.Found.{IsSame};
-
-fn same_ends(ends: &[Ending], others: &[Ending]) -> bool
-    ensures { IsTrue result ↔ (ends.now ≡ others.now) }
-{
-    let mut rest = ends;
-    let mut others_rest = others;
-    while let Some((end, later)) = rest.split_first() {
-        let Some((other, others_later)) = others_rest.split_first() else {
-            return false;
-        };
-        if *end != *other {
-            return false;
-        }
-        rest = later;
-        others_rest = others_later;
-    }
-    others_rest.is_empty()
-}
 
 /// The outcome of a play.
 pub fn outcome_of(alloc: Global, schedule: &Schedule, play: Play) -> Result<Outcome, NoMemory>

@@ -1,5 +1,5 @@
 //! One order of moves, played on a new machine.
-ghost use Rattle.std.specs.Prelude.{◌≡◌, ◌↔◌, ◌+◌, ◌<◌, ◌⊎◌, IfOk, IsTrue, IfSome, OnOk, false, length, nat_lt, reverse, slice_get};
+ghost use Rattle.std.specs.Prelude.{◌≡◌, ◌↔◌, ◌+◌, ◌<◌, IfOk, IsTrue, OnOk, false, length, nat_lt, reverse};
 ghost use Rattle.hek_worker.specs.History.{Replays};
 ghost use Rattle.hek_permute.specs.Plays.{IsPlay, before_precommit, before_work, gives_up, may_go, turned};
 ghost use Rattle.hek_permute.specs.Places.{AllRest, HasCome, IsMoveCounted, IsLater, IsMade, RestBut, due_at, standing_of};

@@ -1,5 +1,5 @@
 //! All orders of a schedule's moves, played one after another.
-ghost use Rattle.std.specs.Prelude.{◌≡◌, IfOk, OnOk};
+ghost use Rattle.std.specs.Prelude.{IfOk, OnOk};
 ghost use Rattle.hek_permute.specs.Found.{Found};
 ghost use Rattle.hek_permute.specs.Tallies.{IsNoted, IsPlayed};
 ghost use Rattle.hek_permute.specs.Wholes.{IsWhole};
