@@ -16,7 +16,7 @@ function heading(said) {
 
 function tableOf(names) {
   const table = document.createElement("table"), head = table.createTHead().insertRow();
-  for (const name of names) cell(head, name, "th");
+  for (const name of names) cell(head, name, "th").className = name;
   return table.createTBody();
 }
 
@@ -42,12 +42,12 @@ function outcome(row, counts, parts) {
 async function showOrders(out, schedule, isStill) {
   const [head, ...rows] = out.trimEnd().split("\n");
   const [, orders] = head.match(/^orders (\d+)/);
-  const own = tableOf(["orders", "ends", "rows at the end", "verdict", "waited", "play"]);
+  const own = tableOf(["orders", "ends", "rows", "verdict", "waited", "play"]);
   for (const line of rows) {
     const [, count, all] = line.match(/^(\d+) (.*)$/), parts = all.split("; ");
     const first = parts.pop().replace(/^first /, ""), waited = parts.pop().replace(/^waited /, "");
     const row = outcome(own.insertRow(), [count], parts);
-    cell(row, BigInt(waited).toLocaleString("en")).className = "n";
+    cell(row, BigInt(waited).toLocaleString("en")).className = "n waited";
     const title = `The first of these orders: ${first}. Ctrl-Z in the text takes it back`;
     const play = cell(row, "");
     play.className = "play";
@@ -58,7 +58,7 @@ async function showOrders(out, schedule, isStill) {
   reveal("plain");
   const got = await hek(["permute", "--levels", NAME], {[NAME]: schedule});
   if (!isStill() || got.status !== 0) return;
-  const levels = tableOf([...LEVELS, "ends", "rows at the end", "verdict"]);
+  const levels = tableOf([...LEVELS, "ends", "rows", "verdict"]);
   for (const line of got.out.trimEnd().split("\n").slice(1)) {
     const words = line.split(" "), said = words.slice(3).join(" ");
     const row = outcome(levels.insertRow(), words.slice(0, 3), said.split("; "));
