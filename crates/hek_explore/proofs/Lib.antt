@@ -1,4 +1,5 @@
 pub mod Bare
+pub mod Equal
 pub mod Grown
 pub mod Extended
 pub mod Outcomes

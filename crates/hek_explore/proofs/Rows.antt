@@ -15,7 +15,7 @@ use Rattle.hek_permute.specs.Orders.{IsAmong, IsBelow}
 use Rattle.hek_permute.proofs.Begun.{among_append}
 use Rattle.hek_permute.specs.Tallies.{AreNoted, many_more, row_for, total}
 use Rattle.hek_explore.specs.Counts.{AreApart, AreCountedOut, AreOf, Group, HasOutcome, IsAhead, IsBefore, IsCensus, IsStart, orders_in, weight_in}
-use Rattle.hek_explore.specs.Deals.{DealsClasses, DealsRows, FitsClass, FitsRow, IsNextLayer, IsTallied, Measure, left_of, no_moves, weigh}
+use Rattle.hek_explore.specs.Deals.{DealsClasses, DealsRows, FitsClass, FitsRow, IsTallied, Measure, left_of, no_moves, weigh}
 use Rattle.hek_explore.specs.Keys.{Shape}
 use Rattle.hek_explore.specs.Steps.{EndsWith, HasKey}
 use Rattle.hek_explore.proofs.Classes.{among-all, among-made, among-more, before-all, before-trans, IsUpTo, start-deals, up-to-all, up-to-none-below}
@@ -230,12 +230,6 @@ module _ (p : Plan) (form : Form) (works : List Work) where
   tallied-next layer rest later g old new o n first is many own noted ends ahead was =
       tallied-more layer later g old new o first own (subst (λ (m : ℕ). AreNoted old new o m first) many noted) ends ahead (subst (λ (l : List Group). IsTalliedTo layer old l) is was)
 
-  pub tallied-all : (layer rest : List Group) (rows : List Line) → rest ≡ [] → IsTalliedTo layer rows rest → IsTallied p form works layer rows
-  tallied-all layer rest rows none was = record {
-    dealt = λ all d. (let s : IsShared all rows [] = subst (λ (l : List Group). IsShared all rows l) none (was.shared all d) in deals-alike no_moves (FitsRow p form works) 0 rows s.done all s.dealt (λ f. omega (arith, s.sum f, s.others f)));
-    apart = was.apart;
-  }
-
   -- ---- all orders
   sum-through : {X Y : Type 0} (f : Y → ℕ) (g : X → Y) (xs : List X) → sum_by f (map g xs) ≡ sum_by (λ x. f (g x)) xs
   sum-through f g [] = refl
@@ -328,11 +322,6 @@ walked-first p form works most done left g layer counts all none start is n e =
     subst (λ (gs : List Group). DealsClasses p form works n gs (λ f. weigh f (all_orders (counts_of form works)) ([] ∷ []))) (sym is)
     (deals-alike left_of (FitsClass p form works) n (g ∷ []) (λ f. weigh f (orders_of n left) ([] ∷ [])) (λ f. weigh f (all_orders (counts_of form works)) ([] ∷ [])) one
     (λ f. ap (λ (m : ℕ). weigh f (orders_of m (counts_of form works)) ([] ∷ [])) (sym moves) ∙ ap (λ (l : List ℕ). weigh f (orders_of n l) ([] ∷ [])) (sym counts)))
-
-pub walked-more : (p : Plan) (form : Form) (works : List Work) (most done next : ℕ) (layer later : List Group) → next ≡ done + 1 → IsNextLayer p form works layer later
-    → IsWalked p form works most done layer → IsWalked p form works most next later
-walked-more p form works most done next layer later is leads was n e =
-    leads n (λ f. weigh f (all_orders (counts_of form works)) ([] ∷ [])) (was (suc n) (omega (arith, e, is)))
 
 pub walked-all : (p : Plan) (form : Form) (works : List Work) (most done : ℕ) (layer : List Group) (rows : List Line) → AreMoves p works → done ≡ most → IsWalked p form works most done layer
     → IsTallied p form works layer rows → IsCensus p form rows

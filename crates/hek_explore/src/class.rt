@@ -1,5 +1,5 @@
 //! Classes of beginnings of orders after which the same can happen.
-ghost use Rattle.std.specs.Prelude.{◌≡◌, [], IfOk, IfSome, IsTrue, OnOk, Some, slice_get};
+ghost use Rattle.std.specs.Prelude.{◌≡◌, [], IfOk, IfSome, IsTrue, OnOk, Some};
 ghost use Rattle.hek_explore.specs.Counts.{AreLike, IsAhead, IsBefore, IsJoined, IsPut};
 
 use crate::key::Key;

@@ -1,5 +1,5 @@
 //! All orders of a schedule's moves at once: beginnings whose plays go on alike are merged.
-ghost use Rattle.std.specs.Prelude.{◌≡◌, ◌+◌, ◌<◌, [], ◌∷◌, ℕ, IfOk, IfSome, OnOk, length, reverse, slice_index};
+ghost use Rattle.std.specs.Prelude.{◌≡◌, ◌+◌, ◌<◌, [], ◌∷◌, IfOk, IfSome, OnOk, length, reverse, slice_index};
 ghost use Rattle.hek_explore.specs.Counts.{Group, IsCensus, IsFewer, IsGrown, IsReplayed, IsStart, IsTried};
 ghost use Rattle.hek_explore.specs.Deals.{IsExtended, IsNextLayer, IsTallied};
 ghost use Rattle.hek_explore.specs.Steps.{EndsWith, HasCome, HasKey, LeadsBy};
