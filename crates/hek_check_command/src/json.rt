@@ -1,6 +1,6 @@
 //! A verdict as objects of JSON.
 use crate::faults::Fault;
-use crate::sources::{Source, missing};
+use crate::sources::{Source, missing_reads};
 use crate::told::Told;
 use hek_report::Lines;
 use hek_rules::{NoMemory, Verdict};
@@ -69,7 +69,7 @@ fn put_fault(
     };
     out.begin_step(told.schedule, number_of(place), event, reply);
     out.put_maybe_reply("serial_reply", told.schedule, fault.serial.as_ref());
-    let missing = missing(alloc, told.transcript, fault)?;
+    let missing = missing_reads(alloc, told.transcript, fault)?;
     put_missing("read", told, missing.read.as_slice(), out);
     put_missing("missed", told, missing.missed.as_slice(), out);
     out.end_line();

@@ -21,7 +21,7 @@ pub(crate) struct Missing {
 }
 
 /// What the reply of an event at fault and its serial reply don't share.
-pub(crate) fn missing(
+pub(crate) fn missing_reads(
     alloc: Global,
     transcript: &Transcript,
     fault: &Fault,

@@ -1,7 +1,7 @@
 //! A verdict as text.
 use crate::check::put_serial_reply;
 use crate::faults::Fault;
-use crate::sources::{Source, missing};
+use crate::sources::{Source, missing_reads};
 use crate::told::Told;
 use hek_report::put;
 use hek_rules::{NoMemory, Verdict};
@@ -82,7 +82,7 @@ fn put_fault(
 ) -> Result<(), NoMemory> {
     put(write!(lines, "{line}; serial reply: "))?;
     put_serial_reply(fault.serial.as_ref(), lines)?;
-    let missing = missing(alloc, told.transcript, fault)?;
+    let missing = missing_reads(alloc, told.transcript, fault)?;
     for (pair, source) in missing.read.as_slice() {
         put_source("; read", *pair, *source, names, lines)?;
     }
