@@ -2,7 +2,7 @@
 //! have had.
 ghost use Rattle.std.specs.Prelude.{◌≡◌, ◌++◌, ◌∷◌, [], codes, MatchResult, IfOk, IfErr, OnOk};
 ghost use Rattle.std.specs.Io.KnownBytes.{Appends};
-ghost use Rattle.std.specs.Option.{option_copied};
+ghost use Rattle.std.specs.Prelude.{option_copied};
 ghost use Rattle.hek_rules.specs.declared.serial.Verdict.TheVariants as verdict;
 ghost use Rattle.hek_report.specs.Files.{IsStop};
 ghost use Rattle.hek_check_command.specs.Checked.{verdict_text, reply_text, serial_line, why_text, judged_as, Checks, CheckFails, Judges};
@@ -116,7 +116,7 @@ fn put_serial_line(
 
 /// Appends a reply of the serial order, or `none`.
 pub(crate) fn put_serial_reply(reply: Option<&Reply>, lines: &mut Vec<u8>) -> Result<(), NoMemory>
-    ensures { OnOk result (lines.new.items ≡ lines.old.items ++ reply_text (option_copied reply)) }
+    ensures { OnOk result (lines.new.items ≡ lines.old.items ++ reply_text (option_copied reply.entry)) }
 {
     match reply {
         Some(reply) => put_reply(reply, lines),
