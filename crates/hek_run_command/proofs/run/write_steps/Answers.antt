@@ -24,12 +24,12 @@ loop-place-preserved g c =
     let before : Passes held whole now (c.loop-place.lines.items ++ (line ++ rest)) =
     subst (λ (xs : List ℕ). Passes held whole now (c.loop-place.lines.items ++ xs))
     (next_line p w es i e r (search rules) (search rules) (c.in_ok-reply.ensures.step.reply _ c.loop-place.invariant.stands)) c.loop-place.invariant.bytes in
-    let gathered : Passes held whole now (c.put_line.new.lines.items ++ rest) =
+    let gathered : Passes held whole now (c.put_line.new.out.items ++ rest) =
     subst (λ (xs : List ℕ). Passes held whole now (xs ++ rest)) (sym c.in_ok-put_line.ensures) (passes-line held now whole c.loop-place.lines.items line rest before) in
     record {
       stands = step_stands p 1 i es e c.loop-place.machine c.step.new.self r (search rules) (search rules) c.loop-place.invariant.stands c.in_ok-reply.ensures.step;
       buckets = c.in_ok-reply.ensures.buckets ∙ c.loop-place.invariant.buckets;
-      bytes = passes-on held now _ whole c.put_line.new.lines.items c.send_if_many.new.lines.items rest gathered c.in_ok-send_if_many.ensures.kept;
+      bytes = passes-on held now _ whole c.put_line.new.out.items c.send_if_many.new.lines.items rest gathered c.in_ok-send_if_many.ensures.kept;
     }
 
 pub returns-clause-written : goal.returns-clause-written
