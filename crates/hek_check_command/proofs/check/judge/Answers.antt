@@ -10,8 +10,8 @@ returns-clause-ok g c =
       verdict = c.in_ok-verdict.verdict;
       right = c.in_ok-verdict.ensures;
       written =
-        subst (λ (xs : List ℕ). Appends (g.W.Write.contents c.args.out.now) (g.W.Write.contents c.send.new.out) xs)
-        (c.in_ok-put_why.ensures ∙ ap (λ (xs : List ℕ). xs ++ why) (c.in_ok-put_verdict.ensures ∙ ap (λ (xs : List ℕ). xs ++ verdict_text c.in_ok-verdict.verdict) c.new-lines.ensures.items))
-        c.in_ok-send.ensures.written;
+          subst (λ (xs : List ℕ). Appends (g.W.Write.contents c.args.out.now) (g.W.Write.contents c.send.new.out) xs)
+          (c.in_ok-put_why.ensures ∙ ap (λ (xs : List ℕ). xs ++ why) (c.in_ok-put_verdict.ensures ∙ ap (λ (xs : List ℕ). xs ++ verdict_text c.in_ok-verdict.verdict) c.new-lines.ensures.items))
+          c.in_ok-send.ensures.written;
       answer = c.status_of.ensures;
     }
