@@ -16,7 +16,7 @@ function heading(said) {
 
 function tableOf(names) {
   const table = document.createElement("table"), head = table.createTHead().insertRow();
-  for (const name of names) cell(head, name, "th").className = name;
+  for (const name of names) cell(head, name, "th").className = /^(waited|play)$/.test(name) ? name : "";
   return table.createTBody();
 }
 
