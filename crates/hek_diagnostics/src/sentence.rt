@@ -19,7 +19,7 @@ pub(crate) enum Listed {
 impl Display for Listed {
     fn fmt<W: fmt::Write>(&self, f: &mut Formatter<W>) -> fmt::Result {
         match *self {
-            Listed::Nothing => Ok(()),
+            Listed::Nothing => f.write_char('^'),
             Listed::Word(word) => f.write_str(word),
             Listed::Words(words) => write!(f, "{words}"),
             Listed::OneOf(choice) => write!(f, "{choice}"),
@@ -28,7 +28,7 @@ impl Display for Listed {
 }
 
 /// A sentence. In its form `@` stands for a word between back-ticks, `~` for the same word without them, `&` for another
-/// word, `$`, `%` and `*` for numbers, and `^` for what the sentence lists.
+/// word, `$`, `%` and `*` for numbers, and `^` for what the sentence lists; where it lists nothing, `^` is itself.
 #[derive(Clone, Copy)]
 pub(crate) struct Sentence<'t> {
     form: &'static str,
