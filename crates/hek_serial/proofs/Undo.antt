@@ -53,6 +53,13 @@ take_one_more xs i x h = ap (λ n. take n xs) (add-one i) ∙ more xs i x h
     more (z ∷ ys) (suc n) y e = ap (λ zs. z ∷ zs) (more ys n y e)
 
 -- the writes so far, with those of one more entry
+pub writes_one_more : (t : ℕ) (h : List (Event × Reply)) (i : ℕ) (e : Event) (r : Reply) → slice_get h i ≡ Some (e, r) →
+    writes_of t (take (i + 1) h) ≡ writes_of t (take i h) ++ write_of t e r
+writes_one_more t h i e r at =
+    ap (writes_of t) (take_one_more h i (e, r) at)
+    ∙ writes_of-append t (take i h) ((e, r) ∷ []) ∙ ap (λ ws. writes_of t (take i h) ++ ws) (append-nil (write_of t e r))
+
+-- the rows under them
 pub lay_one_more : (t : ℕ) (h : List (Event × Reply)) (i : ℕ) (e : Event) (r : Reply) (rows : List (ℕ × ℕ)) → slice_get h i ≡ Some (e, r) →
     lay_all (writes_of t (take (i + 1) h)) rows ≡ lay_all (write_of t e r) (lay_all (writes_of t (take i h)) rows)
 lay_one_more t h i e r rows at =
