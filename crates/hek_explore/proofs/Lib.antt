@@ -2,6 +2,7 @@ pub mod Bare
 pub mod Equal
 pub mod Grown
 pub mod Extended
+pub mod Ordered
 pub mod Outcomes
 pub mod Ranks
 pub mod Taken

@@ -7,14 +7,13 @@ use Rattle.std.specs.List.{All}
 use Rattle.std.specs.Prelude.{◌↔◌, IsTrue, slice_get, is_some, Option}
 use Rattle.hek_rules.specs.declared.event.Event.{Event}
 use Rattle.hek_rules.specs.declared.event.Level.{Level}
-use Rattle.hek_rules.specs.declared.serial.Verdict.TheVariants.{Serial}
 use Rattle.hek_rules.specs.Events.{txn_of}
-use Rattle.hek_rules.specs.Faults.{is_declared, level_of, IsVerdict}
+use Rattle.hek_rules.specs.Faults.{is_declared, level_of}
 use Rattle.hek_rules.specs.Plan.{Plan, IsPlan, IsDeclared, levels_of}
 use Rattle.hek_machine.specs.Observed.{opening_of}
+use Rattle.hek_serial.specs.SerialOrders.{IsSerializability}
 use Rattle.hek_similar.specs.Verdicts.{RecordsRun}
 use Rattle.hek_similar.proofs.Told.{told-judged}
-use Rattle.hek_similar.proofs.Verdicts.{one-verdict}
 use Rattle.hek_similar.proofs.Places.Alike.{alike-rows}
 use Rattle.hek_worker.specs.declared.entry.Entry.{Entry}
 use Rattle.hek_worker.specs.History.{IsEntry, IsHistory, is_that, history_events, recorded_by}
@@ -22,10 +21,11 @@ use Rattle.hek_permute.specs.declared.moves.Form.{Form}
 use Rattle.hek_permute.specs.declared.outcome.Ending.{Ending}
 use Rattle.hek_permute.specs.declared.play.Place.{Place}
 use Rattle.hek_permute.specs.Moves.{Work}
-use Rattle.hek_permute.specs.Outcomes.{end_in, ends_upto, told_as_serializable}
+use Rattle.hek_permute.specs.Outcomes.{end_in, ends_upto}
 use Rattle.hek_explore.specs.Twins.{steps_in, HasPlayed}
 use Rattle.hek_explore.specs.Laws.{TwinsHaveOneOutcome}
 use Rattle.hek_explore.proofs.Grown.{steps-told}
+use Rattle.hek_explore.proofs.Ordered.{verdicts-alike}
 
 -- ---- the record of a play
 some-below : {X : Type 0} (xs : List X) (i : ℕ) → i < length xs → is_some (slice_get xs i) ≡ true
@@ -69,12 +69,12 @@ ends-all (suc n) h k same =
 
 pub one-outcome : TwinsHaveOneOutcome
 one-outcome p form works past others places h k o plan first other twins out =
-    let verdict : IsVerdict (told_as_serializable p h) Serial ↔ IsVerdict (told_as_serializable p k) Serial =
-    one-verdict (recorded_by p h) (recorded_by p k) (records p form works past places h plan first) (records p form works others places k plan other) refl refl
-    (told-judged (steps_in h) (steps_in k) twins.told) in
+    let verdict : IsSerializability (recorded_by p h) o.verdict ↔ IsSerializability (recorded_by p k) o.verdict =
+    verdicts-alike (recorded_by p h) (recorded_by p k) (records p form works past places h plan first) (records p form works others places k plan other) refl refl
+    (told-judged (steps_in h) (steps_in k) twins.told) o.verdict in
     record {
       ends = out.ends ∙ ends-all (length p.txns) h k twins.ends;
       rows = out.rows ∙ alike-rows _ _ twins.worlds;
-      serial = (λ b. verdict.0 (out.serial.0 b), λ v. out.serial.1 (verdict.1 v));
+      verdict = verdict.0 out.verdict;
       waited = out.waited ∙ twins.waited;
     }

@@ -60,10 +60,10 @@ module _ (p : Plan) (form : Form) (works : List Work) where
       (played-with r o key longest qs ends same (All-tail (λ q. HasKey p form works q key longest) q qs all))
 
   self-same : (o : Found) → IsSame o o
-  self-same o = record { ends = refl; rows = refl; serial = refl }
+  self-same o = record { ends = refl; rows = refl; verdict = refl }
 
   turned-same : (x y : Found) → IsSame x y → IsSame y x
-  turned-same x y s = record { ends = sym s.ends; rows = sym s.rows; serial = sym s.serial }
+  turned-same x y s = record { ends = sym s.ends; rows = sym s.rows; verdict = sym s.verdict }
 
   -- what none of a class's beginnings comes before, none of its orders does
   none-below : (o : Found) (qs : List (List ℕ)) (first : List ℕ) → ((q : List ℕ) → IsAmong q qs → IsUpTo first (reverse q))

@@ -6,10 +6,10 @@ use Rattle.hek_permute.specs.Tallies.{IsFirstSame, IsNoted, NoneSame, row_of}
 use Rattle.hek_permute.specs.Sums.{both, IsRowAdded, AreAdded}
 
 same_turned : (x y : Found) → IsSame x y → IsSame y x
-same_turned x y h = record { ends = sym h.ends; rows = sym h.rows; serial = sym h.serial }
+same_turned x y h = record { ends = sym h.ends; rows = sym h.rows; verdict = sym h.verdict }
 
 same_joined : (x y z : Found) → IsSame x y → IsSame y z → IsSame x z
-same_joined x y z h g = record { ends = h.ends ∙ g.ends; rows = h.rows ∙ g.rows; serial = h.serial ∙ g.serial }
+same_joined x y z h g = record { ends = h.ends ∙ g.ends; rows = h.rows ∙ g.rows; verdict = h.verdict ∙ g.verdict }
 
 -- a tally has a row of the same outcome
 abbrev pub HasSame : List Line → Line → Type 0

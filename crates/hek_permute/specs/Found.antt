@@ -1,19 +1,20 @@
 -- The outcome of an order.
 use Rattle.std.specs.Prelude.{ℕ, ◌≡◌, Bool, List}
+use Rattle.hek_serial.specs.declared.serializability.Serializability.{Serializability}
 use Rattle.hek_permute.specs.declared.outcome.Ending.{Ending}
 
--- how each transaction ended, the committed rows, whether the history is serial, and whether a transaction had to wait
+-- how each transaction ended, the committed rows, whether those that committed can follow one another, and whether a transaction had to wait
 pub record Found : Type 0 where
   pub ends : List Ending
   pub rows : List (ℕ × ℕ)
-  pub serial : Bool
+  pub verdict : Serializability
   pub waited : Bool
 
 -- two equal outcomes; whether a transaction had to wait does not count
 pub record IsSame (x y : Found) : Type 0 where
   pub ends : x.ends ≡ y.ends
   pub rows : x.rows ≡ y.rows
-  pub serial : x.serial ≡ y.serial
+  pub verdict : x.verdict ≡ y.verdict
 
 -- an outcome, how many orders have it, in how many of them a transaction had to wait, and the first order
 pub record Line : Type 0 where

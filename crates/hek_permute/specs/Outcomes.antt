@@ -1,17 +1,13 @@
 -- The outcome of a history.
-use Rattle.std.specs.Prelude.{ℕ, suc, zero, ◌≡◌, ◌+◌, ◌↔◌, Bool, true, false, ◌==◌, ◌||◌, if◌then◌else◌, IsTrue, List, [], ◌∷◌, ◌++◌, length}
+use Rattle.std.specs.Prelude.{ℕ, suc, zero, ◌≡◌, ◌+◌, Bool, true, false, ◌==◌, ◌||◌, if◌then◌else◌, List, [], ◌∷◌, ◌++◌, length}
 use Rattle.hek_rules.specs.declared.event.Cause.TheVariants as cause
-use Rattle.hek_rules.specs.declared.event.Level.TheVariants.{Serializable}
 use Rattle.hek_rules.specs.declared.reply.Reply.{Reply}
 use Rattle.hek_rules.specs.declared.reply.Reply.TheVariants as reply
-use Rattle.hek_rules.specs.declared.serial.Verdict.TheVariants.{Serial}
 use Rattle.hek_rules.specs.Plan.{Plan}
-use Rattle.hek_rules.specs.Recorded.{Recorded}
-use Rattle.hek_rules.specs.Faults.{IsVerdict}
 use Rattle.hek_rules.specs.Shown.{committed_rows}
 use Rattle.hek_rules.specs.Run.{run}
 use Rattle.hek_machine.specs.Observed.{opening_of}
-use Rattle.hek_serial.specs.Leveled.{at_level}
+use Rattle.hek_serial.specs.SerialOrders.{IsSerializability}
 use Rattle.hek_worker.specs.declared.entry.Entry.{Entry}
 use Rattle.hek_worker.specs.History.{history_events, recorded_by}
 use Rattle.hek_permute.specs.declared.outcome.Ending.{Ending}
@@ -45,13 +41,9 @@ abbrev pub has_wait : List Entry → Bool
 has_wait [] = false
 has_wait (x ∷ xs) = is_wait x.reply || has_wait xs
 
--- the transcript of a history, with all transactions taken as serializable
-abbrev pub told_as_serializable : Plan → List Entry → Recorded
-told_as_serializable p xs = at_level Serializable (recorded_by p xs)
-
 -- the outcome of a history
 pub record IsOutcomeOf (p : Plan) (history : List Entry) (o : Found) : Type 0 where
   pub ends : o.ends ≡ ends_upto (length p.txns) history
   pub rows : o.rows ≡ committed_rows (run (opening_of p 1) (history_events history))
-  pub serial : IsTrue o.serial ↔ IsVerdict (told_as_serializable p history) Serial
+  pub verdict : IsSerializability (recorded_by p history) o.verdict
   pub waited : o.waited ≡ has_wait history

@@ -1,13 +1,14 @@
-//! The outcome of an order: how each transaction ended, the rows at the end, and the checker's verdict.
+//! The outcome of an order: how each transaction ended, the rows at the end, and whether the committed transactions can
+//! follow one another.
 ghost use Rattle.std.specs.Prelude.{◌≡◌, ◌↔◌, IfOk, IsTrue};
 ghost use Rattle.hek_worker.specs.History.{Replays};
-ghost use Rattle.hek_permute.specs.Outcomes.{IsOutcomeOf, end_in, ends_upto, told_as_serializable, has_wait};
-ghost use Rattle.hek_rules.specs.Faults.{IsVerdict};
-ghost use Rattle.hek_rules.specs.declared.serial.Verdict.TheVariants as verdict;
+ghost use Rattle.hek_permute.specs.Outcomes.{IsOutcomeOf, end_in, ends_upto, has_wait};
+ghost use Rattle.hek_serial.specs.SerialOrders.{IsSerializability};
+ghost use Rattle.hek_worker.specs.History.{recorded_by};
 
 use crate::play::Play;
-use hek_rules::{Cause, Level, NoMemory, Pairs, Reply, Schedule, TxnId, Verdict};
-use hek_serial::check_at;
+use hek_rules::{Cause, NoMemory, Pairs, Reply, Schedule, TxnId};
+use hek_serial::{Serializability, serializability_of};
 use hek_worker::{Entry, transcript_of};
 use std::alloc::Global;
 use std::marker::Model;
@@ -21,13 +22,13 @@ pub enum Ending {
     Unended,
 }
 
-/// How each transaction ended, by ID; the committed rows at the end, by key; whether the checker finds the history
-/// serial with all transactions taken as serializable; and whether a transaction had to wait.
+/// How each transaction ended, by ID; the committed rows at the end, by key; whether the committed transactions can
+/// follow one another, all taken as serializable; and whether a transaction had to wait.
 #[derive(Drop, Debug)]
 pub struct Outcome {
     ends: Vec<Ending>,
     rows: Pairs,
-    serial: bool,
+    verdict: Serializability,
     waited: bool,
 }
 
@@ -36,7 +37,7 @@ impl Model for Outcome {
 
     ghost Value = { Found };
 
-    ghost view = { λ o. record { ends = o.ends.items; rows = o.rows; serial = o.serial; waited = o.waited } };
+    ghost view = { λ o. record { ends = o.ends.items; rows = o.rows; verdict = o.verdict; waited = o.waited } };
 }
 
 impl Outcome {
@@ -54,11 +55,12 @@ impl Outcome {
         &self.rows
     }
 
-    /// Whether the checker calls the history serial, with all transactions taken as serializable.
-    pub fn serial(&self) -> bool
-        ensures { result ≡ self.now.serial }
+    /// Whether the committed transactions can follow one another, all taken as serializable: by end time, in another
+    /// order, or in none.
+    pub fn verdict(&self) -> Serializability
+        ensures { result ≡ self.now.verdict }
     {
-        self.serial
+        self.verdict
     }
 
     /// Whether a transaction had to wait.
@@ -72,10 +74,10 @@ impl Outcome {
     pub fn same(&self, other: &Outcome) -> bool
         ensures { IsTrue result ↔ IsSame self.now other.now }
     {
-        let serial = self.serial == other.serial;
+        let verdict = self.verdict == other.verdict;
         let ends = self.ends == other.ends;
         let rows = self.rows.same(&other.rows);
-        serial & ends & rows
+        verdict & ends & rows
     }
 }
 
@@ -90,11 +92,11 @@ pub fn outcome_of(alloc: Global, schedule: &Schedule, play: Play) -> Result<Outc
     let ends = ends_of(alloc, schedule.txn_count(), history.as_slice())?;
     let waited = some_waited(history.as_slice());
     let rows = machine.rows()?;
-    let serial = is_serial(alloc, schedule, history)?;
+    let verdict = verdict_of(alloc, schedule, history)?;
     Ok(Outcome {
         ends,
         rows,
-        serial,
+        verdict,
         waited,
     })
 }
@@ -151,13 +153,14 @@ pub(crate) fn is_wait(reply: &Reply) -> bool
     matches!(reply, Reply::Waiting(_) | Reply::WaitingCommits(_))
 }
 
-/// Whether the checker finds no fault in the history, with all transactions taken as serializable.
-fn is_serial(alloc: Global, schedule: &Schedule, history: Vec<Entry>) -> Result<bool, NoMemory>
-    ensures { IfOk result (λ b. IsTrue b ↔ IsVerdict (told_as_serializable schedule.now history.items) verdict.Serial) }
+/// Whether the committed transactions of a history can follow one another, all taken as serializable.
+fn verdict_of(
+    alloc: Global,
+    schedule: &Schedule,
+    history: Vec<Entry>,
+) -> Result<Serializability, NoMemory>
+    ensures { IfOk result (λ verdict. IsSerializability (recorded_by schedule.now history.items) verdict) }
 {
     let told = transcript_of(alloc, schedule, history)?;
-    match check_at(alloc, &told, Level::Serializable)? {
-        Verdict::Serial => Ok(true),
-        Verdict::NotSerial(_) => Ok(false),
-    }
+    serializability_of(alloc, &told)
 }

@@ -112,7 +112,7 @@ names-apart (x ∷ xs) a = (none xs a.0, names-apart xs a.1)
     none [] e = refl
     none (y ∷ ys) e = or_from (y.1 == x.1) _ e.1 (none ys e.2)
 
-filter-among : (kept : ℕ → Bool) (ts : List ℕ) (t : ℕ) → is_among (filter kept ts) t ≡ true → is_among ts t ≡ true
+pub filter-among : (kept : ℕ → Bool) (ts : List ℕ) (t : ℕ) → is_among (filter kept ts) t ≡ true → is_among ts t ≡ true
 filter-among kept [] t i = i
 filter-among kept (u ∷ us) t i =
     cond_both (kept u) (u ∷ filter kept us) (filter kept us) (λ l. is_among l t ≡ true → is_among (u ∷ us) t ≡ true)

@@ -34,12 +34,12 @@ use Rattle.hek_similar.proofs.Ended.{names, drawn-names, among-filter, filter-ke
 
 -- each event is of a declared transaction, or of none; each committed transaction drew an end time before, and no two
 -- have the same one; and end times were drawn in rising order, each transaction's once
-record Orderly (s : Recorded) : Type 0 where
-  declared : (i : ℕ) (e : Event) (r : Reply) → slice_get s.history i ≡ Some (e, r) → is_declared s.levels (txn_of e) ≡ true
-  commits : (i : ℕ) (e : Event) (r : Reply) → slice_get s.history i ≡ Some (e, r) → commits_anew (take i s.history) (committed_by e r) ≡ true
-  drew : (t : ℕ) → is_among (committed_in s.history) t ≡ true → (time : ℕ) × (end_of t s.history ≡ Some time)
-  ascends : Ascends (order_in s.history)
-  order : serial_order s.history ≡ filter (λ (x : ℕ × ℕ). is_among (committed_in s.history) x.1) (order_in s.history)
+pub record Orderly (s : Recorded) : Type 0 where
+  pub declared : (i : ℕ) (e : Event) (r : Reply) → slice_get s.history i ≡ Some (e, r) → is_declared s.levels (txn_of e) ≡ true
+  pub commits : (i : ℕ) (e : Event) (r : Reply) → slice_get s.history i ≡ Some (e, r) → commits_anew (take i s.history) (committed_by e r) ≡ true
+  pub drew : (t : ℕ) → is_among (committed_in s.history) t ≡ true → (time : ℕ) × (end_of t s.history ≡ Some time)
+  pub ascends : Ascends (order_in s.history)
+  pub order : serial_order s.history ≡ filter (λ (x : ℕ × ℕ). is_among (committed_in s.history) x.1) (order_in s.history)
 
 -- the event at a place of a run
 event-at : (w : World) (es : List Event) (i : ℕ) (e : Event) (r : Reply) → slice_get (transcript w es) i ≡ Some (e, r) → slice_get es i ≡ Some e
@@ -71,7 +71,7 @@ run-orderly buckets clock rows levels events distinct first declared =
       order = k.order.committed_order;
     }
 
-orderly : (s : Recorded) → RecordsRun s → Orderly s
+pub orderly : (s : Recorded) → RecordsRun s → Orderly s
 orderly s r =
     let same : s ≡ recorded_run s.buckets s.rows s.levels r.clock r.events = λ i. record { buckets = s.buckets; rows = s.rows; levels = s.levels; history = r.history i } in
     subst Orderly (sym same) (run-orderly s.buckets r.clock s.rows s.levels r.events r.distinct r.first r.declared)
@@ -243,7 +243,7 @@ one-way s u rs ru buckets rows alike verdict =
     (subst (λ rs. AreRightInTurn u.buckets (part u) (put_all rs []) (ended_in s.history)) rows
     (subst (λ b. AreRightInTurn b (part u) (put_all s.rows []) (ended_in s.history)) buckets turns)))
 
-alike-back : (h g : List (Event × Reply)) → JudgedAlike h g → JudgedAlike g h
+pub alike-back : (h g : List (Event × Reply)) → JudgedAlike h g → JudgedAlike g h
 alike-back h g alike = record { ended = sym alike.ended; parts = λ t i. sym (alike.parts t (ap (λ ts. is_among ts t) alike.ended ∙ i)) }
 
 pub one-verdict : JudgedAlikeHaveOneVerdict
