@@ -1,14 +1,12 @@
 //! The command `history`: whether a log has a serial order, and if not, why not. Also the log of a run of the machine.
 #![tactic(auto)]
 
-mod anomaly_words;
 mod choice;
 mod counts;
 mod forgetting;
 mod history;
 mod order_lines;
 mod run_log;
-mod turned;
 mod twins;
 mod verdict_json;
 mod verdict_text;

@@ -1,8 +1,8 @@
 //! A verdict as text.
-use crate::anomaly_words::{anomaly_name, cycle_lines};
 use crate::counts::Counts;
 use hek_history::Order;
 use hek_history_log::Log;
+use hek_history_report::{anomaly_name, cycle_lines};
 use hek_history_search::{Cause, Progress};
 use hek_report::put;
 use hek_rules::NoMemory;

@@ -1,13 +1,16 @@
 //! The shortest beginning of an order in which something comes, as a schedule.
+use crate::details::details_of;
 use crate::one::{Played, fault_of, leveled};
 use crate::progress::Progress;
 use hek_asm::{TraceFault, read_trace};
+use hek_history_report::Together;
 use hek_permute::{
     Form, Moves, OrderFault, Outcome, Play, Sought, Watch, find_order, first_order, moves_of,
     play_all, play_order,
 };
 use hek_report::HekFault;
 use hek_rules::{Event, NoMemory, Reply, Schedule, TxnId};
+use hek_serial::Serializability;
 use std::alloc::Global;
 use std::io::Write;
 
@@ -15,8 +18,8 @@ use std::io::Write;
 #[derive(Drop)]
 enum Wanted {
     Reply(Sought),
-    /// An order whose history is not serial.
-    NotSerial,
+    /// An order with this verdict.
+    Verdict(Serializability),
 }
 
 /// The moves after which it came, and how many moves an order has.
@@ -31,14 +34,24 @@ struct Beginning {
 pub(crate) struct Found {
     /// The moves, and the schedule of their play up to the event that has the reply.
     pub(crate) played: Played,
-    /// Whether a reply was looked for.
-    pub(crate) is_reply: bool,
+    /// Whether those that committed can follow one another, if a verdict was looked for.
+    pub(crate) together: Option<Together>,
 }
 
-/// What a text asks for: `not serial`, a reply, or a name and a reply.
+/// The verdict that a text asks for: as it is printed, or `another order` for short.
+fn verdict_named(text: &str) -> Option<Serializability> {
+    match text {
+        "serial" => Some(Serializability::ByEndTime),
+        "serial in another order" | "another order" => Some(Serializability::InAnotherOrder),
+        "not serial" => Some(Serializability::NotSerial),
+        _ => None,
+    }
+}
+
+/// What a text asks for: a verdict, a reply, or a name and a reply.
 fn wanted_of<'a>(alloc: Global, schedule: &Schedule, text: &str) -> Result<Wanted, HekFault<'a>> {
-    if text == "not serial" {
-        return Ok(Wanted::NotSerial);
+    if let Some(verdict) = verdict_named(text) {
+        return Ok(Wanted::Verdict(verdict));
     }
     if let Some(reply) = reply_named(alloc, schedule, text)? {
         return Ok(Wanted::Reply(Sought { who: None, reply }));
@@ -94,7 +107,7 @@ fn beginning_of<'a, E: Write>(
     let most = first_order(alloc, moves.as_slice(), form)?.len();
     let found = match wanted {
         Wanted::Reply(sought) => find_order(alloc, schedule, form, sought, progress),
-        Wanted::NotSerial => first_not_serial(alloc, schedule, form, progress),
+        Wanted::Verdict(verdict) => first_with(alloc, schedule, form, *verdict, progress),
     };
     match found {
         Ok(Some(moves)) => Ok(Some(Beginning { moves, most })),
@@ -103,18 +116,19 @@ fn beginning_of<'a, E: Write>(
     }
 }
 
-/// A watcher that keeps the first order whose history is not serial.
+/// A watcher that keeps the first order with a verdict.
 #[derive(Drop)]
-struct NotSerial<'p, 'e, E: Write> {
+struct FirstWith<'p, 'e, E: Write> {
     alloc: Global,
+    verdict: Serializability,
     progress: &'p mut Progress<'e, E>,
     order: Option<Vec<TxnId>>,
 }
 
-impl<E: Write> Watch for NotSerial<'_, '_, E> {
+impl<E: Write> Watch for FirstWith<'_, '_, E> {
     fn see(&mut self, order: &[TxnId], outcome: &Outcome) -> bool {
         self.progress.count();
-        if outcome.serial() {
+        if outcome.verdict() != self.verdict {
             return true;
         }
         if let Ok(order) = Vec::from_slice(self.alloc, order) {
@@ -124,15 +138,17 @@ impl<E: Write> Watch for NotSerial<'_, '_, E> {
     }
 }
 
-/// The first order whose history is not serial.
-fn first_not_serial<E: Write>(
+/// The first order with a verdict.
+fn first_with<E: Write>(
     alloc: Global,
     schedule: &Schedule,
     form: Form,
+    verdict: Serializability,
     progress: &mut Progress<'_, E>,
 ) -> Result<Option<Vec<TxnId>>, OrderFault> {
-    let mut watch = NotSerial {
+    let mut watch = FirstWith {
         alloc,
+        verdict,
         progress,
         order: None,
     };
@@ -200,12 +216,30 @@ pub(crate) fn found_in<'a, E: Write>(
 ) -> Result<Option<Found>, HekFault<'a>> {
     let wanted = wanted_of(alloc, schedule, text)?;
     match beginning_of(alloc, schedule, form, &wanted, progress)? {
-        Some(found) => Ok(Some(Found {
-            played: played_of(alloc, schedule, form, &wanted, found)?,
-            is_reply: matches!(wanted, Wanted::Reply(_)),
-        })),
+        Some(found) => Ok(Some(found_of(alloc, schedule, form, &wanted, found)?)),
         None => Ok(None),
     }
+}
+
+/// What was found, with its play.
+fn found_of<'a>(
+    alloc: Global,
+    schedule: &Schedule,
+    form: Form,
+    wanted: &Wanted,
+    found: Beginning,
+) -> Result<Found, HekFault<'a>> {
+    let together = match wanted {
+        Wanted::Reply(_) => None,
+        Wanted::Verdict(verdict) => {
+            let order = found.moves.as_slice();
+            Some(details_of(alloc, schedule, form, order, *verdict)?)
+        }
+    };
+    Ok(Found {
+        played: played_of(alloc, schedule, form, wanted, found)?,
+        together,
+    })
 }
 
 /// The events of a play up to the first that has the reply; all, if none is asked for.

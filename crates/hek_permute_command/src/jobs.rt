@@ -69,6 +69,13 @@ fn lines_played<'a, T: Threads + Sync>(
     let played = play_parts(system, alloc, leveled, choice.form, from, to, jobs);
     let tally = sorted(played)?;
     let mut lines = Vec::new(alloc);
-    put_tally(alloc, choice.printing, leveled, &tally, &mut lines)?;
+    put_tally(
+        alloc,
+        choice.printing,
+        leveled,
+        choice.form,
+        &tally,
+        &mut lines,
+    )?;
     Ok(lines)
 }

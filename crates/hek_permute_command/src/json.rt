@@ -1,18 +1,26 @@
 //! Orders and outcomes as objects of JSON.
 use crate::counts::{count_of, is_first, orders_of};
+use crate::details::details_of;
+use crate::find::Found;
 use crate::one::Played;
-use hek_permute::{Ending, Outcome, Row, Tally};
-use hek_report::{Lines, Printing, StateText};
+use hek_history_report::{Together, put_members, put_verdict};
+use hek_permute::{Ending, Form, Outcome, Row, Tally};
+use hek_report::{HekFault, Lines, Printing, StateText};
 use hek_rules::{Level, NoMemory, Schedule, State, TxnId};
 use hek_run_command::put_run;
 use hek_step_report::Extras;
 use std::alloc::Global;
 
-/// How each transaction ended, the rows and the verdict.
+/// How each transaction ended, and the rows.
 fn put_outcome(schedule: &Schedule, outcome: &Outcome, out: &mut Lines) {
     put_ends(schedule, outcome.ends(), out);
     out.put_rows(outcome.rows().items());
-    out.put_flag("serial", outcome.serial());
+}
+
+/// How each transaction ended, the rows and the word of the verdict.
+fn put_judged(schedule: &Schedule, outcome: &Outcome, out: &mut Lines) {
+    put_outcome(schedule, outcome, out);
+    put_verdict(outcome.verdict(), out);
 }
 
 /// How each transaction ended, by ID.
@@ -34,30 +42,48 @@ fn put_ends(schedule: &Schedule, ends: &[Ending], out: &mut Lines) {
 }
 
 /// The lines of a tally: how many orders were played and how many outcomes they have, then each row.
-pub(crate) fn put_tally(schedule: &Schedule, tally: &Tally, out: &mut Lines) {
+pub(crate) fn put_tally<'a>(
+    alloc: Global,
+    schedule: &Schedule,
+    form: Form,
+    tally: &Tally,
+    out: &mut Lines,
+) -> Result<(), HekFault<'a>> {
     out.begin_line();
     out.put_number("orders", orders_of(tally));
     out.put_number("outcomes", tally.rows().len() as u64);
     out.end_line();
     for row in tally.rows() {
-        put_row(schedule, row, out);
+        let verdict = row.outcome().verdict();
+        let details = details_of(alloc, schedule, form, row.first(), verdict)?;
+        put_row(alloc, schedule, row, &details, out)?;
     }
+    Ok(())
 }
 
-fn put_row(schedule: &Schedule, row: &Row, out: &mut Lines) {
+/// A row of the tally, with what is said of the verdict of its first order.
+fn put_row(
+    alloc: Global,
+    schedule: &Schedule,
+    row: &Row,
+    details: &Together,
+    out: &mut Lines,
+) -> Result<(), NoMemory> {
     out.begin_line();
     out.put_number("orders", row.orders());
     put_outcome(schedule, row.outcome(), out);
+    put_members(alloc, schedule, details, out)?;
     out.put_number("waited", row.waited());
     out.put_names("first", schedule, row.first());
     out.end_line();
+    Ok(())
 }
 
 /// The line of an order with its outcome.
 pub(crate) fn put_order(schedule: &Schedule, order: &[TxnId], outcome: &Outcome, out: &mut Lines) {
     out.begin_line();
     out.put_names("order", schedule, order);
-    put_outcome(schedule, outcome, out);
+    put_judged(schedule, outcome, out);
     out.put_flag("waited", outcome.waited());
     out.end_line();
 }
@@ -83,15 +109,14 @@ fn put_leveled(schedule: &Schedule, tallies: &[Tally], outcome: &Outcome, out: &
         out.put_number((*level).word(), count_of(tally, outcome));
     }
     out.end_object();
-    put_outcome(schedule, outcome, out);
+    put_judged(schedule, outcome, out);
     out.end_line();
 }
 
-/// The moves of an order, or of the beginning of one, and the steps of their play.
+/// The moves of an order, and the steps of their play.
 pub(crate) fn put_played(
     alloc: Global,
     played: &Played,
-    extras: Extras,
     lines: &mut Vec<u8>,
 ) -> Result<(), NoMemory> {
     let mut objects = Lines::after(alloc, lines);
@@ -100,7 +125,29 @@ pub(crate) fn put_played(
     objects.put_number("of", played.most as u64);
     objects.end_line();
     objects.put_back(lines)?;
-    put_run(alloc, &played.schedule, extras, Printing::Json, lines)
+    put_run(alloc, &played.schedule, Extras::NONE, Printing::Json, lines)
+}
+
+/// The moves of the beginning that was found, with the verdict if one was looked for, and the steps of their play with the
+/// reasons of the last one.
+pub(crate) fn put_found(alloc: Global, found: &Found, lines: &mut Vec<u8>) -> Result<(), NoMemory> {
+    let played = &found.played;
+    let mut objects = Lines::after(alloc, lines);
+    objects.begin_line();
+    objects.put_names("moves", &played.schedule, played.moves.as_slice());
+    objects.put_number("of", played.most as u64);
+    if let Some(together) = &found.together {
+        put_members(alloc, &played.schedule, together, &mut objects)?;
+    }
+    objects.end_line();
+    objects.put_back(lines)?;
+    put_run(
+        alloc,
+        &played.schedule,
+        Extras::REASONS,
+        Printing::Json,
+        lines,
+    )
 }
 
 /// The line that says that none of these orders has what was looked for.

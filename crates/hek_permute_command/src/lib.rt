@@ -4,6 +4,7 @@
 mod auto;
 mod choice;
 mod counts;
+mod details;
 mod find;
 mod jobs;
 mod json;

@@ -214,7 +214,7 @@ fn put_counts<'a, E: Write>(
     let Some(tally) = tally_of(alloc, schedule, choice.form, extent, progress)? else {
         return Ok(None);
     };
-    put_tally(alloc, choice.printing, schedule, &tally, lines)?;
+    put_tally(alloc, choice.printing, schedule, choice.form, &tally, lines)?;
     Ok(Some(0))
 }
 

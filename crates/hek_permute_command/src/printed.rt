@@ -2,10 +2,9 @@
 use crate::find::Found;
 use crate::one::Played;
 use crate::{json, text};
-use hek_permute::{Outcome, Tally};
-use hek_report::{Lines, Printing};
+use hek_permute::{Form, Outcome, Tally};
+use hek_report::{HekFault, Lines, Printing};
 use hek_rules::{NoMemory, Schedule, TxnId};
-use hek_step_report::Extras;
 use std::alloc::Global;
 
 /// Appends the line of an order with its outcome.
@@ -28,19 +27,21 @@ pub(crate) fn put_order(
 }
 
 /// Appends the number of orders, and each outcome.
-pub(crate) fn put_tally(
+pub(crate) fn put_tally<'a>(
     alloc: Global,
     printing: Printing,
     schedule: &Schedule,
+    form: Form,
     tally: &Tally,
     lines: &mut Vec<u8>,
-) -> Result<(), NoMemory> {
+) -> Result<(), HekFault<'a>> {
     match printing {
-        Printing::Text => text::put_tally(schedule, tally, lines),
+        Printing::Text => text::put_tally(alloc, schedule, form, tally, lines),
         Printing::Json => {
             let mut objects = Lines::after(alloc, lines);
-            json::put_tally(schedule, tally, &mut objects);
-            objects.put_back(lines)
+            json::put_tally(alloc, schedule, form, tally, &mut objects)?;
+            objects.put_back(lines)?;
+            Ok(())
         }
     }
 }
@@ -72,7 +73,7 @@ pub(crate) fn put_played(
 ) -> Result<(), NoMemory> {
     match printing {
         Printing::Text => text::put_played(alloc, played, lines),
-        Printing::Json => json::put_played(alloc, played, Extras::NONE, lines),
+        Printing::Json => json::put_played(alloc, played, lines),
     }
 }
 
@@ -85,7 +86,7 @@ pub(crate) fn put_found(
 ) -> Result<(), NoMemory> {
     match printing {
         Printing::Text => text::put_found(alloc, found, lines),
-        Printing::Json => json::put_played(alloc, &found.played, Extras::REASONS, lines),
+        Printing::Json => json::put_found(alloc, found, lines),
     }
 }
 

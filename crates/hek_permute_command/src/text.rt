@@ -1,10 +1,12 @@
 //! Orders and outcomes as text.
 use crate::counts::{count_of, is_first, orders_of};
+use crate::details::details_of;
 use crate::find::Found;
 use crate::one::Played;
 use hek_asm::{canonical, put_reply};
-use hek_permute::{Ending, Outcome, Row, Tally};
-use hek_report::{Printing, is_named, put};
+use hek_history_report::{Together, put_details, put_phrase, verdict_word};
+use hek_permute::{Ending, Form, Outcome, Row, Tally};
+use hek_report::{HekFault, Printing, is_named, put};
 use hek_rules::{Level, NoMemory, Reply, Schedule, TxnId};
 use hek_run_command::put_run;
 use hek_step_report::Extras;
@@ -24,12 +26,8 @@ pub fn put_outcome(
         text.extend_from_slice(b"; ")?;
     }
     put_reply(&Reply::Rows(outcome.rows().copy()?), text)?;
-    let verdict = if outcome.serial() {
-        "; serial"
-    } else {
-        "; not serial"
-    };
-    text.extend_from_slice(verdict.as_bytes())?;
+    text.extend_from_slice(b"; ")?;
+    text.extend_from_slice(verdict_word(outcome.verdict()).as_bytes())?;
     Ok(())
 }
 
@@ -81,27 +79,37 @@ pub(crate) fn put_order(
 }
 
 /// A line with the number of orders, and a line for each outcome.
-pub(crate) fn put_tally(
+pub(crate) fn put_tally<'a>(
+    alloc: Global,
     schedule: &Schedule,
+    form: Form,
     tally: &Tally,
     text: &mut Vec<u8>,
-) -> Result<(), NoMemory> {
+) -> Result<(), HekFault<'a>> {
     let (orders, outcomes) = (orders_of(tally), tally.rows().len());
     put(writeln!(text, "orders {orders} outcomes {outcomes}"))?;
     for row in tally.rows() {
-        put_row(schedule, row, text)?;
+        let verdict = row.outcome().verdict();
+        let details = details_of(alloc, schedule, form, row.first(), verdict)?;
+        put_row(schedule, row, &details, text)?;
     }
     Ok(())
 }
 
-/// A row of the tally.
-fn put_row(schedule: &Schedule, row: &Row, text: &mut Vec<u8>) -> Result<(), NoMemory> {
+/// A row of the tally, with what is said of the verdict of its first order.
+fn put_row(
+    schedule: &Schedule,
+    row: &Row,
+    details: &Together,
+    text: &mut Vec<u8>,
+) -> Result<(), NoMemory> {
     let orders = row.orders();
     put(write!(text, "{orders} "))?;
     put_outcome(schedule, row.outcome(), text)?;
     let waited = row.waited();
     put(write!(text, "; waited {waited}; first "))?;
     put_names(schedule, row.first(), text)?;
+    put_details(schedule, details, text)?;
     text.push(b'\n')?;
     Ok(())
 }
@@ -162,14 +170,15 @@ pub(crate) fn put_none(orders: u64, text: &mut Vec<u8>) -> Result<(), NoMemory> 
 }
 
 /// A comment with the moves, `# after M of N moves: NAMES`, and the schedule of their play. If a reply was looked for, its
-/// line of the trace and its reasons are before the last step, as comments.
+/// line of the trace and its reasons are before the last step, as comments; if a verdict was, it is after the moves.
 pub(crate) fn put_found(alloc: Global, found: &Found, text: &mut Vec<u8>) -> Result<(), NoMemory> {
     let played = &found.played;
     put_heading(played, text)?;
+    put_together(found, text)?;
     let schedule = canonical(alloc, &played.schedule)?;
     let (front, last) = at_last_step(schedule.as_bytes());
     text.extend_from_slice(front)?;
-    if found.is_reply {
+    if found.together.is_none() {
         put_reasons(alloc, &played.schedule, text)?;
     }
     text.extend_from_slice(last)?;
@@ -181,6 +190,17 @@ fn put_heading(played: &Played, text: &mut Vec<u8>) -> Result<(), NoMemory> {
     let most = played.most;
     put(write!(text, "# after {made} of {most} moves: "))?;
     put_names(&played.schedule, played.moves.as_slice(), text)?;
+    text.push(b'\n')?;
+    Ok(())
+}
+
+/// The verdict on what was found, as a comment, if a verdict was looked for.
+fn put_together(found: &Found, text: &mut Vec<u8>) -> Result<(), NoMemory> {
+    let Some(together) = &found.together else {
+        return Ok(());
+    };
+    text.extend_from_slice(b"# ")?;
+    put_phrase(&found.played.schedule, together, text)?;
     text.push(b'\n')?;
     Ok(())
 }

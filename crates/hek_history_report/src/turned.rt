@@ -3,7 +3,7 @@ use hek_history::Writer;
 use hek_history_search::{Cause, CycleEdge};
 
 /// Turns a cycle so that it begins with the opening, or else with the transaction whose line is first in the log.
-pub(crate) fn turn(cause: &mut Cause) {
+pub fn turn(cause: &mut Cause) {
     let edges = cause.cycle.as_slice();
     if !is_cycle(edges) {
         return;

@@ -7,7 +7,7 @@ use std::alloc::{AllocError, Global};
 use std::fmt;
 
 /// The name of an anomaly, with its sign in the literature if it has one.
-pub(crate) fn anomaly_name(anomaly: Anomaly) -> &'static str {
+pub fn anomaly_name(anomaly: Anomaly) -> &'static str {
     match anomaly {
         Anomaly::DirtyWrite => "dirty write (G0)",
         Anomaly::AbortedRead => "aborted read (G1a)",
@@ -44,7 +44,7 @@ pub(crate) fn kind_word(kind: EdgeKind) -> &'static str {
 
 /// A transaction by its name, or the opening rows.
 #[derive(Clone, Copy)]
-enum Who<'a> {
+pub(crate) enum Who<'a> {
     Opening,
     Transaction(Label<'a>),
 }
@@ -58,7 +58,7 @@ impl fmt::Display for Who<'_> {
     }
 }
 
-fn writer_name(log: &Log, writer: Writer) -> Who<'_> {
+pub(crate) fn writer_name(log: &Log, writer: Writer) -> Who<'_> {
     match writer {
         Writer::Opening => Who::Opening,
         Writer::Transaction(place) => Who::Transaction(log.name(place)),
@@ -86,7 +86,7 @@ fn reading_words(
 }
 
 /// Why the first of an edge is before the second.
-pub(crate) fn edge_words(
+pub fn edge_words(
     alloc: Global,
     log: &Log,
     anomaly: Anomaly,
@@ -215,11 +215,7 @@ fn own_words(
 }
 
 /// The lines of a cycle: each edge in words, and in a column after them which transaction is before which.
-pub(crate) fn cycle_lines(
-    alloc: Global,
-    log: &Log,
-    cause: &Cause,
-) -> Result<Vec<String>, NoMemory> {
+pub fn cycle_lines(alloc: Global, log: &Log, cause: &Cause) -> Result<Vec<String>, NoMemory> {
     let texts = edge_texts(alloc, log, cause)?;
     let edges = cause.cycle.as_slice();
     let width = widest(texts.as_slice());

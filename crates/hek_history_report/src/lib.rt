@@ -1,0 +1,15 @@
+//! What is said of serial orders: anomalies in words, and whether the committed transactions of a run can follow one
+//! another, with the order, or with who comes before whom.
+#![tactic(auto)]
+
+mod anomaly_words;
+mod cycle;
+mod printing;
+mod together;
+mod turned;
+
+pub use anomaly_words::{anomaly_name, cycle_lines, edge_words};
+pub use cycle::put_cycle;
+pub use printing::{put_details, put_members, put_phrase, put_reasons, put_verdict, verdict_word};
+pub use together::{Together, together_of};
+pub use turned::turn;

@@ -1,0 +1,142 @@
+//! Whether transactions can follow one another, as text and as JSON.
+use crate::anomaly_words::{cycle_lines, writer_name};
+use crate::cycle::put_cycle;
+use crate::together::Together;
+use hek_history_log::Log;
+use hek_history_search::Cause;
+use hek_report::{Lines, put, put_name};
+use hek_rules::{NoMemory, Schedule, TxnId};
+use hek_serial::Serializability;
+use std::alloc::Global;
+use std::io::Write;
+
+/// The words of a verdict in texts.
+pub fn verdict_word(verdict: Serializability) -> &'static str {
+    match verdict {
+        Serializability::ByEndTime => "serial",
+        Serializability::InAnotherOrder => "serial in another order",
+        Serializability::NotSerial => "not serial",
+    }
+}
+
+/// The word of a verdict in JSON.
+fn json_word(verdict: Serializability) -> &'static str {
+    match verdict {
+        Serializability::ByEndTime => "serial",
+        Serializability::InAnotherOrder => "another order",
+        Serializability::NotSerial => "not serial",
+    }
+}
+
+/// Puts the member `verdict` alone.
+pub fn put_verdict(verdict: Serializability, out: &mut Lines) {
+    out.put_text("verdict", json_word(verdict));
+}
+
+/// Appends the verdict on one line: `serial`, `serial in another order: b a`, or `not serial: a before b, b before a`.
+pub fn put_phrase(
+    schedule: &Schedule,
+    together: &Together,
+    lines: &mut Vec<u8>,
+) -> Result<(), NoMemory> {
+    let verdict = match together {
+        Together::ByEndTime => "serial",
+        Together::InAnotherOrder(_) => "serial in another order",
+        Together::NotSerial(_, _) => "not serial",
+        Together::Unknown => "not by end time; whether in another order is unknown",
+    };
+    lines.extend_from_slice(verdict.as_bytes())?;
+    put_after(schedule, together, [": ", ": "], lines)
+}
+
+/// Appends what is said beside a verdict: `; order b a`, or `; cycle a before b, b before a`; nothing for a verdict with
+/// neither.
+pub fn put_details(
+    schedule: &Schedule,
+    together: &Together,
+    lines: &mut Vec<u8>,
+) -> Result<(), NoMemory> {
+    put_after(schedule, together, ["; order ", "; cycle "], lines)
+}
+
+/// Appends the order after the first of these words, or who comes before whom after the second.
+fn put_after(
+    schedule: &Schedule,
+    together: &Together,
+    words: [&str; 2],
+    lines: &mut Vec<u8>,
+) -> Result<(), NoMemory> {
+    let [before_order, before_cycle] = words;
+    match together {
+        Together::ByEndTime | Together::Unknown => Ok(()),
+        Together::InAnotherOrder(order) => {
+            lines.extend_from_slice(before_order.as_bytes())?;
+            put_order(schedule, order.as_slice(), lines)
+        }
+        Together::NotSerial(log, cause) => {
+            lines.extend_from_slice(before_cycle.as_bytes())?;
+            put_edges(log, cause, lines)
+        }
+    }
+}
+
+/// Names, with one space between them.
+fn put_order(schedule: &Schedule, order: &[TxnId], lines: &mut Vec<u8>) -> Result<(), NoMemory> {
+    for (place, txn) in order.iter().enumerate() {
+        if place > 0 {
+            lines.push(b' ')?;
+        }
+        put_name(schedule, *txn, lines)?;
+    }
+    Ok(())
+}
+
+/// `a before b, b before a`.
+fn put_edges(log: &Log, cause: &Cause, lines: &mut Vec<u8>) -> Result<(), NoMemory> {
+    for (place, edge) in cause.cycle.iter().enumerate() {
+        if place > 0 {
+            lines.extend_from_slice(b", ")?;
+        }
+        let first = writer_name(log, edge.first);
+        let second = writer_name(log, edge.second);
+        put(write!(lines, "{first} before {second}"))?;
+    }
+    Ok(())
+}
+
+/// Appends why one transaction is before another, a line for each, as `hek history` has them; nothing for a verdict
+/// without a cycle.
+pub fn put_reasons(
+    alloc: Global,
+    together: &Together,
+    lines: &mut Vec<u8>,
+) -> Result<(), NoMemory> {
+    if let Together::NotSerial(log, cause) = together {
+        for line in cycle_lines(alloc, log, cause)?.iter() {
+            put(writeln!(lines, "{line}"))?;
+        }
+    }
+    Ok(())
+}
+
+/// Puts the member `verdict`, and with it `order` or `cycle` where there is one.
+pub fn put_members(
+    alloc: Global,
+    schedule: &Schedule,
+    together: &Together,
+    out: &mut Lines,
+) -> Result<(), NoMemory> {
+    match together {
+        Together::ByEndTime => put_verdict(Serializability::ByEndTime, out),
+        Together::InAnotherOrder(order) => {
+            put_verdict(Serializability::InAnotherOrder, out);
+            out.put_names("order", schedule, order.as_slice());
+        }
+        Together::NotSerial(log, cause) => {
+            put_verdict(Serializability::NotSerial, out);
+            put_cycle(alloc, log, cause, out)?;
+        }
+        Together::Unknown => out.put_text("verdict", "unknown"),
+    }
+    Ok(())
+}
