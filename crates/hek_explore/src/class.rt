@@ -3,13 +3,15 @@ ghost use Rattle.std.specs.Prelude.{◌≡◌, [], IfOk, IfSome, IsTrue, OnOk, S
 ghost use Rattle.hek_explore.specs.Counts.{AreLike, IsAhead, IsBefore, IsJoined, IsPut};
 
 use crate::key::Key;
+use crate::spot::spot_of;
 use hek_permute::OrderFault;
 use hek_rules::TxnId;
 use std::alloc::Global;
+use std::collections::HashMap;
 use std::marker::Model;
 
-/// How many lists of places a layer has to look up a class in.
-const SPOTS: u64 = 4096;
+/// For how many classes a layer has room at first.
+const ROOM: usize = 64;
 
 /// Beginnings of orders whose plays go on alike: the first of them in a dictionary, how many there are, how many moves
 /// each transaction has left, the key of a play, and a bound on the number of events.
@@ -97,6 +99,11 @@ impl Class {
         Ok(())
     }
 
+    /// The number by which the class is looked up.
+    fn spot(&self) -> u64 {
+        spot_of(self.left.as_slice(), &self.key)
+    }
+
     /// Whether the classes have the same moves left and equal keys.
     fn is_like(&self, other: &Class) -> bool
         ensures { IsTrue result → AreLike self.now other.now }
@@ -125,12 +132,11 @@ fn is_before(beginning: &[TxnId], other: &[TxnId]) -> bool
     false
 }
 
-/// The classes of beginnings with the same number of moves.
-#[derive(Drop, Debug)]
+/// The classes of beginnings with the same number of moves, and the place of the last class with each spot.
+#[derive(Drop)]
 pub(crate) struct Layer {
-    alloc: Global,
     classes: Vec<Class>,
-    spots: Vec<Vec<usize>>,
+    places: HashMap<u64, usize>,
 }
 
 impl Model for Layer {
@@ -147,14 +153,9 @@ impl Layer {
     pub(crate) fn new(alloc: Global) -> Result<Layer, OrderFault>
         ensures { IfOk result (λ layer. layer ≡ []) }
     {
-        let mut spots = Vec::with_capacity(alloc, SPOTS as usize)?;
-        for _ in 0..SPOTS {
-            spots.push(Vec::new(alloc))?;
-        }
         Ok(Layer {
-            alloc,
             classes: Vec::new(alloc),
-            spots,
+            places: HashMap::with_capacity(alloc, ROOM)?,
         })
     }
 
@@ -165,52 +166,49 @@ impl Layer {
         self.classes.as_slice()
     }
 
-    /// Adds a class; if there is one that goes on like it, that one counts the new class's beginnings.
+    /// Adds a class; if there is one that goes on like it, that one counts the new class's beginnings. A class goes
+    /// unfound only where another with its spot came after it.
     pub(crate) fn add(&mut self, class: Class) -> Result<(), OrderFault>
         ensures { OnOk result (IsPut self.old self.new class) }
     {
-        match self.place_of(&class) {
+        let spot = class.spot();
+        match self.place_of(spot, &class) {
             Some(place) => self.classes[place].join(&class),
-            None => self.push(class),
+            None => self.push_at(spot, class),
         }
     }
 
-    /// The place of a class that goes on like this one.
-    fn place_of(&self, class: &Class) -> Option<usize>
+    /// The place of a class that goes on like this one, which has this spot.
+    fn place_of(&self, spot: u64, class: &Class) -> Option<usize>
         ensures { IfSome result (HasLike self.now class.now) }
     {
-        let spot = self.spots.get(spot_of(class.left.as_slice()))?;
-        for place in spot {
-            if let Some(other) = self.classes.get(*place) {
-                if other.is_like(class) {
-                    return Some(*place);
-                }
-            }
+        let place = *self.places.get(&spot)?;
+        let other = self.classes.get(place)?;
+        if other.is_like(class) {
+            Some(place)
+        } else {
+            None
         }
-        None
     }
 
     /// Adds a class that is like no other.
     pub(crate) fn push(&mut self, class: Class) -> Result<(), OrderFault>
         ensures { OnOk result (self.new ≡ self.old ++ class ∷ []) }
     {
+        let spot = class.spot();
+        self.push_at(spot, class)
+    }
+
+    /// Adds a class with this spot that is like no other.
+    fn push_at(&mut self, spot: u64, class: Class) -> Result<(), OrderFault>
+        ensures { OnOk result (self.new ≡ self.old ++ class ∷ []) }
+    {
         let place = self.classes.len();
-        if let Some(spot) = self.spots.get_mut(spot_of(class.left.as_slice())) {
-            spot.push(place)?;
-        }
         self.classes.push(class)?;
+        let _before = self.places.insert(spot, place)?;
         Ok(())
     }
 }
 
 ghost use Rattle.std.specs.Prelude.{◌++◌, ◌∷◌};
 ghost use Rattle.hek_explore.specs.Counts.{HasLike};
-
-/// A number by which a class is looked up: classes with the same moves left have the same one.
-fn spot_of(left: &[u64]) -> usize {
-    let mut spot: u64 = 0;
-    for moves in left {
-        spot = (spot % 1_000_003 * 31 + *moves % 1_000_003) % SPOTS;
-    }
-    spot as usize
-}

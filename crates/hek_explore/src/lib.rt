@@ -5,6 +5,7 @@
 mod class;
 mod key;
 mod numbers;
+mod spot;
 mod walk;
 
 ghost use Rattle.hek_explore.specs.Laws.{EqualKeysMakeTwins, PlaysExtendAlike, TwinsHaveEqualKeys, TwinsHaveOneOutcome};
