@@ -45,6 +45,7 @@ button:disabled { opacity: 0.45; cursor: default; }
 button[aria-pressed="true"] { background: var(--ink); color: var(--bg); }
 :focus-visible { outline: 0.2rem solid var(--c0); outline-offset: 1px; }
 [hidden] { display: none !important; }
+.skip { position: absolute; left: 0.5rem; top: -9rem; z-index: 8; background: var(--bg); color: var(--ink); border: 2px solid var(--ink); border-radius: 0.35rem; padding: 0.3rem 0.8rem; } .skip:focus { top: 0.3rem; } #said:focus { outline: none; }
 .hidden { position: absolute; width: 1px; height: 1px; overflow: hidden; clip-path: inset(50%); white-space: nowrap; }
 .defs { position: absolute; }
 .soft { color: var(--soft); }
@@ -62,6 +63,7 @@ button[aria-pressed="true"] { background: var(--ink); color: var(--bg); }
 #score { font-weight: 700; color: var(--good); white-space: nowrap; flex: none; }
 
 main { flex: 1; min-height: 0; display: grid; grid-template-columns: minmax(0, 1.32fr) minmax(0, 1fr); grid-template-rows: auto minmax(8.4rem, 0.82fr) minmax(0, 1.18fr); gap: 0.6rem; padding: 0.4rem 0.8rem 0.7rem; }
+body[data-ring] main { grid-template-rows: auto minmax(min(10.5rem, 22vh), 1.12fr) minmax(0, 0.88fr); }
 #top { grid-column: 1 / -1; min-width: 0; }
 #versions { grid-column: 1; grid-row: 2 / 4; }
 #waits { grid-column: 2; grid-row: 2; }
@@ -87,6 +89,7 @@ main { flex: 1; min-height: 0; display: grid; grid-template-columns: minmax(0, 1
 #lanes .tick.at { fill: var(--here-ink); }
 .lane-name { font-size: 1.5rem; font-weight: 700; fill: var(--c, var(--ink)); }
 .lane-name.soft { font-size: 1rem; font-weight: 400; fill: var(--soft); }
+.token rect { fill: var(--c); } .token text { fill: var(--on); font-weight: 700; }
 .lane-level { font-size: 0.95rem; fill: var(--soft); }
 .lane-facts { font-size: 1rem; fill: var(--ink); }
 .warn { fill: var(--warn); font-weight: 700; }
@@ -130,6 +133,7 @@ main { flex: 1; min-height: 0; display: grid; grid-template-columns: minmax(0, 1
 .flow line { stroke-width: 3; stroke: var(--ink); } .flow path { fill: var(--ink); }
 .flow.free line { stroke: var(--good); } .flow.free path { fill: var(--good); }
 .flow.abort line { stroke: var(--bad); stroke-dasharray: 7 3; } .flow.abort path { fill: var(--bad); }
+.flow.weak line { stroke: var(--soft); stroke-width: 2; } .flow.weak path { fill: var(--soft); }
 .flow.depends line { stroke: var(--ink); stroke-dasharray: 2 4; stroke-linecap: round; }
 #slider { width: 100%; margin: 0; height: 1.2rem; accent-color: var(--ink); display: block; }
 
@@ -206,6 +210,9 @@ kbd { display: inline-block; min-width: 1.5em; text-align: center; border: 1px s
 .sight { font-weight: 700; font-size: 1em; } .sight.seen { fill: var(--good); } .sight.unseen { fill: var(--soft); font-weight: 400; }
 #chains .tick { font-size: 0.95rem; } #chains .tick.at { font-size: 1.05rem; } #chains .inf { font-size: 1.2rem; } #chains .bucket { font-size: 1rem; } #chains .looktext { font-size: 0.95rem; }
 
+.bucketbox { fill: none; stroke: var(--bar-line); stroke-width: 1.4; } .bucket .head { fill: var(--shade); } .bucket.moved .head { fill: var(--moved); } .bucket.moved :is(.vname, .bucketname) { fill: var(--moved-ink); }
+.bucketname { font-weight: 700; } .slot { fill: var(--bg); stroke: var(--line); } .slot.moved { fill: var(--moved); stroke: var(--moved-ink); stroke-width: 2; } .slot.moved + .vname { fill: var(--moved-ink); }
+
 /* who waits for whom */
 .node circle { fill: var(--c); }
 .nodename { fill: var(--on); font-weight: 700; font-size: 1.2em; }
@@ -279,7 +286,8 @@ dialog::backdrop { background: #0009; }
 @media print {
   body { display: block; height: auto; overflow: visible; background: #fff; color: #000; }
   body > :not(#print) { display: none !important; }
-  #print { display: table; border-collapse: collapse; font-size: 8.5pt; width: 100%; } #print caption { text-align: left; font-size: 12pt; font-weight: 700; margin-bottom: 4pt; }
+  #print { display: block; } #print .picture { display: block; width: 100%; height: auto; max-height: 17cm; break-inside: avoid; margin-bottom: 8pt; border: 0.5pt solid #888; }
+  #print table { border-collapse: collapse; font-size: 8.5pt; width: 100%; } #print caption { text-align: left; font-size: 12pt; font-weight: 700; margin-bottom: 4pt; }
   #print td, #print th { border: 0.5pt solid #888; padding: 1.5pt 4pt; vertical-align: top; text-align: left; } #print tr { break-inside: avoid; } #print thead { display: table-header-group; }
   .chip { display: inline; border: 0; padding: 0; } .chip + .chip::before { content: "; "; }
 }

@@ -1,18 +1,3 @@
-/* ---- in print all steps are a table */
-
-function buildPrint() {
-  const acting = new Set(run.steps.map((it) => it.name));
-  const ids = run.txnIds.filter((id) => acting.has(nameOf(id)));
-  const rows = run.steps.map((step, index) => {
-    const cells = ids.map((id) => `<td>${step.name === nameOf(id) ? `${esc(step.event)} \u2192 <b>${esc(step.reply)}</b>` : ""}</td>`).join("");
-    const whole = step.name === null ? `<td colspan="${ids.length}">detect \u2192 <b>${esc(step.reply)}</b></td>` : cells;
-    return `<tr><td>${run.done + index + 1}</td>${whole}<td>${step.note ? `<i>${esc(step.note)}</i><br>` : ""}${linesOf(step.why).map(reasonOf).join("<br>")}</td><td>${changesOf(index + 1).join(" ")}</td></tr>`;
-  });
-  $("print").innerHTML = `<caption>${esc(data.title)}. ${esc(data.about ?? "")}</caption><thead><tr><th>#</th>${ids.map((id) => `<th>${esc(nameOf(id))} <small>${esc(run.txn(id, 0).level)}</small></th>`).join("")}<th>why</th><th>changes</th></tr></thead><tbody>${rows.join("")}</tbody>`;
-}
-addEventListener("beforeprint", buildPrint);
-addEventListener("afterprint", () => { $("print").innerHTML = ""; });
-
 /* ---- the start */
 
 function fromHash(hash = decodeURIComponent(location.hash.slice(1))) {
