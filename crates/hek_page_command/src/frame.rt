@@ -36,6 +36,7 @@ pub(crate) const MIDDLE: &str = r##"</style>
 <button type="button" data-do="last" aria-label="To the end" title="End"><svg viewBox="0 0 20 16" class="icon" aria-hidden="true"><path d="M14.600 2h2.4v12h-2.4zM3 2v12L13 8z"/></svg></button>
 </nav>
 <span class="modes">
+<button type="button" data-do="levels" title="the outcomes at all levels" hidden>Levels</button>
 <button type="button" data-do="predict" aria-pressed="false" title="? : guess each reply before it is shown">Predict</button>
 <button type="button" data-do="secret" aria-pressed="false" title="? : hide the outcomes, to guess" hidden>Hide outcomes</button>
 <button type="button" data-do="future" aria-pressed="false" title="f : show the steps to come">Future</button>
@@ -47,6 +48,7 @@ pub(crate) const MIDDLE: &str = r##"</style>
 </span>
 </header>
 <main>
+<section id="levels" aria-label="All levels"></section>
 <section id="top">
 <div id="lanes" aria-label="Timeline: a lane for each transaction"></div>
 <input type="range" id="slider" min="0" aria-label="Position, in steps done" hidden>

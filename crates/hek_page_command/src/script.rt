@@ -4,7 +4,9 @@ pub(crate) const SCRIPT: &str = r##""use strict";
 
 /* ================================================================ the data */
 
-const data = JSON.parse(document.getElementById("data").textContent);
+const sheet = JSON.parse(document.getElementById("data").textContent);
+/** What is shown: the sheet, or of one with all levels the tree of one of them. */
+let data = sheet.kind === "levels" ? sheet.trees[0] : sheet;
 const $ = (id) => document.getElementById(id);
 const linesOf = (text) => text.split("\n").filter((line) => line !== "");
 const esc = (text) => String(text).replace(/[&<>"]/g, (it) => ({ "&": "&amp;", "<": "&lt;", ">": "&gt;", '"': "&quot;" })[it]);
@@ -183,7 +185,8 @@ class Run {
 const isTree = data.kind === "tree";
 let tree = null;
 
-function plantTree() {
+/** The tree in some data. */
+function treeOf(data) {
   const text = (at) => data.texts[at];
   const steps = data.steps.map(([line, changed, gone, why, sees, waits, ends, rule, sentence, definition, comes]) => ({
     line: text(line), changed: text(changed), gone: text(gone), why: text(why), sees: text(sees), waits: waits === null ? null : text(waits), ends: text(ends), rule: text(rule),
@@ -191,7 +194,7 @@ function plantTree() {
   }));
   const nodes = data.nodes.map(([parent, who, places, outcome, counts], index) => ({ index, parent, who: who - 1, steps: places.map((at) => steps[at]), outcome, next: [], counts }));
   for (const node of nodes.slice(1)) nodes[node.parent].next[node.who] = node.index;
-  tree = { nodes, names: data.names, moves: data.moves, path: [0] };
+  return { nodes, names: data.names, moves: data.moves, path: [0] };
 }
 
 /** How many moves of each transaction have come at a node. */
@@ -1077,7 +1080,7 @@ function chainLayout(step, sights, time) {
   const axisH = 1.5 * u + lookH;
   const least = (isLow ? 1.6 : 2.05) * u;
   const bucketH = bucketIsShown() ? (isLow ? 1.5 : 1.7) * u : 0;
-  const fitRows = (buckets) => (isPhone ? 12 : Math.max(2, Math.floor((room - axisH - buckets * bucketH - 0.3 * u) / least)));
+  const fitRows = (buckets) => (isPhone ? 12 : Math.max(bucketH ? 1 : 2, Math.floor((room - axisH - buckets * bucketH - 0.3 * u) / least)));
   let { keys, hidden } = keysShown(fitRows(bucketH ? 1 : 0), step, sights);
   let groups = groupsOf(keys, bucketH > 0);
   if (groups.length > 1 && bucketH) { ({ keys, hidden } = keysShown(fitRows(groups.length), step, sights)); groups = groupsOf(keys, true); }
@@ -1386,7 +1389,7 @@ function drawBucket({ bucket }, W, u, density, isSingle) {
   const [first, second] = [3.6 * u, 3.6 * u + (W - 3.6 * u) / 2];
   const r = Math.min(rowH * 0.4, 0.85 * u);
   const most = Math.max(2, Math.floor((W - 3.6 * u) / 2 / (2 * r + 0.12 * u)) - 1);
-  const out = [`<text class="field" x="${f1(first)}" y="${f1(u)}">LockList</text><text class="field" x="${f1(second)}" y="${f1(u)}">who waits for them</text>`];
+  const out = [`<text class="field" x="${f1(first)}" y="${f1(u)}">LockList</text><text class="field" x="${f1(second)}" y="${f1(u)}">${fitting(["who waits for them", "waiters"], (W - 3.6 * u) / 2, 0.95 * u)}</text>`];
   let y = head;
   for (const [label, it, isMoved] of [["before", old, false], ["after", now, true]]) {
     out.push(`<text class="rowname" x="0" y="${f1(y + rowH * 0.66)}">${label}</text>`);
@@ -1447,10 +1450,12 @@ function graphLayout(nodes, W, H) {
   const r = (count > 6 ? 1.02 : 1.25) * u;
   const isFlat = count > 2 && (H < (count > 4 ? 7.2 : 6.2) * u || W < 24 * rem());
   const isBelow = isFlat || (W < 26 * rem() && count <= 2);
+  // in a very low panel the nodes have no room for words below them
+  const isLow = isFlat && H < 2 * r + 3.2 * u;
   const spot = new Map();
   const gap = isFlat ? Math.min((W - 5 * u) / (count - 1), 10 * u) : 0;
   if (count <= 2) nodes.forEach((id, index) => spot.set(id, { x: count === 1 ? W / 2 : W / 2 + (index ? 1 : -1) * Math.max(2.5 * u, Math.min(W / 2 - (isBelow ? 3 : 6.9) * u, 8 * u)), y: H / 2 - 0.3 * u }));
-  else if (isFlat) nodes.forEach((id, index) => spot.set(id, { x: W / 2 + (index - (count - 1) / 2) * gap, y: Math.max(Math.min(H * 0.56, H - r - 1.55 * u), r) }));
+  else if (isFlat) nodes.forEach((id, index) => spot.set(id, { x: W / 2 + (index - (count - 1) / 2) * gap, y: Math.max(Math.min(H * 0.56, H - r - (isLow ? 0.1 : 1.55) * u), r) }));
   else {
     const [rx, ry] = [Math.min(W / 2 - 7 * u, (count > 6 ? 13 : 11) * u), H / 2 - r - 0.4 * u];
     const turn = count % 2 === 0 ? Math.PI / count : 0;
@@ -1463,7 +1468,7 @@ function graphLayout(nodes, W, H) {
     const [low, high] = [Math.min(...ys), Math.max(...ys)];
     for (const it of spot.values()) it.y = r + 0.4 * u + ((it.y - low) / (high - low)) * 2 * ry;
   }
-  return { u, r, W, isFlat, isBelow, spot, gap };
+  return { u, r, W, isFlat, isBelow, isLow, spot, gap };
 }
 
 function drawGraph(nodes, edges, cycle, victim) {
@@ -1485,7 +1490,7 @@ function drawGraph(nodes, edges, cycle, victim) {
 }
 
 /** A transaction: its name in the circle, or its short form there and its name beside it. */
-function graphNode(id, { u, r, W, isBelow, spot, gap }, isHit) {
+function graphNode(id, { u, r, W, isBelow, isLow, spot, gap }, isHit) {
   const { x, y } = spot.get(id);
   const it = run.txn(id, here);
   const isDead = it.kind === "aborted";
@@ -1496,7 +1501,7 @@ function graphNode(id, { u, r, W, isBelow, spot, gap }, isHit) {
   const side = x < W / 2 - u ? -1 : 1;
   const phase = isHit ? "victim" : it.doomed && !isDead ? "must abort" : it.kind === "active" && it.finished ? "finished" : it.kind;
   const beside = [...spot.values()].filter((o) => (o.x - x) * side > 1 && Math.abs(o.y - y) < r + 0.55 * u).map((o) => Math.abs(o.x - x) - r);
-  const room = isBelow ? (gap || 8 * u) - 0.3 * u : Math.min(side < 0 ? x : W - x, ...beside) - r - 0.5 * u;
+  const room = isBelow ? (isLow ? 0 : Math.min((gap || 8 * u) - 0.3 * u, 2 * Math.min(x, W - x))) : Math.min(side < 0 ? x : W - x, ...beside) - r - 0.5 * u;
   const note = fitting(isWhole ? [phase, phase.slice(0, 4)] : [`${name}, ${phase}`, name, short], room, u);
   return `${out.join("")}<text class="nodenote${isHit || it.doomed ? " bad" : ""}" x="${f1(isBelow ? x : x + side * (r + 0.35 * u))}" y="${f1(isBelow ? y + r + 1.1 * u : y + 0.33 * u)}" text-anchor="${isBelow ? "middle" : side < 0 ? "end" : "start"}">${esc(note)}</text></g>`;
 }
@@ -1515,7 +1520,7 @@ function graphEdge(a, b, edge, r, u, both, apart) {
   const [dx, dy] = [b.x - a.x, b.y - a.y];
   const far = Math.hypot(dx, dy) || 1;
   const [ux, uy] = [dx / far, dy / far];
-  const bend = apart > 1 ? (1 + apart / 2) * u : both ? 1.5 * u : 0.5 * u;
+  const bend = apart > 1 ? Math.max(Math.min((1 + apart / 2) * u, 2 * (a.y - r * 0.8 - 0.75 * u)), 0) : both ? 1.5 * u : 0.5 * u;
   const [nx, ny] = apart > 1 ? [0, -1] : [-uy, ux];
   const tip = 0.85 * u;
   const off = apart > 1 ? r * 0.8 : both ? 0.55 * u : 0.1 * u;
@@ -1839,6 +1844,116 @@ function findOutcome(outcome) {
   move(here);
 }
 
+/* ================================================================ the same moves at all levels */
+
+const isLevels = sheet.kind === "levels";
+/** The levels in the order of the trees. */
+const LEVELS = ["serializable", "repeatable", "snapshot"];
+/** The trees at the levels, which level's explorer is shown (null: the table of all), and the order that stands in three columns. */
+const levels = { trees: [], shown: null, order: [] };
+
+function plantLevels() {
+  levels.trees = sheet.trees.map(treeOf);
+  const marked = outcomesAtLevels().find(({ text, counts }) => /not serial$/.test(text) && counts.some(Boolean)) ?? outcomesAtLevels()[0];
+  const at = marked.counts.findIndex(Boolean);
+  levels.order = orderTo(levels.trees[at], sheet.trees[at].outcomes.indexOf(marked.text));
+}
+
+/** Each outcome with how many orders have it at each level. */
+function outcomesAtLevels() {
+  const texts = [...new Set(sheet.trees.flatMap((it) => it.outcomes))];
+  return texts.map((text) => ({ text, counts: sheet.trees.map((it, at) => levels.trees[at].nodes[0].counts[it.outcomes.indexOf(text)] ?? 0) }));
+}
+
+/** The first order of a tree that has an outcome: the names of those that move. */
+function orderTo(its, outcome) {
+  const names = [];
+  let node = its.nodes[0];
+  while (node.next.length) {
+    node = its.nodes[node.next.find((it) => it !== undefined && its.nodes[it].counts[outcome] > 0)];
+    names.push(its.names[node.who]);
+  }
+  return names;
+}
+
+/** The nodes of a tree along an order. */
+function pathOf(its, order) {
+  const path = [0];
+  for (const name of order) {
+    const next = its.nodes[path.at(-1)].next[its.names.indexOf(name)];
+    if (next === undefined) break;
+    path.push(next);
+  }
+  return path;
+}
+
+/** The steps of an order at a level that tell something, and its outcome. */
+function columnAt(at) {
+  const its = levels.trees[at];
+  const path = pathOf(its, levels.order);
+  const steps = path.flatMap((node) => its.nodes[node].steps).map((it) => eventOf(it.line)).filter((it) => /^(read|scan|insert|update|delete|precommit|commit|fail)$/.test(it.op) || it.op === "detect");
+  const lines = steps.map((it) => `<li class="${kindOf(it)}"><b class="t c${Math.max(its.names.indexOf(it.name), 0) % 6}">${esc(it.name ?? "")}</b> ${esc(it.event)} <span aria-hidden="true">\u2192</span> <b>${esc(it.reply)}</b></li>`);
+  const outcome = its.nodes[path.at(-1)].outcome;
+  const text = outcome === null ? "" : sheet.trees[at].outcomes[outcome];
+  return `<section><h3>${LEVELS[at]} <button type="button" data-level="${at}">story</button></h3><ol>${lines.join("")}</ol><p class="ends">${endsSaid(text)}</p></section>`;
+}
+
+/** An outcome in words: how each transaction ends, the rows, and the verdict. */
+function endsSaid(text) {
+  const parts = text.split("; ");
+  const verdict = parts.pop();
+  return `${parts.map(esc).join("; ")}; <b class="${verdict === "serial" ? "good" : "bad"}">${esc(verdict)}</b>`;
+}
+
+function showLevels() {
+  const orders = total(levels.trees[0].nodes[0].counts);
+  const rows = outcomesAtLevels().map(({ text, counts }) => {
+    const cells = counts.map((count, at) => (count ? `<td class="n"><button type="button" data-level="${at}" data-outcome="${esc(text)}" aria-label="${count} orders at ${LEVELS[at]}, show one of: ${esc(text)}">${count}</button></td>` : '<td class="n none">0</td>'));
+    return `<tr>${cells.join("")}<td>${endsSaid(text)}</td></tr>`;
+  });
+  $("levels").innerHTML = `<p class="plain long">${esc((isSecret ? data.question : data.about) || "The same moves, with all transactions at one level.")}</p>
+    <table><caption>${orders} orders of the moves at each level. A number shows the story of one of them.</caption><thead><tr>${LEVELS.map((it) => `<th scope="col">${it}</th>`).join("")}<th scope="col">ends, rows, verdict</th></tr></thead><tbody>${isSecret ? "" : rows.join("")}</tbody></table>
+    <h2>One order: ${levels.order.map(esc).join(" ")}</h2><div class="columns">${isSecret ? "" : LEVELS.map((it, at) => columnAt(at)).join("")}</div>`;
+}
+
+/** Goes to the story of the order that stands in the columns, or of the first one with an outcome, at a level. */
+function goToLevel(at, outcome) {
+  if (outcome !== undefined) levels.order = orderTo(levels.trees[at], sheet.trees[at].outcomes.indexOf(outcome));
+  takeLevel(at);
+  tree.path = pathOf(tree, levels.order);
+  run = runOfPath();
+  move(0);
+}
+
+function takeLevel(at) {
+  levels.shown = at;
+  data = sheet.trees[at];
+  tree = levels.trees[at];
+  pinned = null;
+  document.body.classList.remove("levels");
+  measure();
+}
+
+/** Back to the table of all levels. */
+function leaveLevel() {
+  if (!isLevels) return;
+  levels.order = tree.path.slice(1).map((at) => tree.names[tree.nodes[at].who]);
+  if (!isWhole()) levels.order = orderFrom(tree, tree.path.at(-1), levels.order);
+  levels.shown = null;
+  document.body.classList.add("levels");
+  show();
+}
+
+/** An order, completed by the first moves that there are. */
+function orderFrom(its, at, order) {
+  const names = [...order];
+  for (let node = its.nodes[at]; node.next.length; ) {
+    node = its.nodes[node.next.find((it) => it !== undefined)];
+    names.push(its.names[node.who]);
+  }
+  return names;
+}
+
 /* ================================================================ a step as one picture: SVG with its style inside */
 
 const SVG = "http://www.w3.org/2000/svg";
@@ -2032,6 +2147,7 @@ addEventListener("afterprint", () => { $("print").replaceChildren(); });
 /* ================================================================ moving */
 
 function show() {
+  if (isLevels && levels.shown === null) { document.body.dataset.position = 0; showLevels(); return; }
   document.body.dataset.position = run.done + here;
   $("position").textContent = `${run.done + here} / ${run.done + run.last}`;
   document.querySelector('[data-do="first"]').disabled = document.querySelector('[data-do="back"]').disabled = here === 0;
@@ -2062,7 +2178,9 @@ function move(position) {
 /** The place, as the address has it: the number of steps done; in the explorer the moves, and the step where one isn't over. */
 function placeSaid() {
   if (!isTree) return String(run.done + here);
-  return tree.path.slice(1).map((at) => tree.names[tree.nodes[at].who]).join(".") + (here < run.last ? "@" + here : "");
+  const level = !isLevels ? "" : levels.shown === null ? "" : `${LEVELS[levels.shown]}:`;
+  if (isLevels && level === "") return "";
+  return level + tree.path.slice(1).map((at) => tree.names[tree.nodes[at].who]).join(".") + (here < run.last ? "@" + here : "");
 }
 
 let telling = 0;
@@ -2092,6 +2210,7 @@ function press(name, isOn) { document.querySelector(`[data-do="${name}"]`).setAt
 
 const DOES = {
   first: () => jump(0), last: () => jump(run.last), back, on,
+  levels: () => leaveLevel(),
   secret: () => { isSecret = !isSecret; press("secret", isSecret); show(); },
   predict: () => { if (isTree) return DOES.secret(); isPredict = !isPredict; guess = null; if (isPredict) { isFuture = false; press("future", false); } press("predict", isPredict); show(); },
   future: () => { isFuture = !isFuture; press("future", isFuture); show(); },
@@ -2180,6 +2299,8 @@ document.addEventListener("click", (event) => {
   if (choice) return choose(choice.dataset.choice);
   const rule = hit("data-rule");
   if (rule) { const [name, said] = ruleOf(run.steps[here - 1]); return tell(`<h2>${esc(name)}</h2><p>${esc(said)}</p><p class="soft">docs/RULES.md, "Every reply"</p>`); }
+  const level = hit("data-level");
+  if (level) return goToLevel(Number(level.dataset.level), level.dataset.outcome);
   const next = hit("data-next");
   if (next) return takeMove(Number(next.dataset.next));
   const crumb = hit("data-crumb");
@@ -2252,7 +2373,12 @@ addEventListener("message", ({ source, data: sent }) => {
 
 function fromHash(hash = decodeURIComponent(location.hash.slice(1))) {
   if (!isTree) { jump(hash === "" ? 0 : Number(hash) - run.done || 0); return; }
-  const [order, at] = hash.split("@");
+  const [level, place] = isLevels ? hash.split(":") : ["", hash];
+  if (isLevels) {
+    if (!LEVELS.includes(level)) { document.body.classList.add("levels"); levels.shown = null; show(); return; }
+    takeLevel(LEVELS.indexOf(level));
+  }
+  const [order, at] = place.split("@");
   tree.path = [0];
   for (const name of order.split(".").filter(Boolean)) {
     const next = tree.nodes[tree.path.at(-1)].next[tree.names.indexOf(name)];
@@ -2268,7 +2394,8 @@ function resized() {
   show();
 }
 
-if (isTree) { plantTree(); run = runOfPath(); } else {
+if (isLevels) plantLevels();
+if (isTree) { tree = isLevels ? levels.trees[0] : treeOf(data); run = runOfPath(); } else {
   const lines = linesOf(data.trace).map((it) => it.replace(/^\d+ /, ""));
   run = new Run(data, data.steps.map((it, index) => ({ ...it, line: lines[index] })), data.done);
 }
@@ -2282,6 +2409,7 @@ for (const way of ["previous", "next"]) {
   $(way).title = `${way}: ${title}`;
   $(way).innerHTML = way === "next" ? `<span class="hidden">${esc(title)}</span> \u203a` : `\u2039 <span class="hidden">${esc(title)}</span>`;
 }
+if (isLevels) document.querySelector('[data-do="levels"]').hidden = false;
 if (isTree) {
   document.body.classList.add("tree");
   document.querySelector('[data-do="secret"]').hidden = false;

@@ -63,7 +63,8 @@ button[aria-pressed="true"] { background: var(--ink); color: var(--bg); }
 #score { font-weight: 700; color: var(--good); white-space: nowrap; flex: none; }
 
 main { flex: 1; min-height: 0; display: grid; grid-template-columns: minmax(0, 1.32fr) minmax(0, 1fr); grid-template-rows: auto minmax(8.4rem, 0.82fr) minmax(0, 1.18fr); gap: 0.6rem; padding: 0.4rem 0.8rem 0.7rem; }
-body[data-ring] main { grid-template-rows: auto minmax(min(10.5rem, 22vh), 1.12fr) minmax(0, 0.88fr); }
+body[data-ring] main { grid-template-rows: auto minmax(min(10.5rem, 22vh), 1.12fr) minmax(6.7rem, 0.88fr); } html.present body[data-ring] main { grid-template-rows: auto minmax(0, 0.95fr) minmax(6.5rem, 1fr); }
+@media (max-width: 62rem) { [data-do="legend"], [data-do="picture"] { display: none; } html.present :is(.why, .note) { font-size: 0.96rem; } html.present .plain { font-size: 1.25rem; } html.present .plain.long { font-size: 1.06rem; } }
 #top { grid-column: 1 / -1; min-width: 0; }
 #versions { grid-column: 1; grid-row: 2 / 4; }
 #waits { grid-column: 2; grid-row: 2; }
@@ -260,6 +261,12 @@ kbd { display: inline-block; min-width: 1.5em; text-align: center; border: 1px s
 .final { font-size: 1.25rem; }
 .events { display: flex; flex-wrap: wrap; gap: 0.2rem; margin-top: 0.25rem !important; } .events button { font-size: 0.95rem; padding: 0 0.4rem; border-color: var(--line); } .events .waits { background: var(--warn-bg); border-color: var(--warn); } .events .aborts { border-color: var(--bad); color: var(--bad); font-weight: 700; } .events .commits { border-color: var(--com); color: var(--good); font-weight: 700; } .events [aria-current] { outline: 2px solid var(--ink); } .events .ahead { border-style: dashed; }
 .tree .plain { font-size: 1.3rem; }
+
+#levels { display: none; } body.levels main > :not(#levels) { display: none; } body.levels main { display: block; overflow: auto; } body.levels #levels { display: block; } body.levels #bar nav { visibility: hidden; }
+#levels table { border-collapse: collapse; width: 100%; margin: 0.6rem 0 1rem; } #levels caption { text-align: left; color: var(--soft); padding-bottom: 0.3rem; } #levels :is(td, th) { text-align: left; padding: 0.2rem 0.7rem; border-bottom: 1px solid var(--line); } #levels thead th { font-weight: 600; }
+#levels .n { width: 8rem; } #levels .n button { min-width: 5rem; font-size: 1.2rem; font-weight: 700; } #levels .none { color: var(--soft); padding-left: 1.4rem; font-size: 1.2rem; } #levels h2 { font-size: 1.1rem; margin: 0 0 0.4rem; } .good { color: var(--good); }
+.columns { display: grid; grid-template-columns: repeat(3, minmax(0, 1fr)); gap: 0.8rem; } .columns section { background: var(--panel); border-radius: 0.5rem; padding: 0.4rem 0.7rem; } .columns h3 { margin: 0 0 0.3rem; font-size: 1.05rem; } .columns ol { list-style: none; margin: 0; padding: 0; } .columns li { padding: 0 0.3rem; border-left: 0.3rem solid var(--line); } .columns .waits { border-color: var(--warn); } .columns .aborts { border-color: var(--bad); color: var(--bad); } .columns .commits { border-color: var(--com); } .columns .ends { margin: 0.4rem 0 0; }
+@media (max-width: 40rem) { .columns { grid-template-columns: 1fr; } #levels .n { width: auto; } #levels .n button { min-width: 3rem; } }
 
 dialog { border: 1px solid var(--bar-line); border-radius: 0.6rem; background: var(--bg); color: var(--ink); max-width: 46rem; font-size: 1.1rem; padding: 1rem 1.4rem; }
 dialog h2 { margin: 0 0 0.5rem; font-size: 1.3rem; } dialog td, dialog th { text-align: left; padding: 0.12rem 1rem 0.12rem 0; font-weight: 400; } dialog th { color: var(--soft); }

@@ -61,7 +61,7 @@ function drawBucket({ bucket }, W, u, density, isSingle) {
   const [first, second] = [3.6 * u, 3.6 * u + (W - 3.6 * u) / 2];
   const r = Math.min(rowH * 0.4, 0.85 * u);
   const most = Math.max(2, Math.floor((W - 3.6 * u) / 2 / (2 * r + 0.12 * u)) - 1);
-  const out = [`<text class="field" x="${f1(first)}" y="${f1(u)}">LockList</text><text class="field" x="${f1(second)}" y="${f1(u)}">who waits for them</text>`];
+  const out = [`<text class="field" x="${f1(first)}" y="${f1(u)}">LockList</text><text class="field" x="${f1(second)}" y="${f1(u)}">${fitting(["who waits for them", "waiters"], (W - 3.6 * u) / 2, 0.95 * u)}</text>`];
   let y = head;
   for (const [label, it, isMoved] of [["before", old, false], ["after", now, true]]) {
     out.push(`<text class="rowname" x="0" y="${f1(y + rowH * 0.66)}">${label}</text>`);

@@ -2,7 +2,9 @@
 
 /* ================================================================ the data */
 
-const data = JSON.parse(document.getElementById("data").textContent);
+const sheet = JSON.parse(document.getElementById("data").textContent);
+/** What is shown: the sheet, or of one with all levels the tree of one of them. */
+let data = sheet.kind === "levels" ? sheet.trees[0] : sheet;
 const $ = (id) => document.getElementById(id);
 const linesOf = (text) => text.split("\n").filter((line) => line !== "");
 const esc = (text) => String(text).replace(/[&<>"]/g, (it) => ({ "&": "&amp;", "<": "&lt;", ">": "&gt;", '"': "&quot;" })[it]);

@@ -45,10 +45,12 @@ function graphLayout(nodes, W, H) {
   const r = (count > 6 ? 1.02 : 1.25) * u;
   const isFlat = count > 2 && (H < (count > 4 ? 7.2 : 6.2) * u || W < 24 * rem());
   const isBelow = isFlat || (W < 26 * rem() && count <= 2);
+  // in a very low panel the nodes have no room for words below them
+  const isLow = isFlat && H < 2 * r + 3.2 * u;
   const spot = new Map();
   const gap = isFlat ? Math.min((W - 5 * u) / (count - 1), 10 * u) : 0;
   if (count <= 2) nodes.forEach((id, index) => spot.set(id, { x: count === 1 ? W / 2 : W / 2 + (index ? 1 : -1) * Math.max(2.5 * u, Math.min(W / 2 - (isBelow ? 3 : 6.9) * u, 8 * u)), y: H / 2 - 0.3 * u }));
-  else if (isFlat) nodes.forEach((id, index) => spot.set(id, { x: W / 2 + (index - (count - 1) / 2) * gap, y: Math.max(Math.min(H * 0.56, H - r - 1.55 * u), r) }));
+  else if (isFlat) nodes.forEach((id, index) => spot.set(id, { x: W / 2 + (index - (count - 1) / 2) * gap, y: Math.max(Math.min(H * 0.56, H - r - (isLow ? 0.1 : 1.55) * u), r) }));
   else {
     const [rx, ry] = [Math.min(W / 2 - 7 * u, (count > 6 ? 13 : 11) * u), H / 2 - r - 0.4 * u];
     const turn = count % 2 === 0 ? Math.PI / count : 0;
@@ -61,7 +63,7 @@ function graphLayout(nodes, W, H) {
     const [low, high] = [Math.min(...ys), Math.max(...ys)];
     for (const it of spot.values()) it.y = r + 0.4 * u + ((it.y - low) / (high - low)) * 2 * ry;
   }
-  return { u, r, W, isFlat, isBelow, spot, gap };
+  return { u, r, W, isFlat, isBelow, isLow, spot, gap };
 }
 
 function drawGraph(nodes, edges, cycle, victim) {
@@ -83,7 +85,7 @@ function drawGraph(nodes, edges, cycle, victim) {
 }
 
 /** A transaction: its name in the circle, or its short form there and its name beside it. */
-function graphNode(id, { u, r, W, isBelow, spot, gap }, isHit) {
+function graphNode(id, { u, r, W, isBelow, isLow, spot, gap }, isHit) {
   const { x, y } = spot.get(id);
   const it = run.txn(id, here);
   const isDead = it.kind === "aborted";
@@ -94,7 +96,7 @@ function graphNode(id, { u, r, W, isBelow, spot, gap }, isHit) {
   const side = x < W / 2 - u ? -1 : 1;
   const phase = isHit ? "victim" : it.doomed && !isDead ? "must abort" : it.kind === "active" && it.finished ? "finished" : it.kind;
   const beside = [...spot.values()].filter((o) => (o.x - x) * side > 1 && Math.abs(o.y - y) < r + 0.55 * u).map((o) => Math.abs(o.x - x) - r);
-  const room = isBelow ? (gap || 8 * u) - 0.3 * u : Math.min(side < 0 ? x : W - x, ...beside) - r - 0.5 * u;
+  const room = isBelow ? (isLow ? 0 : Math.min((gap || 8 * u) - 0.3 * u, 2 * Math.min(x, W - x))) : Math.min(side < 0 ? x : W - x, ...beside) - r - 0.5 * u;
   const note = fitting(isWhole ? [phase, phase.slice(0, 4)] : [`${name}, ${phase}`, name, short], room, u);
   return `${out.join("")}<text class="nodenote${isHit || it.doomed ? " bad" : ""}" x="${f1(isBelow ? x : x + side * (r + 0.35 * u))}" y="${f1(isBelow ? y + r + 1.1 * u : y + 0.33 * u)}" text-anchor="${isBelow ? "middle" : side < 0 ? "end" : "start"}">${esc(note)}</text></g>`;
 }
@@ -113,7 +115,7 @@ function graphEdge(a, b, edge, r, u, both, apart) {
   const [dx, dy] = [b.x - a.x, b.y - a.y];
   const far = Math.hypot(dx, dy) || 1;
   const [ux, uy] = [dx / far, dy / far];
-  const bend = apart > 1 ? (1 + apart / 2) * u : both ? 1.5 * u : 0.5 * u;
+  const bend = apart > 1 ? Math.max(Math.min((1 + apart / 2) * u, 2 * (a.y - r * 0.8 - 0.75 * u)), 0) : both ? 1.5 * u : 0.5 * u;
   const [nx, ny] = apart > 1 ? [0, -1] : [-uy, ux];
   const tip = 0.85 * u;
   const off = apart > 1 ? r * 0.8 : both ? 0.55 * u : 0.1 * u;

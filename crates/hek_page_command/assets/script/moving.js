@@ -1,6 +1,7 @@
 /* ================================================================ moving */
 
 function show() {
+  if (isLevels && levels.shown === null) { document.body.dataset.position = 0; showLevels(); return; }
   document.body.dataset.position = run.done + here;
   $("position").textContent = `${run.done + here} / ${run.done + run.last}`;
   document.querySelector('[data-do="first"]').disabled = document.querySelector('[data-do="back"]').disabled = here === 0;
@@ -31,7 +32,9 @@ function move(position) {
 /** The place, as the address has it: the number of steps done; in the explorer the moves, and the step where one isn't over. */
 function placeSaid() {
   if (!isTree) return String(run.done + here);
-  return tree.path.slice(1).map((at) => tree.names[tree.nodes[at].who]).join(".") + (here < run.last ? "@" + here : "");
+  const level = !isLevels ? "" : levels.shown === null ? "" : `${LEVELS[levels.shown]}:`;
+  if (isLevels && level === "") return "";
+  return level + tree.path.slice(1).map((at) => tree.names[tree.nodes[at].who]).join(".") + (here < run.last ? "@" + here : "");
 }
 
 let telling = 0;
@@ -61,6 +64,7 @@ function press(name, isOn) { document.querySelector(`[data-do="${name}"]`).setAt
 
 const DOES = {
   first: () => jump(0), last: () => jump(run.last), back, on,
+  levels: () => leaveLevel(),
   secret: () => { isSecret = !isSecret; press("secret", isSecret); show(); },
   predict: () => { if (isTree) return DOES.secret(); isPredict = !isPredict; guess = null; if (isPredict) { isFuture = false; press("future", false); } press("predict", isPredict); show(); },
   future: () => { isFuture = !isFuture; press("future", isFuture); show(); },
@@ -149,6 +153,8 @@ document.addEventListener("click", (event) => {
   if (choice) return choose(choice.dataset.choice);
   const rule = hit("data-rule");
   if (rule) { const [name, said] = ruleOf(run.steps[here - 1]); return tell(`<h2>${esc(name)}</h2><p>${esc(said)}</p><p class="soft">docs/RULES.md, "Every reply"</p>`); }
+  const level = hit("data-level");
+  if (level) return goToLevel(Number(level.dataset.level), level.dataset.outcome);
   const next = hit("data-next");
   if (next) return takeMove(Number(next.dataset.next));
   const crumb = hit("data-crumb");

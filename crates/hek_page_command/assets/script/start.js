@@ -2,7 +2,12 @@
 
 function fromHash(hash = decodeURIComponent(location.hash.slice(1))) {
   if (!isTree) { jump(hash === "" ? 0 : Number(hash) - run.done || 0); return; }
-  const [order, at] = hash.split("@");
+  const [level, place] = isLevels ? hash.split(":") : ["", hash];
+  if (isLevels) {
+    if (!LEVELS.includes(level)) { document.body.classList.add("levels"); levels.shown = null; show(); return; }
+    takeLevel(LEVELS.indexOf(level));
+  }
+  const [order, at] = place.split("@");
   tree.path = [0];
   for (const name of order.split(".").filter(Boolean)) {
     const next = tree.nodes[tree.path.at(-1)].next[tree.names.indexOf(name)];
@@ -18,7 +23,8 @@ function resized() {
   show();
 }
 
-if (isTree) { plantTree(); run = runOfPath(); } else {
+if (isLevels) plantLevels();
+if (isTree) { tree = isLevels ? levels.trees[0] : treeOf(data); run = runOfPath(); } else {
   const lines = linesOf(data.trace).map((it) => it.replace(/^\d+ /, ""));
   run = new Run(data, data.steps.map((it, index) => ({ ...it, line: lines[index] })), data.done);
 }
@@ -32,6 +38,7 @@ for (const way of ["previous", "next"]) {
   $(way).title = `${way}: ${title}`;
   $(way).innerHTML = way === "next" ? `<span class="hidden">${esc(title)}</span> \u203a` : `\u2039 <span class="hidden">${esc(title)}</span>`;
 }
+if (isLevels) document.querySelector('[data-do="levels"]').hidden = false;
 if (isTree) {
   document.body.classList.add("tree");
   document.querySelector('[data-do="secret"]').hidden = false;

@@ -48,7 +48,7 @@ function chainLayout(step, sights, time) {
   const axisH = 1.5 * u + lookH;
   const least = (isLow ? 1.6 : 2.05) * u;
   const bucketH = bucketIsShown() ? (isLow ? 1.5 : 1.7) * u : 0;
-  const fitRows = (buckets) => (isPhone ? 12 : Math.max(2, Math.floor((room - axisH - buckets * bucketH - 0.3 * u) / least)));
+  const fitRows = (buckets) => (isPhone ? 12 : Math.max(bucketH ? 1 : 2, Math.floor((room - axisH - buckets * bucketH - 0.3 * u) / least)));
   let { keys, hidden } = keysShown(fitRows(bucketH ? 1 : 0), step, sights);
   let groups = groupsOf(keys, bucketH > 0);
   if (groups.length > 1 && bucketH) { ({ keys, hidden } = keysShown(fitRows(groups.length), step, sights)); groups = groupsOf(keys, true); }
