@@ -45,11 +45,17 @@ function pathOf(its, order) {
 function columnAt(at) {
   const its = levels.trees[at];
   const path = pathOf(its, levels.order);
-  const steps = path.flatMap((node) => its.nodes[node].steps).map((it) => eventOf(it.line)).filter((it) => /^(read|scan|insert|update|delete|precommit|commit|fail)$/.test(it.op) || it.op === "detect");
+  const steps = path.flatMap((node) => its.nodes[node].steps).map((it) => eventOf(it.line)).filter((it) => /^(read|scan|insert|update|delete|precommit|commit|fail)$/.test(it.op) || it.op === "detect").filter(isNews());
   const lines = steps.map((it) => `<li class="${kindOf(it)}"><b class="t c${Math.max(its.names.indexOf(it.name), 0) % 6}">${esc(it.name ?? "")}</b> ${esc(it.event)} <span aria-hidden="true">\u2192</span> <b>${esc(it.reply)}</b></li>`);
   const outcome = its.nodes[path.at(-1)].outcome;
   const text = outcome === null ? "" : sheet.trees[at].outcomes[outcome];
   return `<section><h3>${LEVELS[at]} <button type="button" data-level="${at}">story</button></h3><ol>${lines.join("")}</ol><p class="ends">${endsSaid(text)}</p></section>`;
+}
+
+/** Whether a step says what its transaction hasn't said last. */
+function isNews() {
+  const last = new Map();
+  return ({ name, event, reply }) => { const said = `${event} ${reply}`; const isNew = last.get(name) !== said; last.set(name, said); return isNew; };
 }
 
 /** An outcome in words: how each transaction ends, the rows, and the verdict. */
