@@ -430,9 +430,9 @@ function showSay() {
   const why = linesOf(step.why).filter((it) => !/(begin|end) [0-9A-F]{16}/.test(it)).map((it) => `<li>${reasonOf(it)}</li>`);
   why.sort((a, b) => b.includes("<b>seen") - a.includes("<b>seen"));
   const chips = changesOf(here);
-  const [most, some] = thoseThatFit(why, chips);
+  const [most, some, hasRest] = thoseThatFit(why, chips);
   if (chips.length > some) chips.splice(some, chips.length, `<span class="soft">and ${chips.length - some} more</span>`);
-  const rest = why.length > most ? `<li class="soft">and ${why.length - most} more</li>` : "";
+  const rest = why.length > most && hasRest ? `<li class="soft">and ${why.length - most} more</li>` : "";
   const told = feedback();
   const rule = ruleOf(step);
   $("because").innerHTML = `${told}${why.length ? `<ul class="why" aria-label="Why">${why.slice(0, most).join("")}${rest}</ul>` : ""}
@@ -447,7 +447,7 @@ const isSpoilerHidden = (step = null) => isSecret || (isPredict && step === null
 
 /** How many of the reasons and of the changes have room beside the sentence; at least one of each. */
 function thoseThatFit(why, chips) {
-  if (isSmall() || !sizes.because) return [4, 8];
+  if (isSmall() || !sizes.because) return [4, 8, true];
   const [W, H] = sizes.because;
   const u = rem() * (document.body.dataset.lanes <= 2 && !isTree && !isPresent() && H > 8.4 * rem() ? 1.12 : 1);
   const plain = (html) => html.replace(/<[^>]*>/g, "").replace(/&[a-z]+;/g, "x");
@@ -471,7 +471,7 @@ function thoseThatFit(why, chips) {
     if (left < (most + 1 < why.length ? 1.3 * u : 0)) break;
     most++;
   }
-  return [Math.max(most, 1), some];
+  return [Math.max(most, 1), some, most > 0];
 }
 
 const isPresent = () => document.documentElement.classList.contains("present");
@@ -1383,8 +1383,8 @@ function bucketSaid(bucket, position) {
 
 /** A bucket as the step changes it: before and after, as words are. */
 function drawBucket({ bucket }, W, u, density, isSingle) {
-  const rowH = [2.3, 1.8, 1.3][density] * u;
-  const head = [1.4, 1.25, 1.05][density] * u;
+  const rowH = [2.3, 1.8, 1.3, 1.1][density] * u;
+  const head = [1.4, 1.25, 1.05, 0.95][density] * u;
   const [old, now] = [bucketAt(bucket, here - 1), bucketAt(bucket, here)];
   const [first, second] = [3.6 * u, 3.6 * u + (W - 3.6 * u) / 2];
   const r = Math.min(rowH * 0.4, 0.85 * u);
@@ -1445,16 +1445,16 @@ function showGraphTitle(edges, nodes) {
 /** Where the nodes are: two side by side, more on an ellipse, or in a row where the panel is low or narrow. */
 function graphLayout(nodes, W, H) {
   const count = nodes.length;
-  const k = count > 2 && H < 8 * rem() ? 0.9 : Math.max(1, Math.min(1.35, H / (8 * rem()), W / (27 * rem())));
+  const k = H < 3.4 * rem() ? Math.max(H / (3.4 * rem()), 0.6) : count > 2 && H < 8 * rem() ? 0.9 : Math.max(1, Math.min(1.35, H / (8 * rem()), W / (27 * rem())));
   const u = rem() * k;
   const r = (count > 6 ? 1.02 : 1.25) * u;
   const isFlat = count > 2 && (H < (count > 4 ? 7.2 : 6.2) * u || W < 24 * rem());
   const isBelow = isFlat || (W < 26 * rem() && count <= 2);
   // in a very low panel the nodes have no room for words below them
-  const isLow = isFlat && H < 2 * r + 3.2 * u;
+  const isLow = isBelow && H < 2 * r + 3.2 * u;
   const spot = new Map();
   const gap = isFlat ? Math.min((W - 5 * u) / (count - 1), 10 * u) : 0;
-  if (count <= 2) nodes.forEach((id, index) => spot.set(id, { x: count === 1 ? W / 2 : W / 2 + (index ? 1 : -1) * Math.max(2.5 * u, Math.min(W / 2 - (isBelow ? 3 : 6.9) * u, 8 * u)), y: H / 2 - 0.3 * u }));
+  if (count <= 2) nodes.forEach((id, index) => spot.set(id, { x: count === 1 ? W / 2 : W / 2 + (index ? 1 : -1) * Math.max(2.5 * u, Math.min(W / 2 - (isBelow ? 3 : 6.9) * u, 8 * u)), y: H / 2 - (isLow ? 0 : 0.3) * u }));
   else if (isFlat) nodes.forEach((id, index) => spot.set(id, { x: W / 2 + (index - (count - 1) / 2) * gap, y: Math.max(Math.min(H * 0.56, H - r - (isLow ? 0.1 : 1.55) * u), r) }));
   else {
     const [rx, ry] = [Math.min(W / 2 - 7 * u, (count > 6 ? 13 : 11) * u), H / 2 - r - 0.4 * u];
@@ -1472,7 +1472,7 @@ function graphLayout(nodes, W, H) {
 }
 
 function drawGraph(nodes, edges, cycle, victim) {
-  const [W, H] = [sizes.graph[0], Math.max(sizes.graph[1], 3 * rem())];
+  const [W, H] = [sizes.graph[0], Math.max(sizes.graph[1], 2 * rem())];
   const at = graphLayout(nodes, W, H);
   const { u, r, spot, isFlat } = at;
   const inCycle = new Set(cycle.map((id, index) => `${id} ${cycle[(index + 1) % cycle.length]}`));
@@ -1594,7 +1594,7 @@ function showWord() {
   const [W, H] = sizes.word;
   const room = isSmall() ? Infinity : H;
   const ways = all.length > 1 ? [[2, 1, false]] : [];
-  ways.push([1, 0, true], [1, 1, true], [1, 1, false], [1, 2, false]);
+  ways.push([1, 0, true], [1, 1, true], [1, 1, false], [1, 2, false], [1, 3, false]);
   let made = null;
   for (const [count, density, hasHex] of ways) {
     const isSingle = count === 1 && !pinned;
@@ -1641,8 +1641,8 @@ function drawWord(it, W, u, density, isSingle, hasHex) {
   const foldW = 5.4 * u;
   const bit = Math.min((W - labelW - gaps - foldW - 0.4 * u) / (10 + tail), 1.75 * u);
   const x = (at) => labelW + (at <= 10 ? at * bit : 10 * bit + foldW + (at - fold) * bit) + (at >= 1 ? 0.35 * u : 0) + (at >= 2 ? 0.35 * u : 0) + (at >= 10 ? 0.7 * u : 0);
-  const rowH = [2.3, 1.68, 1.2][density] * u;
-  const head = [1.4, 1.25, 1.02][density] * u;
+  const rowH = [2.3, 1.68, 1.2, 1][density] * u;
+  const head = [1.4, 1.25, 1.02, 0.9][density] * u;
   const out = [];
   let y = 0;
   rows.forEach((row, index) => {
@@ -1689,7 +1689,7 @@ function drawWord(it, W, u, density, isSingle, hasHex) {
   return { html, height: y + (isSingle ? (hasHex ? 1.35 * u : 0) : lines * 1.35 * u + 0.4 * u) };
 }
 
-const bitBox = (x, y, w, h, bit, isMoved, u) => `<rect class="bit b${bit}${isMoved ? " moved" : ""}" x="${f1(x + 0.5)}" y="${f1(y + 1)}" width="${f1(w - 2)}" height="${f1(h - 3)}" rx="2"/><text class="bittext b${bit}${isMoved ? " moved" : ""}" x="${f1(x + w / 2 - 0.5)}" y="${f1(y + h * 0.5 + 0.34 * u)}" text-anchor="middle">${bit}</text>`;
+const bitBox = (x, y, w, h, bit, isMoved, u) => `<rect class="bit b${bit}${isMoved ? " moved" : ""}" x="${f1(x + 0.5)}" y="${f1(y + 1)}" width="${f1(w - 2)}" height="${f1(h - 3)}" rx="2"/><text class="bittext b${bit}${isMoved ? " moved" : ""}" x="${f1(x + w / 2 - 0.5)}" y="${f1(y + h * 0.5 + 0.34 * Math.min(u, w * 1.4))}" text-anchor="middle"${w < 0.72 * u ? ` style="font-size:${f1(w * 1.4)}px"` : ""}>${bit}</text>`;
 
 /* ================================================================ the explorer */
 
@@ -1891,11 +1891,17 @@ function pathOf(its, order) {
 function columnAt(at) {
   const its = levels.trees[at];
   const path = pathOf(its, levels.order);
-  const steps = path.flatMap((node) => its.nodes[node].steps).map((it) => eventOf(it.line)).filter((it) => /^(read|scan|insert|update|delete|precommit|commit|fail)$/.test(it.op) || it.op === "detect");
+  const steps = path.flatMap((node) => its.nodes[node].steps).map((it) => eventOf(it.line)).filter((it) => /^(read|scan|insert|update|delete|precommit|commit|fail)$/.test(it.op) || it.op === "detect").filter(isNews());
   const lines = steps.map((it) => `<li class="${kindOf(it)}"><b class="t c${Math.max(its.names.indexOf(it.name), 0) % 6}">${esc(it.name ?? "")}</b> ${esc(it.event)} <span aria-hidden="true">\u2192</span> <b>${esc(it.reply)}</b></li>`);
   const outcome = its.nodes[path.at(-1)].outcome;
   const text = outcome === null ? "" : sheet.trees[at].outcomes[outcome];
   return `<section><h3>${LEVELS[at]} <button type="button" data-level="${at}">story</button></h3><ol>${lines.join("")}</ol><p class="ends">${endsSaid(text)}</p></section>`;
+}
+
+/** Whether a step says what its transaction hasn't said last. */
+function isNews() {
+  const last = new Map();
+  return ({ name, event, reply }) => { const said = `${event} ${reply}`; const isNew = last.get(name) !== said; last.set(name, said); return isNew; };
 }
 
 /** An outcome in words: how each transaction ends, the rows, and the verdict. */

@@ -64,7 +64,7 @@ button[aria-pressed="true"] { background: var(--ink); color: var(--bg); }
 
 main { flex: 1; min-height: 0; display: grid; grid-template-columns: minmax(0, 1.32fr) minmax(0, 1fr); grid-template-rows: auto minmax(8.4rem, 0.82fr) minmax(0, 1.18fr); gap: 0.6rem; padding: 0.4rem 0.8rem 0.7rem; }
 body[data-ring] main { grid-template-rows: auto minmax(min(10.5rem, 22vh), 1.12fr) minmax(6.7rem, 0.88fr); } html.present body[data-ring] main { grid-template-rows: auto minmax(0, 0.95fr) minmax(6.5rem, 1fr); }
-@media (max-width: 62rem) { [data-do="legend"], [data-do="picture"] { display: none; } html.present :is(.why, .note) { font-size: 0.96rem; } html.present .plain { font-size: 1.25rem; } html.present .plain.long { font-size: 1.06rem; } }
+@media (max-width: 62rem) { [data-do="legend"], [data-do="picture"] { display: none; } html.present :is(.why, .note) { font-size: 0.96rem; line-height: 1.15; } html.present .event { font-size: 1.05rem; } html.present .chips { line-height: 1.45; font-size: 0.94rem; } html.present .plain { line-height: 1.15; } html.present .plain { font-size: 1.14rem; } html.present .plain.long { font-size: 1.02rem; } html.present .plain.long ~ .note:not(.verdict) { display: none; } }
 #top { grid-column: 1 / -1; min-width: 0; }
 #versions { grid-column: 1; grid-row: 2 / 4; }
 #waits { grid-column: 2; grid-row: 2; }
@@ -153,6 +153,7 @@ body[data-ring] main { grid-template-rows: auto minmax(min(10.5rem, 22vh), 1.12f
 .note::before { content: "\201c"; } .note::after { content: "\201d"; }
 .verdict::before, .verdict::after { content: none; }
 .verdict { color: var(--ink); }
+html.present #said:has(.verdict) .plain { font-size: 1.08rem; } html.present .verdict { font-size: 0.9rem; line-height: 1.18; }
 .why { margin: 0 0 0.25rem; padding: 0; list-style: none; font-size: 1.05rem; line-height: 1.28; }
 .why li::before { content: "because "; color: var(--soft); font-size: 0.95rem; }
 .why li + li::before { content: "and "; }
@@ -283,7 +284,8 @@ dialog::backdrop { background: #0009; }
   html { font-size: 16px; } html.present { font-size: 19px; }
   body { display: block; height: auto; overflow: auto; }
   #bar { flex-wrap: wrap; padding: 0.3rem 0.5rem; gap: 0.3rem; } #bar > :is(h1, .way) { order: -1; } #about { display: none; } #bar h1 { font-size: 1.05rem; flex: 1 1 40%; } #bar .space { display: none; } .modes { flex: 1 1 14rem !important; min-width: 0; overflow-x: auto; } .modes button { min-height: 2.4rem; white-space: nowrap; } #bar nav { flex: none; gap: 0.15rem; } #bar nav button { min-width: 2.3rem; min-height: 2.4rem; padding: 0; } #position { min-width: 3.7rem; font-size: 1rem; }
-  [data-do="present"] { display: none; }
+  [data-do="present"] { display: none; } [data-do="legend"], [data-do="picture"] { display: inline-block; }
+  .modes { padding-right: 2.2rem; -webkit-mask-image: linear-gradient(90deg, #000 calc(100% - 2.4rem), transparent); mask-image: linear-gradient(90deg, #000 calc(100% - 2.4rem), transparent); }
   main { display: block; padding: 0.2rem 0.5rem; }
   #top { position: sticky; top: 0; background: var(--bg); z-index: 2; padding-bottom: 0.3rem; }
   #say { display: block; height: auto; max-height: 15.5rem; overflow: auto; } .plain { font-size: 1.2rem; } .event { font-size: 1.05rem; } .tree #say { height: auto; max-height: 19rem; }

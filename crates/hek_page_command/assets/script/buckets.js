@@ -55,8 +55,8 @@ function bucketSaid(bucket, position) {
 
 /** A bucket as the step changes it: before and after, as words are. */
 function drawBucket({ bucket }, W, u, density, isSingle) {
-  const rowH = [2.3, 1.8, 1.3][density] * u;
-  const head = [1.4, 1.25, 1.05][density] * u;
+  const rowH = [2.3, 1.8, 1.3, 1.1][density] * u;
+  const head = [1.4, 1.25, 1.05, 0.95][density] * u;
   const [old, now] = [bucketAt(bucket, here - 1), bucketAt(bucket, here)];
   const [first, second] = [3.6 * u, 3.6 * u + (W - 3.6 * u) / 2];
   const r = Math.min(rowH * 0.4, 0.85 * u);

@@ -40,16 +40,16 @@ function showGraphTitle(edges, nodes) {
 /** Where the nodes are: two side by side, more on an ellipse, or in a row where the panel is low or narrow. */
 function graphLayout(nodes, W, H) {
   const count = nodes.length;
-  const k = count > 2 && H < 8 * rem() ? 0.9 : Math.max(1, Math.min(1.35, H / (8 * rem()), W / (27 * rem())));
+  const k = H < 3.4 * rem() ? Math.max(H / (3.4 * rem()), 0.6) : count > 2 && H < 8 * rem() ? 0.9 : Math.max(1, Math.min(1.35, H / (8 * rem()), W / (27 * rem())));
   const u = rem() * k;
   const r = (count > 6 ? 1.02 : 1.25) * u;
   const isFlat = count > 2 && (H < (count > 4 ? 7.2 : 6.2) * u || W < 24 * rem());
   const isBelow = isFlat || (W < 26 * rem() && count <= 2);
   // in a very low panel the nodes have no room for words below them
-  const isLow = isFlat && H < 2 * r + 3.2 * u;
+  const isLow = isBelow && H < 2 * r + 3.2 * u;
   const spot = new Map();
   const gap = isFlat ? Math.min((W - 5 * u) / (count - 1), 10 * u) : 0;
-  if (count <= 2) nodes.forEach((id, index) => spot.set(id, { x: count === 1 ? W / 2 : W / 2 + (index ? 1 : -1) * Math.max(2.5 * u, Math.min(W / 2 - (isBelow ? 3 : 6.9) * u, 8 * u)), y: H / 2 - 0.3 * u }));
+  if (count <= 2) nodes.forEach((id, index) => spot.set(id, { x: count === 1 ? W / 2 : W / 2 + (index ? 1 : -1) * Math.max(2.5 * u, Math.min(W / 2 - (isBelow ? 3 : 6.9) * u, 8 * u)), y: H / 2 - (isLow ? 0 : 0.3) * u }));
   else if (isFlat) nodes.forEach((id, index) => spot.set(id, { x: W / 2 + (index - (count - 1) / 2) * gap, y: Math.max(Math.min(H * 0.56, H - r - (isLow ? 0.1 : 1.55) * u), r) }));
   else {
     const [rx, ry] = [Math.min(W / 2 - 7 * u, (count > 6 ? 13 : 11) * u), H / 2 - r - 0.4 * u];
@@ -67,7 +67,7 @@ function graphLayout(nodes, W, H) {
 }
 
 function drawGraph(nodes, edges, cycle, victim) {
-  const [W, H] = [sizes.graph[0], Math.max(sizes.graph[1], 3 * rem())];
+  const [W, H] = [sizes.graph[0], Math.max(sizes.graph[1], 2 * rem())];
   const at = graphLayout(nodes, W, H);
   const { u, r, spot, isFlat } = at;
   const inCycle = new Set(cycle.map((id, index) => `${id} ${cycle[(index + 1) % cycle.length]}`));

@@ -108,9 +108,9 @@ function showSay() {
   const why = linesOf(step.why).filter((it) => !/(begin|end) [0-9A-F]{16}/.test(it)).map((it) => `<li>${reasonOf(it)}</li>`);
   why.sort((a, b) => b.includes("<b>seen") - a.includes("<b>seen"));
   const chips = changesOf(here);
-  const [most, some] = thoseThatFit(why, chips);
+  const [most, some, hasRest] = thoseThatFit(why, chips);
   if (chips.length > some) chips.splice(some, chips.length, `<span class="soft">and ${chips.length - some} more</span>`);
-  const rest = why.length > most ? `<li class="soft">and ${why.length - most} more</li>` : "";
+  const rest = why.length > most && hasRest ? `<li class="soft">and ${why.length - most} more</li>` : "";
   const told = feedback();
   const rule = ruleOf(step);
   $("because").innerHTML = `${told}${why.length ? `<ul class="why" aria-label="Why">${why.slice(0, most).join("")}${rest}</ul>` : ""}
@@ -125,7 +125,7 @@ const isSpoilerHidden = (step = null) => isSecret || (isPredict && step === null
 
 /** How many of the reasons and of the changes have room beside the sentence; at least one of each. */
 function thoseThatFit(why, chips) {
-  if (isSmall() || !sizes.because) return [4, 8];
+  if (isSmall() || !sizes.because) return [4, 8, true];
   const [W, H] = sizes.because;
   const u = rem() * (document.body.dataset.lanes <= 2 && !isTree && !isPresent() && H > 8.4 * rem() ? 1.12 : 1);
   const plain = (html) => html.replace(/<[^>]*>/g, "").replace(/&[a-z]+;/g, "x");
@@ -149,7 +149,7 @@ function thoseThatFit(why, chips) {
     if (left < (most + 1 < why.length ? 1.3 * u : 0)) break;
     most++;
   }
-  return [Math.max(most, 1), some];
+  return [Math.max(most, 1), some, most > 0];
 }
 
 const isPresent = () => document.documentElement.classList.contains("present");

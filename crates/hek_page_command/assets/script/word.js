@@ -51,7 +51,7 @@ function showWord() {
   const [W, H] = sizes.word;
   const room = isSmall() ? Infinity : H;
   const ways = all.length > 1 ? [[2, 1, false]] : [];
-  ways.push([1, 0, true], [1, 1, true], [1, 1, false], [1, 2, false]);
+  ways.push([1, 0, true], [1, 1, true], [1, 1, false], [1, 2, false], [1, 3, false]);
   let made = null;
   for (const [count, density, hasHex] of ways) {
     const isSingle = count === 1 && !pinned;
@@ -98,8 +98,8 @@ function drawWord(it, W, u, density, isSingle, hasHex) {
   const foldW = 5.4 * u;
   const bit = Math.min((W - labelW - gaps - foldW - 0.4 * u) / (10 + tail), 1.75 * u);
   const x = (at) => labelW + (at <= 10 ? at * bit : 10 * bit + foldW + (at - fold) * bit) + (at >= 1 ? 0.35 * u : 0) + (at >= 2 ? 0.35 * u : 0) + (at >= 10 ? 0.7 * u : 0);
-  const rowH = [2.3, 1.68, 1.2][density] * u;
-  const head = [1.4, 1.25, 1.02][density] * u;
+  const rowH = [2.3, 1.68, 1.2, 1][density] * u;
+  const head = [1.4, 1.25, 1.02, 0.9][density] * u;
   const out = [];
   let y = 0;
   rows.forEach((row, index) => {
@@ -146,4 +146,4 @@ function drawWord(it, W, u, density, isSingle, hasHex) {
   return { html, height: y + (isSingle ? (hasHex ? 1.35 * u : 0) : lines * 1.35 * u + 0.4 * u) };
 }
 
-const bitBox = (x, y, w, h, bit, isMoved, u) => `<rect class="bit b${bit}${isMoved ? " moved" : ""}" x="${f1(x + 0.5)}" y="${f1(y + 1)}" width="${f1(w - 2)}" height="${f1(h - 3)}" rx="2"/><text class="bittext b${bit}${isMoved ? " moved" : ""}" x="${f1(x + w / 2 - 0.5)}" y="${f1(y + h * 0.5 + 0.34 * u)}" text-anchor="middle">${bit}</text>`;
+const bitBox = (x, y, w, h, bit, isMoved, u) => `<rect class="bit b${bit}${isMoved ? " moved" : ""}" x="${f1(x + 0.5)}" y="${f1(y + 1)}" width="${f1(w - 2)}" height="${f1(h - 3)}" rx="2"/><text class="bittext b${bit}${isMoved ? " moved" : ""}" x="${f1(x + w / 2 - 0.5)}" y="${f1(y + h * 0.5 + 0.34 * Math.min(u, w * 1.4))}" text-anchor="middle"${w < 0.72 * u ? ` style="font-size:${f1(w * 1.4)}px"` : ""}>${bit}</text>`;
