@@ -153,7 +153,7 @@ body[data-ring] main { grid-template-rows: auto minmax(min(10.5rem, 22vh), 1.12f
 .note::before { content: "\201c"; } .note::after { content: "\201d"; }
 .verdict::before, .verdict::after { content: none; }
 .verdict { color: var(--ink); }
-html.present #said:has(.verdict) .plain { font-size: 1.08rem; } html.present .verdict { font-size: 0.9rem; line-height: 1.18; }
+html.present #said:has(.verdict) .plain { font-size: 1rem; } html.present .verdict { font-size: 0.9rem; line-height: 1.18; }
 .why { margin: 0 0 0.25rem; padding: 0; list-style: none; font-size: 1.05rem; line-height: 1.28; }
 .why li::before { content: "because "; color: var(--soft); font-size: 0.95rem; }
 .why li + li::before { content: "and "; }
