@@ -46,13 +46,14 @@ function graphLayout(nodes, W, H) {
   const isFlat = count > 2 && (H < (count > 4 ? 7.2 : 6.2) * u || W < 24 * rem());
   const isBelow = isFlat || (W < 26 * rem() && count <= 2);
   // in a very low panel the nodes have no room for words below them
+  const isWide = count > 6 && !isFlat;
   const isLow = isBelow && H < 2 * r + 3.2 * u;
   const spot = new Map();
   const gap = isFlat ? Math.min((W - 5 * u) / (count - 1), 10 * u) : 0;
   if (count <= 2) nodes.forEach((id, index) => spot.set(id, { x: count === 1 ? W / 2 : W / 2 + (index ? 1 : -1) * Math.max(2.5 * u, Math.min(W / 2 - (isBelow ? 3 : 6.9) * u, 8 * u)), y: H / 2 - (isLow ? 0 : 0.3) * u }));
   else if (isFlat) nodes.forEach((id, index) => spot.set(id, { x: W / 2 + (index - (count - 1) / 2) * gap, y: Math.max(Math.min(H * 0.56, H - r - (isLow ? 0.1 : 1.55) * u), r) }));
   else {
-    const [rx, ry] = [Math.min(W / 2 - 7 * u, (count > 6 ? 13 : 11) * u), H / 2 - r - 0.4 * u];
+    const [rx, ry] = [isWide ? Math.min(W / 2 - r - 0.8 * u, 26 * u) : Math.min(W / 2 - 7 * u, 11 * u), H / 2 - r - 0.4 * u];
     const turn = count % 2 === 0 ? Math.PI / count : 0;
     nodes.forEach((id, index) => {
       const angle = (2 * Math.PI * index) / count - Math.PI / 2 + turn;
@@ -63,7 +64,7 @@ function graphLayout(nodes, W, H) {
     const [low, high] = [Math.min(...ys), Math.max(...ys)];
     for (const it of spot.values()) it.y = r + 0.4 * u + ((it.y - low) / (high - low)) * 2 * ry;
   }
-  return { u, r, W, isFlat, isBelow, isLow, spot, gap };
+  return { u, r, W, H, isFlat, isBelow, isLow, isWide, spot, gap };
 }
 
 function drawGraph(nodes, edges, cycle, victim) {
@@ -84,8 +85,16 @@ function drawGraph(nodes, edges, cycle, victim) {
   put("graph", `<svg width="${W}" height="${f1(H)}" viewBox="0 0 ${W} ${f1(H)}" style="font-size:${f1(u)}px" role="img" aria-labelledby="graph-said">${out.join("")}</svg>`);
 }
 
+/** The words of a node at the left or right edge of a wide graph: above it, or below it in the lower half. */
+function noteAtEdge(x, y, { u, r, W, H }, texts, isBad) {
+  const side = x < W / 2 ? -1 : 1;
+  const note = fitting(texts, W / 4, u);
+  return `<text class="nodenote${isBad ? " bad" : ""}" x="${f1(side < 0 ? Math.max(x - r, 2) : Math.min(x + r, W - 2))}" y="${f1(y < H / 2 ? y - r - 0.35 * u : y + r + 1.05 * u)}" text-anchor="${side < 0 ? "start" : "end"}">${esc(note)}</text>`;
+}
+
 /** A transaction: its name in the circle, or its short form there and its name beside it. */
-function graphNode(id, { u, r, W, isBelow, isLow, spot, gap }, isHit) {
+function graphNode(id, at, isHit) {
+  const { u, r, W, isBelow, isLow, spot, gap } = at;
   const { x, y } = spot.get(id);
   const it = run.txn(id, here);
   const isDead = it.kind === "aborted";
@@ -93,10 +102,12 @@ function graphNode(id, { u, r, W, isBelow, isLow, spot, gap }, isHit) {
   const isWhole = name === short || (name.length <= 3 && widthOf(name, 1.2 * u, 700) < 2 * r - 0.4 * u);
   const out = [`<g class="node ${colourOf(id)}${isDead ? " dead" : ""}${isHit ? " victim" : ""}"><title>${esc(name)}</title><circle cx="${f1(x)}" cy="${f1(y)}" r="${f1(r)}"/><text class="nodename" x="${f1(x)}" y="${f1(y + 0.44 * u)}" text-anchor="middle">${esc(isWhole ? name : short)}</text>`];
   if (isDead) out.push(`<circle class="crossed" cx="${f1(x + r * 0.8)}" cy="${f1(y - r * 0.8)}" r="${f1(0.5 * u)}"/><path class="strike" d="M${f1(x + r * 0.8 - 0.22 * u)} ${f1(y - r * 0.8 - 0.22 * u)}l${f1(0.44 * u)} ${f1(0.44 * u)}m0 ${f1(-0.44 * u)}l${f1(-0.44 * u)} ${f1(0.44 * u)}"/>`);
-  const side = x < W / 2 - u ? -1 : 1;
+  // the inner nodes of a wide graph have their words between them
+  const side = (x < W / 2 - u ? -1 : 1) * (at.isWide ? -1 : 1);
   const phase = isHit ? "victim" : it.doomed && !isDead ? "must abort" : it.kind === "active" && it.finished ? "finished" : it.kind;
+  if (at.isWide && Math.abs(x - W / 2) > W / 3.4) return `${out.join("")}${noteAtEdge(x, y, at, isWhole ? [phase] : [name, short], isHit || it.doomed)}</g>`;
   const beside = [...spot.values()].filter((o) => (o.x - x) * side > 1 && Math.abs(o.y - y) < r + 0.55 * u).map((o) => Math.abs(o.x - x) - r);
-  const room = isBelow ? (isLow ? 0 : Math.min((gap || 8 * u) - 0.3 * u, 2 * Math.min(x, W - x))) : Math.min(side < 0 ? x : W - x, ...beside) - r - 0.5 * u;
+  const room = isBelow ? (isLow ? 0 : Math.min((gap || 8 * u) - 0.3 * u, 2 * Math.min(x, W - x))) : (at.isWide ? Math.abs(x - W / 2) : Math.min(side < 0 ? x : W - x, ...beside)) - r - 0.45 * u;
   const note = fitting(isWhole ? [phase, phase.slice(0, 4)] : [`${name}, ${phase}`, name, short], room, u);
   return `${out.join("")}<text class="nodenote${isHit || it.doomed ? " bad" : ""}" x="${f1(isBelow ? x : x + side * (r + 0.35 * u))}" y="${f1(isBelow ? y + r + 1.1 * u : y + 0.33 * u)}" text-anchor="${isBelow ? "middle" : side < 0 ? "end" : "start"}">${esc(note)}</text></g>`;
 }
