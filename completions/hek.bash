@@ -18,6 +18,7 @@ _hek() {
     "help help") words="run debug page permute check history drive threads word release asm dis" ;;
     "run --state-at") return ;;
     "run --why=") words="reasons rules" ;;
+    "page --level") words="serializable repeatable snapshot" ;;
     "page --from") return ;;
     "page --to") return ;;
     "page --title") return ;;
@@ -52,7 +53,7 @@ _hek() {
     case "$command" in
     run) words="--text --image --explain --state --state-at --why --changes --history --auto --json --help" files=yes ;;
     debug) words="--text --image --explain --help" files=yes ;;
-    page) words="--text --image --explain --from --to --title --lesson --previous --next --orders --split --grain --limit --help" files=yes ;;
+    page) words="--text --image --explain --level --auto --from --to --title --lesson --previous --next --orders --levels --split --grain --limit --help" files=yes ;;
     permute) words="--text --image --explain --level --split --grain --limit --part --jobs --each --order --levels --find --json --help" files=yes ;;
     check) words="--text --image --explain --level --why --summary --all --json --help" files=yes ;;
     history) words="--explain --level --order --all --order-out --json --help" files=yes ;;

@@ -178,10 +178,9 @@ function printed() {
   $("printed").replaceChildren();
   if (!frame || $("frames").hidden) return;
   frame.contentWindow.buildPrint();
-  const table = document.importNode(frame.contentDocument.getElementById("print"), true);
-  table.removeAttribute("id");
+  const parts = [...frame.contentDocument.getElementById("print").children].map(it => document.importNode(it, true));
   const isLesson = !$("lesson").hidden && !isWide();
-  $("printed").append(...(isLesson ? [$("prose").cloneNode(true)] : []), table);
+  $("printed").append(...(isLesson ? [$("prose").cloneNode(true)] : []), ...parts);
 }
 
 // ---- where the story is

@@ -467,12 +467,18 @@ const PAGE: CommandText = CommandText {
     about: "Writes a schedule's run as a page for a browser",
     example: r"Example:
   hek page first.hek > first.html
-The page shows each step with its reply, and the versions, waits and lock words at each position. It needs no network and no other file. Comments of a schedule text are shown: those above its first line at the start, those above a step at that step. A page has at most 2000 steps; of a longer schedule --from and --to say which.",
+The page shows each step with its reply, and the versions, waits and lock words at each position. It needs no network and no other file. Comments of a schedule text are shown: those above its first line at the start, those above a step at that step. A line `#? ..` above a step is a question, which is asked where replies are guessed. A page has at most 2000 steps; of a longer schedule --from and --to say which.",
     arguments: &[
         FILE,
         TEXT,
         IMAGE,
         EXPLAIN,
+        LEVEL,
+        ArgumentText {
+            name: "auto",
+            help: "shows only the reads and writes of FILE, and begins and ends each transaction by itself",
+            form: Form::Flag,
+        },
         ArgumentText {
             name: "from",
             help: "begins at step N, by default the first",
@@ -506,6 +512,11 @@ The page shows each step with its reply, and the versions, waits and lock words 
         ArgumentText {
             name: "orders",
             help: "makes the explorer of every order of the moves, as hek permute plays them",
+            form: Form::Flag,
+        },
+        ArgumentText {
+            name: "levels",
+            help: "makes the explorers of all levels, with their outcomes side by side",
             form: Form::Flag,
         },
         ArgumentText {
@@ -671,7 +682,8 @@ fn rivals_of(command: &str, name: &str) -> &'static [&'static str] {
         ("permute" | "page", "grain") => &["split"],
         ("permute", "levels") => &["each", "level"],
         ("run", "history") => &["state", "state-at", "why", "changes", "json"],
-        ("page", "orders") => &["from", "to"],
+        ("page", "orders") => &["from", "to", "auto"],
+        ("page", "levels") => &["from", "to", "auto", "level", "orders"],
         ("word", "clock" | "txns" | "readers") => &["changes"],
         (_, "image") => &["text"],
         _ => &[],

@@ -18,7 +18,10 @@ use hek_convert_command::{
 };
 use hek_debug_command::{CommandFile, Manner, debug_command, debug_session, explained_command};
 use hek_history_command::run_log_command;
-use hek_page_command::{Extent, Heading, MOST_NODES, Part, explorer_command, page_command};
+use hek_page_command::{
+    Extent, Heading, MOST_NODES, Making, Part, explorer_command, levels_command, made_file,
+    page_command,
+};
 use hek_permute_command::auto_file;
 use hek_report::{HekFault, INPUT, Printing, ScheduleFile, read_text, report};
 use hek_rules::Level;
@@ -464,10 +467,22 @@ fn page<'a, D: Disk, I: Read + Drop, W: Write, E: Write>(
     };
     let heading = heading_of(found)?;
     let file = schedule_file(alloc, found, disk, input)?;
+    let file = made_file(alloc, file, making_of(found)?)?;
+    if found.get_flag("levels") {
+        return levels_command(alloc, file, extent, heading, out, faults);
+    }
     if found.get_flag("orders") {
         return explorer_command(alloc, file, extent, heading, out, faults);
     }
     page_command(alloc, file, part, heading, out, faults)
+}
+
+/// What the words make of a schedule before its page.
+fn making_of<'a>(found: &ArgMatches<'a>) -> Result<Making, HekFault<'a>> {
+    Ok(Making {
+        level: level_of(found)?,
+        auto: found.get_flag("auto"),
+    })
 }
 
 /// What the words say of a page's title and links.

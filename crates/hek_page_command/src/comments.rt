@@ -13,14 +13,17 @@ use std::str;
 pub(crate) struct Comments {
     /// Those above the first line with words, joined by spaces.
     pub about: String,
+    /// The questions there, joined by spaces: what follows `#?`.
+    pub question: String,
     notes: Vec<Note>,
 }
 
-/// The comments right above a step, joined by spaces, and the step's number.
+/// The comments right above a step, joined by spaces, the questions among them, and the step's number.
 #[derive(Drop)]
 struct Note {
     step: u64,
     text: String,
+    question: String,
 }
 
 /// The comments of the schedule in a file. An image has none, nor has what isn't text.
@@ -44,6 +47,7 @@ pub(crate) fn comments_in<'a, R: Read + Drop>(
 fn no_comments(alloc: Global) -> Comments {
     Comments {
         about: String::new(alloc),
+        question: String::new(alloc),
         notes: Vec::new(alloc),
     }
 }
@@ -54,6 +58,7 @@ fn comments_of(alloc: Global, text: &str) -> Result<Comments, NoMemory> {
         alloc,
         comments: no_comments(alloc),
         block: String::new(alloc),
+        question: String::new(alloc),
         steps: 0,
         is_head: true,
     };
@@ -73,6 +78,16 @@ impl Comments {
         }
         ""
     }
+
+    /// The question above the step of a number, or an empty text.
+    pub(crate) fn question_of(&self, step: u64) -> &str {
+        for note in &self.notes {
+            if note.step == step {
+                return note.question.as_str();
+            }
+        }
+        ""
+    }
 }
 
 /// A reading of a text, line by line: the comments since the last line with words, and how many steps have come.
@@ -81,6 +96,7 @@ struct Reading {
     alloc: Global,
     comments: Comments,
     block: String,
+    question: String,
     steps: u64,
     is_head: bool,
 }
@@ -89,44 +105,56 @@ impl Reading {
     fn take_line(&mut self, line: &str) -> Result<(), NoMemory> {
         let (words, remark) = line.split_once('#').unwrap_or((line, ""));
         match words.split_whitespace().next() {
-            None => self.add_remark(remark.trim()),
+            None => match remark.strip_prefix('?') {
+                Some(question) => add_remark(question.trim(), &mut self.question),
+                None => add_remark(remark.trim(), &mut self.block),
+            },
             Some(word) => self.pass_words(word),
         }
-    }
-
-    fn add_remark(&mut self, remark: &str) -> Result<(), NoMemory> {
-        if remark.is_empty() {
-            return Ok(());
-        }
-        if !self.block.is_empty() {
-            self.block.push(' ')?;
-        }
-        self.block.push_str(remark)?;
-        Ok(())
     }
 
     /// Passes a line that begins with this word: the comments above it belong to it.
     fn pass_words(&mut self, word: &str) -> Result<(), NoMemory> {
         let block = String::from_str(self.alloc, self.block.as_str())?;
+        let question = String::from_str(self.alloc, self.question.as_str())?;
         self.block.clear();
+        self.question.clear();
         if !is_declaration(word) {
             self.steps = self.steps.saturating_add(1);
         }
         if self.is_head {
             self.is_head = false;
             self.comments.about = block;
+            self.comments.question = question;
             return Ok(());
         }
-        self.add_note(word, block)
+        self.add_note(word, block, question)
     }
 
-    fn add_note(&mut self, word: &str, text: String) -> Result<(), NoMemory> {
-        if !is_declaration(word) && !text.is_empty() {
+    fn add_note(&mut self, word: &str, text: String, question: String) -> Result<(), NoMemory> {
+        if !is_declaration(word) && !(text.is_empty() && question.is_empty()) {
             let step = self.steps;
-            self.comments.notes.push(Note { step, text })?;
+            let note = Note {
+                step,
+                text,
+                question,
+            };
+            self.comments.notes.push(note)?;
         }
         Ok(())
     }
+}
+
+/// Adds a remark to others, after a space if there are some.
+fn add_remark(remark: &str, remarks: &mut String) -> Result<(), NoMemory> {
+    if remark.is_empty() {
+        return Ok(());
+    }
+    if !remarks.is_empty() {
+        remarks.push(' ')?;
+    }
+    remarks.push_str(remark)?;
+    Ok(())
 }
 
 /// Whether a line that begins with this word is no step.

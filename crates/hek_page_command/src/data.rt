@@ -117,32 +117,38 @@ fn step_values(
     let mut number = range.done as u64;
     for step in steps {
         number = number.saturating_add(1);
-        values.push(step_value(alloc, step, comments.note_of(number))?)?;
+        values.push(step_value(alloc, step, number, comments)?)?;
     }
     Ok(Value::Array(values))
 }
 
-fn step_value(alloc: Global, step: &StepText, note: &str) -> Result<Value, NoMemory> {
+fn step_value(
+    alloc: Global,
+    step: &StepText,
+    number: u64,
+    comments: &Comments,
+) -> Result<Value, NoMemory> {
     let mut members = Map::new(alloc);
-    put_step(alloc, step, note, &mut members)?;
+    put_step(alloc, step, &mut members)?;
+    put_text(alloc, "note", comments.note_of(number), &mut members)?;
+    put_text(
+        alloc,
+        "question",
+        comments.question_of(number),
+        &mut members,
+    )?;
     Ok(Value::Object(members))
 }
 
 /// Adds the texts of a step; null for waits that are those before it.
-fn put_step(
-    alloc: Global,
-    step: &StepText,
-    note: &str,
-    members: &mut Members,
-) -> Result<(), NoMemory> {
+fn put_step(alloc: Global, step: &StepText, members: &mut Members) -> Result<(), NoMemory> {
     put_lines(alloc, "changed", step.changed.as_slice(), members)?;
     put_lines(alloc, "gone", step.gone.as_slice(), members)?;
     put_lines(alloc, "why", step.why.as_slice(), members)?;
     put_rule(alloc, step, members)?;
     put_lines(alloc, "sees", step.sees.as_slice(), members)?;
     put_lines_if(alloc, "waits", &step.waits, members)?;
-    put_lines(alloc, "ends", step.ends.as_slice(), members)?;
-    put_text(alloc, "note", note, members)
+    put_lines(alloc, "ends", step.ends.as_slice(), members)
 }
 
 /// Adds the row of the table of replies: its name and its texts.

@@ -1,4 +1,5 @@
-//! The command `page --orders`: every order of a schedule's moves as one page, the explorer.
+//! The commands `page --orders` and `page --levels`: every order of a schedule's moves as one page, the explorer, and the
+//! explorers at all levels as one page.
 ghost use Rattle.std.specs.Prelude.{◌≡◌, IfOk, IfErr, MatchResult};
 ghost use Rattle.hek_page_command.specs.Explorers.{Explores, ExploreFails, IsExplored, IsExploreStop};
 
@@ -7,10 +8,10 @@ use crate::heading::Heading;
 use crate::prefixes::prefixes_of;
 use crate::sheet::write_sheet;
 use crate::tree::tree_of;
-use crate::tree_data::tree_data;
-use hek_permute::{Form, moves_of};
+use crate::tree_data::{levels_data, tree_data};
+use hek_permute::{Form, moves_of, schedule_with};
 use hek_report::{HekFault, ScheduleFile, schedule_in};
-use hek_rules::{NoMemory, Schedule};
+use hek_rules::{Level, NoMemory, Schedule};
 use serde_json::Value;
 use std::alloc::Global;
 use std::io::{Read, Write};
@@ -54,38 +55,141 @@ fn write_explorer<'a, W: Write, E: Write>(
     ensures answer { IfOk result (λ status. IsExplored status (W.contents out.old) (W.contents out.new)) }
     ensures stops { IfErr result IsExploreStop }
 {
-    let Extent { form, limit } = extent;
-    let moves = moves_of(alloc, schedule)?;
-    let moves = moves.as_slice();
-    let Some(prefixes) = prefixes_of(alloc, moves, form, limit)? else {
-        let _ = writeln!(faults, "hek: page: more than {limit} nodes");
-        return Ok(1);
-    };
-    match tree_of(alloc, schedule, moves, form, prefixes.as_slice()) {
-        Ok(tree) => {
-            let data = tree_data(alloc, schedule, moves, form, &tree, heading, comments);
-            write_data(alloc, heading, data, out)
-        }
+    match explorer_data(alloc, schedule, extent, heading, comments) {
+        Ok(data) => write_data(alloc, extent, heading, data, out, faults),
         Err(fault) => Err(fault),
     }
 }
 
-/// Writes the page of these data, if there was memory for them.
-fn write_data<'a, W: Write>(
+/// The data of the explorer of a schedule; none if the tree has more nodes than the limit.
+fn explorer_data<'a>(
     alloc: Global,
+    schedule: &Schedule,
+    extent: Extent,
     heading: &Heading<'_>,
-    data: Result<Value, NoMemory>,
+    comments: &Comments,
+) -> Result<Option<Value>, HekFault<'a>>
+    ensures stops { IfErr result IsExploreStop }
+{
+    let Extent { form, limit } = extent;
+    let moves = moves_of(alloc, schedule)?;
+    let moves = moves.as_slice();
+    let Some(prefixes) = prefixes_of(alloc, moves, form, limit)? else {
+        return Ok(None);
+    };
+    match tree_of(alloc, schedule, moves, form, prefixes.as_slice()) {
+        Ok(tree) => some_data(tree_data(alloc, schedule, moves, form, &tree, heading, comments)),
+        Err(fault) => Err(fault),
+    }
+}
+
+/// These data, if there was memory for them.
+fn some_data<'a>(data: Result<Value, NoMemory>) -> Result<Option<Value>, HekFault<'a>>
+    ensures stops { IfErr result IsExploreStop }
+{
+    match data {
+        Ok(data) => Ok(Some(data)),
+        Err(_) => Err(HekFault::NoMemory),
+    }
+}
+
+/// Writes the page of these data; if there are none, `faults` says that there are more nodes than the limit.
+fn write_data<'a, W: Write, E: Write>(
+    alloc: Global,
+    extent: Extent,
+    heading: &Heading<'_>,
+    data: Option<Value>,
     out: &mut W,
+    faults: &mut E,
 ) -> Result<u8, HekFault<'a>>
     ensures answer { IfOk result (λ status. IsExplored status (W.contents out.old) (W.contents out.new)) }
     ensures stops { IfErr result IsExploreStop }
 {
-    let Ok(data) = data else {
-        return Err(HekFault::NoMemory);
+    let Some(data) = data else {
+        let limit = extent.limit;
+        let _ = writeln!(faults, "hek: page: more than {limit} nodes");
+        return Ok(1);
     };
     match write_sheet(alloc, heading, &data, out) {
         Ok(()) => Ok(0),
         Err(HekFault::CannotWrite) => Err(HekFault::CannotWrite),
+        Err(_) => Err(HekFault::NoMemory),
+    }
+}
+
+/// Writes the explorers of the schedule in a file with all transactions at each level, as one page. Answers as
+/// `explorer_command` does.
+pub fn levels_command<'a, R: Read + Drop, W: Write, E: Write>(
+    alloc: Global,
+    file: ScheduleFile<R>,
+    extent: Extent,
+    heading: Heading<'_>,
+    out: &mut W,
+    faults: &mut E,
+) -> Result<u8, HekFault<'a>>
+    ensures { MatchResult result (λ status. Explores R.remaining file status (W.contents out.old) (W.contents out.new)) (ExploreFails R.remaining file) }
+{
+    let comments = comments_in(alloc, &file)?;
+    let schedule = schedule_in(alloc, file)?;
+    write_levels(alloc, &schedule, extent, &heading, &comments, out, faults)
+}
+
+fn write_levels<'a, W: Write, E: Write>(
+    alloc: Global,
+    schedule: &Schedule,
+    extent: Extent,
+    heading: &Heading<'_>,
+    comments: &Comments,
+    out: &mut W,
+    faults: &mut E,
+) -> Result<u8, HekFault<'a>>
+    ensures answer { IfOk result (λ status. IsExplored status (W.contents out.old) (W.contents out.new)) }
+    ensures stops { IfErr result IsExploreStop }
+{
+    match all_levels(alloc, schedule, extent, heading, comments) {
+        Ok(data) => write_data(alloc, extent, heading, data, out, faults),
+        Err(fault) => Err(fault),
+    }
+}
+
+/// The data of the explorers at all levels; none if a tree has more nodes than the limit.
+fn all_levels<'a>(
+    alloc: Global,
+    schedule: &Schedule,
+    extent: Extent,
+    heading: &Heading<'_>,
+    comments: &Comments,
+) -> Result<Option<Value>, HekFault<'a>>
+    ensures stops { IfErr result IsExploreStop }
+{
+    let mut trees = Vec::new(alloc);
+    for level in [Level::Serializable, Level::Repeatable, Level::Snapshot] {
+        match data_at(alloc, schedule, level, extent, heading, comments) {
+            Ok(Some(tree)) => {
+                if trees.push(tree).is_err() {
+                    return Err(HekFault::NoMemory);
+                }
+            }
+            Ok(None) => return Ok(None),
+            Err(fault) => return Err(fault),
+        }
+    }
+    some_data(levels_data(alloc, heading, comments, trees))
+}
+
+/// The data of the explorer with all transactions at a level.
+fn data_at<'a>(
+    alloc: Global,
+    schedule: &Schedule,
+    level: Level,
+    extent: Extent,
+    heading: &Heading<'_>,
+    comments: &Comments,
+) -> Result<Option<Value>, HekFault<'a>>
+    ensures stops { IfErr result IsExploreStop }
+{
+    match schedule_with(alloc, schedule, Some(level), schedule.steps()) {
+        Ok(schedule) => explorer_data(alloc, &schedule, extent, heading, comments),
         Err(_) => Err(HekFault::NoMemory),
     }
 }

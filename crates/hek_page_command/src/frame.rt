@@ -11,9 +11,10 @@ pub(crate) const HEAD: &str = r#"</title>
 <style>
 "#;
 
-pub(crate) const MIDDLE: &str = r#"</style>
+pub(crate) const MIDDLE: &str = r##"</style>
 </head>
 <body>
+<a id="skip" class="skip" href="#said">To the step</a>
 <svg width="0" height="0" aria-hidden="true" class="defs"><defs>
 <pattern id="p-finished" width="10" height="10" patternUnits="userSpaceOnUse" patternTransform="rotate(45)"><rect width="10" height="10" class="pf1"/><rect width="1.6" height="10" class="pf2"/></pattern>
 <pattern id="p-preparing" width="9" height="9" patternUnits="userSpaceOnUse"><rect width="9" height="9" class="pp1"/><circle cx="2.6" cy="2.6" r="1.7" class="pp2"/><circle cx="7.1" cy="7.1" r="1.7" class="pp2"/></pattern>
@@ -35,21 +36,25 @@ pub(crate) const MIDDLE: &str = r#"</style>
 <button type="button" data-do="last" aria-label="To the end" title="End"><svg viewBox="0 0 20 16" class="icon" aria-hidden="true"><path d="M14.600 2h2.4v12h-2.4zM3 2v12L13 8z"/></svg></button>
 </nav>
 <span class="modes">
+<button type="button" data-do="levels" title="the outcomes at all levels" hidden>Levels</button>
 <button type="button" data-do="predict" aria-pressed="false" title="? : guess each reply before it is shown">Predict</button>
 <button type="button" data-do="secret" aria-pressed="false" title="? : hide the outcomes, to guess" hidden>Hide outcomes</button>
 <button type="button" data-do="future" aria-pressed="false" title="f : show the steps to come">Future</button>
 <button type="button" data-do="present" aria-pressed="false" title="p : larger type">Larger</button>
 <button type="button" data-do="theme" aria-label="Light or dark" title="d : light or dark"><svg viewBox="0 0 20 16" class="icon" aria-hidden="true"><path d="M10 1.500a6.500 6.500 0 0 0 0 13z"/><circle cx="10" cy="8" r="6.500" fill="none" stroke="currentColor" stroke-width="1.600"/></svg></button>
+<button type="button" data-do="legend" title="g : what bars and arrows mean">Legend</button>
+<button type="button" data-do="picture" title="i : saves this step as one picture, SVG">Save picture</button>
 <button type="button" data-do="help" aria-label="Keys" title="h : keys">Keys</button>
 </span>
 </header>
 <main>
+<section id="levels" aria-label="All levels"></section>
 <section id="top">
 <div id="lanes" aria-label="Timeline: a lane for each transaction"></div>
 <input type="range" id="slider" min="0" aria-label="Position, in steps done" hidden>
 <div id="path" hidden></div>
 <section id="say" aria-label="This step">
-<div id="said" aria-live="polite"></div>
+<div id="said" aria-live="polite" tabindex="-1"></div>
 <div id="because"></div>
 </section>
 </section>
@@ -69,10 +74,10 @@ pub(crate) const MIDDLE: &str = r#"</style>
 </main>
 <dialog id="dialog"><div id="dialog-body"></div><form method="dialog"><button>Close</button></form></dialog>
 <div id="blank" hidden></div>
-<table id="print"></table>
+<div id="print"></div>
 <noscript><p>This page needs its script: the states are data in it.</p></noscript>
 <script type="application/json" id="data">
-"#;
+"##;
 
 pub(crate) const BACK: &str = r#"
 </script>

@@ -35,7 +35,7 @@ impl Heading<'_> {
     }
 }
 
-/// Adds the title, what the comments say of the schedule, the lesson, and the pages before and after.
+/// Adds the title, what the comments say and ask of the schedule, the lesson, and the pages before and after.
 pub(crate) fn put_heading(
     alloc: Global,
     heading: &Heading<'_>,
@@ -44,6 +44,7 @@ pub(crate) fn put_heading(
 ) -> Result<(), NoMemory> {
     put_title(alloc, heading, members)?;
     put_text(alloc, "about", comments.about.as_str(), members)?;
+    put_text(alloc, "question", comments.question.as_str(), members)?;
     put_value(alloc, "lesson", heading.lesson_value(alloc)?, members)?;
     put_link(alloc, "previous", heading.previous, members)?;
     put_link(alloc, "next", heading.next, members)

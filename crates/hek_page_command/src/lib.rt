@@ -7,6 +7,7 @@ mod data;
 mod explorer;
 mod frame;
 mod heading;
+mod made;
 mod members;
 mod page;
 mod played;
@@ -21,8 +22,9 @@ mod tree;
 mod tree_data;
 mod waits;
 
-pub use explorer::{Extent, MOST_NODES, explorer_command};
+pub use explorer::{Extent, MOST_NODES, explorer_command, levels_command};
 pub use heading::Heading;
+pub use made::{Making, made_file};
 pub use page::{MOST_STEPS, Part, page_command};
 pub use played::{OrderStory, order_story};
 pub use step_text::StepText;

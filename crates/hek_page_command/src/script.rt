@@ -4,7 +4,9 @@ pub(crate) const SCRIPT: &str = r##""use strict";
 
 /* ================================================================ the data */
 
-const data = JSON.parse(document.getElementById("data").textContent);
+const sheet = JSON.parse(document.getElementById("data").textContent);
+/** What is shown: the sheet, or of one with all levels the tree of one of them. */
+let data = sheet.kind === "levels" ? sheet.trees[0] : sheet;
 const $ = (id) => document.getElementById(id);
 const linesOf = (text) => text.split("\n").filter((line) => line !== "");
 const esc = (text) => String(text).replace(/[&<>"]/g, (it) => ({ "&": "&amp;", "<": "&lt;", ">": "&gt;", '"': "&quot;" })[it]);
@@ -80,10 +82,12 @@ class Run {
     this.bucketIds = [...this.past.keys()].filter((it) => it.startsWith("bucket "));
     this.names = new Map(this.txnIds.map((id) => [id, this.txn(id, 0).name]));
     this.ids = new Map([...this.names].map(([id, name]) => [name, id]));
+    this.short = shortForms([...this.names.values()]);
     const acting = new Set(this.steps.map((it) => it.name));
     this.laneIds = this.txnIds.filter((id) => isTree || acting.has(this.names.get(id)) || this.past.get("txn " + id).length > 1);
     this.hasDetect = acting.has(null);
     this.follow(linesOf(asked));
+    Object.assign(this, columnsOf(isTree ? [] : this.polls, this.last));
   }
 
   keep(line, at) {
@@ -109,12 +113,13 @@ class Run {
   version(v, position) { return this.get("version " + v, position); }
   clock(position) { return this.get("clock", position); }
 
-  /** Phases, waits and arrows of the whole run, found once. `asked`: the transactions that wait at the start. */
+  /** Phases, waits, arrows and steps that only ask again of the whole run, found once. `asked`: the transactions that wait at the start. */
   follow(asked) {
     this.phases = new Map(this.txnIds.map((id) => [id, []]));
     this.waitings = new Map(this.txnIds.map((id) => [id, []]));
     this.arrows = Array.from({ length: this.last + 1 }, () => []);
     const open = new Map();
+    this.polls = [];
     for (const id of this.txnIds) this.notePhase(id, 0);
     for (const line of asked) { const [id, kind] = line.split(" "); this.openWait(id, 0, kind, open); }
     this.steps.forEach((step, index) => {
@@ -122,6 +127,7 @@ class Run {
       const who = step.name === null ? "detect" : this.ids.get(step.name);
       for (const id of linesOf(step.ends)) this.closeWait(id, at, who, open);
       for (const subject of this.touched[at]) if (subject.startsWith("txn ")) this.noteTxn(subject.slice(4), at, who);
+      this.polls[at] = step.r[0] === "waiting" && open.has(who) && this.touched[at].length === 0;
       if (step.r[0] === "waiting") this.openWait(who, at, step.r[1] === "commits" ? "commits" : "waits", open);
     });
   }
@@ -168,7 +174,7 @@ class Run {
       const kind = what === "commit" ? "commits" : "waits";
       const key = `${from} ${to} ${kind}`;
       if (!edges.has(key)) edges.set(key, { from, to, kind, by: [] });
-      edges.get(key).by.push(what === "version" ? `v${number}` : what);
+      edges.get(key).by.push(what === "version" ? `v${number}` : what === "bucket" ? `bucket ${number}` : what);
     }
     return [...edges.values()];
   }
@@ -179,7 +185,8 @@ class Run {
 const isTree = data.kind === "tree";
 let tree = null;
 
-function plantTree() {
+/** The tree in some data. */
+function treeOf(data) {
   const text = (at) => data.texts[at];
   const steps = data.steps.map(([line, changed, gone, why, sees, waits, ends, rule, sentence, definition, comes]) => ({
     line: text(line), changed: text(changed), gone: text(gone), why: text(why), sees: text(sees), waits: waits === null ? null : text(waits), ends: text(ends), rule: text(rule),
@@ -187,7 +194,7 @@ function plantTree() {
   }));
   const nodes = data.nodes.map(([parent, who, places, outcome, counts], index) => ({ index, parent, who: who - 1, steps: places.map((at) => steps[at]), outcome, next: [], counts }));
   for (const node of nodes.slice(1)) nodes[node.parent].next[node.who] = node.index;
-  tree = { nodes, names: data.names, moves: data.moves, path: [0] };
+  return { nodes, names: data.names, moves: data.moves, path: [0] };
 }
 
 /** How many moves of each transaction have come at a node. */
@@ -226,6 +233,92 @@ let isFuture = false;
 let isPredict = false;
 let guess = null;
 const told = { right: 0, asked: 0, answers: new Map() };
+
+/* ================================================================ names in few letters */
+
+/** Names of so many letters stand as they are. */
+const MOST_LETTERS = 2;
+
+/** For each of some names a short form that tells it apart: its first letter, or two of its letters, or a letter and its number. */
+function shortForms(names) {
+  const short = new Map(names.filter((it) => it.length <= MOST_LETTERS).map((it) => [it, it]));
+  for (const formsOf of [(it) => [it[0]], numberedForms, pairsOf]) {
+    const left = names.filter((it) => !short.has(it));
+    const uses = new Map();
+    for (const name of left) for (const form of new Set(formsOf(name))) uses.set(form, (uses.get(form) ?? 0) + 1);
+    const taken = new Set(short.values());
+    for (const name of left) {
+      const form = formsOf(name).find((it) => uses.get(it) === 1 && !taken.has(it));
+      if (form) { short.set(name, form); taken.add(form); }
+    }
+  }
+  names.forEach((name, index) => { if (!short.has(name)) short.set(name, `${name[0]}${index + 1}`); });
+  return short;
+}
+
+/** `c8` of `customer8`. */
+function numberedForms(name) {
+  const [number] = /\d{1,2}$/.exec(name) ?? [];
+  return number ? [name[0] + number] : [];
+}
+
+/** The first letter with each later one: `au`, `ad`, .. of `audit`. */
+const pairsOf = (name) => [...name.slice(1)].filter((it) => it !== "_").map((it) => name[0] + it);
+
+/** The short form of a transaction's name, where there is no room for the whole. */
+const shortOf = (id) => run.short.get(nameOf(id)) ?? String(id);
+
+/** A text about transactions: with their names, or with their short forms. */
+const namedTexts = (id, textOf) => (nameOf(id) === shortOf(id) ? [textOf(nameOf(id))] : [textOf(nameOf(id)), textOf(shortOf(id))]);
+
+/* ================================================================ steps that ask again, and change nothing */
+
+/** The columns of the timeline: each step has its own, but steps side by side that only ask again share one. `polls` says for each step
+    from 1 on whether it only asks again. Answers for each column its first and last step, and for each step its column, both from 1 on. */
+function columnsOf(polls, last) {
+  const [spans, columnAt] = [[null], [0]];
+  for (let at = 1; at <= last; at++) {
+    if (at > 1 && polls[at] && polls[at - 1]) spans.at(-1).to = at;
+    else spans.push({ from: at, to: at });
+    columnAt.push(spans.length - 1);
+  }
+  return { spans, columnAt };
+}
+
+/** The column of a step; one past the last step is one past the last column. */
+const columnOf = (at) => run.columnAt[at] ?? run.spans.length + at - run.last - 1;
+
+/** The steps that share the column of a step; of the start the start alone. */
+const spanOf = (at) => run.spans[columnOf(at)] ?? { from: at, to: at };
+
+/** How many columns there are. */
+const columnCount = () => run.spans.length - 1;
+
+/** Whether a step shares its column with others. */
+const isFolded = (at) => at > 0 && spanOf(at).from < spanOf(at).to;
+
+/** The position one column on, or back. */
+const positionOn = (at) => (at >= run.last ? at : spanOf(at + 1).to);
+const positionBack = (at) => (at === 0 ? 0 : spanOf(at).from - 1);
+
+/** How often each transaction asks again in the column of a step, by ID. */
+function askedAgain(at) {
+  const counts = new Map();
+  const { from, to } = spanOf(at);
+  for (let each = from; each <= to; each++) {
+    const id = run.ids.get(run.steps[each - 1].name);
+    counts.set(id, (counts.get(id) ?? 0) + 1);
+  }
+  return counts;
+}
+
+const timesSaid = (count) => (count === 1 ? "once" : count === 2 ? "twice" : `${count} times`);
+
+/** What the folded steps say together, as HTML. */
+function foldedSentence(at) {
+  const parts = [...askedAgain(at)].map(([id, count]) => `${tag(id)} asks again <b>${timesSaid(count)}</b>`);
+  return `${parts.join(", ")}. Each answer is the same: <b>waiting</b>. Nothing changes.`;
+}
 
 
 /* ================================================================ what is said */
@@ -321,32 +414,40 @@ function showSay() {
   if (covered) return showQuestion(covered);
   $("say").className = step ? kindOf(step) : "";
   if (!step) {
-    $("said").innerHTML = `<p class="event"><span class="num">start</span> Before the first step</p><p class="plain${(data.about ?? "").length > 150 ? " longer" : (data.about ?? "").length > 105 ? " long" : ""}">${esc(data.about || "The rows are loaded, and nobody has begun.")}</p>`;
+    const about = (isSpoilerHidden() ? data.question : data.about) || "The rows are loaded, and nobody has begun.";
+    $("said").innerHTML = `<p class="event"><span class="num">start</span> Before the first step</p><p class="plain${about.length > 150 ? " longer" : about.length > 105 ? " long" : ""}">${esc(about)}</p>`;
     $("because").innerHTML = opening();
     return;
   }
   const reply = `<span class="reply">${esc(step.reply)}</span>`;
   const verdict = here === run.last && !isTree ? verdictText() : "";
   const onward = verdict && data.next ? `<a class="way onward" href="${esc(data.next[0])}">Next: ${esc(data.next[1])} \u203a</a>` : "";
-  const sentence = sentenceOf(step, shown);
+  const folded = isFolded(shown) && shown === spanOf(shown).to;
+  const sentence = folded ? foldedSentence(shown) : sentenceOf(step, shown);
   const isLong = sentence.replace(/<[^>]*>/g, "").length > 92;
-  $("said").innerHTML = `${onward}<p class="event"><span class="num">${run.done + shown}</span> <code>${step.name ? tagName(step.name) + " " : ""}${esc(step.event)}</code> <span class="arrow">\u2192</span> ${reply}</p>
-    <p class="plain${isLong ? " long" : ""}">${sentence}</p>${isTree ? eventsOfMove(shown) : ""}${step.note ? `<p class="note">${esc(step.note)}</p>` : ""}${verdict}`;
+  $("said").innerHTML = `${onward}<p class="event"><span class="num">${folded ? `${run.done + spanOf(shown).from}\u2013` : ""}${run.done + shown}</span> <code>${step.name ? tagName(step.name) + " " : ""}${esc(step.event)}</code> <span class="arrow">\u2192</span> ${reply}</p>
+    <p class="plain${isLong ? " long" : ""}">${sentence}</p>${isTree ? eventsOfMove(shown) : ""}${noteOf(step)}${verdict}`;
   const why = linesOf(step.why).filter((it) => !/(begin|end) [0-9A-F]{16}/.test(it)).map((it) => `<li>${reasonOf(it)}</li>`);
   why.sort((a, b) => b.includes("<b>seen") - a.includes("<b>seen"));
   const chips = changesOf(here);
-  const [most, some] = thoseThatFit(why, chips);
+  const [most, some, hasRest] = thoseThatFit(why, chips);
   if (chips.length > some) chips.splice(some, chips.length, `<span class="soft">and ${chips.length - some} more</span>`);
-  const rest = why.length > most ? `<li class="soft">and ${why.length - most} more</li>` : "";
+  const rest = why.length > most && hasRest ? `<li class="soft">and ${why.length - most} more</li>` : "";
   const told = feedback();
   const rule = ruleOf(step);
   $("because").innerHTML = `${told}${why.length ? `<ul class="why" aria-label="Why">${why.slice(0, most).join("")}${rest}</ul>` : ""}
     <p class="chips">${chips.length ? chips.join(" ") : '<span class="soft">Nothing changed.</span>'} <button type="button" class="rule" data-rule="${step.op}" title="What the rule says">rule: ${esc(rule[0])}</button></p>`;
 }
 
+/** The comment above a step; while replies are guessed, and where a question stands there, the question and then the comment. */
+const noteOf = (step) => (step.note && !isSpoilerHidden(step) ? `<p class="note">${esc(step.note)}</p>` : "");
+
+/** Whether comments are hidden, since they say what is to be guessed: where outcomes are hidden, and at the start where replies are guessed. */
+const isSpoilerHidden = (step = null) => isSecret || (isPredict && step === null);
+
 /** How many of the reasons and of the changes have room beside the sentence; at least one of each. */
 function thoseThatFit(why, chips) {
-  if (isSmall() || !sizes.because) return [4, 8];
+  if (isSmall() || !sizes.because) return [4, 8, true];
   const [W, H] = sizes.because;
   const u = rem() * (document.body.dataset.lanes <= 2 && !isTree && !isPresent() && H > 8.4 * rem() ? 1.12 : 1);
   const plain = (html) => html.replace(/<[^>]*>/g, "").replace(/&[a-z]+;/g, "x");
@@ -370,15 +471,26 @@ function thoseThatFit(why, chips) {
     if (left < (most + 1 < why.length ? 1.3 * u : 0)) break;
     most++;
   }
-  return [Math.max(most, 1), some];
+  return [Math.max(most, 1), some, most > 0];
 }
 
 const isPresent = () => document.documentElement.classList.contains("present");
 
+/** What the bars along a lane mean. */
+const KEY = `<span class="key"><i class="ph active"></i>active <i class="ph finished"></i>finished <i class="ph preparing"></i>preparing <i class="ph committed"></i>committed <i class="ph aborted"></i>aborted <i class="ph waiting"></i>waits</span>`;
+
+/** What the arrows of the lanes and of the waits mean. */
+const KEY_ARROWS = [["free", "", "this step lets the other one go on"], ["abort", "7 3", "this step makes the other one abort"], ["depends", "2 4", "commits only if the other one does"], ["weak", "6 5", "among the waits: would wait, and has not asked yet"]];
+
+function legend() {
+  const line = ([kind, dash, said]) => `<tr><td><svg class="flow ${kind}" width="48" height="14" viewBox="0 0 48 14" aria-hidden="true"><line x1="2" x2="36" y1="7" y2="7"${dash ? ` stroke-dasharray="${dash}"` : ""}/><path d="M46 7l-11 -6v12z"/></svg><td>${said}`;
+  const short = run.txnIds.filter((id) => shortOf(id) !== nameOf(id)).map((id) => `<b class="t ${colourOf(id)}">${esc(shortOf(id))}</b> ${esc(nameOf(id))}`);
+  return `<h2>Legend</h2><p>${KEY}</p><table>${KEY_ARROWS.map(line).join("")}</table><p>A bar of a version goes from its Begin to its End. Dashed: if its maker commits. Crossed out: never valid. Dashed over a bar: what goes if its writer commits.</p>${short.length ? `<p>${short.join(" \u00b7 ")}</p>` : ""}`;
+}
+
 function opening() {
   if (isTree) return `<p class="soft">Choose which moves first. ${data.outcomes.length} outcomes, ${total(tree.nodes[0].counts)} orders.</p>`;
-  const key = `<span class="key"><i class="ph active"></i>active <i class="ph finished"></i>finished <i class="ph preparing"></i>preparing <i class="ph committed"></i>committed <i class="ph aborted"></i>aborted <i class="ph waiting"></i>waits</span>`;
-  return `<p>${key}</p><p class="soft">\u2192, Space, Page Down: on. \u2190, Page Up: back. ?: guess. f: what is to come. p: larger. h: all keys.</p>`;
+  return `<p>${KEY}</p><p class="soft">\u2192, Space, Page Down: on. \u2190, Page Up: back. ?: guess. f: what is to come. p: larger. h: all keys.</p>`;
 }
 
 function verdictText() {
@@ -403,41 +515,71 @@ function kindOf(step) {
 
 /* ================================================================ guessing */
 
-const isAsked = (step) => /^(read|scan|insert|update|delete|precommit|commit|detect|release)$/.test(step.op) && step.r[0] !== "nothing";
+/** Steps whose replies are worth a guess, where no text says which. */
+const isTelling = (step) => /^(read|scan|insert|update|delete|precommit|commit|detect|release)$/.test(step.op) && step.r[0] !== "nothing";
+
+/** Whether a step's reply is asked for: one above which a question stands, or where no step has one, each that tells something. */
+function isAsked(step) {
+  if (run.hasQuestions === undefined) run.hasQuestions = run.steps.some((it) => it.question);
+  return run.hasQuestions ? Boolean(step.question) : isTelling(step) && !run.polls[run.steps.indexOf(step) + 1];
+}
 
 /** The step whose reply is covered, or null: the one after this position. */
 function coveredStep() {
   return isPredict && !isTree && guess !== null ? run.steps[here] : null;
 }
 
+/** Whether the graph is covered: while a reply is asked for, until it is shown on demand. */
+let isGraphShown = false;
+const isGraphCovered = () => coveredStep() !== null && coveredStep() !== undefined && !isGraphShown;
+
 /** Choices of a reply, one of them right, in an order that depends on the step alone. */
 function choicesOf(step, at) {
   const options = new Set([step.reply]);
-  const clock = run.clock(at);
-  const add = (...its) => its.forEach((it) => { if (options.size < 4) options.add(it); });
-  const values = (key) => [...run.past.keys()].filter((it) => it.startsWith("version ")).map((it) => run.get(it, at)).filter((it) => it && it.key === key).map((it) => `found ${it.value}`);
-  switch (step.op) {
-    case "read": add(...values(step.args[0]).filter((it) => it !== step.reply).slice(-2), "absent", "aborted no-more-waits", "aborted no-more-reads"); break;
-    case "scan": add("rows", step.reply.split(" ").slice(0, -1).join(" "), "aborted no-more-waits"); break;
-    case "insert": add("done", "exists", "aborted conflict"); break;
-    case "update": case "delete": add("done", "absent", "aborted conflict", "aborted no-more-waits"); break;
-    case "precommit": add("waiting 1", `precommitted ${clock}`, "aborted deadlock", "waiting 2"); break;
-    case "commit": add("committed", "waiting commits 1", "aborted cascade"); break;
-    case "detect": {
-      add("no cycle");
-      const its = run.txnIds.map((id) => run.txn(id, at)).filter((it) => it.kind === "active" && it.waits > 0).map((it) => it.id);
-      for (const it of [...its].reverse()) if (!step.reply.startsWith(`victim ${it} `) && its.length > 1) add(`victim ${it} cycle ${[it, ...its.filter((id) => id !== it)].join(" ")}`);
-      break;
-    }
-    case "release": {
-      const me = run.txn(run.ids.get(step.name), at);
-      for (const v of me.reads) { add(`released read ${v}`); const w = run.version(v, at).writer; if (w) add(`released read ${v} writer ${w}`); }
-      for (const b of me.buckets) add(`released bucket ${b}`);
-      add("nothing");
-    }
-  }
+  for (const it of distractors(step, at)) if (options.size < 4) options.add(it);
   const mixed = [...options].map((it) => [it, [...`${at} ${it}`].reduce((sum, char) => (sum * 31 + char.charCodeAt(0)) % 9973, 7)]);
   return mixed.sort((a, b) => a[1] - b[1]).map((it) => it[0]);
+}
+
+/** Other replies that could come to such a step at the level of its transaction. */
+function distractors(step, at) {
+  if (step.op === "detect") return victims(step, at);
+  const me = run.txn(run.ids.get(step.name), at);
+  const isLocking = me.level !== "snapshot";
+  const locked = isLocking ? ["aborted no-more-waits", "aborted no-more-reads"] : [];
+  switch (step.op) {
+    case "read": return [...valuesOf(step, at).filter((it) => it !== step.reply).slice(-2), "absent", ...locked];
+    case "scan": return ["rows", step.reply.startsWith("rows ") ? step.reply.split(" ").slice(0, -1).join(" ") : "rows", ...locked];
+    case "insert": return ["done", "exists", ...(isLocking ? locked : ["aborted conflict"])];
+    case "update": case "delete": return ["done", "aborted conflict", "absent"];
+    case "precommit": return precommits(me, at);
+    case "commit": return ["committed", "waiting commits 1", "aborted cascade"];
+    case "release": return releases(me, at);
+    default: return [];
+  }
+}
+
+/** What a read of a step's key could find: the values of its versions. */
+function valuesOf(step, at) {
+  const versions = [...run.past.keys()].filter((it) => it.startsWith("version ")).map((it) => run.get(it, at));
+  return versions.filter((it) => it && it.key === step.args[0]).map((it) => `found ${it.value}`);
+}
+
+/** A transaction that never waits, since it has no write set, gets no `waiting`. */
+function precommits(me, at) {
+  const others = [`precommitted ${run.clock(at)}`, `precommitted ${run.clock(at) + 1}`, "aborted deadlock"];
+  return me.writes.length || me.waits ? ["waiting 1", others[0], "waiting 2", "aborted deadlock"] : others;
+}
+
+function victims(step, at) {
+  const its = run.txnIds.map((id) => run.txn(id, at)).filter((it) => it.kind === "active" && it.waits > 0).map((it) => it.id);
+  const cycles = its.length < 2 ? [] : [...its].reverse().map((it) => `victim ${it} cycle ${[it, ...its.filter((id) => id !== it)].join(" ")}`);
+  return ["no cycle", ...cycles.filter((it) => !step.reply.startsWith(it.split(" cycle")[0] + " "))];
+}
+
+function releases(me, at) {
+  const reads = me.reads.flatMap((v) => { const w = run.version(v, at).writer; return [`released read ${v}`, ...(w ? [`released read ${v} writer ${w}`] : [])]; });
+  return [...reads, ...me.buckets.map((it) => `released bucket ${it}`), "nothing"];
 }
 
 function replyInWords(reply) {
@@ -448,7 +590,7 @@ function showQuestion(step) {
   const me = step.name ? tagName(step.name) + " " : "";
   $("say").className = "asks";
   $("said").innerHTML = `<p class="event"><span class="num">${run.done + here + 1}</span> <code>${me}${esc(step.event)}</code> <span class="arrow">\u2192</span> <span class="cover">?</span></p>
-    <p class="plain">What is it answered?</p>`;
+    <p class="plain${(step.question ?? "").length > 92 ? " long" : ""}">${esc(step.question || "What is it answered?")}</p>`;
   $("because").innerHTML = `<div class="choices">${choicesOf(step, here).map((it, index) => `<button type="button" data-choice="${esc(it)}"><kbd>${index + 1}</kbd> ${replyInWords(it)}</button>`).join("")}</div>`;
 }
 
@@ -461,13 +603,13 @@ function choose(reply) {
     told.answers.set(here, reply);
   }
   guess = null;
-  move(here + 1);
+  move(positionOn(here));
 }
 
 function feedback() {
-  const answer = told.answers.get(here - 1);
+  const answer = told.answers.get(positionBack(here));
   if (!isPredict || answer === undefined) return "";
-  const isRight = answer === run.steps[here - 1].reply;
+  const isRight = answer === run.steps[positionBack(here)].reply;
   return `<p class="told ${isRight ? "right" : "wrong"}">${isRight ? "\u2713 Right." : `\u2717 The guess was: ${replyInWords(answer)}.`}</p>`;
 }
 
@@ -613,7 +755,7 @@ function detailOf(step) {
     case "aborted": return ["aborted", "abort", "\u2717"];
     case "refused": return ["refused", "ref", "\u2298"];
     case "waiting": return r[1] === "commits" ? ["waiting " + r[2], "waits", "wait", "w"] : ["waiting " + r[1], "waits " + r[1], "waits", "wait", "w"];
-    case "victim": return [`victim ${nameOf(r[1])}`, nameOf(r[1]) + "\u2717"];
+    case "victim": return [`victim ${nameOf(r[1])}`, `victim ${shortOf(r[1])}`, shortOf(r[1]) + "\u2717"];
     case "no": return ["no cycle", "none", "no", "\u2013"];
     case "failed": return ["aborts", "\u2717"];
     case "committed": return ["\u2713"];
@@ -621,27 +763,30 @@ function detailOf(step) {
     case "nothing": return ["nothing", "\u2013"];
     case "over": return ["over", ""];
     case "ready": return ["ready", ""];
-    case "found": return [`${args[0]} is ${r[1]}`, `${args[0]}=${r[1]}`, args[0]];
-    case "absent": return [`${args[0]} absent`, `${args[0]}: no`, args[0]];
-    case "exists": return [`${args[0]} exists`, args[0]];
+    case "found": return [`${args[0]} is ${r[1]}`, `${args[0]}=${r[1]}`];
+    case "absent": return [`${args[0]} absent`, `${args[0]}: no`];
+    case "exists": return [`${args[0]} exists`, `${args[0]}: is`];
     case "rows": return [`bucket ${args[0]}`, `b ${args[0]}`];
-    case "done": return args.length > 1 ? [`${args[0]} := ${args[1]}`, `${args[0]}:=${args[1]}`, args[0]] : [args[0]];
-    case "released": return r[1] === "read" ? [`v${r[2]}`] : r[1] === "bucket" ? ["bucket " + r[2], "b" + r[2]] : [nameOf(r[2])];
+    case "done": return args.length > 1 ? [`${args[0]} := ${args[1]}`, `${args[0]}:=${args[1]}`] : [args[0]];
+    case "released": return r[1] === "read" ? [`v${r[2]}`] : r[1] === "bucket" ? ["bucket " + r[2], "b" + r[2]] : [nameOf(r[2]), shortOf(r[2])];
     case "stamped": return [`v${r[2]} ${r[1] === "end" ? "End" : "Begin"}`, `v${r[2]} ${r[1][0].toUpperCase()}`, "v" + r[2]];
     case "left": return ["v" + r[1]];
     default: return [""];
   }
 }
 
-/** What a cell of one line says, longest first. */
-function oneLine(step, isCovered) {
-  const ops = LABELS[step.op] ?? [step.op];
-  const about = step.args[0] ?? (!isCovered && /^(released|stamped)/.test(step.reply) ? detailOf(step).at(-1) : "");
-  const ends = !isCovered && step.r[0] === "waiting" ? ["waits", "wait"] : [];
-  return [...ends, ...ops.map((it) => `${it} ${about}`.trim()), ...ops];
-}
+/** How wide the text of a card is drawn. */
+const CARD = { padding: 0.42, size: 0.98, detail: 0.955 };
 
-let view = null;
+/** How wide the columns are at least, so that each card has its key and value; of very long ones six letters. */
+function leastCell(u) {
+  if (run.leastCell === undefined) {
+    let most = 0;
+    for (const step of run.steps) most = Math.max(most, widthOf(detailOf(step).at(-1), CARD.detail), widthOf((LABELS[step.op] ?? [step.op]).at(-1), CARD.size, 600));
+    run.leastCell = Math.min(most, 5.6) + CARD.padding;
+  }
+  return run.leastCell * u;
+}
 
 /** Which lanes are shown: of many transactions those with a step near here. */
 function lanesShown(first, last, most) {
@@ -656,177 +801,230 @@ function lanesShown(first, last, most) {
   return { ids, more: all.length - most };
 }
 
-function showLanes() {
+/** Where the lanes and columns are. */
+function laneLayout() {
   const u = rem();
   const isPhone = isSmall();
   const [W] = sizes.lanes;
   const gutter = (isPhone ? 4.6 : 10.9) * u;
-  const count = Math.max(run.last + (isTree && !isWhole() ? 1 : 0), 1);
-  const least = (isPhone ? 2.6 : 2.12) * u;
-  let cell = Math.min(Math.max((W - gutter) / count, least), 6.2 * u);
+  const count = Math.max(columnCount() + (isTree && !isWhole() ? 1 : 0), 1);
+  const least = Math.max(isPhone ? 2.6 * u : 2.12 * u, Math.min(leastCell(u), W - gutter));
+  let cell = Math.min(Math.max((W - gutter) / count, least), Math.max(6.2 * u, least));
   const fits = Math.max(1, Math.floor((W - gutter) / cell + 0.01));
   let first = 0;
   const isWindow = count > fits;
   if (isWindow) {
     cell = (W - gutter) / fits;
     const lead = Math.max(1, Math.round(fits * 0.3));
-    first = Math.min(Math.max(0, here + lead - fits), count - fits);
+    first = Math.min(Math.max(0, columnOf(here) + lead - fits), count - fits);
   }
   const shownLast = Math.min(count, first + fits);
-  const most = isPhone ? 4 : Math.max(3, Math.floor(viewHeight / u / 9));
-  const { ids, more } = lanesShown(first, Math.min(run.last, shownLast), most);
-  const { hasDetect } = run;
   const isShort = viewHeight < 48 * u && !isPhone;
+  const most = isPhone ? 4 : Math.max(3, Math.floor(viewHeight / u / (isShort ? 10 : 9)));
+  const { ids, more } = lanesShown(stepsUpTo(first), stepsUpTo(shownLast), most);
   const tight = ids.length > 4 || isShort;
   const roomy = ids.length <= 2 && !isPhone && !tight;
   const laneH = (tight ? 2.85 : roomy ? 5 : ids.length > 3 ? 3.66 : 3.75) * u;
   const axisH = 1.35 * u;
-  const detectH = hasDetect ? 2.1 * u : 0;
-  const H = axisH + ids.length * laneH + detectH + 0.2 * u;
-  // The columns are drawn as if the first step were at the left edge, and shifted: a step's column stays what it is.
-  const x = (at) => (at - 1) * cell;
+  const detectH = run.hasDetect ? 2.1 * u : 0;
+  const stripH = (tight ? 0.42 : roomy ? 1.15 : 1.05) * u;
+  // The columns are drawn as if the first one were at the left edge, and shifted: a step's column stays what it is.
+  const x = (at) => (columnOf(at) - 1) * cell;
   const shift = gutter - first * cell;
   const [low, high] = [first * cell, W - shift];
-  const xEdge = (at) => Math.min(Math.max(x(at), low), high);
   const laneY = new Map(ids.map((id, index) => [id, axisH + index * laneH]));
-  if (hasDetect) laneY.set("detect", axisH + ids.length * laneH);
-  const stripH = (roomy ? 1.15 : 1.05) * u;
-  const cellY = (id) => laneY.get(id) + (id === "detect" ? 0.15 * u : stripH + 0.25 * u);
+  if (run.hasDetect) laneY.set("detect", axisH + ids.length * laneH);
+  const cellY = (id) => laneY.get(id) + (id === "detect" ? 0.15 * u : stripH + (tight ? 0.3 : 0.25) * u);
   const cellH = laneH - stripH - 0.42 * u;
-  const isOneLine = cellH < 2 * u;
-  const detectCell = detectH - 0.35 * u;
-  const horizon = isFuture ? run.last : here;
+  return {
+    u, W, gutter, cell, first, shownLast, isWindow, isPhone, tight, roomy, ids, more, laneH, stripH, x, shift, low, high, laneY, cellY, cellH,
+    H: axisH + ids.length * laneH + detectH + 0.2 * u, heightOf: (id) => (id === "detect" ? detectH - 0.35 * u : cellH),
+    xEdge: (at) => Math.min(Math.max(x(at), low), high), columns: run.spans.slice(first + 1, shownLast + 1), horizon: isFuture ? run.last : here,
+  };
+}
+
+/** The last step of a column. */
+const stepsUpTo = (column) => (column === 0 ? 0 : run.spans[column]?.to ?? run.last);
+
+function showLanes() {
+  const at = laneLayout();
+  const { u, W, H, ids, x, shift, first, cell, shownLast } = at;
   const still = [];
   const out = [];
+  const marked = isTree ? tellingStep() : here;
   // the column of this step
-  if (here > first) still.push(`<rect class="now" x="${f1(x(here) + shift)}" y="0" width="${f1(cell)}" height="${f1(H)}"/>`);
-  // the axis
+  if (marked > 0 && columnOf(marked) > first) still.push(`<rect class="now" x="${f1(x(marked) + shift)}" y="0" width="${f1(cell)}" height="${f1(H)}"/>`);
+  out.push(...axisOf(at, marked));
+  for (const id of ids) {
+    const y = at.laneY.get(id);
+    still.push(`<line class="rule" x1="0" x2="${W}" y1="${f1(y)}" y2="${f1(y)}"/>`, laneHead(id, y, at));
+    out.push(...laneStrip(id, y, at), ...waitsOf(id, at));
+  }
+  if (run.hasDetect) {
+    const y = at.laneY.get("detect");
+    still.push(`<line class="rule" x1="0" x2="${W}" y1="${f1(y)}" y2="${f1(y)}"/>`, `<text class="lane-name soft" x="${f1(0.2 * u)}" y="${f1(y + 1.35 * u)}">${at.isPhone ? "search" : "deadlock search"}</text>`);
+  }
+  out.push(...arrowsOf(at));
+  for (const span of at.columns) out.push(...cardsOf(span, at, marked));
+  if (isTree && !isWhole() && here === run.last) out.push(...nextMoves(at));
+  if (at.more > 0) still.push(`<text class="tick" x="${f1(0.2 * u)}" y="${f1(0.95 * u)}">+ ${at.more} more</text>`);
+  const label = `Steps ${run.done + (run.spans[first + 1]?.from ?? 1)} to ${run.done + stepsUpTo(shownLast)}`;
+  putDrawing("lanes", { width: `${W}`, height: `${f1(H)}`, viewBox: `0 0 ${W} ${f1(H)}`, role: "group", "aria-label": label }, [{ shift: 0, parts: still }, { shift, parts: out }]);
+  document.body.dataset.lanes = ids.length;
+  $("slider").hidden = !at.isWindow;
+}
+
+/** The numbers of the steps over their columns. */
+function axisOf({ u, x, cell, columns }, marked) {
+  const out = [];
   const every = widthOf(String(run.done + run.last), 0.95 * u) > cell * 0.8 ? 5 : 1;
-  for (let at = first + 1; at <= shownLast && at <= run.last; at++) {
-    const number = run.done + at;
-    if (every > 1 && at !== here && (number % every || Math.abs(at - here) < 2)) continue;
-    out.push(`<text class="tick${at === here ? " at" : at > here ? " later" : ""}" x="${f1(x(at) + cell / 2)}" y="${f1(0.95 * u)}" text-anchor="middle">${number}</text>`);
+  for (const { from, to } of columns) {
+    const [number, isHere] = [run.done + from, columnOf(marked) === columnOf(from)];
+    if (every > 1 && !isHere && (number % every || Math.abs(columnOf(from) - columnOf(marked)) < 2)) continue;
+    const text = fitting([from < to ? `${number}\u2013${run.done + to}` : `${number}`], cell * 1.15, 0.95 * u) || `${number}`;
+    out.push(`<text class="tick${isHere ? " at" : from > here ? " later" : ""}" x="${f1(x(from) + cell / 2)}" y="${f1(0.95 * u)}" text-anchor="middle">${text}</text>`);
   }
-  ids.forEach((id) => {
-    const y = laneY.get(id);
-    still.push(`<line class="rule" x1="0" x2="${W}" y1="${f1(y)}" y2="${f1(y)}"/>`, laneHead(id, y, laneH, gutter, u, isPhone));
-    out.push(...laneStrip(id, y, stripH, x, xEdge, first, Math.min(shownLast, run.last), horizon, u, cell));
-    for (const wait of run.waitings.get(id)) {
-      if (wait.from > horizon) continue;
-      const to = wait.to !== null && wait.to <= horizon ? x(wait.to) + cell / 2 : x(Math.min(horizon, run.last) + 1);
-      const [left, right] = [Math.max(x(wait.from) + cell / 2, low), Math.min(to, high)];
-      if (right <= left) continue;
-      out.push(`<rect class="waiting" x="${f1(left)}" y="${f1(cellY(id) + cellH * 0.16)}" width="${f1(right - left)}" height="${f1(cellH * 0.68)}"/>`);
-    }
-  });
-  if (hasDetect) {
-    const y = laneY.get("detect");
-    still.push(`<line class="rule" x1="0" x2="${W}" y1="${f1(y)}" y2="${f1(y)}"/>`, `<text class="lane-name soft" x="${f1(0.2 * u)}" y="${f1(y + 1.35 * u)}">${isPhone ? "search" : "deadlock search"}</text>`);
+  return out;
+}
+
+/** The bars along a lane while its transaction waits. */
+function waitsOf(id, { x, cell, low, high, cellY, cellH, horizon }) {
+  const out = [];
+  for (const wait of run.waitings.get(id)) {
+    if (wait.from > horizon) continue;
+    const to = wait.to !== null && wait.to <= horizon ? x(wait.to) + cell / 2 : x(Math.min(horizon, run.last) + 1);
+    const [left, right] = [Math.max(x(wait.from) + cell / 2, low), Math.min(to, high)];
+    if (right <= left) continue;
+    out.push(`<rect class="waiting" x="${f1(left)}" y="${f1(cellY(id) + cellH * 0.16)}" width="${f1(right - left)}" height="${f1(cellH * 0.68)}"/>`);
   }
-  // arrows go up and down in the column of their step
-  for (let at = first + 1; at <= Math.min(shownLast, horizon); at++) {
+  return out;
+}
+
+/** The arrows up and down in the columns of their steps. */
+function arrowsOf({ u, x, cell, columns, laneY, cellY, heightOf, horizon }) {
+  const out = [];
+  for (const { from: at } of columns) {
+    if (at > horizon) break;
     run.arrows[at].forEach((it, index) => {
       if (!laneY.has(it.from) || !laneY.has(it.to)) return;
       const isDown = laneY.get(it.from) < laneY.get(it.to);
       const spread = run.arrows[at].length > 1 ? (index - (run.arrows[at].length - 1) / 2) * Math.min(0.7 * u, cell / 4) : 0;
       const ax = x(at) + cell / 2 + spread;
-      const h = (id) => (id === "detect" ? detectCell : cellH);
-      const y1 = isDown ? cellY(it.from) + h(it.from) : cellY(it.from);
-      const mid = it.kind === "depends" ? 0.5 : 0.5;
-      const y2 = isDown ? cellY(it.to) + (it.kind === "depends" ? 0 : h(it.to) * (mid - 0.12)) : cellY(it.to) + h(it.to) * (it.kind === "depends" ? 1 : mid + 0.12);
+      const y1 = isDown ? cellY(it.from) + heightOf(it.from) : cellY(it.from);
+      const isDepends = it.kind === "depends";
+      const y2 = isDown ? cellY(it.to) + (isDepends ? 0 : heightOf(it.to) * 0.38) : cellY(it.to) + heightOf(it.to) * (isDepends ? 1 : 0.62);
       const tip = 0.62 * u;
-      out.push(`<g class="flow ${it.kind}"><line x1="${f1(ax)}" x2="${f1(ax)}" y1="${f1(y1)}" y2="${f1(isDown ? y2 - tip : y2 + tip)}"/><path d="${arrowTip(ax, y2, !isDown, tip)}"/></g>`);
+      out.push(`<g class="flow ${it.kind}"><title>${esc(ARROWS[it.kind](nameOf(it.to)))}</title><line x1="${f1(ax)}" x2="${f1(ax)}" y1="${f1(y1)}" y2="${f1(isDown ? y2 - tip : y2 + tip)}"/><path d="${arrowTip(ax, y2, !isDown, tip)}"/></g>`);
     });
   }
-  // the cells
-  for (let at = first + 1; at <= Math.min(shownLast, run.last); at++) {
-    const isNext = at === here + 1 && !isTree;
-    if (at > horizon && !isNext) continue;
-    const step = run.steps[at - 1];
-    const id = step.name === null ? "detect" : run.ids.get(step.name);
-    if (!laneY.has(id)) continue;
-    const isCovered = at > here && !(isFuture && !isPredict);
-    const kind = isCovered ? "ghost" : kindOf(step);
-    const size = (roomy && cell > 5 * u ? 1.1 : 0.98) * u;
-    const inner = cell - 0.42 * u;
-    const h = id === "detect" ? detectCell : cellH;
-    const top = fitting(LABELS[step.op] ?? [step.op], inner, size, 600) || (LABELS[step.op] ?? [step.op]).at(-1);
-    const about = step.args.length ? (step.op === "scan" ? [`b ${step.args[0]}`] : [step.args[0]]) : [""];
-    const bottom = fitting(isCovered ? about : detailOf(step), inner + 0.14 * u, size * 0.975);
-    const cx = x(at) + cell / 2;
-    const label = isCovered ? `step ${run.done + at}: ${step.name ?? ""} ${step.event}` : `step ${run.done + at}: ${step.name ?? ""} ${step.event}, ${step.reply}`;
-    const single = isOneLine ? fitting(oneLine(step, isCovered), inner, size, 600) || top : "";
-    const lines = isOneLine && id !== "detect" ? `<text x="${f1(cx)}" y="${f1(cellY(id) + h / 2 + 0.34 * u)}" text-anchor="middle" class="op">${esc(single)}</text>` : id === "detect"
-      ? `<text x="${f1(cx)}" y="${f1(cellY(id) + h / 2 + 0.34 * u)}" text-anchor="middle" class="op">${esc(isCovered ? "?" : fitting(detailOf(step), inner, size, 600))}</text>`
-      : !bottom ? `<text x="${f1(cx)}" y="${f1(cellY(id) + h / 2 + 0.34 * u)}" text-anchor="middle" class="op">${esc(top)}</text>`
-      : `<text x="${f1(cx)}" y="${f1(cellY(id) + h / 2 - 0.14 * u)}" text-anchor="middle" class="op">${esc(top)}</text><text x="${f1(cx)}" y="${f1(cellY(id) + h / 2 + 0.9 * u)}" text-anchor="middle" class="detail">${esc(bottom)}</text>`;
-    out.push(`<g class="cell ${kind}${at === here ? " here" : ""}${at > here ? " later" : ""}" data-at="${at}" role="button"${at === here ? ' tabindex="0"' : ""} aria-label="${esc(label)}"${at === here ? ' aria-current="step"' : ""}><rect x="${f1(x(at) + 0.1 * u)}" y="${f1(cellY(id))}" width="${f1(cell - 0.2 * u)}" height="${f1(h)}" rx="${f1(0.3 * u)}"/>${lines}</g>`);
-  }
-  if (isTree && !isWhole() && here === run.last) {
-    const node = tree.nodes[tree.path.at(-1)];
-    const done = movesDone(node.index);
-    node.next.forEach((next, who) => {
-      const id = run.ids.get(tree.names[who]);
-      if (next === undefined || !laneY.has(id)) return;
-      const words = tree.moves[who][done[who]].split(/,? /);
-      const cx = x(here + 1) + cell / 2;
-      const inner = cell - 0.42 * u;
-      const names = LABELS[words[0]] ?? [words[0]];
-      const [op, about] = [fitting(isOneLine && words[1] ? [...names.map((it) => `${it} ${words[1]}`), ...names] : names, inner, 0.98 * u, 600), fitting([words.slice(1).join(" "), words[1] ?? "", (words[1] ?? "").slice(0, 3)], inner, 0.93 * u)];
-      out.push(`<g class="cell ghost next" data-next="${next}" role="button" tabindex="0" aria-label="${esc(tree.names[who])} moves: ${esc(words.join(" "))}"><rect x="${f1(x(here + 1) + 0.1 * u)}" y="${f1(cellY(id))}" width="${f1(cell - 0.2 * u)}" height="${f1(cellH)}" rx="${f1(0.3 * u)}"/><text class="op" x="${f1(cx)}" y="${f1(cellY(id) + cellH / 2 - (isOneLine ? -0.34 : 0.14) * u)}" text-anchor="middle">${esc(op)}</text>${isOneLine ? "" : `<text class="detail" x="${f1(cx)}" y="${f1(cellY(id) + cellH / 2 + 0.9 * u)}" text-anchor="middle">${esc(about)}</text>`}</g>`);
-    });
-  }
-  if (more > 0) still.push(`<text class="tick" x="${f1(0.2 * u)}" y="${f1(0.95 * u)}">+ ${more} more</text>`);
-  const label = `Steps ${run.done + first + 1} to ${run.done + Math.min(shownLast, run.last)}`;
-  putDrawing("lanes", { width: `${W}`, height: `${f1(H)}`, viewBox: `0 0 ${W} ${f1(H)}`, role: "group", "aria-label": label }, [{ shift: 0, parts: still }, { shift, parts: out }]);
-  document.body.dataset.lanes = ids.length;
-  $("slider").hidden = !isWindow;
-  view = { first, cell, gutter };
+  return out;
 }
 
-/** The head of a lane: name, level, and those of its fields that say something. */
-function laneHead(id, y, h, gutter, u, isPhone) {
+/** What an arrow of each kind says of the transaction that it goes to. */
+const ARROWS = { free: (name) => `${name} may go on`, abort: (name) => `${name} must abort`, depends: (name) => `commits only if ${name} does` };
+
+/** The cards of a column: of one step, or one for each transaction that asks again in it. */
+function cardsOf(span, at, marked) {
+  const isNext = span.from === here + 1 && !isTree;
+  if (span.from > at.horizon && !isNext) return [];
+  if (span.from === span.to) {
+    const step = run.steps[span.from - 1];
+    return cardOf(span.from, step, step.name === null ? "detect" : run.ids.get(step.name), at, marked, null);
+  }
+  return [...askedAgain(span.from)].flatMap(([id, count]) => cardOf(span.to, run.steps[span.from - 1], id, at, marked, count));
+}
+
+/** A card; `again`: how often the transaction asks again in its column, or null for a card of one step. */
+function cardOf(number, step, id, at, marked, again) {
+  const { u, x, cell, laneY, cellY, heightOf, tight, roomy } = at;
+  if (!laneY.has(id)) return [];
+  const isCovered = number > here && !(isFuture && !isPredict);
+  const isHere = columnOf(number) === columnOf(marked);
+  const kind = isCovered ? "ghost" : kindOf(step);
+  const size = (roomy && cell > 5 * u ? 1.1 : tight ? 0.94 : CARD.size) * u;
+  const inner = cell - CARD.padding * u;
+  const h = heightOf(id);
+  const ops = again === null ? (LABELS[step.op] ?? [step.op]) : ["asks again", "again"];
+  const about = step.args.length ? (step.op === "scan" ? [`b ${step.args[0]}`] : [step.args[0]]) : [""];
+  const details = isCovered ? (again === null ? about : [""]) : again === null ? detailOf(step) : [timesSaid(again), `${again}\u00d7`];
+  const top = fitting(ops, inner, size, 600) || ops.at(-1);
+  const bottom = fitting([...details, details.at(-1).slice(0, 5) + "\u2026"], inner + 0.14 * u, size * 0.975);
+  const cx = x(number) + cell / 2;
+  const said = again === null ? `step ${run.done + number}: ${step.name ?? ""} ${step.event}${isCovered ? "" : `, ${step.reply}`}` : `steps up to ${run.done + number}: ${nameOf(id)} asks again ${timesSaid(again)}`;
+  const line = (text, y, name) => `<text x="${f1(cx)}" y="${f1(cellY(id) + y)}" text-anchor="middle" class="${name}"${tight ? ` style="font-size:${f1(name === "op" ? size : size * 0.975)}px"` : ""}>${esc(text)}</text>`;
+  const [one, two, three] = [h / 2 + 0.34 * u, h / 2 - (tight ? 0.12 : 0.14) * u, h / 2 + (tight ? 0.8 : 0.9) * u];
+  const lines = id === "detect" ? line(isCovered ? "?" : fitting(detailOf(step), inner, size, 600), one, "op") : !bottom ? line(top, one, "op") : line(top, two, "op") + line(bottom, three, "detail");
+  return [`<g class="cell ${kind}${isHere ? " here" : ""}${number > here ? " later" : ""}" data-at="${number}" role="button"${isHere ? ' tabindex="0"' : ""} aria-label="${esc(said)}"${isHere ? ' aria-current="step"' : ""}><rect x="${f1(x(number) + 0.1 * u)}" y="${f1(cellY(id))}" width="${f1(cell - 0.2 * u)}" height="${f1(h)}" rx="${f1(0.3 * u)}"/>${lines}</g>`];
+}
+
+/** In the explorer: the moves that may come next, each in its lane. */
+function nextMoves({ u, x, cell, laneY, cellY, cellH, tight }) {
+  const node = tree.nodes[tree.path.at(-1)];
+  const done = movesDone(node.index);
+  return node.next.map((next, who) => {
+    const id = run.ids.get(tree.names[who]);
+    if (next === undefined || !laneY.has(id)) return "";
+    const words = tree.moves[who][done[who]].split(/,? /);
+    const cx = x(run.last + 1) + cell / 2;
+    const inner = cell - CARD.padding * u;
+    const [op, about] = [fitting(LABELS[words[0]] ?? [words[0]], inner, CARD.size * u, 600), fitting([words.slice(1).join(" "), words.slice(1).join("="), words[1] ?? ""], inner, 0.93 * u)];
+    const [two, three] = [cellY(id) + cellH / 2 - 0.14 * u, cellY(id) + cellH / 2 + (tight ? 0.78 : 0.9) * u];
+    return `<g class="cell ghost next" data-next="${next}" role="button" tabindex="0" aria-label="${esc(tree.names[who])} moves: ${esc(words.join(" "))}"><rect x="${f1(x(run.last + 1) + 0.1 * u)}" y="${f1(cellY(id))}" width="${f1(cell - 0.2 * u)}" height="${f1(cellH)}" rx="${f1(0.3 * u)}"/><text class="op" x="${f1(cx)}" y="${f1(two)}" text-anchor="middle">${esc(op)}</text><text class="detail" x="${f1(cx)}" y="${f1(three)}" text-anchor="middle">${esc(about)}</text></g>`;
+  });
+}
+
+/** The head of a lane: name, its short form where it has one, level, and those of its fields that say something. */
+function laneHead(id, y, { laneH: h, gutter, u, isPhone, tight }) {
   const it = run.txn(id, here);
-  const big = 1.5 * u;
+  const short = shortOf(id);
+  const tokenW = short === it.name || isPhone ? 0 : widthOf(short, 0.9 * u, 700) + 0.6 * u;
+  const room = gutter - tokenW - 0.8 * u;
+  const big = [1.5 * u, 1.2 * u, 0.95 * u].find((size) => widthOf(it.name, size, 700) <= room) ?? 0.95 * u;
+  const name = fitting([it.name, it.name.slice(0, 9) + "\u2026", it.name.slice(0, 6), short], room, big, 700) || short;
   const parts = [`<g class="head ${colourOf(id)}" data-txn="${id}" role="button" tabindex="0" aria-label="transaction ${esc(it.name)}, ${esc(it.level)}, ${esc(it.state)}: all its fields">`];
   parts.push(`<rect class="hit" x="0" y="${f1(y)}" width="${f1(gutter - 0.3 * u)}" height="${f1(h)}"/>`);
-  const name = fitting([it.name, it.name.slice(0, 6)], gutter - u, big, 700) || it.name.slice(0, 3);
-  parts.push(`<text class="lane-name" x="${f1(0.2 * u)}" y="${f1(y + 1.45 * u)}">${esc(name)}</text>`);
+  parts.push(`<text class="lane-name" x="${f1(0.2 * u)}" y="${f1(y + 1.35 * u)}" style="font-size:${f1(big)}px">${esc(name)}</text>`);
   const after = 0.2 * u + widthOf(name, big, 700) + 0.5 * u;
+  if (tokenW) parts.push(`<g class="token"><rect x="${f1(after - 0.1 * u)}" y="${f1(y + 0.42 * u)}" width="${f1(tokenW)}" height="${f1(1.15 * u)}" rx="${f1(0.55 * u)}"/><text x="${f1(after - 0.1 * u + tokenW / 2)}" y="${f1(y + 1.32 * u)}" text-anchor="middle" style="font-size:${f1(0.9 * u)}px">${esc(short)}</text></g>`);
+  const next = after + (tokenW ? tokenW + 0.3 * u : 0);
+  const level = fitting([it.level, it.level.slice(0, 6), ""], gutter - next - 0.3 * u, 0.95 * u);
   const state = it.kind === "not" ? "not begun" : it.kind === "active" && it.finished ? "finished" : it.kind;
-  const isLow = h < 3.2 * u;
-  if (!isPhone) {
-    if (!isLow) parts.push(`<text class="lane-level" x="${f1(after)}" y="${f1(y + 1.4 * u)}">${esc(fitting([it.level, it.level.slice(0, 6), ""], gutter - after, 0.95 * u))}</text>`);
-    const said = [];
-    if (it.begin) said.push(`begin ${it.begin}`);
-    if (it.end) said.push(`end ${it.end}`);
-    if (it.waits) said.push(`<tspan class="warn">waits ${it.waits}</tspan>`);
-    if (it.commits) said.push(`<tspan class="warn">depends ${it.commits}</tspan>`);
-    if (it.doomed && it.kind !== "aborted") said.push(`<tspan class="bad">must abort</tspan>`);
-    const text = said.length ? said.slice(isLow ? -1 : 0).join(" \u00b7 ") : isLow ? it.level : state;
-    parts.push(`<text class="lane-facts" x="${f1(isLow ? after : 0.2 * u)}" y="${f1(y + (isLow ? 1.4 : 2.75) * u)}">${text}</text>`);
-  } else if (it.waits || it.commits) parts.push(`<text class="lane-facts" x="${f1(0.2 * u)}" y="${f1(y + 2.7 * u)}"><tspan class="warn">waits ${it.waits || it.commits}</tspan></text>`);
-  parts.push("</g>");
-  return parts.join("");
+  if (isPhone) {
+    if (it.waits || it.commits) parts.push(`<text class="lane-facts" x="${f1(0.2 * u)}" y="${f1(y + 2.7 * u)}"><tspan class="warn">waits ${it.waits || it.commits}</tspan></text>`);
+    return parts.join("") + "</g>";
+  }
+  if (level) parts.push(`<text class="lane-level" x="${f1(next)}" y="${f1(y + 1.35 * u)}">${esc(level)}</text>`);
+  const said = [];
+  if (it.begin) said.push(`begin ${it.begin}`);
+  if (it.end) said.push(`end ${it.end}`);
+  if (it.waits) said.push(`<tspan class="warn">waits ${it.waits}</tspan>`);
+  if (it.commits) said.push(`<tspan class="warn">depends ${it.commits}</tspan>`);
+  if (it.doomed && it.kind !== "aborted") said.push(`<tspan class="bad">must abort</tspan>`);
+  const first = tight ? state : level ? "" : it.level;
+  const text = !said.length ? (tight ? state : level ? state : it.level) : [first, ...(tight && said.length > 1 ? said.slice(-1) : said)].filter(Boolean);
+  parts.push(`<text class="lane-facts" x="${f1(0.2 * u)}" y="${f1(y + (tight ? 2.5 : 2.75) * u)}">${[text].flat().join(" \u00b7 ")}</text>`);
+  return parts.join("") + "</g>";
 }
 
 const PHASES = { active: ["active", "act"], finished: ["finished", "fin"], preparing: ["preparing", "prep"], committed: ["committed", "com"], aborted: ["aborted", "abo"] };
 
-/** The parts of the strip of a lane: its phases, each with its pattern and its name. */
-function laneStrip(id, y, h, x, xEdge, first, shownLast, horizon, u, cell) {
+/** The parts of the strip of a lane: its phases, each with its pattern and, where lanes are high, its name. */
+function laneStrip(id, y, { stripH: h, x, xEdge, first, shownLast, horizon, u, cell, tight }) {
   const list = run.phases.get(id);
   const out = [];
+  const lastShown = stepsUpTo(Math.min(shownLast, columnCount()));
+  const top = y + (tight ? 0.15 : 0.2) * u;
   list.forEach((phase, index) => {
     if (phase.kind === "none" || phase.from > horizon) return;
     const until = Math.min(list[index + 1]?.from ?? Infinity, horizon + 1, run.last + 1);
     const isOpen = !(list[index + 1]?.from <= horizon);
     const from = Math.max(phase.from, 1);
-    if (until <= first || from > shownLast) return;
-    const [left, right] = [xEdge(from) + (from > first ? cell * 0.12 : 0), xEdge(until) + (until <= shownLast ? cell * 0.12 : 0)];
+    if (columnOf(until) <= first || from > lastShown) return;
+    const [left, right] = [xEdge(from) + (columnOf(from) > first ? cell * 0.12 : 0), xEdge(until) + (until <= lastShown ? cell * 0.12 : 0)];
     if (right <= left) return;
-    if (phase.kind === "terminated") { out.push(`<line class="over" x1="${f1(left)}" x2="${f1(right)}" y1="${f1(y + h / 2 + 0.2 * u)}" y2="${f1(y + h / 2 + 0.2 * u)}"/>`); return; }
-    out.push(`<rect class="strip ${phase.kind}${isOpen ? " open" : ""}" x="${f1(left)}" y="${f1(y + 0.2 * u)}" width="${f1(right - left)}" height="${f1(h)}"/>`);
-    const text = fitting(PHASES[phase.kind], right - left - 0.6 * u, 0.95 * u, 600);
+    if (phase.kind === "terminated") { out.push(`<line class="over" x1="${f1(left)}" x2="${f1(right)}" y1="${f1(top + h / 2)}" y2="${f1(top + h / 2)}"/>`); return; }
+    out.push(`<rect class="strip ${phase.kind}${isOpen ? " open" : ""}" x="${f1(left)}" y="${f1(top)}" width="${f1(right - left)}" height="${f1(h)}"><title>${phase.kind}</title></rect>`);
+    const text = tight ? "" : fitting(PHASES[phase.kind], right - left - 0.6 * u, 0.95 * u, 600);
     if (text) out.push(`<g><rect class="plate ${phase.kind}" x="${f1(left + 0.2 * u)}" y="${f1(y + 0.28 * u)}" width="${f1(widthOf(text, 0.95 * u, 600) + 0.4 * u)}" height="${f1(h - 0.16 * u)}"/><text class="phase ${phase.kind}" x="${f1(left + 0.4 * u)}" y="${f1(y + 0.2 * u + h * 0.78)}">${text}</text></g>`);
   });
   return out;
@@ -872,87 +1070,139 @@ function keysShown(rows, step, sights) {
   return { keys: some, hidden: count - rows };
 }
 
-function showChains() {
+/** Where the columns and rows of the versions are. */
+function chainLayout(step, sights, time) {
   const u = rem();
   const [W, room] = sizes.chains;
   const isPhone = isSmall();
-  const step = here > 0 ? run.steps[here - 1] : null;
-  const { sights, time } = sightsOf(step);
-  const actor = step?.name ? run.ids.get(step.name) : null;
-  const buckets = run.bucketIds.map((it) => run.get(it, here)).filter(Boolean);
-  const axisH = 1.5 * u;
-  const bucketH = buckets.length ? 1.7 * u : 0;
-  const least = (viewHeight < 48 * u && !isPhone ? 1.68 : 2.05) * u;
-  const rowsFit = isPhone ? 12 : Math.max(2, Math.floor((room - axisH - bucketH - 0.3 * u) / least));
-  const { keys, hidden } = keysShown(rowsFit, step, sights);
+  const isLow = viewHeight < 48 * u && !isPhone;
+  const lookH = !isLow && run.steps.some((it) => it.sees !== "") ? 1.4 * u : 0;
+  const axisH = 1.5 * u + lookH;
+  const least = (isLow ? 1.6 : 2.05) * u;
+  const bucketH = bucketIsShown() ? (isLow ? 1.5 : 1.7) * u : 0;
+  const fitRows = (buckets) => (isPhone ? 12 : Math.max(bucketH ? 1 : 2, Math.floor((room - axisH - buckets * bucketH - 0.3 * u) / least)));
+  let { keys, hidden } = keysShown(fitRows(bucketH ? 1 : 0), step, sights);
+  let groups = groupsOf(keys, bucketH > 0);
+  if (groups.length > 1 && bucketH) { ({ keys, hidden } = keysShown(fitRows(groups.length), step, sights)); groups = groupsOf(keys, true); }
   const count = keys.reduce((sum, it) => sum + it.versions.length, 0);
-  const each = Math.max((room - axisH - bucketH - 0.4 * u) / Math.max(count, 1), least);
+  const boxesH = bucketH * groups.length;
+  const each = Math.max((room - axisH - boxesH - 0.4 * u) / Math.max(count, 1), least);
   const k = isPhone ? 1 : Math.max(1, Math.min(1.28, each / (3.3 * u), (W / u - 20) / 19));
   const rowH = isPhone ? least * 1.15 : Math.min(each, 6.4 * u * k);
   const narrow = W < 36 * u;
-  const left = (isPhone ? 6.7 : narrow ? 8.2 : 9.2) * u * k;
-  const right = (isPhone ? 1.9 : narrow ? 3 : 9.8) * u * k;
-  const H = axisH + count * rowH + bucketH + 0.4 * u;
-  // the axis: each time a place; those between which nothing lies are left out where there are many
-  const now = run.clock(here);
+  const values = (isPhone ? 6.7 : narrow ? 8.5 : 9.2) * u * k;
+  const r = Math.min(rowH * 0.36, 0.9 * u * k);
+  const marks = { from: values, readers: narrow || isPhone ? 2 : 3, r, wide: marksWidth(narrow || isPhone ? 2 : 3, r, u * k) };
+  const left = values + marks.wide;
+  const right = (isPhone ? 1.9 : narrow ? 2.6 : 9.8) * u * k;
+  return { u, k, W, isPhone, narrow, axisH, lookH, bucketH, groups, hidden, count, rowH, marks, left, right, H: axisH + count * rowH + boxesH + 0.4 * u, foot: axisH + count * rowH + boxesH };
+}
+
+/** How wide the column of locks is, so that it has room for the locks of each version of the run. */
+function marksWidth(readers, r, u) {
+  if (run.lockCounts === undefined) {
+    const its = [...run.past].filter(([subject]) => subject.startsWith("version ")).flatMap(([, list]) => list.map(([, it]) => it)).filter((it) => it.readers || it.writer);
+    run.lockCounts = [...new Set(its.map((it) => `${Math.min(it.readers, 5)} ${it.writer ? 1 : 0} ${it.noMore ? 1 : 0}`))].map((it) => it.split(" ").map(Number));
+  }
+  const wide = run.lockCounts.map(([count, writer, gate]) => Math.min(count, readers) * (2 * r + 0.12 * u) + writer * (2 * r + 1.2 * u) + gate * (2 * r + 0.2 * u));
+  return wide.length ? Math.max(...wide, 2.6 * u) + 0.7 * u : 0;
+}
+
+/** Keys as they are shown: in groups by bucket where a bucket is locked in the run, else in one group. */
+function groupsOf(keys, byBucket) {
+  if (!byBucket) return [{ bucket: null, keys }];
+  const groups = new Map();
+  for (const it of keys) { const bucket = String(BigInt(it.key) % BigInt(data.buckets)); groups.set(bucket, [...(groups.get(bucket) ?? []), it]); }
+  for (const it of run.bucketIds.map((id) => run.get(id, here)).filter(Boolean)) if (!groups.has(it.bucket)) groups.set(it.bucket, []);
+  return [...groups].sort(([a], [b]) => a - b).map(([bucket, its]) => ({ bucket, keys: its }));
+}
+
+/** The places of the times on the axis: each time a place; those between which nothing lies are left out where there are many. */
+function axisPlaces({ groups, W, left, right }, time, now) {
   let times = Array.from({ length: Math.min(lastTime(), 13) + 1 }, (_, at) => at);
   if (lastTime() > 13) {
     const its = new Set([0, now, ...(time !== null ? [time] : [])]);
-    for (const { versions } of keys) for (const it of versions) { if (it.made) its.add(Number(it.made)); if (it.ended) its.add(Number(it.ended)); const m = it.maker && run.txn(it.maker, here).end; if (m) its.add(Number(m)); }
+    for (const it of groups.flatMap((group) => group.keys).flatMap((key) => key.versions)) { if (it.made) its.add(Number(it.made)); if (it.ended) its.add(Number(it.ended)); const m = it.maker && run.txn(it.maker, here).end; if (m) its.add(Number(m)); }
     times = [...its].sort((a, b) => a - b);
   }
-  const span = W - left - right;
-  const unit = span / (times.length + 1.7);
-  const place = new Map(times.map((it, index) => [it, left + (index + 0.35) * unit]));
+  const unit = (W - left - right) / (times.length + 1.7);
+  return { times, unit, place: new Map(times.map((it, index) => [it, left + (index + 0.35) * unit])) };
+}
+
+/** What the plate over the line of a look says, longest first: at which time the transaction reads, and which time that is. */
+function lookTexts(step, actor, time) {
+  const verb = /^(insert|update|delete)$/.test(step.op) ? "looks" : "reads";
+  const which = run.txn(actor, here).level === "snapshot" ? "its begin" : "the clock";
+  return [...namedTexts(actor, (name) => `${name} ${verb} at ${which}, ${time}`), `${verb} at ${which}, ${time}`, `${verb} at ${time}`];
+}
+
+function showChains() {
+  const step = here > 0 ? run.steps[here - 1] : null;
+  const { sights, time } = sightsOf(step);
+  const actor = step?.name ? run.ids.get(step.name) : null;
+  const it = chainLayout(step, sights, time);
+  const { u, k, W, H, isPhone, narrow, axisH, lookH, rowH, left, right, foot, marks } = it;
+  const now = run.clock(here);
+  const { times, unit, place } = axisPlaces(it, time, now);
   const X = (t) => place.get(Number(t)) ?? left;
   const endX = W - right - 0.5 * u;
   const futureX = X(now) + unit * 0.55;
-  const out = [];
-  const top = axisH;
-  const foot = top + count * rowH;
-  out.push(`<rect class="ahead" x="${f1(X(now))}" y="${f1(top)}" width="${f1(endX - X(now) + 0.5 * u)}" height="${f1(foot - top)}"/>`);
-  const look = time !== null && place.has(time) ? plateOf(`${nameOf(actor)} looks at ${time}`, X(time), time < now ? X(now) : null, W, u) : null;
+  const out = [`<rect class="ahead" x="${f1(X(now))}" y="${f1(axisH)}" width="${f1(endX - X(now) + 0.5 * u)}" height="${f1(foot - axisH)}"/>`];
+  const lookX = time !== null && place.has(time) ? X(time) : null;
+  const plate = lookX === null ? null : plateOf(lookTexts(step, actor, time), lookX, W, u);
+  const nowWide = widthOf((unit > 2.05 * u ? "now " : "") + now, 1.05 * u, 700);
+  let until = -Infinity;
   for (const t of times) {
     const isNow = t === now;
-    out.push(`<line class="grid${isNow ? " nowline" : ""}" x1="${f1(X(t))}" x2="${f1(X(t))}" y1="${f1(top)}" y2="${f1(foot)}"/>`);
-    if (look && !isNow && X(t) > look.left - 0.5 * u && X(t) < look.left + look.wide + 0.5 * u) continue;
-    out.push(`<text class="tick${isNow ? " at" : ""}" x="${f1(X(t))}" y="${f1(1.05 * u)}" text-anchor="middle">${isNow ? (unit > 2.05 * u ? "now " : "") + t : t}</text>`);
+    out.push(`<line class="grid${isNow ? " nowline" : ""}" x1="${f1(X(t))}" x2="${f1(X(t))}" y1="${f1(axisH)}" y2="${f1(foot)}"/>`);
+    if (plate && !lookH && X(t) > plate.from - 0.5 * u && X(t) < plate.from + plate.wide + 0.5 * u) continue;
+    const half = isNow ? nowWide / 2 : widthOf(String(t), 0.95 * u) / 2;
+    if (!isNow && (X(t) - half < until + 0.3 * u || (t < now && X(t) + half > X(now) - nowWide / 2 - 0.3 * u))) continue;
+    until = X(t) + half;
+    out.push(`<text class="tick${isNow ? " at" : ""}" x="${f1(X(t))}" y="${f1(lookH + 1.05 * u)}" text-anchor="middle">${isNow ? (unit > 2.05 * u ? "now " : "") + t : t}</text>`);
   }
-  out.push(`<text class="tick inf" x="${f1(endX)}" y="${f1(1.12 * u)}" text-anchor="middle">\u221e</text>`);
-  let y = top;
-  const tokens = [];
+  out.push(`<text class="tick inf" x="${f1(endX)}" y="${f1(lookH + 1.12 * u)}" text-anchor="middle">\u221e</text>`);
+  if (marks.wide) out.push(`<text class="tick" x="${f1(marks.from + 0.25 * u)}" y="${f1(lookH + 1.05 * u)}">${fitting(["locks"], marks.wide - 0.6 * u, 0.95 * u)}</text>`);
   const readers = readersHere();
-  for (const { key, versions } of keys) {
-    out.push(`<line class="rule" x1="0" x2="${W}" y1="${f1(y)}" y2="${f1(y)}"/>`);
-    out.push(`<text class="keyname" x="${f1(0.2 * u)}" y="${f1(y + rowH / 2 + 0.38 * u * k)}">${isPhone ? "" : "key "}${esc(key)}</text>`);
-    for (const it of versions) {
-      const [under, over] = versionRow(it, y, rowH, { u: u * k, W, X, endX, futureX, left, right, sights, actor, isPhone, narrow, now, readers, lookX: time !== null && place.has(time) ? X(time) : null });
-      out.push(under);
-      tokens.push(over);
-      y += rowH;
+  const tokens = [];
+  let y = axisH;
+  for (const { bucket, keys } of it.groups) {
+    const top = y;
+    if (bucket !== null) { out.push(bucketHead(bucket, y, it)); y += it.bucketH; }
+    for (const { key, versions } of keys) {
+      out.push(`<line class="rule" x1="0" x2="${W}" y1="${f1(y)}" y2="${f1(y)}"/>`);
+      out.push(`<text class="keyname" x="${f1(0.3 * u)}" y="${f1(y + rowH / 2 + 0.38 * u * k)}">${esc(fitting([`key ${key}`, key], marks.from - (isPhone ? 4.5 : narrow ? 4.9 : 5.4) * u * k, u * k))}</text>`);
+      for (const version of versions) {
+        const [under, over] = versionRow(version, y, rowH, { u: u * k, W, X, endX, futureX, left, right, marks, sights, actor, isPhone, narrow, now, readers, lookX });
+        out.push(under);
+        tokens.push(over);
+        y += rowH;
+      }
     }
+    if (bucket !== null) out.push(`<rect class="bucketbox" x="0.7" y="${f1(top + 1)}" width="${f1(W - 1.4)}" height="${f1(y - top - 2)}" rx="${f1(0.3 * u)}"/>`);
   }
-  if (look) {
-    const x = X(time);
-    out.push(`<g class="look ${colourOf(actor ?? 1)}"><line x1="${f1(x)}" x2="${f1(x)}" y1="${f1(1.3 * u)}" y2="${f1(foot)}"/><path d="${arrowTip(x, foot, false, 0.6 * u)}" transform="translate(0 0)"/></g>`);
-    out.push(...tokens.splice(0));
-    out.push(`<g class="look ${colourOf(actor)}"><rect class="plate" x="${f1(look.left)}" y="${f1(0.08 * u)}" width="${f1(look.wide)}" height="${f1(1.3 * u)}" rx="${f1(0.3 * u)}"/><text class="looktext" x="${f1(look.left + look.wide / 2)}" y="${f1(1.02 * u)}" text-anchor="middle">${esc(look.text)}</text></g>`);
+  if (lookX !== null) {
+    out.push(`<g class="look ${colourOf(actor)}"><line x1="${f1(lookX)}" x2="${f1(lookX)}" y1="${f1(1.3 * u)}" y2="${f1(foot)}"/><path d="${arrowTip(lookX, foot, false, 0.6 * u)}"/></g>`, ...tokens.splice(0));
+    const isNow = time === now;
+    out.push(`<g class="look ${colourOf(actor)}"><rect class="plate" x="${f1(plate.from)}" y="${f1(0.04 * u)}" width="${f1(plate.wide)}" height="${f1(1.26 * u)}" rx="${f1(0.3 * u)}"/><text class="looktext" x="${f1(plate.from + plate.wide / 2)}" y="${f1(0.98 * u)}" text-anchor="middle">${esc(plate.text)}</text>${!lookH ? "" : plateTick(isNow ? (unit > 2.05 * u ? `now ${time}` : `${time}`) : `${time}`, lookX, lookH, u, isNow)}</g>`);
   }
   out.push(...tokens);
-  if (bucketH) {
-    const texts = buckets.map((it) => `bucket ${it.bucket}: locked by ${it.holders.map(nameOf).join(", ")}`).join("; ");
-    out.push(`<line class="rule" x1="0" x2="${W}" y1="${f1(foot)}" y2="${f1(foot)}"/>`, `<text class="bucket" x="${f1(0.2 * u)}" y="${f1(foot + 1.2 * u)}">${esc(fitting([texts, texts.slice(0, Math.floor(W / u * 1.7)) + "\u2026"], W - u, u) || texts.slice(0, 40))}</text>`);
-  }
-  if (hidden) out.push(`<text class="tick" x="${f1(0.2 * u)}" y="${f1(1.05 * u)}">+ ${hidden} more</text>`);
+  if (it.hidden) out.push(`<text class="tick" x="${f1(0.2 * u)}" y="${f1(lookH + 1.05 * u)}">+ ${it.hidden} more</text>`);
   const attributes = { width: `${W}`, height: `${f1(H)}`, viewBox: `0 0 ${W} ${f1(H)}`, style: `font-size:${f1(u * k)}px`, role: "group", "aria-label": "Versions" };
   putDrawing("chains", attributes, [{ shift: 0, parts: out }]);
 }
 
-/** The plate over the line at which a transaction looks: over the line, and left of the label of now where that is another time. */
-function plateOf(text, x, nowX, W, u) {
+/** The plate over the line at which a transaction looks. */
+function plateOf(texts, x, W, u) {
+  const text = fitting(texts, W - u, 0.95 * u, 600);
   const wide = widthOf(text, 0.95 * u, 600) + 0.6 * u;
-  const most = nowX === null ? W - wide : Math.max(x - wide + 0.4 * u, nowX - 2 * u - wide);
-  return { text, wide, left: Math.max(Math.min(x - wide / 2, most), 0) };
+  return { text, wide, from: Math.max(Math.min(x - wide / 2, W - wide), 0) };
+}
+
+/** The time of a look over the line that goes through its tick. */
+function plateTick(text, x, lookH, u, isNow) {
+  const wide = widthOf(text, (isNow ? 1.05 : 0.95) * u, 700) + 0.3 * u;
+  return `<rect class="byplate" x="${f1(x - wide / 2)}" y="${f1(lookH + 0.15 * u)}" width="${f1(wide)}" height="${f1(1.15 * u)}"/><text class="tick at" x="${f1(x)}" y="${f1(lookH + 1.05 * u)}" text-anchor="middle">${text}</text>`;
 }
 
 /** The transactions that read-lock each version here. */
@@ -963,7 +1213,7 @@ function readersHere() {
 }
 
 function versionRow(it, y, h, at) {
-  const { u, W, X, endX, futureX, left, right, sights, isPhone, narrow, now, lookX } = at;
+  const { u, W, X, endX, futureX, left, right, marks, sights, isPhone, narrow, lookX } = at;
   const sight = sights.get(String(it.v));
   const touched = run.touched[here].includes("version " + it.v);
   const maker = it.maker ? run.txn(it.maker, here) : null;
@@ -972,9 +1222,9 @@ function versionRow(it, y, h, at) {
   const out = [];
   const label = `version ${it.v}, key ${it.key}, value ${it.value}: ${saidOfBegin(it)}; End ${saidOfEnd(it)}${sight ? `; ${sight.isSeen ? "seen" : "passed over"}` : ""}`;
   out.push(`<g class="version${touched ? " touched" : ""}${isNever ? " never" : ""}${pinned?.v === it.v ? " pinned" : ""}" data-v="${it.v}" role="button" tabindex="0" aria-label="${esc(label)}">`);
-  out.push(`<rect class="hit" x="${f1(left - 5.4 * u)}" y="${f1(y + 1)}" width="${f1(W - left + 5.4 * u)}" height="${f1(h - 2)}"/>`);
+  out.push(`<rect class="hit" x="${f1(marks.from - 5.4 * u)}" y="${f1(y + 1)}" width="${f1(W - marks.from + 5.4 * u)}" height="${f1(h - 2)}"/>`);
   const base = y + h / 2 + 0.38 * u;
-  out.push(`<text class="vname" x="${f1(left - (isPhone ? 4.1 : narrow ? 4.6 : 5) * u)}" y="${f1(base)}">v${it.v}</text><text class="value" x="${f1(left - 0.35 * u)}" y="${f1(base)}" text-anchor="end">${esc(fitting([it.value, it.value.slice(0, 4) + "\u2026"], 3.1 * u, 1.15 * u, 700) || "\u2026")}</text>`);
+  out.push(`<text class="vname" x="${f1(marks.from - (isPhone ? 4.1 : narrow ? 4.6 : 5) * u)}" y="${f1(base)}">v${it.v}</text><text class="value" x="${f1(marks.from - 0.35 * u)}" y="${f1(base)}" text-anchor="end">${esc(fitting([it.value, it.value.slice(0, 4) + "\u2026"], 3.1 * u, 1.15 * u, 700) || "\u2026")}</text>`);
   const barH = Math.min(h * 0.72, 3.5 * u);
   const barY = y + (h - barH) / 2;
   // from where
@@ -1007,8 +1257,7 @@ function versionRow(it, y, h, at) {
     if (close === "written") {
       const from = Math.max(x0, futureX);
       out.push(`<path class="taken ${colourOf(it.writer)}" d="M${f1(from)} ${f1(barY + 2)}H${f1(endX - arrow)}L${f1(endX + 0.3 * u - 3)} ${f1(barY + barH / 2)}L${f1(endX - arrow)} ${f1(barY + barH - 2)}H${f1(from)}Z"/>`);
-      const name = nameOf(it.writer);
-      const text = fitting([`until ${name} commits`, `until ${name}`], endX - from - 0.75 * u, 0.95 * u, 600);
+      const text = fitting([...namedTexts(it.writer, (name) => `until ${name} commits`), ...namedTexts(it.writer, (name) => `until ${name}`)], endX - from - 0.75 * u, 0.95 * u, 600);
       if (text && x0 < from - 0.2 * u) out.push(`<text class="by ${colourOf(it.writer)}" x="${f1(from + 0.45 * u)}" y="${f1(y + h / 2 + 0.33 * u)}">${esc(text)}</text>`);
     }
     if (close === "promised") out.push(`<path class="tail ${colourOf(it.writer)}" d="M${f1(x1)} ${f1(barY)}H${f1(endX)}M${f1(x1)} ${f1(barY + barH)}H${f1(endX)}"/><line class="cut ${colourOf(it.writer)}" x1="${f1(x1)}" x2="${f1(x1)}" y1="${f1(barY - 2)}" y2="${f1(barY + barH + 2)}"/>`);
@@ -1016,43 +1265,23 @@ function versionRow(it, y, h, at) {
   // the locks: readers as round tokens, the writer as a square one with a lock
   const under = out.splice(0).join("") + "</g>";
   out.push(`<g class="version${touched ? " touched" : ""}${isNever ? " never" : ""}" data-v="${it.v}">`);
-  const readers = at.readers.get(String(it.v)) ?? [];
-  const r = Math.min(h * 0.36, 0.9 * u);
   const mid = y + h / 2;
-  let width = readers.length * (2 * r + 0.15 * u) + (it.writer ? 2 * r + 1.15 * u : 0) + (it.noMore ? 2 * r + 0.3 * u : 0);
-  let x = Math.max((x0 ?? futureX) + 0.45 * u, Math.min(X(now) - width - 0.2 * u, endX - width));
-  if (close === "ended" && it.writer) x = x1 + 0.35 * u;
-  if (x < left + 0.4 * u) x = left + 0.4 * u;
-  for (const id of readers.slice(0, 4)) {
-    const isMany = readers.length > 4 && id === readers[3];
-    out.push(`<g class="reader ${colourOf(id)}"><circle cx="${f1(x + r)}" cy="${f1(mid)}" r="${f1(r)}"/><text x="${f1(x + r)}" y="${f1(mid + 0.34 * u)}" text-anchor="middle">${isMany ? "+" + (readers.length - 3) : esc(nameOf(id).slice(0, 2))}</text></g>`);
-    x += 2 * r + 0.15 * u;
-  }
-  if (it.noMore) {
-    out.push(`<g class="gate"><circle cx="${f1(x + r)}" cy="${f1(mid)}" r="${f1(r - 1)}"/><path d="M${f1(x + r - r * 0.62)} ${f1(mid)}h${f1(r * 1.24)}"/></g>`);
-    x += 2 * r + 0.2 * u;
-  }
-  if (it.writer) {
-    const w = 2 * r + 1 * u;
-    out.push(`<g class="writer ${colourOf(it.writer)}${writer.kind === "aborted" ? " gone" : ""}"><rect x="${f1(x)}" y="${f1(mid - r)}" width="${f1(w)}" height="${f1(2 * r)}" rx="2"/><path d="${padlock(x + 0.3 * u, mid, 0.42 * u)}"/><text x="${f1(x + 1.15 * u)}" y="${f1(mid + 0.34 * u)}">${esc(nameOf(it.writer).slice(0, 2))}</text></g>`);
-    x += w + 0.3 * u;
-  }
+  out.push(marksOf(it, writer, at.readers.get(String(it.v)) ?? [], mid, marks, u));
   if (it.made && it.made === it.ended && !it.writer) out.push(`<text class="by" x="${f1(x1 + 0.7 * u)}" y="${f1(mid + 0.33 * u)}">at no time</text>`);
   // which transaction made it, until that is decided
   if (!isNever && it.maker) {
-    const words = open0 === "unborn" ? [`made by ${nameOf(it.maker)}, not committed`, `valid if ${nameOf(it.maker)} commits`, `if ${nameOf(it.maker)} commits`, `${nameOf(it.maker)}'s`] : open0 === "promised" ? [`if ${nameOf(it.maker)} commits`, `${nameOf(it.maker)}?`] : [`by ${nameOf(it.maker)}, not stamped yet`, `by ${nameOf(it.maker)}`];
-    let from = Math.max(x0 + 0.45 * u, readers.length || it.writer ? x + 0.2 * u : 0);
+    const words = open0 === "unborn" ? [`made by ${nameOf(it.maker)}, not committed`, ...namedTexts(it.maker, (name) => `valid if ${name} commits`), ...namedTexts(it.maker, (name) => `if ${name} commits`), `${shortOf(it.maker)}'s`]
+      : open0 === "promised" ? [...namedTexts(it.maker, (name) => `if ${name} commits`), `${shortOf(it.maker)}?`] : namedTexts(it.maker, (name) => `by ${name}, not stamped yet`).concat(namedTexts(it.maker, (name) => `by ${name}`));
+    let from = x0 + 0.45 * u;
     if (lookX !== null && from < lookX + 0.4 * u && from + 4 * u > lookX) from = lookX + 0.4 * u;
     const text = fitting(words, Math.min(x1, close === "written" && !open0 ? futureX : endX - 0.5 * u) - from - 0.1 * u, 0.95 * u, open0 ? 600 : 400);
     if (text) out.push(`<text class="by ${open0 ? colourOf(it.maker) : ""}" x="${f1(from)}" y="${f1(mid + 0.33 * u)}">${esc(text)}</text>`);
   }
   if (isNever) {
-    const words = maker ? [`${nameOf(it.maker)} aborted`, "aborted", "\u2717"] : ["never valid", "never", "\u2717"];
-    const hasTokens = readers.length > 0 || it.writer;
-    const start = hasTokens ? Math.max(x, futureX) : futureX;
-    const text = fitting(words, endX - start - 0.5 * u, 0.95 * u) || "\u2717";
+    const words = maker ? [...namedTexts(it.maker, (name) => `${name} aborted`), "aborted", "\u2717"] : ["never valid", "never", "\u2717"];
+    const text = fitting(words, endX - futureX - 0.5 * u, 0.95 * u) || "\u2717";
     const wide = widthOf(text, 0.95 * u) + 0.4 * u;
-    const from = hasTokens ? start : (futureX + endX - wide) / 2;
+    const from = (futureX + endX - wide) / 2;
     out.push(`<rect class="byplate" x="${f1(from)}" y="${f1(mid - 0.62 * u)}" width="${f1(wide)}" height="${f1(1.24 * u)}"/><text class="by" x="${f1(from + 0.2 * u)}" y="${f1(mid + 0.33 * u)}">${esc(text)}</text>`);
   }
   // what is seen of it, and its End word
@@ -1060,9 +1289,9 @@ function versionRow(it, y, h, at) {
   if (!narrow && (!sight || isTall)) out.push(`<text class="endword" x="${f1(W - right + 0.5 * u)}" y="${f1(sight ? base + 0.75 * u : base)}">${it.end}</text>`);
   if (sight) {
     const words = sight.isSeen
-      ? sight.ifCommits ? [`\u2713 if ${sight.ifCommits} commits`, "\u2713?"] : ["\u2713 seen", "\u2713"]
-      : sight.ifCommits ? [`\u2013 if ${sight.ifCommits} commits`, "\u2013?"] : ["\u2013 passed over", "\u2013"];
-    out.push(`<text class="sight ${sight.isSeen ? "seen" : "unseen"}" x="${f1(W - right + 0.6 * u)}" y="${f1(isTall && !narrow ? base - 0.6 * u : base)}">${esc(fitting(words, right - 0.6 * u, 1.05 * u, 700) || words[1])}</text>`);
+      ? sight.ifCommits ? [...namedTexts(run.ids.get(sight.ifCommits), (name) => `\u2713 if ${name} commits`), "\u2713?"] : ["\u2713 seen", "\u2713"]
+      : sight.ifCommits ? [...namedTexts(run.ids.get(sight.ifCommits), (name) => `\u2013 if ${name} commits`), "\u2013?"] : ["\u2013 passed over", "\u2013"];
+    out.push(`<text class="sight ${sight.isSeen ? "seen" : "unseen"}" x="${f1(W - right + 0.6 * u)}" y="${f1(isTall && !narrow ? base - 0.6 * u : base)}">${esc(fitting(words, right - 0.6 * u, 1.05 * u, 700) || words.at(-1))}</text>`);
   }
   out.push("</g>");
   return [under, out.join("")];
@@ -1070,45 +1299,184 @@ function versionRow(it, y, h, at) {
 
 const padlock = (x, mid, s) => `M${f1(x)} ${f1(mid - s * 0.1)}h${f1(s * 1.7)}v${f1(s * 1.2)}h${f1(-s * 1.7)}zM${f1(x + s * 0.25)} ${f1(mid - s * 0.1)}v${f1(-s * 0.5)}a${f1(s * 0.6)} ${f1(s * 0.6)} 0 0 1 ${f1(s * 1.2)} 0v${f1(s * 0.5)}h${f1(-s * 0.3)}v${f1(-s * 0.5)}a${f1(s * 0.3)} ${f1(s * 0.3)} 0 0 0 ${f1(-s * 0.6)} 0v${f1(s * 0.5)}z`;
 
+
+/** The locks of a version, in their column: readers as round tokens, then no more reads, then the writer as a square one with a lock. */
+function marksOf(it, writer, readers, mid, { from, readers: most, r }, u) {
+  const out = [];
+  let x = from + 0.35 * u;
+  readers.slice(0, most).forEach((id, index) => {
+    const more = readers.length > most && index === most - 1 ? readers.length - most + 1 : 0;
+    out.push(readerToken(id, x + r, mid, r, u, more));
+    x += 2 * r + 0.12 * u;
+  });
+  if (it.noMore) {
+    out.push(`<g class="gate"><title>no more reads</title><circle cx="${f1(x + r)}" cy="${f1(mid)}" r="${f1(r - 1)}"/><path d="M${f1(x + r - r * 0.62)} ${f1(mid)}h${f1(r * 1.24)}"/></g>`);
+    x += 2 * r + 0.2 * u;
+  }
+  if (it.writer) {
+    const text = shortOf(it.writer);
+    out.push(`<g class="writer ${colourOf(it.writer)}${writer.kind === "aborted" ? " gone" : ""}"><title>${esc(nameOf(it.writer))} writes</title><rect x="${f1(x)}" y="${f1(mid - r)}" width="${f1(2 * r + 1 * u)}" height="${f1(2 * r)}" rx="2"/><path d="${padlock(x + 0.22 * u, mid, 0.42 * u)}"/><text x="${f1(x + 1.05 * u)}" y="${f1(mid + 0.34 * u)}">${esc(text)}</text></g>`);
+  }
+  return out.join("");
+}
+
+/** A reader, or a holder, as a round token; `more`: of so many others too. */
+function readerToken(id, x, mid, r, u, more = 0) {
+  const said = more ? `+${more}` : shortOf(id);
+  return `<g class="reader ${colourOf(id)}"><title>${esc(nameOf(id))}</title><circle cx="${f1(x)}" cy="${f1(mid)}" r="${f1(r)}"/><text x="${f1(x)}" y="${f1(mid + 0.34 * u)}" text-anchor="middle">${esc(said)}</text></g>`;
+}
+
+/* ---- buckets: who locks one, and who waits for those */
+
+/** Whether buckets are drawn: where one is locked at some position. */
+const bucketIsShown = () => run.bucketIds.length > 0;
+
+/** The transactions that lock a bucket at a position, and those that wait for one of them because of the bucket. */
+function bucketAt(bucket, position) {
+  const holders = run.get("bucket " + bucket, position)?.holders ?? [];
+  const waiters = run.edges(position).filter((it) => it.by.includes(`bucket ${bucket}`)).map((it) => it.from);
+  return { holders, waiters: [...new Set(waiters)] };
+}
+
+const sameList = (a, b) => a.join() === b.join();
+
+/** Whether a step changes who locks a bucket, or who waits for those. */
+function bucketMoved(bucket, position) {
+  if (position === 0) return false;
+  const [old, now] = [bucketAt(bucket, position - 1), bucketAt(bucket, position)];
+  return !sameList(old.holders, now.holders) || !sameList(old.waiters, now.waiters);
+}
+
+/** The buckets that the step here changes. */
+const bucketsMoved = () => (here === 0 ? [] : run.bucketIds.map((it) => it.slice(7)).filter((it) => bucketMoved(it, here)));
+
+/** Transactions as round tokens from a place on, and the place after them; "nobody" where there is none. */
+function tokensOf(ids, x, mid, r, u, most) {
+  if (!ids.length) return [`<text class="vname" x="${f1(x)}" y="${f1(mid + 0.34 * u)}">nobody</text>`, x + widthOf("nobody", u) + 0.2 * u];
+  const shown = ids.slice(0, most);
+  const out = shown.map((id, index) => readerToken(id, x + r + index * (2 * r + 0.12 * u), mid, r, u, ids.length > most && index === most - 1 ? ids.length - most + 1 : 0));
+  return [out.join(""), x + shown.length * (2 * r + 0.12 * u) + 0.2 * u];
+}
+
+/** The head of a bucket's box over its versions: its lockers, and the waiters. */
+function bucketHead(bucket, y, { u, W, bucketH, narrow, isPhone }) {
+  const { holders, waiters } = bucketAt(bucket, here);
+  const mid = y + bucketH / 2;
+  const r = Math.min(bucketH * 0.4, 0.72 * u);
+  const base = f1(mid + 0.36 * u);
+  const most = narrow || isPhone ? 3 : 6;
+  const out = [`<g class="bucket${bucketMoved(bucket, here) ? " moved" : ""}" style="font-size:${f1(u)}px"><title>${esc(bucketSaid(bucket, here))}</title><rect class="head" x="0.7" y="${f1(y + 1)}" width="${f1(W - 1.4)}" height="${f1(bucketH - 1)}" rx="${f1(0.3 * u)}"/>`];
+  let x = 0.4 * u;
+  const say = (text, name = "vname") => { out.push(`<text class="${name}" x="${f1(x)}" y="${base}">${text}</text>`); x += widthOf(text, u, name === "value" ? 700 : 400) + 0.5 * u; };
+  const show = (ids) => { const [html, next] = tokensOf(ids, x, mid, r, u * 0.94, most); out.push(html); x = next + 0.5 * u; };
+  say(`bucket ${bucket}`, "bucketname");
+  if (holders.length) { say(narrow || isPhone ? "locked:" : "locked by"); show(holders); } else say("no lock");
+  if (waiters.length) { say(narrow || isPhone ? "wait:" : "waiting for that lock"); show(waiters); }
+  return out.join("") + "</g>";
+}
+
+const namesSaid = (ids) => ids.map(nameOf).join(", ") || "nobody";
+function bucketSaid(bucket, position) {
+  const { holders, waiters } = bucketAt(bucket, position);
+  return `bucket ${bucket}: locked by ${namesSaid(holders)}; waiting: ${namesSaid(waiters)}`;
+}
+
+/** A bucket as the step changes it: before and after, as words are. */
+function drawBucket({ bucket }, W, u, density, isSingle) {
+  const rowH = [2.3, 1.8, 1.3, 1.1][density] * u;
+  const head = [1.4, 1.25, 1.05, 0.95][density] * u;
+  const [old, now] = [bucketAt(bucket, here - 1), bucketAt(bucket, here)];
+  const [first, second] = [3.6 * u, 3.6 * u + (W - 3.6 * u) / 2];
+  const r = Math.min(rowH * 0.4, 0.85 * u);
+  const most = Math.max(2, Math.floor((W - 3.6 * u) / 2 / (2 * r + 0.12 * u)) - 1);
+  const out = [`<text class="field" x="${f1(first)}" y="${f1(u)}">LockList</text><text class="field" x="${f1(second)}" y="${f1(u)}">${fitting(["who waits for them", "waiters"], (W - 3.6 * u) / 2, 0.95 * u)}</text>`];
+  let y = head;
+  for (const [label, it, isMoved] of [["before", old, false], ["after", now, true]]) {
+    out.push(`<text class="rowname" x="0" y="${f1(y + rowH * 0.66)}">${label}</text>`);
+    for (const [from, list, before] of [[first, it.holders, old.holders], [second, it.waiters, old.waiters]]) {
+      const lit = isMoved && !sameList(list, before) ? " moved" : "";
+      out.push(`<rect class="slot${lit}" x="${f1(from)}" y="${f1(y + 1)}" width="${f1((W - 3.6 * u) / 2 - 0.5 * u)}" height="${f1(rowH - 3)}" rx="3"/>`, tokensOf(list, from + 0.3 * u, y + rowH / 2 - 0.5, r, u * 0.94, most)[0]);
+    }
+    y += rowH;
+  }
+  const html = `<figure class="wordbox">${isSingle ? "" : `<figcaption><span>Bucket ${bucket}: <b>its lock</b></span></figcaption>`}<svg width="${W}" height="${f1(y)}" viewBox="0 0 ${W} ${f1(y)}" style="font-size:${f1(u)}px" role="img" aria-label="before, ${esc(bucketSaid(bucket, here - 1))}; after, ${esc(bucketSaid(bucket, here))}">${out.join("")}</svg></figure>`;
+  return { html, height: y + (isSingle ? 0.4 : 1.75) * u };
+}
+
 /* ---- who waits for whom */
 
+/** How many transactions are drawn at most. */
+const MOST_NODES = 8;
+
+/** Whether three or more wait in a row or in a ring somewhere in the run: the panel is higher then. */
+function hasRing() {
+  if (run.hasRing === undefined) run.hasRing = run.waitsAt.some(([, waits]) => new Set(linesOf(waits).flatMap((it) => it.split(" ").slice(0, 2))).size > 2);
+  return run.hasRing;
+}
+
 function showGraph() {
-  const [W, H] = [sizes.graph[0], Math.max(sizes.graph[1], 3 * rem())];
   const edges = run.edges(here);
   const step = here > 0 ? run.steps[here - 1] : null;
-  const isVictim = step?.r[0] === "victim";
-  const cycle = isVictim ? step.r.slice(3) : [];
-  const inCycle = new Set(cycle.map((id, index) => `${id} ${cycle[(index + 1) % cycle.length]}`));
+  const cycle = step?.r[0] === "victim" ? step.r.slice(3) : [];
   const live = run.txnIds.filter((id) => { const it = run.txn(id, here); return it.kind !== "not" && it.kind !== "terminated"; });
   const busy = new Set(edges.flatMap((it) => [it.from, it.to]));
   const near = nearby(step?.name ? run.ids.get(step.name) : cycle[0], edges, cycle);
-  const nodes = live.length <= 6 ? live : near.length ? near : live.filter((id) => busy.has(id)).slice(0, 6);
-  const left = edges.filter((it) => !nodes.includes(it.from) || !nodes.includes(it.to)).length;
+  const nodes = live.length <= MOST_NODES ? live : near.length ? near : live.filter((id) => busy.has(id)).slice(0, MOST_NODES);
   const told = edges.map((it) => `${nameOf(it.from)} ${it.kind === "waits" ? "waits for" : "commits after"} ${nameOf(it.to)} (${it.by.join(", ")})`);
-  $("graph-said").textContent = told.join("; ") || "nobody waits";
-  const asks = (edge) => run.waitings.get(edge.from).some((it) => it.kind === "waits" && it.from <= here && (it.to === null || it.to > here));
-  const someWeak = edges.some((it) => it.kind === "waits" && !asks(it) && run.txn(it.from, here).kind === "active");
-  $("waits-title").innerHTML = `Who waits for whom${edges.length ? (left ? ` <small>and ${left} waits of others</small>` : someWeak ? " <small>dashed: it has not asked yet</small>" : "") : " <small>nobody</small>"}`;
+  $("graph-said").textContent = isGraphCovered() ? "" : told.join("; ") || "nobody waits";
+  showGraphTitle(edges, nodes);
+  if (isGraphCovered()) { put("graph", `<p class="soft quiet">Hidden while you guess. <button type="button" data-do="graph">Show</button></p>`); return; }
   if (!nodes.length) { put("graph", ""); return; }
-  const k = nodes.length > 2 && H < 6.6 * rem() ? 0.9 : Math.max(1, Math.min(1.35, H / (8 * rem()), W / (27 * rem())));
+  drawGraph(nodes, edges, cycle, cycle.length ? step.r[1] : null);
+}
+
+/** Whether a transaction has asked for what it waits for. */
+const hasAsked = (edge) => run.waitings.get(edge.from).some((it) => it.kind === "waits" && it.from <= here && (it.to === null || it.to > here));
+
+function showGraphTitle(edges, nodes) {
+  const left = edges.filter((it) => !nodes.includes(it.from) || !nodes.includes(it.to)).length;
+  const isWeak = edges.some((it) => it.kind === "waits" && !hasAsked(it) && run.txn(it.from, here).kind === "active");
+  const isDotted = edges.some((it) => it.kind === "commits");
+  const notes = [left ? `and ${left} waits of others` : "", isWeak ? "dashed: has not asked yet" : "", isDotted ? "dotted: may commit only after" : ""].filter(Boolean);
+  const note = edges.length ? notes.join("; ") : "nobody";
+  $("waits-title").innerHTML = `Who waits for whom${isGraphCovered() || !note ? "" : ` <small>${note}</small>`}`;
+}
+
+/** Where the nodes are: two side by side, more on an ellipse, or in a row where the panel is low or narrow. */
+function graphLayout(nodes, W, H) {
+  const count = nodes.length;
+  const k = H < 3.4 * rem() ? Math.max(H / (3.4 * rem()), 0.6) : count > 2 && H < 8 * rem() ? 0.9 : Math.max(1, Math.min(1.35, H / (8 * rem()), W / (27 * rem())));
   const u = rem() * k;
-  const isFlat = nodes.length > 2 && (H < (nodes.length > 4 ? 9 : 6.6) * u || W < 27 * rem());
-  const isBelow = isFlat || (W < 26 * rem() && nodes.length <= 2);
-  const r = 1.25 * u;
+  const r = (count > 6 ? 1.02 : 1.25) * u;
+  const isFlat = count > 2 && (H < (count > 4 ? 7.2 : 6.2) * u || W < 24 * rem());
+  const isBelow = isFlat || (W < 26 * rem() && count <= 2);
+  // in a very low panel the nodes have no room for words below them
+  const isWide = count > 6 && !isFlat;
+  const isLow = isBelow && H < 2 * r + 3.2 * u;
   const spot = new Map();
-  if (nodes.length <= 2) nodes.forEach((id, index) => spot.set(id, { x: nodes.length === 1 ? W / 2 : W / 2 + (index ? 1 : -1) * Math.max(2.5 * u, Math.min(W / 2 - (isBelow ? 3 : 6.9) * u, 8 * u)), y: H / 2 - 0.3 * u }));
-  else if (isFlat) nodes.forEach((id, index) => spot.set(id, { x: W / 2 + (index - (nodes.length - 1) / 2) * Math.min((W - 6 * u) / (nodes.length - 1), 10 * u), y: Math.max(Math.min(H * 0.56, H - r - 1.55 * u), r) }));
+  const gap = isFlat ? Math.min((W - 5 * u) / (count - 1), 10 * u) : 0;
+  if (count <= 2) nodes.forEach((id, index) => spot.set(id, { x: count === 1 ? W / 2 : W / 2 + (index ? 1 : -1) * Math.max(2.5 * u, Math.min(W / 2 - (isBelow ? 3 : 6.9) * u, 8 * u)), y: H / 2 - (isLow ? 0 : 0.3) * u }));
+  else if (isFlat) nodes.forEach((id, index) => spot.set(id, { x: W / 2 + (index - (count - 1) / 2) * gap, y: Math.max(Math.min(H * 0.56, H - r - (isLow ? 0.1 : 1.55) * u), r) }));
   else {
-    const [rx, ry] = [Math.min(W / 2 - 7 * u, 11 * u), H / 2 - r - 0.4 * u];
-    const turn = nodes.length === 4 ? Math.PI / 4 : 0;
+    const [rx, ry] = [isWide ? Math.min(W / 2 - r - 0.8 * u, 26 * u) : Math.min(W / 2 - 7 * u, 11 * u), H / 2 - r - 0.4 * u];
+    const turn = count % 2 === 0 ? Math.PI / count : 0;
     nodes.forEach((id, index) => {
-      const angle = (2 * Math.PI * index) / nodes.length - Math.PI / 2 + turn;
-      spot.set(id, { x: W / 2 + rx * Math.cos(angle), y: H / 2 + ry * Math.sin(angle) });
+      const angle = (2 * Math.PI * index) / count - Math.PI / 2 + turn;
+      spot.set(id, { x: W / 2 + rx * Math.cos(angle), y: ry * Math.sin(angle) });
     });
+    // the nodes take the whole height, though no node may be at the foot of the ellipse
     const ys = [...spot.values()].map((it) => it.y);
-    const shift = H / 2 - (Math.min(...ys) + Math.max(...ys)) / 2;
-    for (const it of spot.values()) it.y += shift;
+    const [low, high] = [Math.min(...ys), Math.max(...ys)];
+    for (const it of spot.values()) it.y = r + 0.4 * u + ((it.y - low) / (high - low)) * 2 * ry;
   }
+  return { u, r, W, H, isFlat, isBelow, isLow, isWide, spot, gap };
+}
+
+function drawGraph(nodes, edges, cycle, victim) {
+  const [W, H] = [sizes.graph[0], Math.max(sizes.graph[1], 2 * rem())];
+  const at = graphLayout(nodes, W, H);
+  const { u, r, spot, isFlat } = at;
+  const inCycle = new Set(cycle.map((id, index) => `${id} ${cycle[(index + 1) % cycle.length]}`));
   const out = [];
   for (const edge of edges) {
     if (!spot.has(edge.from) || !spot.has(edge.to)) continue;
@@ -1116,38 +1484,54 @@ function showGraph() {
     const isHot = edge.kind === "waits" && inCycle.has(`${edge.from} ${edge.to}`);
     const isGone = from.kind === "aborted" || from.kind === "committed" || from.kind === "terminated";
     const both = edges.some((it) => it.from === edge.to && it.to === edge.from);
-    out.push(graphEdge(spot.get(edge.from), spot.get(edge.to), { ...edge, isHot, isWeak: !isHot && ((edge.kind === "waits" && !asks(edge)) || isGone) }, r, u, both, isFlat ? Math.abs(nodes.indexOf(edge.from) - nodes.indexOf(edge.to)) : 0));
+    out.push(graphEdge(spot.get(edge.from), spot.get(edge.to), { ...edge, isHot, isWeak: !isHot && ((edge.kind === "waits" && !hasAsked(edge)) || isGone) }, r, u, both, isFlat ? Math.abs(nodes.indexOf(edge.from) - nodes.indexOf(edge.to)) : 0));
   }
-  for (const id of nodes) {
-    const { x, y } = spot.get(id);
-    const it = run.txn(id, here);
-    const isDead = it.kind === "aborted";
-    const isHit = isVictim && step.r[1] === id;
-    out.push(`<g class="node ${colourOf(id)}${isDead ? " dead" : ""}${isHit ? " victim" : ""}"><circle cx="${f1(x)}" cy="${f1(y)}" r="${f1(r)}"/><text class="nodename" x="${f1(x)}" y="${f1(y + 0.44 * u)}" text-anchor="middle">${esc(nameOf(id).slice(0, 4))}</text>`);
-    if (isDead) out.push(`<circle class="crossed" cx="${f1(x + r * 0.8)}" cy="${f1(y - r * 0.8)}" r="${f1(0.5 * u)}"/><path class="strike" d="M${f1(x + r * 0.8 - 0.22 * u)} ${f1(y - r * 0.8 - 0.22 * u)}l${f1(0.44 * u)} ${f1(0.44 * u)}m0 ${f1(-0.44 * u)}l${f1(-0.44 * u)} ${f1(0.44 * u)}"/>`);
-    const side = x < W / 2 - u ? -1 : 1;
-    const phase = it.kind === "active" && it.finished ? "finished" : it.kind;
-    const note = isHit ? "victim" : it.doomed && !isDead ? "must abort" : phase;
-    out.push(`<text class="nodenote${isHit || it.doomed ? " bad" : ""}" x="${f1(isBelow ? x : x + side * (r + 0.35 * u))}" y="${f1(isBelow ? y + r + 1.1 * u : y + 0.33 * u)}" text-anchor="${isBelow ? "middle" : side < 0 ? "end" : "start"}">${note}</text></g>`);
-  }
+  for (const id of nodes) out.push(graphNode(id, at, victim === id));
   put("graph", `<svg width="${W}" height="${f1(H)}" viewBox="0 0 ${W} ${f1(H)}" style="font-size:${f1(u)}px" role="img" aria-labelledby="graph-said">${out.join("")}</svg>`);
 }
 
-/** The transaction that moves, and up to five around it: first a cycle, then those that it waits for, and those that wait for it. */
+/** The words of a node at the left or right edge of a wide graph: above it, or below it in the lower half. */
+function noteAtEdge(x, y, { u, r, W, H }, texts, isBad) {
+  const side = x < W / 2 ? -1 : 1;
+  const note = fitting(texts, W / 4, u);
+  return `<text class="nodenote${isBad ? " bad" : ""}" x="${f1(side < 0 ? Math.max(x - r, 2) : Math.min(x + r, W - 2))}" y="${f1(y < H / 2 ? y - r - 0.35 * u : y + r + 1.05 * u)}" text-anchor="${side < 0 ? "start" : "end"}">${esc(note)}</text>`;
+}
+
+/** A transaction: its name in the circle, or its short form there and its name beside it. */
+function graphNode(id, at, isHit) {
+  const { u, r, W, isBelow, isLow, spot, gap } = at;
+  const { x, y } = spot.get(id);
+  const it = run.txn(id, here);
+  const isDead = it.kind === "aborted";
+  const [name, short] = [nameOf(id), shortOf(id)];
+  const isWhole = name === short || (name.length <= 3 && widthOf(name, 1.2 * u, 700) < 2 * r - 0.4 * u);
+  const out = [`<g class="node ${colourOf(id)}${isDead ? " dead" : ""}${isHit ? " victim" : ""}"><title>${esc(name)}</title><circle cx="${f1(x)}" cy="${f1(y)}" r="${f1(r)}"/><text class="nodename" x="${f1(x)}" y="${f1(y + 0.44 * u)}" text-anchor="middle">${esc(isWhole ? name : short)}</text>`];
+  if (isDead) out.push(`<circle class="crossed" cx="${f1(x + r * 0.8)}" cy="${f1(y - r * 0.8)}" r="${f1(0.5 * u)}"/><path class="strike" d="M${f1(x + r * 0.8 - 0.22 * u)} ${f1(y - r * 0.8 - 0.22 * u)}l${f1(0.44 * u)} ${f1(0.44 * u)}m0 ${f1(-0.44 * u)}l${f1(-0.44 * u)} ${f1(0.44 * u)}"/>`);
+  // the inner nodes of a wide graph have their words between them
+  const side = (x < W / 2 - u ? -1 : 1) * (at.isWide ? -1 : 1);
+  const phase = isHit ? "victim" : it.doomed && !isDead ? "must abort" : it.kind === "active" && it.finished ? "finished" : it.kind;
+  if (at.isWide && Math.abs(x - W / 2) > W / 3.4) return `${out.join("")}${noteAtEdge(x, y, at, isWhole ? [phase] : [name, short], isHit || it.doomed)}</g>`;
+  const beside = [...spot.values()].filter((o) => (o.x - x) * side > 1 && Math.abs(o.y - y) < r + 0.55 * u).map((o) => Math.abs(o.x - x) - r);
+  const room = isBelow ? (isLow ? 0 : Math.min((gap || 8 * u) - 0.3 * u, 2 * Math.min(x, W - x))) : (at.isWide ? Math.abs(x - W / 2) : Math.min(side < 0 ? x : W - x, ...beside)) - r - 0.45 * u;
+  const note = fitting(isWhole ? [phase, phase.slice(0, 4)] : [`${name}, ${phase}`, name, short], room, u);
+  return `${out.join("")}<text class="nodenote${isHit || it.doomed ? " bad" : ""}" x="${f1(isBelow ? x : x + side * (r + 0.35 * u))}" y="${f1(isBelow ? y + r + 1.1 * u : y + 0.33 * u)}" text-anchor="${isBelow ? "middle" : side < 0 ? "end" : "start"}">${esc(note)}</text></g>`;
+}
+
+/** The transaction that moves, and some around it: first a cycle, then those that it waits for, and those that wait for it. */
 function nearby(me, edges, cycle) {
   if (!me) return [];
   const found = new Set([me, ...cycle]);
   for (const it of edges) if (it.from === me) found.add(it.to);
   for (const it of edges) if (it.to === me) found.add(it.from);
   if (found.size === 1) return [];
-  return [...found].slice(0, Math.max(6, cycle.length)).sort((a, b) => a - b);
+  return [...found].slice(0, Math.max(MOST_NODES, cycle.length)).sort((a, b) => a - b);
 }
 
 function graphEdge(a, b, edge, r, u, both, apart) {
   const [dx, dy] = [b.x - a.x, b.y - a.y];
   const far = Math.hypot(dx, dy) || 1;
   const [ux, uy] = [dx / far, dy / far];
-  const bend = apart > 1 ? (1 + apart / 2) * u : both ? 1.5 * u : 0.5 * u;
+  const bend = apart > 1 ? Math.max(Math.min((1 + apart / 2) * u, 2 * (a.y - r * 0.8 - 0.75 * u)), 0) : both ? 1.5 * u : 0.5 * u;
   const [nx, ny] = apart > 1 ? [0, -1] : [-uy, ux];
   const tip = 0.85 * u;
   const off = apart > 1 ? r * 0.8 : both ? 0.55 * u : 0.1 * u;
@@ -1192,7 +1576,9 @@ function wordsShown() {
     }
   }
   changed.sort((a, b) => (a.isNew ? 1 : 0) - (b.isNew ? 1 : 0));
-  if (changed.length) return { list: changed.slice(0, 2), more: changed.length - 2, title: changed.length > 1 ? "Words that changed" : "The word that changed" };
+  const buckets = bucketsMoved().map((bucket) => ({ bucket, now: {}, old: {} }));
+  changed.unshift(...buckets);
+  if (changed.length) return { list: changed.slice(0, 2), more: changed.length - 2, title: buckets.length === changed.length ? "The bucket that changed" : buckets.length ? "What changed" : changed.length > 1 ? "Words that changed" : "The word that changed" };
   const step = here > 0 ? run.steps[here - 1] : null;
   const spoken = [...(step?.why ?? "").matchAll(/version (\d+)[^\n]*\(([0-9A-F]{16})(, [0-9A-F]{16})?\)/g)].map((it) => it[1]);
   const list = [...new Set(spoken)].map((v) => ({ v: Number(v), which: "end", now: run.version(v, here), old: null })).filter((it) => it.now);
@@ -1219,13 +1605,13 @@ function showWord() {
   const [W, H] = sizes.word;
   const room = isSmall() ? Infinity : H;
   const ways = all.length > 1 ? [[2, 1, false]] : [];
-  ways.push([1, 0, true], [1, 1, true], [1, 1, false], [1, 2, false]);
+  ways.push([1, 0, true], [1, 1, true], [1, 1, false], [1, 2, false], [1, 3, false]);
   let made = null;
   for (const [count, density, hasHex] of ways) {
     const isSingle = count === 1 && !pinned;
-    const parts = all.slice(0, count).map((it) => drawWord(it, W, u, density, isSingle, hasHex));
+    const parts = all.slice(0, count).map((it) => (it.bucket === undefined ? drawWord(it, W, u, density, isSingle, hasHex) : drawBucket(it, W, u, density, isSingle)));
     made = { list: all.slice(0, count), html: parts.map((it) => it.html).join(""), isSingle };
-    if (parts.reduce((sum, it) => sum + it.height, 0) <= room + 0.3 * u) break;
+    if (parts.reduce((sum, it) => sum + it.height, 0) <= room + 0.1 * u) break;
   }
   const { list, html, isSingle } = made;
   const more = Math.max(rest, 0) + all.length - list.length;
@@ -1236,7 +1622,8 @@ function showWord() {
 }
 
 /** Which word it is, and what it says: before, and after. */
-function captionOf({ v, which, now, old }) {
+function captionOf({ v, which, now, old, bucket }) {
+  if (bucket !== undefined) return `Bucket ${bucket}: <b>its lock</b>`;
   const said = which === "end" ? saidOfEnd : saidOfBegin;
   return `${which === "end" ? "End" : "Begin"} of v${v}: ${old ? `<s>${esc(said(old))}</s> \u2192 ` : ""}<b>${esc(said(now))}</b>`;
 }
@@ -1265,8 +1652,8 @@ function drawWord(it, W, u, density, isSingle, hasHex) {
   const foldW = 5.4 * u;
   const bit = Math.min((W - labelW - gaps - foldW - 0.4 * u) / (10 + tail), 1.75 * u);
   const x = (at) => labelW + (at <= 10 ? at * bit : 10 * bit + foldW + (at - fold) * bit) + (at >= 1 ? 0.35 * u : 0) + (at >= 2 ? 0.35 * u : 0) + (at >= 10 ? 0.7 * u : 0);
-  const rowH = [2.3, 1.68, 1.2][density] * u;
-  const head = [1.4, 1.25, 1.02][density] * u;
+  const rowH = [2.3, 1.68, 1.2, 1][density] * u;
+  const head = [1.4, 1.25, 1.02, 0.9][density] * u;
   const out = [];
   let y = 0;
   rows.forEach((row, index) => {
@@ -1297,7 +1684,7 @@ function drawWord(it, W, u, density, isSingle, hasHex) {
       for (let at = 0; at < 10; at++) out.push(bitBox(x(at), y, bit, rowH, bits[at], moved(at), u));
       const left = x(10);
       const isFoldMoved = index > 0 && all[index - 1].slice(10, fold) !== bits.slice(10, fold);
-      out.push(`<rect class="folded${isFoldMoved ? " moved" : ""}" x="${f1(left)}" y="${f1(y + 1)}" width="${f1(x(fold) - left - 1)}" height="${f1(rowH - 3)}" rx="3"/><text class="foldtext" x="${f1((left + x(fold)) / 2)}" y="${f1(y + rowH * 0.67)}" text-anchor="middle">${bits[10]} \u00d7 ${fold - 10}</text>`);
+      out.push(`<rect class="folded${isFoldMoved ? " moved" : ""}" x="${f1(left)}" y="${f1(y + 1)}" width="${f1(x(fold) - left - 1)}" height="${f1(rowH - 3)}" rx="3"/><text class="foldtext" x="${f1((left + x(fold)) / 2)}" y="${f1(y + rowH * 0.67)}" text-anchor="middle">${fold - 10} ${bits[10] === "1" ? "ones" : "zeros"}</text>`);
       for (let at = fold; at < 64; at++) out.push(bitBox(x(at), y, bit, rowH, bits[at], moved(at), u));
     }
     y += rowH;
@@ -1313,7 +1700,7 @@ function drawWord(it, W, u, density, isSingle, hasHex) {
   return { html, height: y + (isSingle ? (hasHex ? 1.35 * u : 0) : lines * 1.35 * u + 0.4 * u) };
 }
 
-const bitBox = (x, y, w, h, bit, isMoved, u) => `<rect class="bit b${bit}${isMoved ? " moved" : ""}" x="${f1(x + 0.5)}" y="${f1(y + 1)}" width="${f1(w - 2)}" height="${f1(h - 3)}" rx="2"/><text class="bittext b${bit}${isMoved ? " moved" : ""}" x="${f1(x + w / 2 - 0.5)}" y="${f1(y + h * 0.5 + 0.34 * u)}" text-anchor="middle">${bit}</text>`;
+const bitBox = (x, y, w, h, bit, isMoved, u) => `<rect class="bit b${bit}${isMoved ? " moved" : ""}" x="${f1(x + 0.5)}" y="${f1(y + 1)}" width="${f1(w - 2)}" height="${f1(h - 3)}" rx="2"/><text class="bittext b${bit}${isMoved ? " moved" : ""}" x="${f1(x + w / 2 - 0.5)}" y="${f1(y + h * 0.5 + 0.34 * Math.min(u, w * 1.4))}" text-anchor="middle"${w < 0.72 * u ? ` style="font-size:${f1(w * 1.4)}px"` : ""}>${bit}</text>`;
 
 /* ================================================================ the explorer */
 
@@ -1468,9 +1855,316 @@ function findOutcome(outcome) {
   move(here);
 }
 
+/* ================================================================ the same moves at all levels */
+
+const isLevels = sheet.kind === "levels";
+/** The levels in the order of the trees. */
+const LEVELS = ["serializable", "repeatable", "snapshot"];
+/** The trees at the levels, which level's explorer is shown (null: the table of all), and the order that stands in three columns. */
+const levels = { trees: [], shown: null, order: [] };
+
+function plantLevels() {
+  levels.trees = sheet.trees.map(treeOf);
+  const marked = outcomesAtLevels().find(({ text, counts }) => /not serial$/.test(text) && counts.some(Boolean)) ?? outcomesAtLevels()[0];
+  const at = marked.counts.findIndex(Boolean);
+  levels.order = orderTo(levels.trees[at], sheet.trees[at].outcomes.indexOf(marked.text));
+}
+
+/** Each outcome with how many orders have it at each level. */
+function outcomesAtLevels() {
+  const texts = [...new Set(sheet.trees.flatMap((it) => it.outcomes))];
+  return texts.map((text) => ({ text, counts: sheet.trees.map((it, at) => levels.trees[at].nodes[0].counts[it.outcomes.indexOf(text)] ?? 0) }));
+}
+
+/** The first order of a tree that has an outcome: the names of those that move. */
+function orderTo(its, outcome) {
+  const names = [];
+  let node = its.nodes[0];
+  while (node.next.length) {
+    node = its.nodes[node.next.find((it) => it !== undefined && its.nodes[it].counts[outcome] > 0)];
+    names.push(its.names[node.who]);
+  }
+  return names;
+}
+
+/** The nodes of a tree along an order. */
+function pathOf(its, order) {
+  const path = [0];
+  for (const name of order) {
+    const next = its.nodes[path.at(-1)].next[its.names.indexOf(name)];
+    if (next === undefined) break;
+    path.push(next);
+  }
+  return path;
+}
+
+/** The steps of an order at a level that tell something, and its outcome. */
+function columnAt(at) {
+  const its = levels.trees[at];
+  const path = pathOf(its, levels.order);
+  const steps = path.flatMap((node) => its.nodes[node].steps).map((it) => eventOf(it.line)).filter((it) => /^(read|scan|insert|update|delete|precommit|commit|fail)$/.test(it.op) || it.op === "detect").filter(isNews());
+  const lines = steps.map((it) => `<li class="${kindOf(it)}"><b class="t c${Math.max(its.names.indexOf(it.name), 0) % 6}">${esc(it.name ?? "")}</b> ${esc(it.event)} <span aria-hidden="true">\u2192</span> <b>${esc(it.reply)}</b></li>`);
+  const outcome = its.nodes[path.at(-1)].outcome;
+  const text = outcome === null ? "" : sheet.trees[at].outcomes[outcome];
+  return `<section><h3>${LEVELS[at]} <button type="button" data-level="${at}">story</button></h3><ol>${lines.join("")}</ol><p class="ends">${endsSaid(text)}</p></section>`;
+}
+
+/** Whether a step says what its transaction hasn't said last. */
+function isNews() {
+  const last = new Map();
+  return ({ name, event, reply }) => { const said = `${event} ${reply}`; const isNew = last.get(name) !== said; last.set(name, said); return isNew; };
+}
+
+/** An outcome in words: how each transaction ends, the rows, and the verdict. */
+function endsSaid(text) {
+  const parts = text.split("; ");
+  const verdict = parts.pop();
+  return `${parts.map(esc).join("; ")}; <b class="${verdict === "serial" ? "good" : "bad"}">${esc(verdict)}</b>`;
+}
+
+function showLevels() {
+  const orders = total(levels.trees[0].nodes[0].counts);
+  const rows = outcomesAtLevels().map(({ text, counts }) => {
+    const cells = counts.map((count, at) => (count ? `<td class="n"><button type="button" data-level="${at}" data-outcome="${esc(text)}" aria-label="${count} orders at ${LEVELS[at]}, show one of: ${esc(text)}">${count}</button></td>` : '<td class="n none">0</td>'));
+    return `<tr>${cells.join("")}<td>${endsSaid(text)}</td></tr>`;
+  });
+  $("levels").innerHTML = `<p class="plain long">${esc((isSecret ? data.question : data.about) || "The same moves, with all transactions at one level.")}</p>
+    <table><caption>${orders} orders of the moves at each level. A number shows the story of one of them.</caption><thead><tr>${LEVELS.map((it) => `<th scope="col">${it}</th>`).join("")}<th scope="col">ends, rows, verdict</th></tr></thead><tbody>${isSecret ? "" : rows.join("")}</tbody></table>
+    <h2>One order: ${levels.order.map(esc).join(" ")}</h2><div class="columns">${isSecret ? "" : LEVELS.map((it, at) => columnAt(at)).join("")}</div>`;
+}
+
+/** Goes to the story of the order that stands in the columns, or of the first one with an outcome, at a level. */
+function goToLevel(at, outcome) {
+  if (outcome !== undefined) levels.order = orderTo(levels.trees[at], sheet.trees[at].outcomes.indexOf(outcome));
+  takeLevel(at);
+  tree.path = pathOf(tree, levels.order);
+  run = runOfPath();
+  move(0);
+}
+
+function takeLevel(at) {
+  levels.shown = at;
+  data = sheet.trees[at];
+  tree = levels.trees[at];
+  pinned = null;
+  document.body.classList.remove("levels");
+  measure();
+}
+
+/** Back to the table of all levels. */
+function leaveLevel() {
+  if (!isLevels) return;
+  levels.order = tree.path.slice(1).map((at) => tree.names[tree.nodes[at].who]);
+  if (!isWhole()) levels.order = orderFrom(tree, tree.path.at(-1), levels.order);
+  levels.shown = null;
+  document.body.classList.add("levels");
+  show();
+}
+
+/** An order, completed by the first moves that there are. */
+function orderFrom(its, at, order) {
+  const names = [...order];
+  for (let node = its.nodes[at]; node.next.length; ) {
+    node = its.nodes[node.next.find((it) => it !== undefined)];
+    names.push(its.names[node.who]);
+  }
+  return names;
+}
+
+/* ================================================================ a step as one picture: SVG with its style inside */
+
+const SVG = "http://www.w3.org/2000/svg";
+/** What a part of a drawing has of its style. */
+const STYLES = ["fill", "fill-opacity", "stroke", "stroke-width", "stroke-dasharray", "stroke-linecap", "opacity", "font-size", "font-weight", "font-family", "text-anchor", "text-decoration-line"];
+
+/** An element of SVG with these attributes. */
+function svgOf(name, attributes, text = "") {
+  const made = document.createElementNS(SVG, name);
+  for (const [key, value] of Object.entries(attributes)) made.setAttribute(key, value);
+  if (text) made.textContent = text;
+  return made;
+}
+
+/** A copy of a drawing that has its style in attributes, and nothing that a picture has no use for. */
+function styledCopy(drawing) {
+  const copy = drawing.cloneNode(true);
+  const pairs = [drawing, ...drawing.querySelectorAll("*")].map((it, index) => [it, index]);
+  const copies = [copy, ...copy.querySelectorAll("*")];
+  for (const [it, index] of pairs) {
+    const [style, made] = [getComputedStyle(it), copies[index]];
+    for (const name of ["class", "style", "role", "tabindex", ...Object.keys(it.dataset).map((key) => "data-" + key)]) made.removeAttribute(name);
+    for (const { name } of [...made.attributes]) if (name.startsWith("aria-")) made.removeAttribute(name);
+    if (it.tagName === "title") { made.remove(); continue; }
+    if (it.classList.contains("hit")) { made.remove(); continue; }
+    for (const name of STYLES) {
+      const value = style.getPropertyValue(name).replace(/url\("[^"#]*(#[^"]*)"\)/, "url($1)");
+      if (value && value !== "none" || name === "fill") made.setAttribute(name === "text-decoration-line" ? "text-decoration" : name, value);
+    }
+  }
+  return copy;
+}
+
+/** A drawing of the page at its place. */
+function placedDrawing(drawing, origin) {
+  const box = drawing.getBoundingClientRect();
+  const copy = styledCopy(drawing);
+  for (const [name, value] of Object.entries({ x: box.left - origin.left, y: box.top - origin.top, width: box.width, height: box.height })) copy.setAttribute(name, f1(value));
+  copy.setAttribute("overflow", "hidden");
+  return copy;
+}
+
+const isClear = (colour) => colour === "transparent" || /, 0\)$/.test(colour);
+
+/** The box of an element, where it has a ground or an edge. */
+function boxOf(element, origin) {
+  const style = getComputedStyle(element);
+  const box = element.getBoundingClientRect();
+  const outcome = [...element.classList].find((it) => /^o\d$/.test(it));
+  const ground = outcome ? getComputedStyle(document.documentElement).getPropertyValue(`--${outcome}`) : style.backgroundColor;
+  const parts = [];
+  const place = { x: f1(box.left - origin.left), y: f1(box.top - origin.top), width: f1(box.width), height: f1(box.height), rx: f1(parseFloat(style.borderTopRightRadius) || 0) };
+  const edge = parseFloat(style.borderTopWidth);
+  if (box.width && (!isClear(ground) || edge)) parts.push(svgOf("rect", { ...place, fill: isClear(ground) ? "none" : ground, ...(edge ? { stroke: style.borderTopColor, "stroke-width": edge } : {}) }));
+  const side = parseFloat(style.borderLeftWidth);
+  if (side > 3) parts.push(svgOf("rect", { ...place, width: side, rx: 0, fill: style.borderLeftColor }));
+  return parts;
+}
+
+/** The lines of a text, each word with the words beside it, at their places. */
+function linesOfText(node, origin) {
+  const style = getComputedStyle(node.parentElement);
+  const lines = [];
+  const range = document.createRange();
+  for (const { 0: word, index } of node.data.matchAll(/\S+/g)) {
+    range.setStart(node, index);
+    range.setEnd(node, index + word.length);
+    const box = range.getBoundingClientRect();
+    if (!box.width) continue;
+    const last = lines.at(-1);
+    if (last && Math.abs(last.top - box.top) < 2) { last.text += " " + word; last.right = box.right; } else lines.push({ text: word, top: box.top, left: box.left, right: box.right, height: box.height });
+  }
+  return lines.map((it) => svgOf("text", {
+    x: f1(it.left - origin.left), y: f1(it.top - origin.top + it.height * 0.79), fill: style.color, "font-size": style.fontSize, "font-weight": style.fontWeight, "font-family": style.fontFamily,
+    textLength: f1(it.right - it.left), lengthAdjust: "spacingAndGlyphs", ...(style.textDecorationLine.includes("underline") ? { "text-decoration": "underline" } : {}),
+  }, it.text));
+}
+
+/** What the style writes before an element, as "because". */
+function wordsBefore(element, origin) {
+  const style = getComputedStyle(element, "::before");
+  const text = /^"(.*)"$/.exec(style.content)?.[1] ?? "";
+  if (!text.trim()) return [];
+  const box = element.getBoundingClientRect();
+  return [svgOf("text", { x: f1(box.left - origin.left), y: f1(box.top - origin.top + parseFloat(getComputedStyle(element).lineHeight || style.fontSize) * 0.76), fill: style.color, "font-size": style.fontSize, "font-family": style.fontFamily }, text)];
+}
+
+const NOT_IN_PICTURES = "#slider, #path, .rule, .hidden, .onward, [data-do], [data-find], script";
+
+/** Adds an element with all that it shows to a picture. */
+function addToPicture(element, origin, picture) {
+  if (element.matches(NOT_IN_PICTURES) || !element.getClientRects().length) return;
+  if (element.tagName === "svg") { picture.append(placedDrawing(element, origin)); return; }
+  picture.append(...boxOf(element, origin), ...wordsBefore(element, origin));
+  for (const node of element.childNodes) {
+    if (node.nodeType === Node.TEXT_NODE) picture.append(...linesOfText(node, origin));
+    else if (node.nodeType === Node.ELEMENT_NODE) addToPicture(node, origin, picture);
+  }
+}
+
+/** This step as a picture: an element of SVG. It needs no style and no script. */
+function pictureOf() {
+  const box = document.querySelector("main").getBoundingClientRect();
+  const head = 2.2 * rem();
+  const origin = { left: box.left, top: box.top - head };
+  const [W, H] = [box.width, Math.max(box.height, document.querySelector("main").scrollHeight) + head];
+  const picture = svgOf("svg", { xmlns: SVG, width: f1(W), height: f1(H), viewBox: `0 0 ${f1(W)} ${f1(H)}` });
+  const style = getComputedStyle(document.body);
+  const at = isTree ? placeSaid().replace(/\./g, " ") : `after step ${run.done + here} of ${run.done + run.last}`;
+  picture.append(styledCopy(document.querySelector(".defs defs")), svgOf("rect", { width: "100%", height: "100%", fill: style.backgroundColor }));
+  picture.append(svgOf("text", { x: f1(0.8 * rem()), y: f1(1.6 * rem()), fill: style.color, "font-size": `${f1(1.15 * rem())}px`, "font-weight": "700", "font-family": style.fontFamily }, `${$("title").textContent} \u00b7 ${at}`));
+  for (const part of document.querySelectorAll("#lanes, #say, .panel")) addToPicture(part, origin, picture);
+  return picture;
+}
+
+const pictureText = () => new XMLSerializer().serializeToString(pictureOf());
+
+/** Saves this step as a file. */
+function savePicture() {
+  const link = document.createElement("a");
+  const name = `${data.title} ${isTree ? placeSaid() || "start" : run.done + here}`.replace(/[^\p{L}\p{N}]+/gu, "-").toLowerCase();
+  link.href = URL.createObjectURL(new Blob([pictureText()], { type: "image/svg+xml" }));
+  link.download = `${name}.svg`;
+  link.click();
+  setTimeout(() => URL.revokeObjectURL(link.href), 1000);
+}
+
+/* ---- in print: the telling steps as pictures, and all steps as a table; of an explorer its outcomes */
+
+/** A run has at most so many pictures in print. */
+const MOST_PICTURES = 24;
+
+/** The positions of steps with a wait, an abort or a comment. */
+function tellingPositions() {
+  const its = run.steps.map((step, index) => [step, index + 1]).filter(([step, at]) => spanOf(at).to === at && (step.note || /^(waiting|victim|failed|aborted)/.test(step.reply)));
+  return its.map(([, at]) => at).slice(0, MOST_PICTURES);
+}
+
+function picturesInPrint() {
+  const kept = here;
+  const theme = document.documentElement.dataset.theme;
+  document.documentElement.dataset.theme = "light";
+  guess = null;
+  const pictures = tellingPositions().map((at) => { here = at; show(); const it = pictureOf(); it.setAttribute("class", "picture"); return it; });
+  if (theme) document.documentElement.dataset.theme = theme; else delete document.documentElement.dataset.theme;
+  here = kept;
+  show();
+  return pictures;
+}
+
+function tableInPrint() {
+  const acting = new Set(run.steps.map((it) => it.name));
+  const ids = run.txnIds.filter((id) => acting.has(nameOf(id)));
+  const rows = run.steps.map((step, index) => {
+    const cells = ids.map((id) => `<td>${step.name === nameOf(id) ? `${esc(step.event)} \u2192 <b>${esc(step.reply)}</b>` : ""}</td>`).join("");
+    const whole = step.name === null ? `<td colspan="${ids.length}">detect \u2192 <b>${esc(step.reply)}</b></td>` : cells;
+    return `<tr><td>${run.done + index + 1}</td>${whole}<td>${step.note ? `<i>${esc(step.note)}</i><br>` : ""}${linesOf(step.why).map(reasonOf).join("<br>")}</td><td>${changesOf(index + 1).join(" ")}</td></tr>`;
+  });
+  return `<caption>${esc(data.title)}. ${esc(data.about ?? "")}</caption><thead><tr><th>#</th>${ids.map((id) => `<th>${esc(nameOf(id))} <small>${esc(run.txn(id, 0).level)}</small></th>`).join("")}<th>why</th><th>changes</th></tr></thead><tbody>${rows.join("")}</tbody>`;
+}
+
+/** The first order that leads to an outcome, as its transactions one after another. */
+function firstOrder(outcome) {
+  const names = [];
+  let node = tree.nodes[0];
+  while (node.next.length) {
+    node = tree.nodes[node.next.find((it) => it !== undefined && tree.nodes[it].counts[outcome] > 0)];
+    names.push(tree.names[node.who]);
+  }
+  return names.join(" ");
+}
+
+function outcomesInPrint() {
+  const counts = tree.nodes[0].counts;
+  const rows = data.outcomes.map((text, at) => {
+    const parts = text.split("; ");
+    const verdict = parts.pop();
+    return `<tr><td>${letterOf(at)}</td><td>${counts[at]}</td><td>${parts.map(esc).join("; ")}</td><td><b>${esc(verdict)}</b></td><td>${esc(firstOrder(at))}</td></tr>`;
+  });
+  return `<caption>${esc(data.title)}. ${esc(data.about ?? "")} ${total(counts)} orders of the moves.</caption><thead><tr><th></th><th>orders</th><th>ends and rows</th><th>verdict</th><th>the first of these orders</th></tr></thead><tbody>${rows.join("")}</tbody>`;
+}
+
+function buildPrint() {
+  const table = document.createElement("table");
+  table.innerHTML = isTree ? outcomesInPrint() : tableInPrint();
+  $("print").replaceChildren(...(isTree ? [] : picturesInPrint()), table);
+}
+addEventListener("beforeprint", buildPrint);
+addEventListener("afterprint", () => { $("print").replaceChildren(); });
+
 /* ================================================================ moving */
 
 function show() {
+  if (isLevels && levels.shown === null) { document.body.dataset.position = 0; showLevels(); return; }
   document.body.dataset.position = run.done + here;
   $("position").textContent = `${run.done + here} / ${run.done + run.last}`;
   document.querySelector('[data-do="first"]').disabled = document.querySelector('[data-do="back"]').disabled = here === 0;
@@ -1479,6 +2173,8 @@ function show() {
   slider.max = run.last;
   slider.value = here;
   slider.setAttribute("aria-valuetext", `after step ${run.done + here} of ${run.done + run.last}`);
+  $("about").hidden = isSpoilerHidden();
+  document.body.toggleAttribute("data-ring", !isTree && hasRing());
   showLanes();
   showSay();
   if (isTree) showTree();
@@ -1499,7 +2195,9 @@ function move(position) {
 /** The place, as the address has it: the number of steps done; in the explorer the moves, and the step where one isn't over. */
 function placeSaid() {
   if (!isTree) return String(run.done + here);
-  return tree.path.slice(1).map((at) => tree.names[tree.nodes[at].who]).join(".") + (here < run.last ? "@" + here : "");
+  const level = !isLevels ? "" : levels.shown === null ? "" : `${LEVELS[levels.shown]}:`;
+  if (isLevels && level === "") return "";
+  return level + tree.path.slice(1).map((at) => tree.names[tree.nodes[at].who]).join(".") + (here < run.last ? "@" + here : "");
 }
 
 let telling = 0;
@@ -1512,15 +2210,15 @@ function tellAddress() {
 
 /** One step on: where replies are guessed the next one is covered first. */
 function on() {
-  if (guess !== null) { guess = null; move(here + 1); return; }
+  if (guess !== null) { guess = null; move(positionOn(here)); return; }
   if (here === run.last) { show(); return; }
   if (isPredict && !isTree && isAsked(run.steps[here]) && !told.answers.has(here)) { guess = here; show(); return; }
-  move(here + 1);
+  move(positionOn(here));
 }
 
 function back() {
   if (guess !== null) { guess = null; show(); return; }
-  move(here - 1);
+  move(positionBack(here));
 }
 
 function jump(position) { guess = null; move(position); }
@@ -1529,13 +2227,14 @@ function press(name, isOn) { document.querySelector(`[data-do="${name}"]`).setAt
 
 const DOES = {
   first: () => jump(0), last: () => jump(run.last), back, on,
+  levels: () => leaveLevel(),
   secret: () => { isSecret = !isSecret; press("secret", isSecret); show(); },
   predict: () => { if (isTree) return DOES.secret(); isPredict = !isPredict; guess = null; if (isPredict) { isFuture = false; press("future", false); } press("predict", isPredict); show(); },
   future: () => { isFuture = !isFuture; press("future", isFuture); show(); },
   present: () => { const isOn = document.documentElement.classList.toggle("present"); press("present", isOn); resized(); },
   far: () => { document.documentElement.classList.toggle("far"); resized(); },
   theme: () => { const isDark = document.documentElement.dataset.theme ? document.documentElement.dataset.theme === "dark" : matchMedia("(prefers-color-scheme: dark)").matches; document.documentElement.dataset.theme = isDark ? "light" : "dark"; tellParent(); },
-  help: () => tell(HELP),
+  help: () => tell(HELP), legend: () => tell(legend()), picture: () => savePicture(),
   pin: () => {
     const its = run.versionIds.filter((v) => run.version(v, here)).map(Number).sort((a, b) => a - b);
     if (!its.length) return;
@@ -1545,12 +2244,13 @@ const DOES = {
   fields: () => { const step = run.steps[here - 1]; tellTxn(step?.name ? run.ids.get(step.name) : run.txnIds[0]); },
   unpin: () => { pinned = null; show(); },
   undo: () => { const place = placeHere(); if (place > 0) { tree.path = tree.path.slice(0, place); run = runOfPath(); move(run.last); } },
+  graph: () => { isGraphShown = !isGraphShown; showGraph(); },
   blank: () => { $("blank").hidden = !$("blank").hidden; tellParent(); },
 };
 
 const HELP = `<h2>Keys</h2><table><tr><td><kbd>\u2192</kbd> <kbd>\u2193</kbd> <kbd>Space</kbd> <kbd>Page Down</kbd><td>one step on<tr><td><kbd>\u2190</kbd> <kbd>\u2191</kbd> <kbd>Shift Space</kbd> <kbd>Page Up</kbd><td>one step back
 <tr><td><kbd>Home</kbd> <kbd>End</kbd><td>to the start, to the end<tr><td><kbd>1</kbd> .. <kbd>9</kbd>, then <kbd>Enter</kbd><td>to that step (at a question or in the explorer: that choice)<tr><td><kbd>?</kbd><td>guess each reply before it is shown
-<tr><td><kbd>f</kbd><td>show the steps to come<tr><td><kbd>p</kbd><td>larger type<tr><td><kbd>l</kbd><td>for the last row: the step, the lanes and the waits alone, as large as they go<tr><td><kbd>d</kbd><td>light or dark<tr><td><kbd>w</kbd><td>the words of the next version, pinned until <kbd>Esc</kbd><tr><td><kbd>t</kbd><td>all fields of the transaction that moves<tr><td><kbd>.</kbd> <kbd>b</kbd><td>blank the screen<tr><td><kbd>Backspace</kbd><td>explorer: take a move back<tr><td><kbd>Esc</kbd><td>unpin a word</table>
+<tr><td><kbd>f</kbd><td>show the steps to come<tr><td><kbd>p</kbd><td>larger type<tr><td><kbd>l</kbd><td>for the last row: the step, the lanes and the waits alone, as large as they go<tr><td><kbd>d</kbd><td>light or dark<tr><td><kbd>w</kbd><td>the words of the next version, pinned until <kbd>Esc</kbd><tr><td><kbd>t</kbd><td>all fields of the transaction that moves<tr><td><kbd>g</kbd><td>what bars, arrows and short names mean<tr><td><kbd>i</kbd><td>save this step as one picture, SVG<tr><td><kbd>.</kbd> <kbd>b</kbd><td>blank the screen<tr><td><kbd>Backspace</kbd><td>explorer: take a move back<tr><td><kbd>Esc</kbd><td>unpin a word</table>
 <p>A click on a step goes there; on a version it shows its words; on a name all fields of that transaction. Swipe left and right on a touch screen. The address ends in the step: <code>#6</code>.</p>`;
 
 function tell(html) { $("dialog-body").innerHTML = html; $("dialog").showModal(); }
@@ -1565,14 +2265,14 @@ function tellTxn(id) {
 
 let digits = "";
 const MOVES = { ArrowRight: 1, ArrowDown: 1, PageDown: 1, ArrowLeft: -1, ArrowUp: -1, PageUp: -1 };
-const LETTERS = { "?": "predict", f: "future", p: "present", l: "far", d: "theme", h: "help", w: "pin", t: "fields", ".": "blank", b: "blank" };
+const LETTERS = { "?": "predict", f: "future", p: "present", l: "far", d: "theme", h: "help", w: "pin", t: "fields", g: "legend", i: "picture", ".": "blank", b: "blank" };
 
 function onKey(event) {
   if (event.ctrlKey || event.altKey || event.metaKey) { tellPrint(event); return; }
   const { key } = event;
   // A dialog is shut by whatever a presenter's remote sends; Tab and Enter stay with it.
   if ($("dialog").open) {
-    if (key === "Escape" || key === "h" || key in MOVES) { $("dialog").close(); event.preventDefault(); }
+    if (key === "Escape" || key === "h" || key === "g" || key in MOVES) { $("dialog").close(); event.preventDefault(); }
     return;
   }
   if (!$("blank").hidden) { DOES.blank(); event.preventDefault(); return; }
@@ -1616,6 +2316,8 @@ document.addEventListener("click", (event) => {
   if (choice) return choose(choice.dataset.choice);
   const rule = hit("data-rule");
   if (rule) { const [name, said] = ruleOf(run.steps[here - 1]); return tell(`<h2>${esc(name)}</h2><p>${esc(said)}</p><p class="soft">docs/RULES.md, "Every reply"</p>`); }
+  const level = hit("data-level");
+  if (level) return goToLevel(Number(level.dataset.level), level.dataset.outcome);
   const next = hit("data-next");
   if (next) return takeMove(Number(next.dataset.next));
   const crumb = hit("data-crumb");
@@ -1623,6 +2325,7 @@ document.addEventListener("click", (event) => {
   const find = hit("data-find");
   if (find) return findOutcome(Number(find.dataset.find));
 });
+$("skip").addEventListener("click", (event) => { event.preventDefault(); $("said").focus(); });
 $("slider").addEventListener("input", () => jump(Number($("slider").value)));
 $("blank").addEventListener("click", () => DOES.blank());
 addEventListener("hashchange", () => fromHash());
@@ -1683,26 +2386,16 @@ addEventListener("message", ({ source, data: sent }) => {
   tellParent(true);
 });
 
-/* ---- in print all steps are a table */
-
-function buildPrint() {
-  const acting = new Set(run.steps.map((it) => it.name));
-  const ids = run.txnIds.filter((id) => acting.has(nameOf(id)));
-  const rows = run.steps.map((step, index) => {
-    const cells = ids.map((id) => `<td>${step.name === nameOf(id) ? `${esc(step.event)} \u2192 <b>${esc(step.reply)}</b>` : ""}</td>`).join("");
-    const whole = step.name === null ? `<td colspan="${ids.length}">detect \u2192 <b>${esc(step.reply)}</b></td>` : cells;
-    return `<tr><td>${run.done + index + 1}</td>${whole}<td>${step.note ? `<i>${esc(step.note)}</i><br>` : ""}${linesOf(step.why).map(reasonOf).join("<br>")}</td><td>${changesOf(index + 1).join(" ")}</td></tr>`;
-  });
-  $("print").innerHTML = `<caption>${esc(data.title)}. ${esc(data.about ?? "")}</caption><thead><tr><th>#</th>${ids.map((id) => `<th>${esc(nameOf(id))} <small>${esc(run.txn(id, 0).level)}</small></th>`).join("")}<th>why</th><th>changes</th></tr></thead><tbody>${rows.join("")}</tbody>`;
-}
-addEventListener("beforeprint", buildPrint);
-addEventListener("afterprint", () => { $("print").innerHTML = ""; });
-
 /* ---- the start */
 
 function fromHash(hash = decodeURIComponent(location.hash.slice(1))) {
   if (!isTree) { jump(hash === "" ? 0 : Number(hash) - run.done || 0); return; }
-  const [order, at] = hash.split("@");
+  const [level, place] = isLevels ? hash.split(":") : ["", hash];
+  if (isLevels) {
+    if (!LEVELS.includes(level)) { document.body.classList.add("levels"); levels.shown = null; show(); return; }
+    takeLevel(LEVELS.indexOf(level));
+  }
+  const [order, at] = place.split("@");
   tree.path = [0];
   for (const name of order.split(".").filter(Boolean)) {
     const next = tree.nodes[tree.path.at(-1)].next[tree.names.indexOf(name)];
@@ -1718,7 +2411,8 @@ function resized() {
   show();
 }
 
-if (isTree) { plantTree(); run = runOfPath(); } else {
+if (isLevels) plantLevels();
+if (isTree) { tree = isLevels ? levels.trees[0] : treeOf(data); run = runOfPath(); } else {
   const lines = linesOf(data.trace).map((it) => it.replace(/^\d+ /, ""));
   run = new Run(data, data.steps.map((it, index) => ({ ...it, line: lines[index] })), data.done);
 }
@@ -1732,6 +2426,7 @@ for (const way of ["previous", "next"]) {
   $(way).title = `${way}: ${title}`;
   $(way).innerHTML = way === "next" ? `<span class="hidden">${esc(title)}</span> \u203a` : `\u2039 <span class="hidden">${esc(title)}</span>`;
 }
+if (isLevels) document.querySelector('[data-do="levels"]').hidden = false;
 if (isTree) {
   document.body.classList.add("tree");
   document.querySelector('[data-do="secret"]').hidden = false;

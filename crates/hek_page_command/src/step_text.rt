@@ -5,10 +5,10 @@ ghost use Rattle.hek_why.specs.Leads.{LeadOn};
 use crate::changed::put_changed;
 use crate::sees::put_sees;
 use crate::waits::Waits;
-use hek_rules::{NoMemory, Schedule, TxnId};
+use hek_rules::{Event, NoMemory, Schedule, TxnId};
 use hek_step_report::reply_rule;
 use hek_step_report::text::put_reasons;
-use hek_why::{Change, Dooms, Step, changes, reasons};
+use hek_why::{Change, Dooms, Step, changes, reasons, wait_reasons};
 use std::alloc::Global;
 
 /// What a page says of a step: what the step changed, and these lines: `changed`, the line of each thing that it changed, as the
@@ -107,5 +107,25 @@ fn put_why(
     text.sentence = rule.sentence;
     text.definition = rule.definition;
     text.comes = rule.comes;
-    put_reasons(schedule, step.before, t, list.as_slice(), &mut text.why)
+    put_reasons(schedule, step.before, t, list.as_slice(), &mut text.why)?;
+    put_new_waits(alloc, schedule, step, t, &mut text.why)
+}
+
+/// Adds the reasons why the transaction of an `insert` waits, if the insert has made it wait.
+fn put_new_waits(
+    alloc: Global,
+    schedule: &Schedule,
+    step: &Step<'_>,
+    t: TxnId,
+    lines: &mut Vec<u8>,
+) -> Result<(), NoMemory> {
+    let (before, after) = (step.before, step.after);
+    if !matches!(step.event, Event::Insert(..)) || !before.is_declared(t) || !after.is_declared(t) {
+        return Ok(());
+    }
+    if after.waits(t) <= before.waits(t) {
+        return Ok(());
+    }
+    let list = wait_reasons(alloc, after, t)?;
+    put_reasons(schedule, after, t, list.as_slice(), lines)
 }

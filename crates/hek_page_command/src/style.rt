@@ -45,6 +45,7 @@ button:disabled { opacity: 0.45; cursor: default; }
 button[aria-pressed="true"] { background: var(--ink); color: var(--bg); }
 :focus-visible { outline: 0.2rem solid var(--c0); outline-offset: 1px; }
 [hidden] { display: none !important; }
+.skip { position: absolute; left: 0.5rem; top: -9rem; z-index: 8; background: var(--bg); color: var(--ink); border: 2px solid var(--ink); border-radius: 0.35rem; padding: 0.3rem 0.8rem; } .skip:focus { top: 0.3rem; } #said:focus { outline: none; }
 .hidden { position: absolute; width: 1px; height: 1px; overflow: hidden; clip-path: inset(50%); white-space: nowrap; }
 .defs { position: absolute; }
 .soft { color: var(--soft); }
@@ -62,6 +63,8 @@ button[aria-pressed="true"] { background: var(--ink); color: var(--bg); }
 #score { font-weight: 700; color: var(--good); white-space: nowrap; flex: none; }
 
 main { flex: 1; min-height: 0; display: grid; grid-template-columns: minmax(0, 1.32fr) minmax(0, 1fr); grid-template-rows: auto minmax(8.4rem, 0.82fr) minmax(0, 1.18fr); gap: 0.6rem; padding: 0.4rem 0.8rem 0.7rem; }
+body[data-ring] main { grid-template-rows: auto minmax(min(10.5rem, 22vh), 1.12fr) minmax(6.7rem, 0.88fr); } html.present body[data-ring] main { grid-template-rows: auto minmax(0, 0.95fr) minmax(6.5rem, 1fr); }
+@media (max-width: 62rem) { [data-do="legend"], [data-do="picture"] { display: none; } html.present :is(.why, .note) { font-size: 0.96rem; line-height: 1.15; } html.present .event { font-size: 1.05rem; } html.present .chips { line-height: 1.45; font-size: 0.94rem; } html.present .plain { line-height: 1.15; } html.present .plain { font-size: 1.14rem; } html.present .plain.long { font-size: 1.02rem; } html.present .plain.long ~ .note:not(.verdict) { display: none; } }
 #top { grid-column: 1 / -1; min-width: 0; }
 #versions { grid-column: 1; grid-row: 2 / 4; }
 #waits { grid-column: 2; grid-row: 2; }
@@ -87,6 +90,7 @@ main { flex: 1; min-height: 0; display: grid; grid-template-columns: minmax(0, 1
 #lanes .tick.at { fill: var(--here-ink); }
 .lane-name { font-size: 1.5rem; font-weight: 700; fill: var(--c, var(--ink)); }
 .lane-name.soft { font-size: 1rem; font-weight: 400; fill: var(--soft); }
+.token rect { fill: var(--c); } .token text { fill: var(--on); font-weight: 700; }
 .lane-level { font-size: 0.95rem; fill: var(--soft); }
 .lane-facts { font-size: 1rem; fill: var(--ink); }
 .warn { fill: var(--warn); font-weight: 700; }
@@ -130,6 +134,7 @@ main { flex: 1; min-height: 0; display: grid; grid-template-columns: minmax(0, 1
 .flow line { stroke-width: 3; stroke: var(--ink); } .flow path { fill: var(--ink); }
 .flow.free line { stroke: var(--good); } .flow.free path { fill: var(--good); }
 .flow.abort line { stroke: var(--bad); stroke-dasharray: 7 3; } .flow.abort path { fill: var(--bad); }
+.flow.weak line { stroke: var(--soft); stroke-width: 2; } .flow.weak path { fill: var(--soft); }
 .flow.depends line { stroke: var(--ink); stroke-dasharray: 2 4; stroke-linecap: round; }
 #slider { width: 100%; margin: 0; height: 1.2rem; accent-color: var(--ink); display: block; }
 
@@ -148,6 +153,7 @@ main { flex: 1; min-height: 0; display: grid; grid-template-columns: minmax(0, 1
 .note::before { content: "\201c"; } .note::after { content: "\201d"; }
 .verdict::before, .verdict::after { content: none; }
 .verdict { color: var(--ink); }
+html.present #said:has(.verdict) .plain { font-size: 1rem; } html.present .verdict { font-size: 0.9rem; line-height: 1.18; }
 .why { margin: 0 0 0.25rem; padding: 0; list-style: none; font-size: 1.05rem; line-height: 1.28; }
 .why li::before { content: "because "; color: var(--soft); font-size: 0.95rem; }
 .why li + li::before { content: "and "; }
@@ -206,6 +212,9 @@ kbd { display: inline-block; min-width: 1.5em; text-align: center; border: 1px s
 .sight { font-weight: 700; font-size: 1em; } .sight.seen { fill: var(--good); } .sight.unseen { fill: var(--soft); font-weight: 400; }
 #chains .tick { font-size: 0.95rem; } #chains .tick.at { font-size: 1.05rem; } #chains .inf { font-size: 1.2rem; } #chains .bucket { font-size: 1rem; } #chains .looktext { font-size: 0.95rem; }
 
+.bucketbox { fill: none; stroke: var(--bar-line); stroke-width: 1.4; } .bucket .head { fill: var(--shade); } .bucket.moved .head { fill: var(--moved); } .bucket.moved :is(.vname, .bucketname) { fill: var(--moved-ink); }
+.bucketname { font-weight: 700; } .slot { fill: var(--bg); stroke: var(--line); } .slot.moved { fill: var(--moved); stroke: var(--moved-ink); stroke-width: 2; } .slot.moved + .vname { fill: var(--moved-ink); }
+
 /* who waits for whom */
 .node circle { fill: var(--c); }
 .nodename { fill: var(--on); font-weight: 700; font-size: 1.2em; }
@@ -254,6 +263,12 @@ kbd { display: inline-block; min-width: 1.5em; text-align: center; border: 1px s
 .events { display: flex; flex-wrap: wrap; gap: 0.2rem; margin-top: 0.25rem !important; } .events button { font-size: 0.95rem; padding: 0 0.4rem; border-color: var(--line); } .events .waits { background: var(--warn-bg); border-color: var(--warn); } .events .aborts { border-color: var(--bad); color: var(--bad); font-weight: 700; } .events .commits { border-color: var(--com); color: var(--good); font-weight: 700; } .events [aria-current] { outline: 2px solid var(--ink); } .events .ahead { border-style: dashed; }
 .tree .plain { font-size: 1.3rem; }
 
+#levels { display: none; } body.levels main > :not(#levels) { display: none; } body.levels main { display: block; overflow: auto; } body.levels #levels { display: block; } body.levels #bar nav { visibility: hidden; }
+#levels table { border-collapse: collapse; width: 100%; margin: 0.6rem 0 1rem; } #levels caption { text-align: left; color: var(--soft); padding-bottom: 0.3rem; } #levels :is(td, th) { text-align: left; padding: 0.2rem 0.7rem; border-bottom: 1px solid var(--line); } #levels thead th { font-weight: 600; }
+#levels .n { width: 8rem; } #levels .n button { min-width: 5rem; font-size: 1.2rem; font-weight: 700; } #levels .none { color: var(--soft); padding-left: 1.4rem; font-size: 1.2rem; } #levels h2 { font-size: 1.1rem; margin: 0 0 0.4rem; } .good { color: var(--good); }
+.columns { display: grid; grid-template-columns: repeat(3, minmax(0, 1fr)); gap: 0.8rem; } .columns section { background: var(--panel); border-radius: 0.5rem; padding: 0.4rem 0.7rem; } .columns h3 { margin: 0 0 0.3rem; font-size: 1.05rem; } .columns ol { list-style: none; margin: 0; padding: 0; } .columns li { padding: 0 0.3rem; border-left: 0.3rem solid var(--line); } .columns .waits { border-color: var(--warn); } .columns .aborts { border-color: var(--bad); color: var(--bad); } .columns .commits { border-color: var(--com); } .columns .ends { margin: 0.4rem 0 0; }
+@media (max-width: 40rem) { .columns { grid-template-columns: 1fr; } #levels .n { width: auto; } #levels .n button { min-width: 3rem; } }
+
 dialog { border: 1px solid var(--bar-line); border-radius: 0.6rem; background: var(--bg); color: var(--ink); max-width: 46rem; font-size: 1.1rem; padding: 1rem 1.4rem; }
 dialog h2 { margin: 0 0 0.5rem; font-size: 1.3rem; } dialog td, dialog th { text-align: left; padding: 0.12rem 1rem 0.12rem 0; font-weight: 400; } dialog th { color: var(--soft); }
 dialog::backdrop { background: #0009; }
@@ -269,7 +284,8 @@ dialog::backdrop { background: #0009; }
   html { font-size: 16px; } html.present { font-size: 19px; }
   body { display: block; height: auto; overflow: auto; }
   #bar { flex-wrap: wrap; padding: 0.3rem 0.5rem; gap: 0.3rem; } #bar > :is(h1, .way) { order: -1; } #about { display: none; } #bar h1 { font-size: 1.05rem; flex: 1 1 40%; } #bar .space { display: none; } .modes { flex: 1 1 14rem !important; min-width: 0; overflow-x: auto; } .modes button { min-height: 2.4rem; white-space: nowrap; } #bar nav { flex: none; gap: 0.15rem; } #bar nav button { min-width: 2.3rem; min-height: 2.4rem; padding: 0; } #position { min-width: 3.7rem; font-size: 1rem; }
-  [data-do="present"] { display: none; }
+  [data-do="present"] { display: none; } [data-do="legend"], [data-do="picture"] { display: inline-block; }
+  .modes { padding-right: 2.2rem; -webkit-mask-image: linear-gradient(90deg, #000 calc(100% - 2.4rem), transparent); mask-image: linear-gradient(90deg, #000 calc(100% - 2.4rem), transparent); }
   main { display: block; padding: 0.2rem 0.5rem; }
   #top { position: sticky; top: 0; background: var(--bg); z-index: 2; padding-bottom: 0.3rem; }
   #say { display: block; height: auto; max-height: 15.5rem; overflow: auto; } .plain { font-size: 1.2rem; } .event { font-size: 1.05rem; } .tree #say { height: auto; max-height: 19rem; }
@@ -279,7 +295,8 @@ dialog::backdrop { background: #0009; }
 @media print {
   body { display: block; height: auto; overflow: visible; background: #fff; color: #000; }
   body > :not(#print) { display: none !important; }
-  #print { display: table; border-collapse: collapse; font-size: 8.5pt; width: 100%; } #print caption { text-align: left; font-size: 12pt; font-weight: 700; margin-bottom: 4pt; }
+  #print { display: block; } #print .picture { display: block; width: 100%; height: auto; max-height: 17cm; break-inside: avoid; margin-bottom: 8pt; border: 0.5pt solid #888; }
+  #print table { border-collapse: collapse; font-size: 8.5pt; width: 100%; } #print caption { text-align: left; font-size: 12pt; font-weight: 700; margin-bottom: 4pt; }
   #print td, #print th { border: 0.5pt solid #888; padding: 1.5pt 4pt; vertical-align: top; text-align: left; } #print tr { break-inside: avoid; } #print thead { display: table-header-group; }
   .chip { display: inline; border: 0; padding: 0; } .chip + .chip::before { content: "; "; }
 }

@@ -32,6 +32,20 @@ pub(crate) fn tree_data(
     Ok(Value::Object(members))
 }
 
+/// The data of the page of the trees at all levels, from the strictest on.
+pub(crate) fn levels_data(
+    alloc: Global,
+    heading: &Heading<'_>,
+    comments: &Comments,
+    trees: Vec<Value>,
+) -> Result<Value, NoMemory> {
+    let mut members = Map::new(alloc);
+    put_text(alloc, "kind", "levels", &mut members)?;
+    put_heading(alloc, heading, comments, &mut members)?;
+    put_value(alloc, "trees", Value::Array(trees), &mut members)?;
+    Ok(Value::Object(members))
+}
+
 /// Adds the state before the first move, in which nobody waits.
 fn put_start(
     alloc: Global,

@@ -2,7 +2,9 @@
 
 /* ================================================================ the data */
 
-const data = JSON.parse(document.getElementById("data").textContent);
+const sheet = JSON.parse(document.getElementById("data").textContent);
+/** What is shown: the sheet, or of one with all levels the tree of one of them. */
+let data = sheet.kind === "levels" ? sheet.trees[0] : sheet;
 const $ = (id) => document.getElementById(id);
 const linesOf = (text) => text.split("\n").filter((line) => line !== "");
 const esc = (text) => String(text).replace(/[&<>"]/g, (it) => ({ "&": "&amp;", "<": "&lt;", ">": "&gt;", '"': "&quot;" })[it]);
@@ -78,10 +80,12 @@ class Run {
     this.bucketIds = [...this.past.keys()].filter((it) => it.startsWith("bucket "));
     this.names = new Map(this.txnIds.map((id) => [id, this.txn(id, 0).name]));
     this.ids = new Map([...this.names].map(([id, name]) => [name, id]));
+    this.short = shortForms([...this.names.values()]);
     const acting = new Set(this.steps.map((it) => it.name));
     this.laneIds = this.txnIds.filter((id) => isTree || acting.has(this.names.get(id)) || this.past.get("txn " + id).length > 1);
     this.hasDetect = acting.has(null);
     this.follow(linesOf(asked));
+    Object.assign(this, columnsOf(isTree ? [] : this.polls, this.last));
   }
 
   keep(line, at) {
@@ -107,12 +111,13 @@ class Run {
   version(v, position) { return this.get("version " + v, position); }
   clock(position) { return this.get("clock", position); }
 
-  /** Phases, waits and arrows of the whole run, found once. `asked`: the transactions that wait at the start. */
+  /** Phases, waits, arrows and steps that only ask again of the whole run, found once. `asked`: the transactions that wait at the start. */
   follow(asked) {
     this.phases = new Map(this.txnIds.map((id) => [id, []]));
     this.waitings = new Map(this.txnIds.map((id) => [id, []]));
     this.arrows = Array.from({ length: this.last + 1 }, () => []);
     const open = new Map();
+    this.polls = [];
     for (const id of this.txnIds) this.notePhase(id, 0);
     for (const line of asked) { const [id, kind] = line.split(" "); this.openWait(id, 0, kind, open); }
     this.steps.forEach((step, index) => {
@@ -120,6 +125,7 @@ class Run {
       const who = step.name === null ? "detect" : this.ids.get(step.name);
       for (const id of linesOf(step.ends)) this.closeWait(id, at, who, open);
       for (const subject of this.touched[at]) if (subject.startsWith("txn ")) this.noteTxn(subject.slice(4), at, who);
+      this.polls[at] = step.r[0] === "waiting" && open.has(who) && this.touched[at].length === 0;
       if (step.r[0] === "waiting") this.openWait(who, at, step.r[1] === "commits" ? "commits" : "waits", open);
     });
   }
@@ -166,7 +172,7 @@ class Run {
       const kind = what === "commit" ? "commits" : "waits";
       const key = `${from} ${to} ${kind}`;
       if (!edges.has(key)) edges.set(key, { from, to, kind, by: [] });
-      edges.get(key).by.push(what === "version" ? `v${number}` : what);
+      edges.get(key).by.push(what === "version" ? `v${number}` : what === "bucket" ? `bucket ${number}` : what);
     }
     return [...edges.values()];
   }

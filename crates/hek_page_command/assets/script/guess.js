@@ -1,40 +1,70 @@
 /* ================================================================ guessing */
 
-const isAsked = (step) => /^(read|scan|insert|update|delete|precommit|commit|detect|release)$/.test(step.op) && step.r[0] !== "nothing";
+/** Steps whose replies are worth a guess, where no text says which. */
+const isTelling = (step) => /^(read|scan|insert|update|delete|precommit|commit|detect|release)$/.test(step.op) && step.r[0] !== "nothing";
+
+/** Whether a step's reply is asked for: one above which a question stands, or where no step has one, each that tells something. */
+function isAsked(step) {
+  if (run.hasQuestions === undefined) run.hasQuestions = run.steps.some((it) => it.question);
+  return run.hasQuestions ? Boolean(step.question) : isTelling(step) && !run.polls[run.steps.indexOf(step) + 1];
+}
 
 /** The step whose reply is covered, or null: the one after this position. */
 function coveredStep() {
   return isPredict && !isTree && guess !== null ? run.steps[here] : null;
 }
 
+/** Whether the graph is covered: while a reply is asked for, until it is shown on demand. */
+let isGraphShown = false;
+const isGraphCovered = () => coveredStep() !== null && coveredStep() !== undefined && !isGraphShown;
+
 /** Choices of a reply, one of them right, in an order that depends on the step alone. */
 function choicesOf(step, at) {
   const options = new Set([step.reply]);
-  const clock = run.clock(at);
-  const add = (...its) => its.forEach((it) => { if (options.size < 4) options.add(it); });
-  const values = (key) => [...run.past.keys()].filter((it) => it.startsWith("version ")).map((it) => run.get(it, at)).filter((it) => it && it.key === key).map((it) => `found ${it.value}`);
-  switch (step.op) {
-    case "read": add(...values(step.args[0]).filter((it) => it !== step.reply).slice(-2), "absent", "aborted no-more-waits", "aborted no-more-reads"); break;
-    case "scan": add("rows", step.reply.split(" ").slice(0, -1).join(" "), "aborted no-more-waits"); break;
-    case "insert": add("done", "exists", "aborted conflict"); break;
-    case "update": case "delete": add("done", "absent", "aborted conflict", "aborted no-more-waits"); break;
-    case "precommit": add("waiting 1", `precommitted ${clock}`, "aborted deadlock", "waiting 2"); break;
-    case "commit": add("committed", "waiting commits 1", "aborted cascade"); break;
-    case "detect": {
-      add("no cycle");
-      const its = run.txnIds.map((id) => run.txn(id, at)).filter((it) => it.kind === "active" && it.waits > 0).map((it) => it.id);
-      for (const it of [...its].reverse()) if (!step.reply.startsWith(`victim ${it} `) && its.length > 1) add(`victim ${it} cycle ${[it, ...its.filter((id) => id !== it)].join(" ")}`);
-      break;
-    }
-    case "release": {
-      const me = run.txn(run.ids.get(step.name), at);
-      for (const v of me.reads) { add(`released read ${v}`); const w = run.version(v, at).writer; if (w) add(`released read ${v} writer ${w}`); }
-      for (const b of me.buckets) add(`released bucket ${b}`);
-      add("nothing");
-    }
-  }
+  for (const it of distractors(step, at)) if (options.size < 4) options.add(it);
   const mixed = [...options].map((it) => [it, [...`${at} ${it}`].reduce((sum, char) => (sum * 31 + char.charCodeAt(0)) % 9973, 7)]);
   return mixed.sort((a, b) => a[1] - b[1]).map((it) => it[0]);
+}
+
+/** Other replies that could come to such a step at the level of its transaction. */
+function distractors(step, at) {
+  if (step.op === "detect") return victims(step, at);
+  const me = run.txn(run.ids.get(step.name), at);
+  const isLocking = me.level !== "snapshot";
+  const locked = isLocking ? ["aborted no-more-waits", "aborted no-more-reads"] : [];
+  switch (step.op) {
+    case "read": return [...valuesOf(step, at).filter((it) => it !== step.reply).slice(-2), "absent", ...locked];
+    case "scan": return ["rows", step.reply.startsWith("rows ") ? step.reply.split(" ").slice(0, -1).join(" ") : "rows", ...locked];
+    case "insert": return ["done", "exists", ...(isLocking ? locked : ["aborted conflict"])];
+    case "update": case "delete": return ["done", "aborted conflict", "absent"];
+    case "precommit": return precommits(me, at);
+    case "commit": return ["committed", "waiting commits 1", "aborted cascade"];
+    case "release": return releases(me, at);
+    default: return [];
+  }
+}
+
+/** What a read of a step's key could find: the values of its versions. */
+function valuesOf(step, at) {
+  const versions = [...run.past.keys()].filter((it) => it.startsWith("version ")).map((it) => run.get(it, at));
+  return versions.filter((it) => it && it.key === step.args[0]).map((it) => `found ${it.value}`);
+}
+
+/** A transaction that never waits, since it has no write set, gets no `waiting`. */
+function precommits(me, at) {
+  const others = [`precommitted ${run.clock(at)}`, `precommitted ${run.clock(at) + 1}`, "aborted deadlock"];
+  return me.writes.length || me.waits ? ["waiting 1", others[0], "waiting 2", "aborted deadlock"] : others;
+}
+
+function victims(step, at) {
+  const its = run.txnIds.map((id) => run.txn(id, at)).filter((it) => it.kind === "active" && it.waits > 0).map((it) => it.id);
+  const cycles = its.length < 2 ? [] : [...its].reverse().map((it) => `victim ${it} cycle ${[it, ...its.filter((id) => id !== it)].join(" ")}`);
+  return ["no cycle", ...cycles.filter((it) => !step.reply.startsWith(it.split(" cycle")[0] + " "))];
+}
+
+function releases(me, at) {
+  const reads = me.reads.flatMap((v) => { const w = run.version(v, at).writer; return [`released read ${v}`, ...(w ? [`released read ${v} writer ${w}`] : [])]; });
+  return [...reads, ...me.buckets.map((it) => `released bucket ${it}`), "nothing"];
 }
 
 function replyInWords(reply) {
@@ -45,7 +75,7 @@ function showQuestion(step) {
   const me = step.name ? tagName(step.name) + " " : "";
   $("say").className = "asks";
   $("said").innerHTML = `<p class="event"><span class="num">${run.done + here + 1}</span> <code>${me}${esc(step.event)}</code> <span class="arrow">\u2192</span> <span class="cover">?</span></p>
-    <p class="plain">What is it answered?</p>`;
+    <p class="plain${(step.question ?? "").length > 92 ? " long" : ""}">${esc(step.question || "What is it answered?")}</p>`;
   $("because").innerHTML = `<div class="choices">${choicesOf(step, here).map((it, index) => `<button type="button" data-choice="${esc(it)}"><kbd>${index + 1}</kbd> ${replyInWords(it)}</button>`).join("")}</div>`;
 }
 
@@ -58,13 +88,13 @@ function choose(reply) {
     told.answers.set(here, reply);
   }
   guess = null;
-  move(here + 1);
+  move(positionOn(here));
 }
 
 function feedback() {
-  const answer = told.answers.get(here - 1);
+  const answer = told.answers.get(positionBack(here));
   if (!isPredict || answer === undefined) return "";
-  const isRight = answer === run.steps[here - 1].reply;
+  const isRight = answer === run.steps[positionBack(here)].reply;
   return `<p class="told ${isRight ? "right" : "wrong"}">${isRight ? "\u2713 Right." : `\u2717 The guess was: ${replyInWords(answer)}.`}</p>`;
 }
 

@@ -1,6 +1,7 @@
 /* ================================================================ moving */
 
 function show() {
+  if (isLevels && levels.shown === null) { document.body.dataset.position = 0; showLevels(); return; }
   document.body.dataset.position = run.done + here;
   $("position").textContent = `${run.done + here} / ${run.done + run.last}`;
   document.querySelector('[data-do="first"]').disabled = document.querySelector('[data-do="back"]').disabled = here === 0;
@@ -9,6 +10,8 @@ function show() {
   slider.max = run.last;
   slider.value = here;
   slider.setAttribute("aria-valuetext", `after step ${run.done + here} of ${run.done + run.last}`);
+  $("about").hidden = isSpoilerHidden();
+  document.body.toggleAttribute("data-ring", !isTree && hasRing());
   showLanes();
   showSay();
   if (isTree) showTree();
@@ -29,7 +32,9 @@ function move(position) {
 /** The place, as the address has it: the number of steps done; in the explorer the moves, and the step where one isn't over. */
 function placeSaid() {
   if (!isTree) return String(run.done + here);
-  return tree.path.slice(1).map((at) => tree.names[tree.nodes[at].who]).join(".") + (here < run.last ? "@" + here : "");
+  const level = !isLevels ? "" : levels.shown === null ? "" : `${LEVELS[levels.shown]}:`;
+  if (isLevels && level === "") return "";
+  return level + tree.path.slice(1).map((at) => tree.names[tree.nodes[at].who]).join(".") + (here < run.last ? "@" + here : "");
 }
 
 let telling = 0;
@@ -42,15 +47,15 @@ function tellAddress() {
 
 /** One step on: where replies are guessed the next one is covered first. */
 function on() {
-  if (guess !== null) { guess = null; move(here + 1); return; }
+  if (guess !== null) { guess = null; move(positionOn(here)); return; }
   if (here === run.last) { show(); return; }
   if (isPredict && !isTree && isAsked(run.steps[here]) && !told.answers.has(here)) { guess = here; show(); return; }
-  move(here + 1);
+  move(positionOn(here));
 }
 
 function back() {
   if (guess !== null) { guess = null; show(); return; }
-  move(here - 1);
+  move(positionBack(here));
 }
 
 function jump(position) { guess = null; move(position); }
@@ -59,13 +64,14 @@ function press(name, isOn) { document.querySelector(`[data-do="${name}"]`).setAt
 
 const DOES = {
   first: () => jump(0), last: () => jump(run.last), back, on,
+  levels: () => leaveLevel(),
   secret: () => { isSecret = !isSecret; press("secret", isSecret); show(); },
   predict: () => { if (isTree) return DOES.secret(); isPredict = !isPredict; guess = null; if (isPredict) { isFuture = false; press("future", false); } press("predict", isPredict); show(); },
   future: () => { isFuture = !isFuture; press("future", isFuture); show(); },
   present: () => { const isOn = document.documentElement.classList.toggle("present"); press("present", isOn); resized(); },
   far: () => { document.documentElement.classList.toggle("far"); resized(); },
   theme: () => { const isDark = document.documentElement.dataset.theme ? document.documentElement.dataset.theme === "dark" : matchMedia("(prefers-color-scheme: dark)").matches; document.documentElement.dataset.theme = isDark ? "light" : "dark"; tellParent(); },
-  help: () => tell(HELP),
+  help: () => tell(HELP), legend: () => tell(legend()), picture: () => savePicture(),
   pin: () => {
     const its = run.versionIds.filter((v) => run.version(v, here)).map(Number).sort((a, b) => a - b);
     if (!its.length) return;
@@ -75,12 +81,13 @@ const DOES = {
   fields: () => { const step = run.steps[here - 1]; tellTxn(step?.name ? run.ids.get(step.name) : run.txnIds[0]); },
   unpin: () => { pinned = null; show(); },
   undo: () => { const place = placeHere(); if (place > 0) { tree.path = tree.path.slice(0, place); run = runOfPath(); move(run.last); } },
+  graph: () => { isGraphShown = !isGraphShown; showGraph(); },
   blank: () => { $("blank").hidden = !$("blank").hidden; tellParent(); },
 };
 
 const HELP = `<h2>Keys</h2><table><tr><td><kbd>\u2192</kbd> <kbd>\u2193</kbd> <kbd>Space</kbd> <kbd>Page Down</kbd><td>one step on<tr><td><kbd>\u2190</kbd> <kbd>\u2191</kbd> <kbd>Shift Space</kbd> <kbd>Page Up</kbd><td>one step back
 <tr><td><kbd>Home</kbd> <kbd>End</kbd><td>to the start, to the end<tr><td><kbd>1</kbd> .. <kbd>9</kbd>, then <kbd>Enter</kbd><td>to that step (at a question or in the explorer: that choice)<tr><td><kbd>?</kbd><td>guess each reply before it is shown
-<tr><td><kbd>f</kbd><td>show the steps to come<tr><td><kbd>p</kbd><td>larger type<tr><td><kbd>l</kbd><td>for the last row: the step, the lanes and the waits alone, as large as they go<tr><td><kbd>d</kbd><td>light or dark<tr><td><kbd>w</kbd><td>the words of the next version, pinned until <kbd>Esc</kbd><tr><td><kbd>t</kbd><td>all fields of the transaction that moves<tr><td><kbd>.</kbd> <kbd>b</kbd><td>blank the screen<tr><td><kbd>Backspace</kbd><td>explorer: take a move back<tr><td><kbd>Esc</kbd><td>unpin a word</table>
+<tr><td><kbd>f</kbd><td>show the steps to come<tr><td><kbd>p</kbd><td>larger type<tr><td><kbd>l</kbd><td>for the last row: the step, the lanes and the waits alone, as large as they go<tr><td><kbd>d</kbd><td>light or dark<tr><td><kbd>w</kbd><td>the words of the next version, pinned until <kbd>Esc</kbd><tr><td><kbd>t</kbd><td>all fields of the transaction that moves<tr><td><kbd>g</kbd><td>what bars, arrows and short names mean<tr><td><kbd>i</kbd><td>save this step as one picture, SVG<tr><td><kbd>.</kbd> <kbd>b</kbd><td>blank the screen<tr><td><kbd>Backspace</kbd><td>explorer: take a move back<tr><td><kbd>Esc</kbd><td>unpin a word</table>
 <p>A click on a step goes there; on a version it shows its words; on a name all fields of that transaction. Swipe left and right on a touch screen. The address ends in the step: <code>#6</code>.</p>`;
 
 function tell(html) { $("dialog-body").innerHTML = html; $("dialog").showModal(); }
@@ -95,14 +102,14 @@ function tellTxn(id) {
 
 let digits = "";
 const MOVES = { ArrowRight: 1, ArrowDown: 1, PageDown: 1, ArrowLeft: -1, ArrowUp: -1, PageUp: -1 };
-const LETTERS = { "?": "predict", f: "future", p: "present", l: "far", d: "theme", h: "help", w: "pin", t: "fields", ".": "blank", b: "blank" };
+const LETTERS = { "?": "predict", f: "future", p: "present", l: "far", d: "theme", h: "help", w: "pin", t: "fields", g: "legend", i: "picture", ".": "blank", b: "blank" };
 
 function onKey(event) {
   if (event.ctrlKey || event.altKey || event.metaKey) { tellPrint(event); return; }
   const { key } = event;
   // A dialog is shut by whatever a presenter's remote sends; Tab and Enter stay with it.
   if ($("dialog").open) {
-    if (key === "Escape" || key === "h" || key in MOVES) { $("dialog").close(); event.preventDefault(); }
+    if (key === "Escape" || key === "h" || key === "g" || key in MOVES) { $("dialog").close(); event.preventDefault(); }
     return;
   }
   if (!$("blank").hidden) { DOES.blank(); event.preventDefault(); return; }
@@ -146,6 +153,8 @@ document.addEventListener("click", (event) => {
   if (choice) return choose(choice.dataset.choice);
   const rule = hit("data-rule");
   if (rule) { const [name, said] = ruleOf(run.steps[here - 1]); return tell(`<h2>${esc(name)}</h2><p>${esc(said)}</p><p class="soft">docs/RULES.md, "Every reply"</p>`); }
+  const level = hit("data-level");
+  if (level) return goToLevel(Number(level.dataset.level), level.dataset.outcome);
   const next = hit("data-next");
   if (next) return takeMove(Number(next.dataset.next));
   const crumb = hit("data-crumb");
@@ -153,6 +162,7 @@ document.addEventListener("click", (event) => {
   const find = hit("data-find");
   if (find) return findOutcome(Number(find.dataset.find));
 });
+$("skip").addEventListener("click", (event) => { event.preventDefault(); $("said").focus(); });
 $("slider").addEventListener("input", () => jump(Number($("slider").value)));
 $("blank").addEventListener("click", () => DOES.blank());
 addEventListener("hashchange", () => fromHash());

@@ -92,32 +92,40 @@ function showSay() {
   if (covered) return showQuestion(covered);
   $("say").className = step ? kindOf(step) : "";
   if (!step) {
-    $("said").innerHTML = `<p class="event"><span class="num">start</span> Before the first step</p><p class="plain${(data.about ?? "").length > 150 ? " longer" : (data.about ?? "").length > 105 ? " long" : ""}">${esc(data.about || "The rows are loaded, and nobody has begun.")}</p>`;
+    const about = (isSpoilerHidden() ? data.question : data.about) || "The rows are loaded, and nobody has begun.";
+    $("said").innerHTML = `<p class="event"><span class="num">start</span> Before the first step</p><p class="plain${about.length > 150 ? " longer" : about.length > 105 ? " long" : ""}">${esc(about)}</p>`;
     $("because").innerHTML = opening();
     return;
   }
   const reply = `<span class="reply">${esc(step.reply)}</span>`;
   const verdict = here === run.last && !isTree ? verdictText() : "";
   const onward = verdict && data.next ? `<a class="way onward" href="${esc(data.next[0])}">Next: ${esc(data.next[1])} \u203a</a>` : "";
-  const sentence = sentenceOf(step, shown);
+  const folded = isFolded(shown) && shown === spanOf(shown).to;
+  const sentence = folded ? foldedSentence(shown) : sentenceOf(step, shown);
   const isLong = sentence.replace(/<[^>]*>/g, "").length > 92;
-  $("said").innerHTML = `${onward}<p class="event"><span class="num">${run.done + shown}</span> <code>${step.name ? tagName(step.name) + " " : ""}${esc(step.event)}</code> <span class="arrow">\u2192</span> ${reply}</p>
-    <p class="plain${isLong ? " long" : ""}">${sentence}</p>${isTree ? eventsOfMove(shown) : ""}${step.note ? `<p class="note">${esc(step.note)}</p>` : ""}${verdict}`;
+  $("said").innerHTML = `${onward}<p class="event"><span class="num">${folded ? `${run.done + spanOf(shown).from}\u2013` : ""}${run.done + shown}</span> <code>${step.name ? tagName(step.name) + " " : ""}${esc(step.event)}</code> <span class="arrow">\u2192</span> ${reply}</p>
+    <p class="plain${isLong ? " long" : ""}">${sentence}</p>${isTree ? eventsOfMove(shown) : ""}${noteOf(step)}${verdict}`;
   const why = linesOf(step.why).filter((it) => !/(begin|end) [0-9A-F]{16}/.test(it)).map((it) => `<li>${reasonOf(it)}</li>`);
   why.sort((a, b) => b.includes("<b>seen") - a.includes("<b>seen"));
   const chips = changesOf(here);
-  const [most, some] = thoseThatFit(why, chips);
+  const [most, some, hasRest] = thoseThatFit(why, chips);
   if (chips.length > some) chips.splice(some, chips.length, `<span class="soft">and ${chips.length - some} more</span>`);
-  const rest = why.length > most ? `<li class="soft">and ${why.length - most} more</li>` : "";
+  const rest = why.length > most && hasRest ? `<li class="soft">and ${why.length - most} more</li>` : "";
   const told = feedback();
   const rule = ruleOf(step);
   $("because").innerHTML = `${told}${why.length ? `<ul class="why" aria-label="Why">${why.slice(0, most).join("")}${rest}</ul>` : ""}
     <p class="chips">${chips.length ? chips.join(" ") : '<span class="soft">Nothing changed.</span>'} <button type="button" class="rule" data-rule="${step.op}" title="What the rule says">rule: ${esc(rule[0])}</button></p>`;
 }
 
+/** The comment above a step; while replies are guessed, and where a question stands there, the question and then the comment. */
+const noteOf = (step) => (step.note && !isSpoilerHidden(step) ? `<p class="note">${esc(step.note)}</p>` : "");
+
+/** Whether comments are hidden, since they say what is to be guessed: where outcomes are hidden, and at the start where replies are guessed. */
+const isSpoilerHidden = (step = null) => isSecret || (isPredict && step === null);
+
 /** How many of the reasons and of the changes have room beside the sentence; at least one of each. */
 function thoseThatFit(why, chips) {
-  if (isSmall() || !sizes.because) return [4, 8];
+  if (isSmall() || !sizes.because) return [4, 8, true];
   const [W, H] = sizes.because;
   const u = rem() * (document.body.dataset.lanes <= 2 && !isTree && !isPresent() && H > 8.4 * rem() ? 1.12 : 1);
   const plain = (html) => html.replace(/<[^>]*>/g, "").replace(/&[a-z]+;/g, "x");
@@ -141,15 +149,26 @@ function thoseThatFit(why, chips) {
     if (left < (most + 1 < why.length ? 1.3 * u : 0)) break;
     most++;
   }
-  return [Math.max(most, 1), some];
+  return [Math.max(most, 1), some, most > 0];
 }
 
 const isPresent = () => document.documentElement.classList.contains("present");
 
+/** What the bars along a lane mean. */
+const KEY = `<span class="key"><i class="ph active"></i>active <i class="ph finished"></i>finished <i class="ph preparing"></i>preparing <i class="ph committed"></i>committed <i class="ph aborted"></i>aborted <i class="ph waiting"></i>waits</span>`;
+
+/** What the arrows of the lanes and of the waits mean. */
+const KEY_ARROWS = [["free", "", "this step lets the other one go on"], ["abort", "7 3", "this step makes the other one abort"], ["depends", "2 4", "commits only if the other one does"], ["weak", "6 5", "among the waits: would wait, and has not asked yet"]];
+
+function legend() {
+  const line = ([kind, dash, said]) => `<tr><td><svg class="flow ${kind}" width="48" height="14" viewBox="0 0 48 14" aria-hidden="true"><line x1="2" x2="36" y1="7" y2="7"${dash ? ` stroke-dasharray="${dash}"` : ""}/><path d="M46 7l-11 -6v12z"/></svg><td>${said}`;
+  const short = run.txnIds.filter((id) => shortOf(id) !== nameOf(id)).map((id) => `<b class="t ${colourOf(id)}">${esc(shortOf(id))}</b> ${esc(nameOf(id))}`);
+  return `<h2>Legend</h2><p>${KEY}</p><table>${KEY_ARROWS.map(line).join("")}</table><p>A bar of a version goes from its Begin to its End. Dashed: if its maker commits. Crossed out: never valid. Dashed over a bar: what goes if its writer commits.</p>${short.length ? `<p>${short.join(" \u00b7 ")}</p>` : ""}`;
+}
+
 function opening() {
   if (isTree) return `<p class="soft">Choose which moves first. ${data.outcomes.length} outcomes, ${total(tree.nodes[0].counts)} orders.</p>`;
-  const key = `<span class="key"><i class="ph active"></i>active <i class="ph finished"></i>finished <i class="ph preparing"></i>preparing <i class="ph committed"></i>committed <i class="ph aborted"></i>aborted <i class="ph waiting"></i>waits</span>`;
-  return `<p>${key}</p><p class="soft">\u2192, Space, Page Down: on. \u2190, Page Up: back. ?: guess. f: what is to come. p: larger. h: all keys.</p>`;
+  return `<p>${KEY}</p><p class="soft">\u2192, Space, Page Down: on. \u2190, Page Up: back. ?: guess. f: what is to come. p: larger. h: all keys.</p>`;
 }
 
 function verdictText() {

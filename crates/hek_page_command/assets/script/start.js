@@ -1,23 +1,13 @@
-/* ---- in print all steps are a table */
-
-function buildPrint() {
-  const acting = new Set(run.steps.map((it) => it.name));
-  const ids = run.txnIds.filter((id) => acting.has(nameOf(id)));
-  const rows = run.steps.map((step, index) => {
-    const cells = ids.map((id) => `<td>${step.name === nameOf(id) ? `${esc(step.event)} \u2192 <b>${esc(step.reply)}</b>` : ""}</td>`).join("");
-    const whole = step.name === null ? `<td colspan="${ids.length}">detect \u2192 <b>${esc(step.reply)}</b></td>` : cells;
-    return `<tr><td>${run.done + index + 1}</td>${whole}<td>${step.note ? `<i>${esc(step.note)}</i><br>` : ""}${linesOf(step.why).map(reasonOf).join("<br>")}</td><td>${changesOf(index + 1).join(" ")}</td></tr>`;
-  });
-  $("print").innerHTML = `<caption>${esc(data.title)}. ${esc(data.about ?? "")}</caption><thead><tr><th>#</th>${ids.map((id) => `<th>${esc(nameOf(id))} <small>${esc(run.txn(id, 0).level)}</small></th>`).join("")}<th>why</th><th>changes</th></tr></thead><tbody>${rows.join("")}</tbody>`;
-}
-addEventListener("beforeprint", buildPrint);
-addEventListener("afterprint", () => { $("print").innerHTML = ""; });
-
 /* ---- the start */
 
 function fromHash(hash = decodeURIComponent(location.hash.slice(1))) {
   if (!isTree) { jump(hash === "" ? 0 : Number(hash) - run.done || 0); return; }
-  const [order, at] = hash.split("@");
+  const [level, place] = isLevels ? hash.split(":") : ["", hash];
+  if (isLevels) {
+    if (!LEVELS.includes(level)) { document.body.classList.add("levels"); levels.shown = null; show(); return; }
+    takeLevel(LEVELS.indexOf(level));
+  }
+  const [order, at] = place.split("@");
   tree.path = [0];
   for (const name of order.split(".").filter(Boolean)) {
     const next = tree.nodes[tree.path.at(-1)].next[tree.names.indexOf(name)];
@@ -33,7 +23,8 @@ function resized() {
   show();
 }
 
-if (isTree) { plantTree(); run = runOfPath(); } else {
+if (isLevels) plantLevels();
+if (isTree) { tree = isLevels ? levels.trees[0] : treeOf(data); run = runOfPath(); } else {
   const lines = linesOf(data.trace).map((it) => it.replace(/^\d+ /, ""));
   run = new Run(data, data.steps.map((it, index) => ({ ...it, line: lines[index] })), data.done);
 }
@@ -47,6 +38,7 @@ for (const way of ["previous", "next"]) {
   $(way).title = `${way}: ${title}`;
   $(way).innerHTML = way === "next" ? `<span class="hidden">${esc(title)}</span> \u203a` : `\u2039 <span class="hidden">${esc(title)}</span>`;
 }
+if (isLevels) document.querySelector('[data-do="levels"]').hidden = false;
 if (isTree) {
   document.body.classList.add("tree");
   document.querySelector('[data-do="secret"]').hidden = false;

@@ -3,7 +3,8 @@
 const isTree = data.kind === "tree";
 let tree = null;
 
-function plantTree() {
+/** The tree in some data. */
+function treeOf(data) {
   const text = (at) => data.texts[at];
   const steps = data.steps.map(([line, changed, gone, why, sees, waits, ends, rule, sentence, definition, comes]) => ({
     line: text(line), changed: text(changed), gone: text(gone), why: text(why), sees: text(sees), waits: waits === null ? null : text(waits), ends: text(ends), rule: text(rule),
@@ -11,7 +12,7 @@ function plantTree() {
   }));
   const nodes = data.nodes.map(([parent, who, places, outcome, counts], index) => ({ index, parent, who: who - 1, steps: places.map((at) => steps[at]), outcome, next: [], counts }));
   for (const node of nodes.slice(1)) nodes[node.parent].next[node.who] = node.index;
-  tree = { nodes, names: data.names, moves: data.moves, path: [0] };
+  return { nodes, names: data.names, moves: data.moves, path: [0] };
 }
 
 /** How many moves of each transaction have come at a node. */

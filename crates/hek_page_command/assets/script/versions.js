@@ -38,87 +38,139 @@ function keysShown(rows, step, sights) {
   return { keys: some, hidden: count - rows };
 }
 
-function showChains() {
+/** Where the columns and rows of the versions are. */
+function chainLayout(step, sights, time) {
   const u = rem();
   const [W, room] = sizes.chains;
   const isPhone = isSmall();
-  const step = here > 0 ? run.steps[here - 1] : null;
-  const { sights, time } = sightsOf(step);
-  const actor = step?.name ? run.ids.get(step.name) : null;
-  const buckets = run.bucketIds.map((it) => run.get(it, here)).filter(Boolean);
-  const axisH = 1.5 * u;
-  const bucketH = buckets.length ? 1.7 * u : 0;
-  const least = (viewHeight < 48 * u && !isPhone ? 1.68 : 2.05) * u;
-  const rowsFit = isPhone ? 12 : Math.max(2, Math.floor((room - axisH - bucketH - 0.3 * u) / least));
-  const { keys, hidden } = keysShown(rowsFit, step, sights);
+  const isLow = viewHeight < 48 * u && !isPhone;
+  const lookH = !isLow && run.steps.some((it) => it.sees !== "") ? 1.4 * u : 0;
+  const axisH = 1.5 * u + lookH;
+  const least = (isLow ? 1.6 : 2.05) * u;
+  const bucketH = bucketIsShown() ? (isLow ? 1.5 : 1.7) * u : 0;
+  const fitRows = (buckets) => (isPhone ? 12 : Math.max(bucketH ? 1 : 2, Math.floor((room - axisH - buckets * bucketH - 0.3 * u) / least)));
+  let { keys, hidden } = keysShown(fitRows(bucketH ? 1 : 0), step, sights);
+  let groups = groupsOf(keys, bucketH > 0);
+  if (groups.length > 1 && bucketH) { ({ keys, hidden } = keysShown(fitRows(groups.length), step, sights)); groups = groupsOf(keys, true); }
   const count = keys.reduce((sum, it) => sum + it.versions.length, 0);
-  const each = Math.max((room - axisH - bucketH - 0.4 * u) / Math.max(count, 1), least);
+  const boxesH = bucketH * groups.length;
+  const each = Math.max((room - axisH - boxesH - 0.4 * u) / Math.max(count, 1), least);
   const k = isPhone ? 1 : Math.max(1, Math.min(1.28, each / (3.3 * u), (W / u - 20) / 19));
   const rowH = isPhone ? least * 1.15 : Math.min(each, 6.4 * u * k);
   const narrow = W < 36 * u;
-  const left = (isPhone ? 6.7 : narrow ? 8.2 : 9.2) * u * k;
-  const right = (isPhone ? 1.9 : narrow ? 3 : 9.8) * u * k;
-  const H = axisH + count * rowH + bucketH + 0.4 * u;
-  // the axis: each time a place; those between which nothing lies are left out where there are many
-  const now = run.clock(here);
+  const values = (isPhone ? 6.7 : narrow ? 8.5 : 9.2) * u * k;
+  const r = Math.min(rowH * 0.36, 0.9 * u * k);
+  const marks = { from: values, readers: narrow || isPhone ? 2 : 3, r, wide: marksWidth(narrow || isPhone ? 2 : 3, r, u * k) };
+  const left = values + marks.wide;
+  const right = (isPhone ? 1.9 : narrow ? 2.6 : 9.8) * u * k;
+  return { u, k, W, isPhone, narrow, axisH, lookH, bucketH, groups, hidden, count, rowH, marks, left, right, H: axisH + count * rowH + boxesH + 0.4 * u, foot: axisH + count * rowH + boxesH };
+}
+
+/** How wide the column of locks is, so that it has room for the locks of each version of the run. */
+function marksWidth(readers, r, u) {
+  if (run.lockCounts === undefined) {
+    const its = [...run.past].filter(([subject]) => subject.startsWith("version ")).flatMap(([, list]) => list.map(([, it]) => it)).filter((it) => it.readers || it.writer);
+    run.lockCounts = [...new Set(its.map((it) => `${Math.min(it.readers, 5)} ${it.writer ? 1 : 0} ${it.noMore ? 1 : 0}`))].map((it) => it.split(" ").map(Number));
+  }
+  const wide = run.lockCounts.map(([count, writer, gate]) => Math.min(count, readers) * (2 * r + 0.12 * u) + writer * (2 * r + 1.2 * u) + gate * (2 * r + 0.2 * u));
+  return wide.length ? Math.max(...wide, 2.6 * u) + 0.7 * u : 0;
+}
+
+/** Keys as they are shown: in groups by bucket where a bucket is locked in the run, else in one group. */
+function groupsOf(keys, byBucket) {
+  if (!byBucket) return [{ bucket: null, keys }];
+  const groups = new Map();
+  for (const it of keys) { const bucket = String(BigInt(it.key) % BigInt(data.buckets)); groups.set(bucket, [...(groups.get(bucket) ?? []), it]); }
+  for (const it of run.bucketIds.map((id) => run.get(id, here)).filter(Boolean)) if (!groups.has(it.bucket)) groups.set(it.bucket, []);
+  return [...groups].sort(([a], [b]) => a - b).map(([bucket, its]) => ({ bucket, keys: its }));
+}
+
+/** The places of the times on the axis: each time a place; those between which nothing lies are left out where there are many. */
+function axisPlaces({ groups, W, left, right }, time, now) {
   let times = Array.from({ length: Math.min(lastTime(), 13) + 1 }, (_, at) => at);
   if (lastTime() > 13) {
     const its = new Set([0, now, ...(time !== null ? [time] : [])]);
-    for (const { versions } of keys) for (const it of versions) { if (it.made) its.add(Number(it.made)); if (it.ended) its.add(Number(it.ended)); const m = it.maker && run.txn(it.maker, here).end; if (m) its.add(Number(m)); }
+    for (const it of groups.flatMap((group) => group.keys).flatMap((key) => key.versions)) { if (it.made) its.add(Number(it.made)); if (it.ended) its.add(Number(it.ended)); const m = it.maker && run.txn(it.maker, here).end; if (m) its.add(Number(m)); }
     times = [...its].sort((a, b) => a - b);
   }
-  const span = W - left - right;
-  const unit = span / (times.length + 1.7);
-  const place = new Map(times.map((it, index) => [it, left + (index + 0.35) * unit]));
+  const unit = (W - left - right) / (times.length + 1.7);
+  return { times, unit, place: new Map(times.map((it, index) => [it, left + (index + 0.35) * unit])) };
+}
+
+/** What the plate over the line of a look says, longest first: at which time the transaction reads, and which time that is. */
+function lookTexts(step, actor, time) {
+  const verb = /^(insert|update|delete)$/.test(step.op) ? "looks" : "reads";
+  const which = run.txn(actor, here).level === "snapshot" ? "its begin" : "the clock";
+  return [...namedTexts(actor, (name) => `${name} ${verb} at ${which}, ${time}`), `${verb} at ${which}, ${time}`, `${verb} at ${time}`];
+}
+
+function showChains() {
+  const step = here > 0 ? run.steps[here - 1] : null;
+  const { sights, time } = sightsOf(step);
+  const actor = step?.name ? run.ids.get(step.name) : null;
+  const it = chainLayout(step, sights, time);
+  const { u, k, W, H, isPhone, narrow, axisH, lookH, rowH, left, right, foot, marks } = it;
+  const now = run.clock(here);
+  const { times, unit, place } = axisPlaces(it, time, now);
   const X = (t) => place.get(Number(t)) ?? left;
   const endX = W - right - 0.5 * u;
   const futureX = X(now) + unit * 0.55;
-  const out = [];
-  const top = axisH;
-  const foot = top + count * rowH;
-  out.push(`<rect class="ahead" x="${f1(X(now))}" y="${f1(top)}" width="${f1(endX - X(now) + 0.5 * u)}" height="${f1(foot - top)}"/>`);
-  const look = time !== null && place.has(time) ? plateOf(`${nameOf(actor)} looks at ${time}`, X(time), time < now ? X(now) : null, W, u) : null;
+  const out = [`<rect class="ahead" x="${f1(X(now))}" y="${f1(axisH)}" width="${f1(endX - X(now) + 0.5 * u)}" height="${f1(foot - axisH)}"/>`];
+  const lookX = time !== null && place.has(time) ? X(time) : null;
+  const plate = lookX === null ? null : plateOf(lookTexts(step, actor, time), lookX, W, u);
+  const nowWide = widthOf((unit > 2.05 * u ? "now " : "") + now, 1.05 * u, 700);
+  let until = -Infinity;
   for (const t of times) {
     const isNow = t === now;
-    out.push(`<line class="grid${isNow ? " nowline" : ""}" x1="${f1(X(t))}" x2="${f1(X(t))}" y1="${f1(top)}" y2="${f1(foot)}"/>`);
-    if (look && !isNow && X(t) > look.left - 0.5 * u && X(t) < look.left + look.wide + 0.5 * u) continue;
-    out.push(`<text class="tick${isNow ? " at" : ""}" x="${f1(X(t))}" y="${f1(1.05 * u)}" text-anchor="middle">${isNow ? (unit > 2.05 * u ? "now " : "") + t : t}</text>`);
+    out.push(`<line class="grid${isNow ? " nowline" : ""}" x1="${f1(X(t))}" x2="${f1(X(t))}" y1="${f1(axisH)}" y2="${f1(foot)}"/>`);
+    if (plate && !lookH && X(t) > plate.from - 0.5 * u && X(t) < plate.from + plate.wide + 0.5 * u) continue;
+    const half = isNow ? nowWide / 2 : widthOf(String(t), 0.95 * u) / 2;
+    if (!isNow && (X(t) - half < until + 0.3 * u || (t < now && X(t) + half > X(now) - nowWide / 2 - 0.3 * u))) continue;
+    until = X(t) + half;
+    out.push(`<text class="tick${isNow ? " at" : ""}" x="${f1(X(t))}" y="${f1(lookH + 1.05 * u)}" text-anchor="middle">${isNow ? (unit > 2.05 * u ? "now " : "") + t : t}</text>`);
   }
-  out.push(`<text class="tick inf" x="${f1(endX)}" y="${f1(1.12 * u)}" text-anchor="middle">\u221e</text>`);
-  let y = top;
-  const tokens = [];
+  out.push(`<text class="tick inf" x="${f1(endX)}" y="${f1(lookH + 1.12 * u)}" text-anchor="middle">\u221e</text>`);
+  if (marks.wide) out.push(`<text class="tick" x="${f1(marks.from + 0.25 * u)}" y="${f1(lookH + 1.05 * u)}">${fitting(["locks"], marks.wide - 0.6 * u, 0.95 * u)}</text>`);
   const readers = readersHere();
-  for (const { key, versions } of keys) {
-    out.push(`<line class="rule" x1="0" x2="${W}" y1="${f1(y)}" y2="${f1(y)}"/>`);
-    out.push(`<text class="keyname" x="${f1(0.2 * u)}" y="${f1(y + rowH / 2 + 0.38 * u * k)}">${isPhone ? "" : "key "}${esc(key)}</text>`);
-    for (const it of versions) {
-      const [under, over] = versionRow(it, y, rowH, { u: u * k, W, X, endX, futureX, left, right, sights, actor, isPhone, narrow, now, readers, lookX: time !== null && place.has(time) ? X(time) : null });
-      out.push(under);
-      tokens.push(over);
-      y += rowH;
+  const tokens = [];
+  let y = axisH;
+  for (const { bucket, keys } of it.groups) {
+    const top = y;
+    if (bucket !== null) { out.push(bucketHead(bucket, y, it)); y += it.bucketH; }
+    for (const { key, versions } of keys) {
+      out.push(`<line class="rule" x1="0" x2="${W}" y1="${f1(y)}" y2="${f1(y)}"/>`);
+      out.push(`<text class="keyname" x="${f1(0.3 * u)}" y="${f1(y + rowH / 2 + 0.38 * u * k)}">${esc(fitting([`key ${key}`, key], marks.from - (isPhone ? 4.5 : narrow ? 4.9 : 5.4) * u * k, u * k))}</text>`);
+      for (const version of versions) {
+        const [under, over] = versionRow(version, y, rowH, { u: u * k, W, X, endX, futureX, left, right, marks, sights, actor, isPhone, narrow, now, readers, lookX });
+        out.push(under);
+        tokens.push(over);
+        y += rowH;
+      }
     }
+    if (bucket !== null) out.push(`<rect class="bucketbox" x="0.7" y="${f1(top + 1)}" width="${f1(W - 1.4)}" height="${f1(y - top - 2)}" rx="${f1(0.3 * u)}"/>`);
   }
-  if (look) {
-    const x = X(time);
-    out.push(`<g class="look ${colourOf(actor ?? 1)}"><line x1="${f1(x)}" x2="${f1(x)}" y1="${f1(1.3 * u)}" y2="${f1(foot)}"/><path d="${arrowTip(x, foot, false, 0.6 * u)}" transform="translate(0 0)"/></g>`);
-    out.push(...tokens.splice(0));
-    out.push(`<g class="look ${colourOf(actor)}"><rect class="plate" x="${f1(look.left)}" y="${f1(0.08 * u)}" width="${f1(look.wide)}" height="${f1(1.3 * u)}" rx="${f1(0.3 * u)}"/><text class="looktext" x="${f1(look.left + look.wide / 2)}" y="${f1(1.02 * u)}" text-anchor="middle">${esc(look.text)}</text></g>`);
+  if (lookX !== null) {
+    out.push(`<g class="look ${colourOf(actor)}"><line x1="${f1(lookX)}" x2="${f1(lookX)}" y1="${f1(1.3 * u)}" y2="${f1(foot)}"/><path d="${arrowTip(lookX, foot, false, 0.6 * u)}"/></g>`, ...tokens.splice(0));
+    const isNow = time === now;
+    out.push(`<g class="look ${colourOf(actor)}"><rect class="plate" x="${f1(plate.from)}" y="${f1(0.04 * u)}" width="${f1(plate.wide)}" height="${f1(1.26 * u)}" rx="${f1(0.3 * u)}"/><text class="looktext" x="${f1(plate.from + plate.wide / 2)}" y="${f1(0.98 * u)}" text-anchor="middle">${esc(plate.text)}</text>${!lookH ? "" : plateTick(isNow ? (unit > 2.05 * u ? `now ${time}` : `${time}`) : `${time}`, lookX, lookH, u, isNow)}</g>`);
   }
   out.push(...tokens);
-  if (bucketH) {
-    const texts = buckets.map((it) => `bucket ${it.bucket}: locked by ${it.holders.map(nameOf).join(", ")}`).join("; ");
-    out.push(`<line class="rule" x1="0" x2="${W}" y1="${f1(foot)}" y2="${f1(foot)}"/>`, `<text class="bucket" x="${f1(0.2 * u)}" y="${f1(foot + 1.2 * u)}">${esc(fitting([texts, texts.slice(0, Math.floor(W / u * 1.7)) + "\u2026"], W - u, u) || texts.slice(0, 40))}</text>`);
-  }
-  if (hidden) out.push(`<text class="tick" x="${f1(0.2 * u)}" y="${f1(1.05 * u)}">+ ${hidden} more</text>`);
+  if (it.hidden) out.push(`<text class="tick" x="${f1(0.2 * u)}" y="${f1(lookH + 1.05 * u)}">+ ${it.hidden} more</text>`);
   const attributes = { width: `${W}`, height: `${f1(H)}`, viewBox: `0 0 ${W} ${f1(H)}`, style: `font-size:${f1(u * k)}px`, role: "group", "aria-label": "Versions" };
   putDrawing("chains", attributes, [{ shift: 0, parts: out }]);
 }
 
-/** The plate over the line at which a transaction looks: over the line, and left of the label of now where that is another time. */
-function plateOf(text, x, nowX, W, u) {
+/** The plate over the line at which a transaction looks. */
+function plateOf(texts, x, W, u) {
+  const text = fitting(texts, W - u, 0.95 * u, 600);
   const wide = widthOf(text, 0.95 * u, 600) + 0.6 * u;
-  const most = nowX === null ? W - wide : Math.max(x - wide + 0.4 * u, nowX - 2 * u - wide);
-  return { text, wide, left: Math.max(Math.min(x - wide / 2, most), 0) };
+  return { text, wide, from: Math.max(Math.min(x - wide / 2, W - wide), 0) };
+}
+
+/** The time of a look over the line that goes through its tick. */
+function plateTick(text, x, lookH, u, isNow) {
+  const wide = widthOf(text, (isNow ? 1.05 : 0.95) * u, 700) + 0.3 * u;
+  return `<rect class="byplate" x="${f1(x - wide / 2)}" y="${f1(lookH + 0.15 * u)}" width="${f1(wide)}" height="${f1(1.15 * u)}"/><text class="tick at" x="${f1(x)}" y="${f1(lookH + 1.05 * u)}" text-anchor="middle">${text}</text>`;
 }
 
 /** The transactions that read-lock each version here. */
@@ -129,7 +181,7 @@ function readersHere() {
 }
 
 function versionRow(it, y, h, at) {
-  const { u, W, X, endX, futureX, left, right, sights, isPhone, narrow, now, lookX } = at;
+  const { u, W, X, endX, futureX, left, right, marks, sights, isPhone, narrow, lookX } = at;
   const sight = sights.get(String(it.v));
   const touched = run.touched[here].includes("version " + it.v);
   const maker = it.maker ? run.txn(it.maker, here) : null;
@@ -138,9 +190,9 @@ function versionRow(it, y, h, at) {
   const out = [];
   const label = `version ${it.v}, key ${it.key}, value ${it.value}: ${saidOfBegin(it)}; End ${saidOfEnd(it)}${sight ? `; ${sight.isSeen ? "seen" : "passed over"}` : ""}`;
   out.push(`<g class="version${touched ? " touched" : ""}${isNever ? " never" : ""}${pinned?.v === it.v ? " pinned" : ""}" data-v="${it.v}" role="button" tabindex="0" aria-label="${esc(label)}">`);
-  out.push(`<rect class="hit" x="${f1(left - 5.4 * u)}" y="${f1(y + 1)}" width="${f1(W - left + 5.4 * u)}" height="${f1(h - 2)}"/>`);
+  out.push(`<rect class="hit" x="${f1(marks.from - 5.4 * u)}" y="${f1(y + 1)}" width="${f1(W - marks.from + 5.4 * u)}" height="${f1(h - 2)}"/>`);
   const base = y + h / 2 + 0.38 * u;
-  out.push(`<text class="vname" x="${f1(left - (isPhone ? 4.1 : narrow ? 4.6 : 5) * u)}" y="${f1(base)}">v${it.v}</text><text class="value" x="${f1(left - 0.35 * u)}" y="${f1(base)}" text-anchor="end">${esc(fitting([it.value, it.value.slice(0, 4) + "\u2026"], 3.1 * u, 1.15 * u, 700) || "\u2026")}</text>`);
+  out.push(`<text class="vname" x="${f1(marks.from - (isPhone ? 4.1 : narrow ? 4.6 : 5) * u)}" y="${f1(base)}">v${it.v}</text><text class="value" x="${f1(marks.from - 0.35 * u)}" y="${f1(base)}" text-anchor="end">${esc(fitting([it.value, it.value.slice(0, 4) + "\u2026"], 3.1 * u, 1.15 * u, 700) || "\u2026")}</text>`);
   const barH = Math.min(h * 0.72, 3.5 * u);
   const barY = y + (h - barH) / 2;
   // from where
@@ -173,8 +225,7 @@ function versionRow(it, y, h, at) {
     if (close === "written") {
       const from = Math.max(x0, futureX);
       out.push(`<path class="taken ${colourOf(it.writer)}" d="M${f1(from)} ${f1(barY + 2)}H${f1(endX - arrow)}L${f1(endX + 0.3 * u - 3)} ${f1(barY + barH / 2)}L${f1(endX - arrow)} ${f1(barY + barH - 2)}H${f1(from)}Z"/>`);
-      const name = nameOf(it.writer);
-      const text = fitting([`until ${name} commits`, `until ${name}`], endX - from - 0.75 * u, 0.95 * u, 600);
+      const text = fitting([...namedTexts(it.writer, (name) => `until ${name} commits`), ...namedTexts(it.writer, (name) => `until ${name}`)], endX - from - 0.75 * u, 0.95 * u, 600);
       if (text && x0 < from - 0.2 * u) out.push(`<text class="by ${colourOf(it.writer)}" x="${f1(from + 0.45 * u)}" y="${f1(y + h / 2 + 0.33 * u)}">${esc(text)}</text>`);
     }
     if (close === "promised") out.push(`<path class="tail ${colourOf(it.writer)}" d="M${f1(x1)} ${f1(barY)}H${f1(endX)}M${f1(x1)} ${f1(barY + barH)}H${f1(endX)}"/><line class="cut ${colourOf(it.writer)}" x1="${f1(x1)}" x2="${f1(x1)}" y1="${f1(barY - 2)}" y2="${f1(barY + barH + 2)}"/>`);
@@ -182,43 +233,23 @@ function versionRow(it, y, h, at) {
   // the locks: readers as round tokens, the writer as a square one with a lock
   const under = out.splice(0).join("") + "</g>";
   out.push(`<g class="version${touched ? " touched" : ""}${isNever ? " never" : ""}" data-v="${it.v}">`);
-  const readers = at.readers.get(String(it.v)) ?? [];
-  const r = Math.min(h * 0.36, 0.9 * u);
   const mid = y + h / 2;
-  let width = readers.length * (2 * r + 0.15 * u) + (it.writer ? 2 * r + 1.15 * u : 0) + (it.noMore ? 2 * r + 0.3 * u : 0);
-  let x = Math.max((x0 ?? futureX) + 0.45 * u, Math.min(X(now) - width - 0.2 * u, endX - width));
-  if (close === "ended" && it.writer) x = x1 + 0.35 * u;
-  if (x < left + 0.4 * u) x = left + 0.4 * u;
-  for (const id of readers.slice(0, 4)) {
-    const isMany = readers.length > 4 && id === readers[3];
-    out.push(`<g class="reader ${colourOf(id)}"><circle cx="${f1(x + r)}" cy="${f1(mid)}" r="${f1(r)}"/><text x="${f1(x + r)}" y="${f1(mid + 0.34 * u)}" text-anchor="middle">${isMany ? "+" + (readers.length - 3) : esc(nameOf(id).slice(0, 2))}</text></g>`);
-    x += 2 * r + 0.15 * u;
-  }
-  if (it.noMore) {
-    out.push(`<g class="gate"><circle cx="${f1(x + r)}" cy="${f1(mid)}" r="${f1(r - 1)}"/><path d="M${f1(x + r - r * 0.62)} ${f1(mid)}h${f1(r * 1.24)}"/></g>`);
-    x += 2 * r + 0.2 * u;
-  }
-  if (it.writer) {
-    const w = 2 * r + 1 * u;
-    out.push(`<g class="writer ${colourOf(it.writer)}${writer.kind === "aborted" ? " gone" : ""}"><rect x="${f1(x)}" y="${f1(mid - r)}" width="${f1(w)}" height="${f1(2 * r)}" rx="2"/><path d="${padlock(x + 0.3 * u, mid, 0.42 * u)}"/><text x="${f1(x + 1.15 * u)}" y="${f1(mid + 0.34 * u)}">${esc(nameOf(it.writer).slice(0, 2))}</text></g>`);
-    x += w + 0.3 * u;
-  }
+  out.push(marksOf(it, writer, at.readers.get(String(it.v)) ?? [], mid, marks, u));
   if (it.made && it.made === it.ended && !it.writer) out.push(`<text class="by" x="${f1(x1 + 0.7 * u)}" y="${f1(mid + 0.33 * u)}">at no time</text>`);
   // which transaction made it, until that is decided
   if (!isNever && it.maker) {
-    const words = open0 === "unborn" ? [`made by ${nameOf(it.maker)}, not committed`, `valid if ${nameOf(it.maker)} commits`, `if ${nameOf(it.maker)} commits`, `${nameOf(it.maker)}'s`] : open0 === "promised" ? [`if ${nameOf(it.maker)} commits`, `${nameOf(it.maker)}?`] : [`by ${nameOf(it.maker)}, not stamped yet`, `by ${nameOf(it.maker)}`];
-    let from = Math.max(x0 + 0.45 * u, readers.length || it.writer ? x + 0.2 * u : 0);
+    const words = open0 === "unborn" ? [`made by ${nameOf(it.maker)}, not committed`, ...namedTexts(it.maker, (name) => `valid if ${name} commits`), ...namedTexts(it.maker, (name) => `if ${name} commits`), `${shortOf(it.maker)}'s`]
+      : open0 === "promised" ? [...namedTexts(it.maker, (name) => `if ${name} commits`), `${shortOf(it.maker)}?`] : namedTexts(it.maker, (name) => `by ${name}, not stamped yet`).concat(namedTexts(it.maker, (name) => `by ${name}`));
+    let from = x0 + 0.45 * u;
     if (lookX !== null && from < lookX + 0.4 * u && from + 4 * u > lookX) from = lookX + 0.4 * u;
     const text = fitting(words, Math.min(x1, close === "written" && !open0 ? futureX : endX - 0.5 * u) - from - 0.1 * u, 0.95 * u, open0 ? 600 : 400);
     if (text) out.push(`<text class="by ${open0 ? colourOf(it.maker) : ""}" x="${f1(from)}" y="${f1(mid + 0.33 * u)}">${esc(text)}</text>`);
   }
   if (isNever) {
-    const words = maker ? [`${nameOf(it.maker)} aborted`, "aborted", "\u2717"] : ["never valid", "never", "\u2717"];
-    const hasTokens = readers.length > 0 || it.writer;
-    const start = hasTokens ? Math.max(x, futureX) : futureX;
-    const text = fitting(words, endX - start - 0.5 * u, 0.95 * u) || "\u2717";
+    const words = maker ? [...namedTexts(it.maker, (name) => `${name} aborted`), "aborted", "\u2717"] : ["never valid", "never", "\u2717"];
+    const text = fitting(words, endX - futureX - 0.5 * u, 0.95 * u) || "\u2717";
     const wide = widthOf(text, 0.95 * u) + 0.4 * u;
-    const from = hasTokens ? start : (futureX + endX - wide) / 2;
+    const from = (futureX + endX - wide) / 2;
     out.push(`<rect class="byplate" x="${f1(from)}" y="${f1(mid - 0.62 * u)}" width="${f1(wide)}" height="${f1(1.24 * u)}"/><text class="by" x="${f1(from + 0.2 * u)}" y="${f1(mid + 0.33 * u)}">${esc(text)}</text>`);
   }
   // what is seen of it, and its End word
@@ -226,12 +257,39 @@ function versionRow(it, y, h, at) {
   if (!narrow && (!sight || isTall)) out.push(`<text class="endword" x="${f1(W - right + 0.5 * u)}" y="${f1(sight ? base + 0.75 * u : base)}">${it.end}</text>`);
   if (sight) {
     const words = sight.isSeen
-      ? sight.ifCommits ? [`\u2713 if ${sight.ifCommits} commits`, "\u2713?"] : ["\u2713 seen", "\u2713"]
-      : sight.ifCommits ? [`\u2013 if ${sight.ifCommits} commits`, "\u2013?"] : ["\u2013 passed over", "\u2013"];
-    out.push(`<text class="sight ${sight.isSeen ? "seen" : "unseen"}" x="${f1(W - right + 0.6 * u)}" y="${f1(isTall && !narrow ? base - 0.6 * u : base)}">${esc(fitting(words, right - 0.6 * u, 1.05 * u, 700) || words[1])}</text>`);
+      ? sight.ifCommits ? [...namedTexts(run.ids.get(sight.ifCommits), (name) => `\u2713 if ${name} commits`), "\u2713?"] : ["\u2713 seen", "\u2713"]
+      : sight.ifCommits ? [...namedTexts(run.ids.get(sight.ifCommits), (name) => `\u2013 if ${name} commits`), "\u2013?"] : ["\u2013 passed over", "\u2013"];
+    out.push(`<text class="sight ${sight.isSeen ? "seen" : "unseen"}" x="${f1(W - right + 0.6 * u)}" y="${f1(isTall && !narrow ? base - 0.6 * u : base)}">${esc(fitting(words, right - 0.6 * u, 1.05 * u, 700) || words.at(-1))}</text>`);
   }
   out.push("</g>");
   return [under, out.join("")];
 }
 
 const padlock = (x, mid, s) => `M${f1(x)} ${f1(mid - s * 0.1)}h${f1(s * 1.7)}v${f1(s * 1.2)}h${f1(-s * 1.7)}zM${f1(x + s * 0.25)} ${f1(mid - s * 0.1)}v${f1(-s * 0.5)}a${f1(s * 0.6)} ${f1(s * 0.6)} 0 0 1 ${f1(s * 1.2)} 0v${f1(s * 0.5)}h${f1(-s * 0.3)}v${f1(-s * 0.5)}a${f1(s * 0.3)} ${f1(s * 0.3)} 0 0 0 ${f1(-s * 0.6)} 0v${f1(s * 0.5)}z`;
+
+
+/** The locks of a version, in their column: readers as round tokens, then no more reads, then the writer as a square one with a lock. */
+function marksOf(it, writer, readers, mid, { from, readers: most, r }, u) {
+  const out = [];
+  let x = from + 0.35 * u;
+  readers.slice(0, most).forEach((id, index) => {
+    const more = readers.length > most && index === most - 1 ? readers.length - most + 1 : 0;
+    out.push(readerToken(id, x + r, mid, r, u, more));
+    x += 2 * r + 0.12 * u;
+  });
+  if (it.noMore) {
+    out.push(`<g class="gate"><title>no more reads</title><circle cx="${f1(x + r)}" cy="${f1(mid)}" r="${f1(r - 1)}"/><path d="M${f1(x + r - r * 0.62)} ${f1(mid)}h${f1(r * 1.24)}"/></g>`);
+    x += 2 * r + 0.2 * u;
+  }
+  if (it.writer) {
+    const text = shortOf(it.writer);
+    out.push(`<g class="writer ${colourOf(it.writer)}${writer.kind === "aborted" ? " gone" : ""}"><title>${esc(nameOf(it.writer))} writes</title><rect x="${f1(x)}" y="${f1(mid - r)}" width="${f1(2 * r + 1 * u)}" height="${f1(2 * r)}" rx="2"/><path d="${padlock(x + 0.22 * u, mid, 0.42 * u)}"/><text x="${f1(x + 1.05 * u)}" y="${f1(mid + 0.34 * u)}">${esc(text)}</text></g>`);
+  }
+  return out.join("");
+}
+
+/** A reader, or a holder, as a round token; `more`: of so many others too. */
+function readerToken(id, x, mid, r, u, more = 0) {
+  const said = more ? `+${more}` : shortOf(id);
+  return `<g class="reader ${colourOf(id)}"><title>${esc(nameOf(id))}</title><circle cx="${f1(x)}" cy="${f1(mid)}" r="${f1(r)}"/><text x="${f1(x)}" y="${f1(mid + 0.34 * u)}" text-anchor="middle">${esc(said)}</text></g>`;
+}

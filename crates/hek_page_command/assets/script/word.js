@@ -22,7 +22,9 @@ function wordsShown() {
     }
   }
   changed.sort((a, b) => (a.isNew ? 1 : 0) - (b.isNew ? 1 : 0));
-  if (changed.length) return { list: changed.slice(0, 2), more: changed.length - 2, title: changed.length > 1 ? "Words that changed" : "The word that changed" };
+  const buckets = bucketsMoved().map((bucket) => ({ bucket, now: {}, old: {} }));
+  changed.unshift(...buckets);
+  if (changed.length) return { list: changed.slice(0, 2), more: changed.length - 2, title: buckets.length === changed.length ? "The bucket that changed" : buckets.length ? "What changed" : changed.length > 1 ? "Words that changed" : "The word that changed" };
   const step = here > 0 ? run.steps[here - 1] : null;
   const spoken = [...(step?.why ?? "").matchAll(/version (\d+)[^\n]*\(([0-9A-F]{16})(, [0-9A-F]{16})?\)/g)].map((it) => it[1]);
   const list = [...new Set(spoken)].map((v) => ({ v: Number(v), which: "end", now: run.version(v, here), old: null })).filter((it) => it.now);
@@ -49,13 +51,13 @@ function showWord() {
   const [W, H] = sizes.word;
   const room = isSmall() ? Infinity : H;
   const ways = all.length > 1 ? [[2, 1, false]] : [];
-  ways.push([1, 0, true], [1, 1, true], [1, 1, false], [1, 2, false]);
+  ways.push([1, 0, true], [1, 1, true], [1, 1, false], [1, 2, false], [1, 3, false]);
   let made = null;
   for (const [count, density, hasHex] of ways) {
     const isSingle = count === 1 && !pinned;
-    const parts = all.slice(0, count).map((it) => drawWord(it, W, u, density, isSingle, hasHex));
+    const parts = all.slice(0, count).map((it) => (it.bucket === undefined ? drawWord(it, W, u, density, isSingle, hasHex) : drawBucket(it, W, u, density, isSingle)));
     made = { list: all.slice(0, count), html: parts.map((it) => it.html).join(""), isSingle };
-    if (parts.reduce((sum, it) => sum + it.height, 0) <= room + 0.3 * u) break;
+    if (parts.reduce((sum, it) => sum + it.height, 0) <= room + 0.1 * u) break;
   }
   const { list, html, isSingle } = made;
   const more = Math.max(rest, 0) + all.length - list.length;
@@ -66,7 +68,8 @@ function showWord() {
 }
 
 /** Which word it is, and what it says: before, and after. */
-function captionOf({ v, which, now, old }) {
+function captionOf({ v, which, now, old, bucket }) {
+  if (bucket !== undefined) return `Bucket ${bucket}: <b>its lock</b>`;
   const said = which === "end" ? saidOfEnd : saidOfBegin;
   return `${which === "end" ? "End" : "Begin"} of v${v}: ${old ? `<s>${esc(said(old))}</s> \u2192 ` : ""}<b>${esc(said(now))}</b>`;
 }
@@ -95,8 +98,8 @@ function drawWord(it, W, u, density, isSingle, hasHex) {
   const foldW = 5.4 * u;
   const bit = Math.min((W - labelW - gaps - foldW - 0.4 * u) / (10 + tail), 1.75 * u);
   const x = (at) => labelW + (at <= 10 ? at * bit : 10 * bit + foldW + (at - fold) * bit) + (at >= 1 ? 0.35 * u : 0) + (at >= 2 ? 0.35 * u : 0) + (at >= 10 ? 0.7 * u : 0);
-  const rowH = [2.3, 1.68, 1.2][density] * u;
-  const head = [1.4, 1.25, 1.02][density] * u;
+  const rowH = [2.3, 1.68, 1.2, 1][density] * u;
+  const head = [1.4, 1.25, 1.02, 0.9][density] * u;
   const out = [];
   let y = 0;
   rows.forEach((row, index) => {
@@ -127,7 +130,7 @@ function drawWord(it, W, u, density, isSingle, hasHex) {
       for (let at = 0; at < 10; at++) out.push(bitBox(x(at), y, bit, rowH, bits[at], moved(at), u));
       const left = x(10);
       const isFoldMoved = index > 0 && all[index - 1].slice(10, fold) !== bits.slice(10, fold);
-      out.push(`<rect class="folded${isFoldMoved ? " moved" : ""}" x="${f1(left)}" y="${f1(y + 1)}" width="${f1(x(fold) - left - 1)}" height="${f1(rowH - 3)}" rx="3"/><text class="foldtext" x="${f1((left + x(fold)) / 2)}" y="${f1(y + rowH * 0.67)}" text-anchor="middle">${bits[10]} \u00d7 ${fold - 10}</text>`);
+      out.push(`<rect class="folded${isFoldMoved ? " moved" : ""}" x="${f1(left)}" y="${f1(y + 1)}" width="${f1(x(fold) - left - 1)}" height="${f1(rowH - 3)}" rx="3"/><text class="foldtext" x="${f1((left + x(fold)) / 2)}" y="${f1(y + rowH * 0.67)}" text-anchor="middle">${fold - 10} ${bits[10] === "1" ? "ones" : "zeros"}</text>`);
       for (let at = fold; at < 64; at++) out.push(bitBox(x(at), y, bit, rowH, bits[at], moved(at), u));
     }
     y += rowH;
@@ -143,4 +146,4 @@ function drawWord(it, W, u, density, isSingle, hasHex) {
   return { html, height: y + (isSingle ? (hasHex ? 1.35 * u : 0) : lines * 1.35 * u + 0.4 * u) };
 }
 
-const bitBox = (x, y, w, h, bit, isMoved, u) => `<rect class="bit b${bit}${isMoved ? " moved" : ""}" x="${f1(x + 0.5)}" y="${f1(y + 1)}" width="${f1(w - 2)}" height="${f1(h - 3)}" rx="2"/><text class="bittext b${bit}${isMoved ? " moved" : ""}" x="${f1(x + w / 2 - 0.5)}" y="${f1(y + h * 0.5 + 0.34 * u)}" text-anchor="middle">${bit}</text>`;
+const bitBox = (x, y, w, h, bit, isMoved, u) => `<rect class="bit b${bit}${isMoved ? " moved" : ""}" x="${f1(x + 0.5)}" y="${f1(y + 1)}" width="${f1(w - 2)}" height="${f1(h - 3)}" rx="2"/><text class="bittext b${bit}${isMoved ? " moved" : ""}" x="${f1(x + w / 2 - 0.5)}" y="${f1(y + h * 0.5 + 0.34 * Math.min(u, w * 1.4))}" text-anchor="middle"${w < 0.72 * u ? ` style="font-size:${f1(w * 1.4)}px"` : ""}>${bit}</text>`;
