@@ -41,19 +41,19 @@ enum Form {
 
 const FILE: ArgumentText = ArgumentText {
     name: "FILE",
-    help: "a schedule: a text if its name ends in .hek, otherwise an image; - is standard input",
+    help: "a schedule: a text by its name (.hek) or its first word, otherwise an image; - is standard input",
     form: Form::Word,
 };
 
 const TEXT: ArgumentText = ArgumentText {
     name: "text",
-    help: "FILE is a schedule text, whatever its name",
+    help: "FILE is a schedule text, whatever it holds",
     form: Form::Flag,
 };
 
 const IMAGE: ArgumentText = ArgumentText {
     name: "image",
-    help: "FILE is a schedule image, whatever its name",
+    help: "FILE is a schedule image, whatever it holds",
     form: Form::Flag,
 };
 

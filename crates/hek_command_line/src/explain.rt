@@ -3,6 +3,7 @@
 use crate::advice::advice_of;
 use crate::kept::Kept;
 use crate::notes::note;
+use crate::opening::BYTE_ORDER_MARK;
 use crate::words::advise_words;
 use clap::ArgMatches;
 use hek_diagnostics::{explain_bytes, explain_image, explain_text, explain_trace};
@@ -12,9 +13,6 @@ use hek_rules::Schedule;
 use std::alloc::Global;
 use std::io::{Cursor, Write};
 use std::str;
-
-/// The byte order mark, which a schedule text may begin with.
-const BYTE_ORDER_MARK: &[u8] = b"\xEF\xBB\xBF";
 
 /// What came of a command. If faults are explained, its fault is reported here, and explained.
 pub fn explained<'a, E: Write>(

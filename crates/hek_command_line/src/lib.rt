@@ -9,6 +9,7 @@ mod explain;
 mod kept;
 mod log;
 mod notes;
+mod opening;
 mod options;
 mod output;
 mod permute;
