@@ -15,7 +15,7 @@ pub fn note<E: Write>(
     faults: &mut E,
 ) {
     match command {
-        "debug" => note_breaks(alloc, kept, faults),
+        "debug" if !found.get_flag("auto") => note_breaks(alloc, kept, faults),
         "page" => note_part(found, faults),
         _ => {}
     }

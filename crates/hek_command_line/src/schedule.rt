@@ -4,7 +4,9 @@ ghost use Rattle.hek_report.specs.Files.{ReadFails};
 
 use crate::disk::{Disk, InputFile, open};
 use crate::opening::{BYTE_ORDER_MARK, Opening, read_opening};
+use crate::options::level_of;
 use clap::ArgMatches;
+use hek_permute_command::{auto_file, level_file};
 use hek_report::{HekFault, ScheduleFile, buffered, read_fault, read_text};
 use std::alloc::Global;
 use std::io::{BufReader, Chain, Cursor, Read};
@@ -57,6 +59,27 @@ pub fn schedule_file<'a, D: Disk, I: Read + Drop>(
         }
     };
     file_of(alloc, is_text, from_front(front, file), name)
+}
+
+/// The schedule file that the words name, as they ask for it to run: with `--level` all transactions at one level, with
+/// `--auto` with its reads and writes alone, and the steps that begin and end each transaction.
+pub fn schedule_to_run<'a, D: Disk, I: Read + Drop>(
+    alloc: Global,
+    found: &ArgMatches<'a>,
+    disk: &D,
+    input: &mut Option<I>,
+) -> Result<ScheduleFile<BufReader<FromFront<I, D::Reader>>>, HekFault<'a>> {
+    let level = level_of(found)?;
+    let file = schedule_file(alloc, found, disk, input)?;
+    let file = match level {
+        Some(level) => level_file(alloc, file, level)?,
+        None => file,
+    };
+    if found.get_flag("auto") {
+        auto_file(alloc, file)
+    } else {
+        Ok(file)
+    }
 }
 
 /// The text or the image that a file holds.

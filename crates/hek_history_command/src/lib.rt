@@ -4,6 +4,7 @@
 mod anomaly_words;
 mod choice;
 mod counts;
+mod explained;
 mod forgetting;
 mod history;
 mod order_lines;

@@ -50,6 +50,14 @@ pub(crate) fn put_unknown(order: Order, progress: Progress, out: &mut Lines) {
     out.end_line();
 }
 
+/// The object of a history of which nothing is judged.
+pub(crate) fn put_nothing(order: Order, out: &mut Lines) {
+    out.begin_line();
+    out.put_text("order", order.word());
+    out.put_text("verdict", "nothing to judge");
+    out.end_line();
+}
+
 /// The object of an edge of a cycle.
 fn put_edge(
     alloc: Global,
