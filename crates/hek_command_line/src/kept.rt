@@ -179,9 +179,10 @@ impl<'k, R: Read + Drop> KeptReader<'k, R> {
 impl<R: Read + Drop> Read for KeptReader<'_, R> {
     fn read(&mut self, buf: &mut [u8]) -> io::Result<usize> {
         let count = match self.reader.read(buf) {
-            Ok(count) => count.min(buf.len()),
+            Ok(count) => count,
             Err(error) => return Err(self.failure.note(error)),
         };
+        let count = count.min(buf.len());
         self.keep(&buf[..count]);
         Ok(count)
     }

@@ -66,7 +66,8 @@ fn read_piece<'a, R: Read>(
             _ => 0,
         },
     };
-    match front.extend_from_slice(&piece[..count]) {
+    let read = piece.as_slice().get(..count).unwrap_or(&[]);
+    match front.extend_from_slice(read) {
         Ok(()) => Ok(count > 0),
         Err(_) => Err(HekFault::NoMemory),
     }

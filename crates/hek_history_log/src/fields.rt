@@ -32,22 +32,39 @@ pub(crate) fn check_members(
     known: &[&str],
     wanted: Wanted,
 ) -> Result<(), LogFault> {
-    let mut seen: u64 = 0;
     for place in 0..members.len() {
         let name = members[place].0;
-        match known.iter().position(|it| *it == name) {
-            Some(index) => {
-                let bit = 1 << (index as u64).min(63);
-                if seen & bit != 0 {
-                    return Err(line.wants(Spot::Member(place), Wanted::Once));
-                }
-                seen |= bit;
+        if is_known(name, known) {
+            if is_among(name, members, place) {
+                return Err(line.wants(Spot::Member(place), Wanted::Once));
             }
-            None if name.starts_with(OWN) => {}
-            None => return Err(line.wants(Spot::Member(place), wanted)),
+        } else if !name.starts_with(OWN) {
+            return Err(line.wants(Spot::Member(place), wanted));
         }
     }
     Ok(())
+}
+
+fn is_known(name: &str, known: &[&str]) -> bool {
+    for it in known {
+        if *it == name {
+            return true;
+        }
+    }
+    false
+}
+
+/// Whether one of the first members has a name.
+fn is_among(name: &str, members: &[(&str, Value<'_>)], count: usize) -> bool {
+    for (place, member) in members.iter().enumerate() {
+        if place >= count {
+            return false;
+        }
+        if member.0 == name {
+            return true;
+        }
+    }
+    false
 }
 
 /// The name of a transaction.
