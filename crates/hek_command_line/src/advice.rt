@@ -119,7 +119,6 @@ enum Wrong<'a> {
     NoKind(Option<&'a str>),
     /// No form of moves has this name, but maybe one that is near.
     NoGrain(Option<&'a str>),
-    NoReply,
 }
 
 /// An option with a value that is at fault. Its text is a line each: the option with its value, what is wrong
@@ -157,9 +156,6 @@ pub fn advice_of<'a>(alloc: Global, command: &str, found: &ArgMatches<'a>) -> Op
             return Some(Advice::new("grain", value, wrong));
         }
         _ => {}
-    }
-    if let Some(value) = found.get_str("find") {
-        return Some(Advice::new("find", value, Wrong::NoReply));
     }
     let value = found.get_str("order")?;
     let wrong = if command == "history" {
@@ -226,7 +222,6 @@ impl<'a> Advice<'a> {
             Wrong::NoOrder => write!(f, "`{value}` is not an order of the moves"),
             Wrong::NoKind(_) => write!(f, "no order is called `{value}`"),
             Wrong::NoGrain(_) => write!(f, "no grain is called `{value}`"),
-            Wrong::NoReply => write!(f, "`{value}` is not a reply"),
         }
     }
 
@@ -240,9 +235,6 @@ impl<'a> Advice<'a> {
             Wrong::NoOrder => f.write_str("the name of its transaction for each move"),
             Wrong::NoKind(_) => f.write_str("any versions commit real"),
             Wrong::NoGrain(_) => f.write_str("move split event"),
-            Wrong::NoReply => f.write_str(
-                "a reply as a trace has it, maybe after the name of a transaction; or `not serial`",
-            ),
         }
     }
 }

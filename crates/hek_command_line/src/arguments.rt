@@ -37,30 +37,38 @@ enum Form {
     NeededNumber,
     /// `--name`, which means the first word, or `--name=WORD` with one of the words.
     Choice(&'static str, &'static [&'static str]),
+    /// `--name OUT`, or `-o OUT`.
+    Output,
 }
 
 const FILE: ArgumentText = ArgumentText {
     name: "FILE",
-    help: "a schedule: a text if its name ends in .hek, otherwise an image; - is standard input",
+    help: "a schedule: a text by its name (.hek) or its first word, otherwise an image; - is standard input",
     form: Form::Word,
 };
 
 const TEXT: ArgumentText = ArgumentText {
     name: "text",
-    help: "FILE is a schedule text, whatever its name",
+    help: "FILE is a schedule text, whatever it holds",
     form: Form::Flag,
 };
 
 const IMAGE: ArgumentText = ArgumentText {
     name: "image",
-    help: "FILE is a schedule image, whatever its name",
+    help: "FILE is a schedule image, whatever it holds",
     form: Form::Flag,
 };
 
+/// The word that `--explain` means, if it has none, and the other one.
+const ALWAYS: &str = "always";
+
+const NEVER: &str = "never";
+
+/// `CommandWords` takes this out of a command line, wherever it stands: here it is for the help, and refuses other words.
 const EXPLAIN: ArgumentText = ArgumentText {
     name: "explain",
-    help: "says of each fault what is wrong, what is wanted and what is meant, as at a terminal",
-    form: Form::Flag,
+    help: "says of each fault what is wrong, what is wanted and what is meant, as at a terminal; =never only names it",
+    form: Form::Choice(ALWAYS, &[ALWAYS, NEVER]),
 };
 
 const LEVEL: ArgumentText = ArgumentText {
@@ -201,13 +209,23 @@ it prints
             help: "prints the run as a log for hek history, in place of its trace",
             form: Form::Flag,
         },
-        ArgumentText {
-            name: "auto",
-            help: "runs only the reads and writes of FILE, and begins and ends each transaction by itself",
-            form: Form::Flag,
-        },
+        AUTO,
+        LEVEL,
         JSON,
     ],
+};
+
+const AUTO: ArgumentText = ArgumentText {
+    name: "auto",
+    help: "runs only the reads and writes of FILE, and begins and ends each transaction by itself",
+    form: Form::Flag,
+};
+
+/// `--auto` of a command that takes no other steps of FILE anyway: it is there so that the words of one command serve another.
+const ALWAYS_AUTO: ArgumentText = ArgumentText {
+    name: "auto",
+    help: "as always here: only the reads and writes of FILE count, or its rows and transactions",
+    form: Form::Flag,
 };
 
 /// The word that `--why` means, if it has none.
@@ -262,6 +280,8 @@ are answered with
             help: "ends what is printed for each line with an empty line",
             form: Form::Flag,
         },
+        ALWAYS_AUTO,
+        LEVEL,
         JSON,
     ],
 };
@@ -284,6 +304,7 @@ with the number of the first event at fault, and status 1. Each transaction is j
         TEXT,
         IMAGE,
         EXPLAIN,
+        ALWAYS_AUTO,
         LEVEL,
         ArgumentText {
             name: "why",
@@ -346,6 +367,8 @@ are answered with
         TEXT,
         IMAGE,
         EXPLAIN,
+        AUTO,
+        LEVEL,
     ],
 };
 
@@ -380,6 +403,8 @@ it prints the trace of a whole run of a, from begin to end. What it prints is a 
             help: "draws by this number whose turn it is, so that a run can be repeated",
             form: Form::Number,
         },
+        ALWAYS_AUTO,
+        LEVEL,
         JSON,
     ],
 };
@@ -410,6 +435,7 @@ The verdict takes all transactions as serializable. `hek permute two.hek --order
         TEXT,
         IMAGE,
         EXPLAIN,
+        ALWAYS_AUTO,
         LEVEL,
         ArgumentText {
             name: "split",
@@ -449,7 +475,7 @@ The verdict takes all transactions as serializable. `hek permute two.hek --order
         },
         ArgumentText {
             name: "find",
-            help: "prints the shortest beginning of an order in which this comes: `a aborted deadlock`, `waiting 1`, `not serial`",
+            help: "prints the shortest beginning of an order in which this comes: `a aborted deadlock`, `aborted`, `waiting`, `not serial`",
             form: Form::Value("TEXT"),
         },
         JSON,
@@ -466,7 +492,7 @@ const PAGE: CommandText = CommandText {
     name: "page",
     about: "Writes a schedule's run as a page for a browser",
     example: r"Example:
-  hek page first.hek > first.html
+  hek page first.hek -o first.html
 The page shows each step with its reply, and the versions, waits and lock words at each position. It needs no network and no other file. Comments of a schedule text are shown: those above its first line at the start, those above a step at that step. A line `#? ..` above a step is a question, which is asked where replies are guessed. A page has at most 2000 steps; of a longer schedule --from and --to say which.",
     arguments: &[
         FILE,
@@ -478,6 +504,11 @@ The page shows each step with its reply, and the versions, waits and lock words 
             name: "auto",
             help: "shows only the reads and writes of FILE, and begins and ends each transaction by itself",
             form: Form::Flag,
+        },
+        ArgumentText {
+            name: "output",
+            help: "writes the page to a file; - is standard output, also where that is a terminal",
+            form: Form::Output,
         },
         ArgumentText {
             name: "from",
@@ -548,7 +579,7 @@ it prints
   not serial: write skew (G2-item)
     a read x = 1, which b overwrote with 0    a before b
     b read y = 1, which a overwrote with 0    b before a
-The status is 0 if there is an order, 1 if there is none, and 3 if the search ended without an answer."#,
+The status is 0 if there is an order, 1 if there is none, 3 if that is not known or there is nothing to judge, and 4 after a fault of the log."#,
     arguments: &[
         ArgumentText {
             name: "FILE",
@@ -569,7 +600,7 @@ The status is 0 if there is an order, 1 if there is none, and 3 if the search en
         },
         ArgumentText {
             name: "order-out",
-            help: "writes the order that was found, a line for each transaction",
+            help: "writes the order that was found, a line for each transaction; - is standard output, after the verdict",
             form: Form::Value("OUT"),
         },
         ArgumentText {
@@ -645,7 +676,9 @@ prints the word and the waits that are left:
   hek dis first.img
 make the image of a schedule's text, and print it as text again
   hek check first.img trace.txt
-says whether a trace over it is serial",
+says whether a trace over it is serial
+
+`--explain`, anywhere among the words, or HEK_EXPLAIN=always in the environment explains each fault, as at a terminal; `--explain=never` and HEK_EXPLAIN=never only name it.",
         )
         .subcommand_required(true)
         .subcommands(commands)
@@ -666,7 +699,9 @@ fn command<'a>(alloc: Global, text: &CommandText) -> Result<Command<'a>, AllocEr
     let mut arguments = Vec::new(alloc);
     for argument in text.arguments {
         let rivals = rivals_of(text.name, argument.name);
-        arguments.push(argument_of(alloc, argument).conflicts_with_all(rivals)?)?;
+        let needs = needs_of(text.name, argument.name);
+        let made = argument_of(alloc, argument).conflicts_with_all(rivals)?;
+        arguments.push(made.requires_all(needs)?)?;
     }
     Command::new(alloc, text.name)
         .about(text.about)
@@ -684,8 +719,18 @@ fn rivals_of(command: &str, name: &str) -> &'static [&'static str] {
         ("run", "history") => &["state", "state-at", "why", "changes", "json"],
         ("page", "orders") => &["from", "to", "auto"],
         ("page", "levels") => &["from", "to", "auto", "level", "orders"],
+        ("permute", "jobs") => &["each", "levels", "order", "find"],
         ("word", "clock" | "txns" | "readers") => &["changes"],
         (_, "image") => &["text"],
+        _ => &[],
+    }
+}
+
+/// The arguments of a command without which this one does nothing.
+fn needs_of(command: &str, name: &str) -> &'static [&'static str] {
+    match (command, name) {
+        ("permute", "jobs") => &["part"],
+        ("page", "split" | "grain" | "limit") => &["orders"],
         _ => &[],
     }
 }
@@ -707,5 +752,6 @@ fn argument_of<'a>(alloc: Global, text: &ArgumentText) -> Arg<'a> {
             .require_equals(true)
             .default_missing_value(first)
             .value_parser(words),
+        Form::Output => argument.short('o').long(text.name).value_name("OUT"),
     }
 }

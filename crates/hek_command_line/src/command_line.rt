@@ -1,28 +1,27 @@
 //! The command line: its words, and what the program does for them.
 use crate::arguments::{RULES, meant_command, read_words};
+use crate::convert::{asm, dis, release, word};
 use crate::disk::{Disk, LateFile, open};
-use crate::explain::explained;
+use crate::explain::finish;
+use crate::explaining::{CommandWords, Explaining};
 use crate::kept::{Kept, KeptDisk, KeptReader};
 use crate::log::history;
-use crate::options::{count_from, form_of, level_of, number_of, printing_of, step_of, text, texts};
+use crate::options::{count_from, form_of, level_of, number_of, printing_of, step_of, text};
 use crate::output::NotedOutput;
 use crate::permute::{permute_alone, permute_jobs};
-use crate::schedule::{schedule_file, schedule_text};
+use crate::refused::{OUTPUT, refuse_page, refuse_same};
+use crate::schedule::{schedule_file, schedule_to_run};
 use crate::typed::TypedReader;
 use crate::words::advise_sign;
 use clap::error::ErrorKind as ClapKind;
 use clap::{ArgMatches, Error};
 use hek_check_command::{Asked, check_command, note_nothing, told_command};
-use hek_convert_command::{
-    Bounds, asm_command, changes_command, dis_command, release_command, word_command,
-};
 use hek_debug_command::{CommandFile, Manner, debug_command, debug_session, explained_command};
 use hek_history_command::run_log_command;
 use hek_page_command::{
     Extent, Heading, MOST_NODES, Making, Part, explorer_command, levels_command, made_file,
     page_command,
 };
-use hek_permute_command::auto_file;
 use hek_report::{HekFault, INPUT, Printing, ScheduleFile, read_text, report};
 use hek_rules::Level;
 use hek_run_command::{Driving, Steps, drive_command, run_command, state_command, steps_command};
@@ -36,25 +35,24 @@ use std::io::{ErrorKind, IsTerminal, Read, Write};
 use std::sync::Wait;
 use std::thread::Threads;
 
-/// The name of standard output, where a file is written.
-const OUTPUT: &str = "-";
-
 /// Does what the program's arguments ask for, with the files of `disk` and the threads of `system`. Reads `input` for
 /// the argument `-`, writes to `out` and `faults`, and answers the exit status: 0; 1 after a fault; 2 for a bad command
-/// line.
+/// line; and, of a command that answers yes or no, 1 for no, 3 if that isn't known, and 4 after a fault.
 pub fn program<
     R: Env + Alloc<A = Global>,
     T: Threads + Wait + Sync,
     D: Disk,
     I: Read + IsTerminal + Drop,
-    W: Write,
+    W: Write + IsTerminal,
     E: Write + IsTerminal,
 >(rt: &R, system: &T, disk: &D, input: I, out: &mut W, faults: &mut E) -> u8 {
+    let explaining = Explaining::by_environment(rt);
     match words_of(rt) {
         Ok(words) => answer_in_threads(
             system,
             rt.alloc(),
             words.as_slice(),
+            explaining,
             disk,
             input,
             out,
@@ -78,89 +76,74 @@ fn fault_of<'a>(kind: ErrorKind) -> HekFault<'a> {
     }
 }
 
-/// Does what these words ask for, the program's name first, without threads: no worker can be started.
-pub fn answer<S: AsStr, D: Disk, I: Read + IsTerminal + Drop, W: Write, E: Write + IsTerminal>(
-    alloc: Global,
-    words: &[S],
-    disk: &D,
-    input: I,
-    out: &mut W,
-    faults: &mut E,
-) -> u8 {
-    let mut out = NotedOutput::new(out);
-    let ran = match read_words(alloc, words) {
-        Ok(matches) => follow(alloc, &matches, disk, input, &mut out, faults),
-        Err(error) => refused(alloc, &error, words, &mut out, faults),
-    };
-    status_of(ran, &out, faults)
-}
-
-/// Does what these words ask for, and explains its fault where that is wanted.
-fn follow<'a, D: Disk, I: Read + IsTerminal + Drop, W: Write, E: Write + IsTerminal>(
-    alloc: Global,
-    matches: &ArgMatches<'a>,
-    disk: &D,
-    input: I,
-    out: &mut W,
-    faults: &mut E,
-) -> Result<u8, HekFault<'a>> {
-    let kept = Kept::new(alloc, matches, faults.is_terminal());
-    let disk = KeptDisk::new(disk, &kept);
-    let mut input = Some(KeptReader::new(input, INPUT, &kept));
-    let ran = run(alloc, matches, &disk, &mut input, out, faults);
-    explained(alloc, ran, matches, &kept, faults)
-}
-
-/// Answers the words of a command line, with the threads of a system.
+/// Answers the words of a command line, the program's name first, with the threads of a system.
 pub fn answer_in_threads<
     T: Threads + Wait + Sync,
     S: AsStr,
     D: Disk,
     I: Read + IsTerminal + Drop,
-    W: Write,
+    W: Write + IsTerminal,
     E: Write + IsTerminal,
->(system: &T, alloc: Global, words: &[S], disk: &D, input: I, out: &mut W, faults: &mut E) -> u8 {
-    let mut out = NotedOutput::new(out);
-    let ran = match read_words(alloc, words) {
-        Ok(matches) => follow_in_threads(system, alloc, &matches, disk, input, &mut out, faults),
-        Err(error) => refused(alloc, &error, words, &mut out, faults),
+>(
+    system: &T,
+    alloc: Global,
+    words: &[S],
+    explaining: Explaining,
+    disk: &D,
+    input: I,
+    out: &mut W,
+    faults: &mut E,
+) -> u8 {
+    let words = match CommandWords::of(alloc, words, explaining) {
+        Ok(words) => words,
+        Err(_) => return report(HekFault::NoMemory, faults),
     };
-    status_of(ran, &out, faults)
+    let explains = words.explaining.is_wanted(faults.is_terminal());
+    let words = words.words.as_slice();
+    let mut out = NotedOutput::new(out);
+    match read_words(alloc, words) {
+        Ok(matches) => {
+            let kept = Kept::new(alloc, &matches, explains);
+            let disk = KeptDisk::new(disk, &kept);
+            let mut input = Some(KeptReader::new(input, INPUT, &kept));
+            let ran = follow(
+                system, alloc, &matches, explains, &disk, &mut input, &mut out, faults,
+            );
+            finish(alloc, ran, &matches, &kept, &out, faults)
+        }
+        Err(error) => {
+            let ran = refused(alloc, &error, words, explains, &mut out, faults);
+            status_of(ran, &out, faults)
+        }
+    }
 }
 
-/// As `follow`, with the threads of a system.
-fn follow_in_threads<
+/// Does what these words ask for.
+fn follow<
     'a,
     T: Threads + Wait + Sync,
     D: Disk,
     I: Read + IsTerminal + Drop,
-    W: Write,
+    W: Write + IsTerminal,
     E: Write + IsTerminal,
 >(
     system: &T,
     alloc: Global,
     matches: &ArgMatches<'a>,
+    explains: bool,
     disk: &D,
-    input: I,
+    input: &mut Option<I>,
     out: &mut W,
     faults: &mut E,
 ) -> Result<u8, HekFault<'a>> {
-    let kept = Kept::new(alloc, matches, faults.is_terminal());
-    let disk = KeptDisk::new(disk, &kept);
-    let mut input = Some(KeptReader::new(input, INPUT, &kept));
-    let ran = match matches.subcommand() {
-        Some(("threads", found)) => {
-            threads(system, alloc, found, &disk, &mut input, out, faults)
-        }
-        Some(("permute", found)) => {
-            permute_jobs(system, alloc, found, &disk, &mut input, out, faults)
-        }
-        _ => run(alloc, matches, &disk, &mut input, out, faults),
-    };
-    explained(alloc, ran, matches, &kept, faults)
+    match matches.subcommand() {
+        Some(("threads", found)) => threads(system, alloc, found, disk, input, out, faults),
+        Some(("permute", found)) => permute_jobs(system, alloc, found, disk, input, out, faults),
+        _ => run(alloc, matches, explains, disk, input, out, faults),
+    }
 }
 
-/// The exit status after a command, whose fault is reported. That its output's reader has left is no fault.
+/// The exit status of words that name no command. That the output's reader has left is no fault.
 fn status_of<W: Write, E: Write>(
     ran: Result<u8, HekFault<'_>>,
     out: &NotedOutput<'_, W>,
@@ -174,15 +157,18 @@ fn status_of<W: Write, E: Write>(
 }
 
 /// What comes of words that the parser of the command line refuses, help among them.
-fn refused<'a, S: AsStr, W: Write, E: Write + IsTerminal>(
+fn refused<'a, W: Write, E: Write>(
     alloc: Global,
     error: &Error,
-    words: &[S],
+    words: &[&str],
+    explains: bool,
     out: &mut W,
     faults: &mut E,
 ) -> Result<u8, HekFault<'a>> {
     let refused = refuse(error, out, faults);
-    suggest(alloc, error, words, faults);
+    if explains {
+        suggest(alloc, error, words, faults);
+    }
     refused
 }
 
@@ -205,31 +191,26 @@ fn refuse<'a, W: Write, E: Write>(
     }
 }
 
-/// At a terminal or with `--explain`, names the command that a mistyped one means, or says that a number has a sign.
-fn suggest<S: AsStr, E: Write + IsTerminal>(
-    alloc: Global,
-    error: &Error,
-    words: &[S],
-    faults: &mut E,
-) {
-    let explains = faults.is_terminal() || words.iter().any(|word| word.as_str() == "--explain");
-    if explains && error.kind() == ClapKind::UnknownArgument {
+/// Names the command that a mistyped one means, or says that a number has a sign.
+fn suggest<E: Write>(alloc: Global, error: &Error, words: &[&str], faults: &mut E) {
+    if error.kind() == ClapKind::UnknownArgument {
         advise_sign(words, faults);
     }
-    if error.kind() != ClapKind::InvalidSubcommand || !explains {
+    if error.kind() != ClapKind::InvalidSubcommand {
         return;
     }
     if let Some(word) = words.get(1) {
-        if let Some(name) = meant_command(alloc, word.as_str()) {
+        if let Some(name) = meant_command(alloc, word) {
             let _ = writeln!(faults, "  | did you mean `{name}`?");
         }
     }
 }
 
 /// Answers a command without threads. `input` is standard input, until a command reads it.
-fn run<'a, D: Disk, I: Read + IsTerminal + Drop, W: Write, E: Write + IsTerminal>(
+fn run<'a, D: Disk, I: Read + IsTerminal + Drop, W: Write + IsTerminal, E: Write + IsTerminal>(
     alloc: Global,
     matches: &ArgMatches<'a>,
+    explains: bool,
     disk: &D,
     input: &mut Option<I>,
     out: &mut W,
@@ -238,16 +219,24 @@ fn run<'a, D: Disk, I: Read + IsTerminal + Drop, W: Write, E: Write + IsTerminal
     match matches.subcommand() {
         Some(("release", found)) => release(found, out),
         Some(("word", found)) => word(alloc, found, disk, input, out),
-        Some(("asm", found)) => asm(alloc, found, disk, input, out),
+        Some(("asm", found)) => asm(alloc, found, disk, input, out, faults),
         Some(("dis", found)) => dis(alloc, found, disk, input, out),
         Some(("run", found)) => run_schedule(alloc, found, disk, input, out),
+        Some(("debug", found)) => debug(alloc, found, explains, disk, input, out, faults),
+        Some(("history", found)) => history(alloc, found, explains, disk, input, out, faults),
         Some((name, found)) => run_noting(alloc, name, found, disk, input, out, faults),
         None => Err(HekFault::BadArgument),
     }
 }
 
 /// Answers a command that writes to `faults` too.
-fn run_noting<'a, D: Disk, I: Read + IsTerminal + Drop, W: Write, E: Write + IsTerminal>(
+fn run_noting<
+    'a,
+    D: Disk,
+    I: Read + IsTerminal + Drop,
+    W: Write + IsTerminal,
+    E: Write + IsTerminal,
+>(
     alloc: Global,
     name: &str,
     found: &ArgMatches<'a>,
@@ -258,67 +247,12 @@ fn run_noting<'a, D: Disk, I: Read + IsTerminal + Drop, W: Write, E: Write + IsT
 ) -> Result<u8, HekFault<'a>> {
     match name {
         "drive" => drive(alloc, found, disk, input, out, faults),
-        "debug" => debug(alloc, found, disk, input, out, faults),
         "check" => check(alloc, found, disk, input, out, faults),
-        "history" => history(alloc, found, disk, input, out, faults),
         "permute" => permute_alone(alloc, found, disk, input, out, faults),
         "page" => page(alloc, found, disk, input, out, faults),
         "threads" => Err(HekFault::NoWorker),
         _ => Err(HekFault::BadArgument),
     }
-}
-
-fn release<'a, W: Write>(found: &ArgMatches<'a>, out: &mut W) -> Result<u8, HekFault<'a>> {
-    let word = text(found, "WORD")?;
-    let waits = text(found, "WAITS")?;
-    release_command(word, waits, out)
-}
-
-fn word<'a, D: Disk, I: Read + Drop, W: Write>(
-    alloc: Global,
-    found: &ArgMatches<'a>,
-    disk: &D,
-    input: &mut Option<I>,
-    out: &mut W,
-) -> Result<u8, HekFault<'a>> {
-    let words = texts(found, "WORD")?;
-    let input = open(disk, input, INPUT)?;
-    if found.get_flag("changes") {
-        return changes_command(alloc, words, input, out);
-    }
-    let bounds = Bounds {
-        clock: number_of(found, "clock")?,
-        txns: number_of(found, "txns")?,
-        readers: number_of(found, "readers")?,
-    };
-    word_command(alloc, words, bounds, input, out)
-}
-
-fn asm<'a, D: Disk, I: Read + Drop, W: Write>(
-    alloc: Global,
-    found: &ArgMatches<'a>,
-    disk: &D,
-    input: &mut Option<I>,
-    out: &mut W,
-) -> Result<u8, HekFault<'a>> {
-    let name = text(found, "FILE")?;
-    let image = text(found, "OUT")?;
-    let bytes = schedule_text(alloc, open(disk, input, name)?, name)?;
-    if image == OUTPUT {
-        return asm_command(alloc, bytes.as_slice(), out);
-    }
-    asm_command(alloc, bytes.as_slice(), &mut LateFile::new(disk, image))
-}
-
-fn dis<'a, D: Disk, I: Read + Drop, W: Write>(
-    alloc: Global,
-    found: &ArgMatches<'a>,
-    disk: &D,
-    input: &mut Option<I>,
-    out: &mut W,
-) -> Result<u8, HekFault<'a>> {
-    let file = schedule_file(alloc, found, disk, input)?;
-    dis_command(alloc, file, out)
 }
 
 fn run_schedule<'a, D: Disk, I: Read + Drop, W: Write>(
@@ -335,12 +269,7 @@ fn run_schedule<'a, D: Disk, I: Read + Drop, W: Write>(
         state: limit.is_some() || found.get_flag("state"),
         printing: printing_of(found),
     };
-    let file = schedule_file(alloc, found, disk, input)?;
-    let file = if found.get_flag("auto") {
-        auto_file(alloc, file)?
-    } else {
-        file
-    };
+    let file = schedule_to_run(alloc, found, disk, input)?;
     if found.get_flag("history") {
         return run_log_command(alloc, file, out);
     }
@@ -393,7 +322,7 @@ fn drive<'a, D: Disk, I: Read + IsTerminal + Drop, W: Write, E: Write>(
         printing,
     };
     let is_typed = is_typed(input);
-    let file = schedule_file(alloc, found, disk, input)?;
+    let file = schedule_to_run(alloc, found, disk, input)?;
     let events = open(disk, input, INPUT)?;
     let events = TypedReader::new(events, is_typed, faults);
     drive_command(alloc, file, events, driving, out)
@@ -407,9 +336,10 @@ fn is_typed<I: IsTerminal>(input: &Option<I>) -> bool {
     }
 }
 
-fn debug<'a, D: Disk, I: Read + IsTerminal + Drop, W: Write, E: Write + IsTerminal>(
+fn debug<'a, D: Disk, I: Read + IsTerminal + Drop, W: Write, E: Write>(
     alloc: Global,
     found: &ArgMatches<'a>,
+    explains: bool,
     disk: &D,
     input: &mut Option<I>,
     out: &mut W,
@@ -417,9 +347,9 @@ fn debug<'a, D: Disk, I: Read + IsTerminal + Drop, W: Write, E: Write + IsTermin
 ) -> Result<u8, HekFault<'a>> {
     let manner = Manner {
         prompts: is_typed(input),
-        explains: faults.is_terminal() || found.get_flag("explain"),
+        explains,
     };
-    let file = schedule_file(alloc, found, disk, input)?;
+    let file = schedule_to_run(alloc, found, disk, input)?;
     match found.get_str("COMMANDS") {
         Some(name) => {
             let commands = read_text(alloc, open(disk, input, name)?, name)?;
@@ -449,7 +379,33 @@ fn debug_file<'a, R: Read + Drop, W: Write, E: Write>(
     }
 }
 
-fn page<'a, D: Disk, I: Read + Drop, W: Write, E: Write>(
+/// Answers `page`: the page goes to standard output, or with `-o` to a file.
+fn page<'a, D: Disk, I: Read + Drop, W: Write + IsTerminal, E: Write>(
+    alloc: Global,
+    found: &ArgMatches<'a>,
+    disk: &D,
+    input: &mut Option<I>,
+    out: &mut W,
+    faults: &mut E,
+) -> Result<u8, HekFault<'a>> {
+    let name = text(found, "FILE")?;
+    match found.get_str("output") {
+        Some(page) if page != OUTPUT => {
+            if refuse_same(disk, name, page, faults) {
+                return Ok(2);
+            }
+            let mut file = LateFile::new(disk, page);
+            let ran = write_page(alloc, found, disk, input, &mut file, faults);
+            let is_whole = matches!(ran, Ok(0));
+            file.settle(is_whole, ran)
+        }
+        None if refuse_page(out, faults) => Ok(2),
+        _ => write_page(alloc, found, disk, input, out, faults),
+    }
+}
+
+/// Writes the page that the words ask for.
+fn write_page<'a, D: Disk, I: Read + Drop, W: Write, E: Write>(
     alloc: Global,
     found: &ArgMatches<'a>,
     disk: &D,
@@ -528,9 +484,7 @@ fn check_trace<'a, R: Read + Drop, W: Write, E: Write + IsTerminal>(
         printing: printing_of(found),
     };
     let status = judge_trace(alloc, asked, file, trace, out)?;
-    if asked.summary || (!asked.all && faults.is_terminal()) {
-        note_nothing(alloc, trace, faults);
-    }
+    note_nothing(alloc, trace, faults);
     Ok(status)
 }
 
@@ -566,7 +520,7 @@ fn threads<'a, T: Threads + Wait + Sync, D: Disk, I: Read + Drop, W: Write, E: W
         None => None,
         Some(text) => Some(count_from(text, 1)?),
     };
-    let file = schedule_file(alloc, found, disk, input)?;
+    let file = schedule_to_run(alloc, found, disk, input)?;
     run_in_threads(
         system,
         alloc,

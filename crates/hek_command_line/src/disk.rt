@@ -3,9 +3,8 @@ ghost use Rattle.std.specs.Prelude.{IfErr};
 ghost use Rattle.hek_report.specs.Files.{ReadFails};
 
 use hek_report::{HekFault, INPUT, read_fault};
+use std::io;
 use std::io::{Read, Write};
-use std::rt::Files;
-use std::{fs, io};
 
 /// Opens files by their names.
 pub trait Disk {
@@ -16,35 +15,17 @@ pub trait Disk {
     /// Opens an existing file to read it.
     fn open(&self, name: &str) -> io::Result<Self::Reader>;
 
-    /// Opens a file to write it, made or emptied first.
+    /// Begins a file that is to have this name.
     fn create(&self, name: &str) -> io::Result<Self::Writer>;
-}
 
-/// The files of a system.
-#[derive(Clone, Copy)]
-pub struct SystemDisk<'a, R: Files> {
-    system: &'a R,
-}
+    /// Gives a file that is whole its name, in place of the one that had it.
+    fn keep(&self, file: Self::Writer) -> io::Result<()>;
 
-impl<'a, R: Files> SystemDisk<'a, R> {
-    /// The files of this system.
-    pub fn new(system: &'a R) -> SystemDisk<'a, R> {
-        SystemDisk { system }
-    }
-}
+    /// Forgets a file that was begun.
+    fn discard(&self, file: Self::Writer);
 
-impl<R: Files> Disk for SystemDisk<'_, R> {
-    type Reader = R::File;
-
-    type Writer = R::File;
-
-    fn open(&self, name: &str) -> io::Result<R::File> {
-        fs::open(self.system, name)
-    }
-
-    fn create(&self, name: &str) -> io::Result<R::File> {
-        fs::create(self.system, name)
-    }
+    /// Whether two names are those of one file.
+    fn is_same(&self, first: &str, second: &str) -> bool;
 }
 
 /// What a file is read from.
@@ -83,7 +64,7 @@ pub fn open<'a, I: Read + Drop, D: Disk>(
     }
 }
 
-/// A file that is made or emptied at its first write, and not before.
+/// A file that is begun at its first write, and not before. It gets its name when it is kept.
 #[derive(Drop)]
 pub struct LateFile<'a, D: Disk> {
     disk: &'a D,
@@ -92,7 +73,7 @@ pub struct LateFile<'a, D: Disk> {
 }
 
 impl<'a, D: Disk> LateFile<'a, D> {
-    /// A file with this name that isn't made yet.
+    /// A file with this name that isn't begun yet.
     pub fn new(disk: &'a D, name: &'a str) -> LateFile<'a, D> {
         LateFile {
             disk,
@@ -100,6 +81,36 @@ impl<'a, D: Disk> LateFile<'a, D> {
             file: None,
         }
     }
+
+    /// Keeps the file if a command wrote what it should, an empty one if nothing was written; otherwise leaves what was
+    /// there. Answers what came of the command.
+    pub fn settle<'f>(
+        self,
+        is_whole: bool,
+        ran: Result<u8, HekFault<'f>>,
+    ) -> Result<u8, HekFault<'f>> {
+        let LateFile { disk, name, file } = self;
+        if !is_whole {
+            if let Some(file) = file {
+                disk.discard(file);
+            }
+            return ran;
+        }
+        let kept = match file {
+            Some(file) => disk.keep(file),
+            None => keep_empty(disk, name),
+        };
+        match kept {
+            Ok(()) => ran,
+            Err(_) => Err(HekFault::CannotWrite),
+        }
+    }
+}
+
+/// Makes an empty file.
+fn keep_empty<D: Disk>(disk: &D, name: &str) -> io::Result<()> {
+    let file = disk.create(name)?;
+    disk.keep(file)
 }
 
 impl<D: Disk> Write for LateFile<'_, D> {

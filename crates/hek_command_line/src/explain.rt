@@ -3,6 +3,10 @@
 use crate::advice::advice_of;
 use crate::kept::Kept;
 use crate::notes::note;
+use crate::opening::BYTE_ORDER_MARK;
+use crate::output::NotedOutput;
+use crate::reasons::{why_not_read, why_not_written};
+use crate::sought::advise_sought;
 use crate::words::advise_words;
 use clap::ArgMatches;
 use hek_diagnostics::{explain_bytes, explain_image, explain_text, explain_trace};
@@ -10,37 +14,41 @@ use hek_image::LoadFault;
 use hek_report::{HekFault, INPUT, ScheduleFile, report, schedule_in};
 use hek_rules::Schedule;
 use std::alloc::Global;
-use std::io::{Cursor, Write};
+use std::io::{Cursor, ErrorKind, Write};
 use std::str;
 
-/// The byte order mark, which a schedule text may begin with.
-const BYTE_ORDER_MARK: &[u8] = b"\xEF\xBB\xBF";
-
-/// What came of a command. If faults are explained, its fault is reported here, and explained.
-pub fn explained<'a, E: Write>(
+/// The exit status after a command, whose fault is reported, and explained where that is wanted. That its output's reader has
+/// left is no fault.
+pub fn finish<W: Write, E: Write>(
     alloc: Global,
-    ran: Result<u8, HekFault<'a>>,
+    ran: Result<u8, HekFault<'_>>,
     matches: &ArgMatches<'_>,
     kept: &Kept<'_>,
+    out: &NotedOutput<'_, W>,
     faults: &mut E,
-) -> Result<u8, HekFault<'a>> {
-    if !kept.explains {
-        return ran;
-    }
+) -> u8 {
     match ran {
-        Err(HekFault::CannotWrite) => ran,
+        Ok(status) => {
+            if kept.explains && status == 0 {
+                note_of(alloc, matches, kept, faults);
+            }
+            status
+        }
+        Err(HekFault::CannotWrite) if out.has_lost_reader() => 0,
         Err(fault) => {
             let status = report(fault, faults);
-            explain(alloc, fault, matches, kept, faults);
-            Ok(status)
-        }
-        Ok(0) => {
-            if let Some((command, found)) = matches.subcommand() {
-                note(alloc, command, found, kept, faults);
+            if kept.explains {
+                explain(alloc, fault, matches, kept, out.failure(), faults);
             }
-            Ok(0)
+            kept.status_after(status)
         }
-        Ok(status) => Ok(status),
+    }
+}
+
+/// Notes what comes to nothing in a command that had no fault.
+fn note_of<E: Write>(alloc: Global, matches: &ArgMatches<'_>, kept: &Kept<'_>, faults: &mut E) {
+    if let Some((command, found)) = matches.subcommand() {
+        note(alloc, command, found, kept, faults);
     }
 }
 
@@ -50,10 +58,11 @@ fn explain<E: Write>(
     fault: HekFault<'_>,
     matches: &ArgMatches<'_>,
     kept: &Kept<'_>,
+    failure: Option<ErrorKind>,
     faults: &mut E,
 ) {
     match fault {
-        HekFault::BadArgument => advise(alloc, matches, faults),
+        HekFault::BadArgument => advise(alloc, matches, kept, faults),
         HekFault::Line { line, kind } => {
             let bytes = kept.file_bytes(alloc);
             let name = kept.file.unwrap_or("");
@@ -65,19 +74,38 @@ fn explain<E: Write>(
         HekFault::Image(fault) => image(alloc, fault, kept, faults),
         HekFault::TraceLine(line) => trace(alloc, line, kept, faults),
         HekFault::NotText => not_text(alloc, kept, faults),
-        HekFault::CannotRead(INPUT) => input_twice(kept, faults),
+        HekFault::CannotRead(name) if name == INPUT && kept.is_input_twice() => {
+            let _ = writeln!(
+                faults,
+                "  | `-` is given twice, and standard input can be read once"
+            );
+        }
+        HekFault::CannotRead(name) => why_not_read(name, kept, faults),
+        HekFault::CannotWrite => {
+            if let Some((_, found)) = matches.subcommand() {
+                why_not_written(failure, found, kept, faults);
+            }
+        }
         _ => {}
     }
 }
 
 /// Says what is wrong with an argument.
-fn advise<E: Write>(alloc: Global, matches: &ArgMatches<'_>, faults: &mut E) {
-    if let Some((command, found)) = matches.subcommand() {
-        if let Some(advice) = advice_of(alloc, command, found) {
+fn advise<E: Write>(alloc: Global, matches: &ArgMatches<'_>, kept: &Kept<'_>, faults: &mut E) {
+    let Some((command, found)) = matches.subcommand() else {
+        return;
+    };
+    match (advice_of(alloc, command, found), found.get_str("find")) {
+        (Some(advice), _) => {
             let _ = write!(faults, "{advice}");
         }
-        advise_words(command, found, faults);
+        (None, Some(text)) => {
+            let schedule = schedule_of(alloc, kept.file_bytes(alloc));
+            advise_sought(alloc, text, schedule.as_ref(), faults);
+        }
+        (None, None) => {}
     }
+    advise_words(command, found, faults);
 }
 
 /// The bytes of a schedule text, without a byte order mark.
@@ -134,15 +162,5 @@ fn not_text<E: Write>(alloc: Global, kept: &Kept<'_>, faults: &mut E) {
     if let Some(name) = kept.file {
         let found = explain_bytes(name, bytes.as_slice());
         let _ = write!(faults, "{found}");
-    }
-}
-
-/// Says that standard input can be read once, if the words name it twice.
-fn input_twice<E: Write>(kept: &Kept<'_>, faults: &mut E) {
-    if kept.file == Some(INPUT) && kept.other == Some(INPUT) {
-        let _ = writeln!(
-            faults,
-            "  | `-` is given twice, and standard input can be read once"
-        );
     }
 }

@@ -1,34 +1,45 @@
 //! Files and an input whose bytes are kept while a command reads them, so that a fault of them can be explained.
 use crate::disk::Disk;
 use clap::ArgMatches;
+use hek_report::INPUT;
 use std::alloc::Global;
-use std::cell::RefCell;
+use std::cell::{Cell, RefCell};
 use std::io;
-use std::io::{IsTerminal, Read};
+use std::io::{ErrorKind, IsTerminal, Read, Write};
 
-/// The bytes of FILE, and of TRACE or COMMANDS, as far as a command has read them.
+/// The bytes of FILE, and of TRACE or COMMANDS, as far as a command has read them, and why a file could not be read or
+/// written.
 #[derive(Drop)]
 pub struct Kept<'a> {
     /// Whether a fault is explained. Otherwise no bytes are kept.
     pub explains: bool,
+    /// Whether the command answers yes or no by its status.
+    pub answers: bool,
     pub file: Option<&'a str>,
     pub other: Option<&'a str>,
     file_bytes: RefCell<Vec<u8>>,
     other_bytes: RefCell<Vec<u8>>,
+    /// A log is read line by line, so its bytes are not kept.
+    is_log: bool,
+    failure: Failure,
 }
 
 impl<'a> Kept<'a> {
-    /// Keeps what the command of these words reads, if standard error is a terminal or the words have `--explain`.
-    pub fn new(alloc: Global, matches: &ArgMatches<'a>, is_terminal: bool) -> Kept<'a> {
+    /// Keeps what the command of these words reads, if its faults are explained.
+    pub fn new(alloc: Global, matches: &ArgMatches<'a>, explains: bool) -> Kept<'a> {
         let mut kept = Kept {
-            explains: is_terminal,
+            explains,
+            answers: false,
             file: None,
             other: None,
             file_bytes: RefCell::new(Vec::new(alloc)),
             other_bytes: RefCell::new(Vec::new(alloc)),
+            is_log: false,
+            failure: Failure::new(),
         };
         if let Some((command, found)) = matches.subcommand() {
-            kept.explains = is_terminal || found.get_flag("explain");
+            kept.answers = is_question(command, found);
+            kept.is_log = command == "history";
             kept.file = found.get_str("FILE");
             kept.other = match command {
                 "check" => found.get_str("TRACE"),
@@ -39,9 +50,27 @@ impl<'a> Kept<'a> {
         kept
     }
 
+    /// Why a file could not be read or written, if one could not.
+    pub fn failure(&self) -> Option<ErrorKind> {
+        self.failure.kind()
+    }
+
+    /// Whether the words name standard input twice, which can be read once.
+    pub fn is_input_twice(&self) -> bool {
+        self.file == Some(INPUT) && self.other == Some(INPUT)
+    }
+
+    /// The exit status after a fault: 4 in place of 1, where 1 is the answer "no".
+    pub fn status_after(&self, status: u8) -> u8 {
+        if self.answers && status == 1 {
+            return AT_FAULT;
+        }
+        status
+    }
+
     /// Where the bytes of a file are kept.
     fn cell_of(&self, name: &str) -> Option<&RefCell<Vec<u8>>> {
-        if !self.explains {
+        if !self.explains || self.is_log {
             return None;
         }
         if self.other == Some(name) {
@@ -64,6 +93,45 @@ impl<'a> Kept<'a> {
     }
 }
 
+/// Why a file could not be read or written, if one could not.
+#[derive(Drop)]
+struct Failure {
+    kind: Cell<Option<ErrorKind>>,
+}
+
+impl Failure {
+    /// None yet.
+    fn new() -> Failure {
+        Failure {
+            kind: Cell::new(None),
+        }
+    }
+
+    fn kind(&self) -> Option<ErrorKind> {
+        self.kind.get()
+    }
+
+    /// Notes an error.
+    fn note(&self, error: io::Error) -> io::Error {
+        self.kind.set(Some(error.kind()));
+        error
+    }
+}
+
+/// The exit status of a fault, where a command answers yes or no.
+const AT_FAULT: u8 = 4;
+
+/// Whether a command answers yes or no by its status, 0 or 1. The statuses of the other commands are those of the formats
+/// that are fixed.
+fn is_question(command: &str, found: &ArgMatches<'_>) -> bool {
+    match command {
+        "history" => true,
+        "permute" => found.get_str("find").is_some(),
+        "word" => found.get_flag("changes"),
+        _ => false,
+    }
+}
+
 /// Takes the bytes out.
 fn taken(alloc: Global, cell: &RefCell<Vec<u8>>) -> Vec<u8> {
     match cell.try_replace(Vec::new(alloc)) {
@@ -77,13 +145,17 @@ fn taken(alloc: Global, cell: &RefCell<Vec<u8>>) -> Vec<u8> {
 pub struct KeptReader<'k, R: Read + Drop> {
     reader: R,
     cell: Option<&'k RefCell<Vec<u8>>>,
+    failure: &'k Failure,
 }
 
 impl<'k, R: Read + Drop> KeptReader<'k, R> {
     /// A reader whose bytes are kept as those of the file of this name.
     pub fn new(reader: R, name: &str, kept: &'k Kept<'_>) -> KeptReader<'k, R> {
-        let cell = kept.cell_of(name);
-        KeptReader { reader, cell }
+        KeptReader {
+            reader,
+            cell: kept.cell_of(name),
+            failure: &kept.failure,
+        }
     }
 
     /// Keeps bytes. Once memory runs out none are kept.
@@ -106,7 +178,10 @@ impl<'k, R: Read + Drop> KeptReader<'k, R> {
 
 impl<R: Read + Drop> Read for KeptReader<'_, R> {
     fn read(&mut self, buf: &mut [u8]) -> io::Result<usize> {
-        let count = self.reader.read(buf)?;
+        let count = match self.reader.read(buf) {
+            Ok(count) => count,
+            Err(error) => return Err(self.failure.note(error)),
+        };
         let count = count.min(buf.len());
         self.keep(&buf[..count]);
         Ok(count)
@@ -116,6 +191,29 @@ impl<R: Read + Drop> Read for KeptReader<'_, R> {
 impl<R: Read + IsTerminal + Drop> IsTerminal for KeptReader<'_, R> {
     fn is_terminal(&self) -> bool {
         self.reader.is_terminal()
+    }
+}
+
+/// A writer whose failure is noted.
+#[derive(Drop)]
+pub struct KeptWriter<'k, W: Write + Drop> {
+    writer: W,
+    failure: &'k Failure,
+}
+
+impl<W: Write + Drop> Write for KeptWriter<'_, W> {
+    fn write(&mut self, buf: &[u8]) -> io::Result<usize> {
+        match self.writer.write(buf) {
+            Ok(count) => Ok(count),
+            Err(error) => Err(self.failure.note(error)),
+        }
+    }
+
+    fn flush(&mut self) -> io::Result<()> {
+        match self.writer.flush() {
+            Ok(()) => Ok(()),
+            Err(error) => Err(self.failure.note(error)),
+        }
     }
 }
 
@@ -136,14 +234,35 @@ impl<'k, 'a, D: Disk> KeptDisk<'k, 'a, D> {
 impl<'k, D: Disk> Disk for KeptDisk<'k, '_, D> {
     type Reader = KeptReader<'k, D::Reader>;
 
-    type Writer = D::Writer;
+    type Writer = KeptWriter<'k, D::Writer>;
 
     fn open(&self, name: &str) -> io::Result<KeptReader<'k, D::Reader>> {
-        let reader = self.disk.open(name)?;
-        Ok(KeptReader::new(reader, name, self.kept))
+        match self.disk.open(name) {
+            Ok(reader) => Ok(KeptReader::new(reader, name, self.kept)),
+            Err(error) => Err(self.kept.failure.note(error)),
+        }
     }
 
-    fn create(&self, name: &str) -> io::Result<D::Writer> {
-        self.disk.create(name)
+    fn create(&self, name: &str) -> io::Result<KeptWriter<'k, D::Writer>> {
+        let failure = &self.kept.failure;
+        match self.disk.create(name) {
+            Ok(writer) => Ok(KeptWriter { writer, failure }),
+            Err(error) => Err(failure.note(error)),
+        }
+    }
+
+    fn keep(&self, file: KeptWriter<'k, D::Writer>) -> io::Result<()> {
+        match self.disk.keep(file.writer) {
+            Ok(()) => Ok(()),
+            Err(error) => Err(self.kept.failure.note(error)),
+        }
+    }
+
+    fn discard(&self, file: KeptWriter<'k, D::Writer>) {
+        self.disk.discard(file.writer);
+    }
+
+    fn is_same(&self, first: &str, second: &str) -> bool {
+        self.disk.is_same(first, second)
     }
 }

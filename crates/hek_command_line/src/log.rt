@@ -1,35 +1,81 @@
 //! The words of `hek history`, and the files that it reads and writes.
 use crate::disk::{Disk, LateFile, open};
 use crate::options::printing_of;
+use crate::refused::{OUTPUT, refuse_same};
 use clap::ArgMatches;
 use hek_history::{Level, Order};
 use hek_history_command::{Choice, history_command};
-use hek_report::HekFault;
+use hek_report::{HekFault, send};
 use std::alloc::Global;
 use std::io::{Read, Write};
 
-/// Answers `history`.
+/// Answers `history`. The order that is asked for goes to a file, or to standard output after the verdict.
 pub fn history<'a, D: Disk, I: Read + Drop, W: Write, E: Write>(
     alloc: Global,
     found: &ArgMatches<'a>,
+    explains: bool,
     disk: &D,
     input: &mut Option<I>,
     out: &mut W,
     faults: &mut E,
 ) -> Result<u8, HekFault<'a>> {
-    let choice = Choice {
+    let choice = choice_of(found, explains)?;
+    let name = found.get_str("FILE").ok_or(HekFault::BadArgument)?;
+    match found.get_str("order-out") {
+        None => {
+            let mut none: Option<Vec<u8>> = None;
+            judge(alloc, name, choice, disk, input, &mut none, out, faults)
+        }
+        Some(OUTPUT) => {
+            let mut order = Some(Vec::new(alloc));
+            let status = judge(alloc, name, choice, disk, input, &mut order, out, faults)?;
+            if let Some(mut lines) = order {
+                send(&mut lines, out)?;
+            }
+            Ok(status)
+        }
+        Some(order) => {
+            if refuse_same(disk, name, order, faults) {
+                return Ok(2);
+            }
+            let mut file = Some(LateFile::new(disk, order));
+            let ran = judge(alloc, name, choice, disk, input, &mut file, out, faults);
+            match file {
+                Some(file) => file.settle(is_verdict(&ran), ran),
+                None => ran,
+            }
+        }
+    }
+}
+
+/// Judges the log of this name.
+fn judge<'a, D: Disk, I: Read + Drop, O: Write, W: Write, E: Write>(
+    alloc: Global,
+    name: &'a str,
+    choice: Choice,
+    disk: &D,
+    input: &mut Option<I>,
+    order: &mut Option<O>,
+    out: &mut W,
+    faults: &mut E,
+) -> Result<u8, HekFault<'a>> {
+    let file = open(disk, input, name)?;
+    history_command(alloc, file, name, choice, order, out, faults)
+}
+
+/// Whether a log was judged: there is an order, there is none, or neither is known.
+fn is_verdict(ran: &Result<u8, HekFault<'_>>) -> bool {
+    matches!(ran, Ok(0 | 1 | 3))
+}
+
+fn choice_of<'a>(found: &ArgMatches<'a>, explains: bool) -> Result<Choice, HekFault<'a>> {
+    Ok(Choice {
         level: level_of(found)?,
         order: order_of(found)?,
         all: found.get_flag("all"),
+        explains,
         printing: printing_of(found),
-    };
-    let name = found.get_str("FILE").ok_or(HekFault::BadArgument)?;
-    let mut order_out = match found.get_str("order-out") {
-        Some(name) => Some(LateFile::new(disk, name)),
-        None => None,
-    };
-    let file = open(disk, input, name)?;
-    history_command(alloc, file, name, choice, &mut order_out, out, faults)
+    })
 }
 
 /// The level of a log's transactions that the words give with `--level`.

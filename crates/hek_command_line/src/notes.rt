@@ -2,7 +2,7 @@
 use crate::explain::schedule_of;
 use crate::kept::Kept;
 use clap::ArgMatches;
-use hek_rules::{next_line, next_word, number};
+use hek_rules::{EventKind, Schedule, next_line, next_word, number};
 use std::alloc::Global;
 use std::io::Write;
 
@@ -15,9 +15,21 @@ pub fn note<E: Write>(
     faults: &mut E,
 ) {
     match command {
-        "debug" => note_breaks(alloc, kept, faults),
-        "page" => note_part(found, faults),
+        "debug" if !found.get_flag("auto") => note_breaks(alloc, kept, faults),
+        "page" => note_page(alloc, found, kept, faults),
         _ => {}
+    }
+}
+
+/// A page without steps, and one of a schedule in which no transaction begins.
+fn note_page<E: Write>(alloc: Global, found: &ArgMatches<'_>, kept: &Kept<'_>, faults: &mut E) {
+    note_part(found, faults);
+    if found.get_flag("auto") || found.get_flag("orders") {
+        return;
+    }
+    if let Some(schedule) = schedule_of(alloc, kept.file_bytes(alloc)) {
+        note_past(found, schedule.steps().len() as u64, faults);
+        note_unbegun(&schedule, faults);
     }
 }
 
@@ -33,6 +45,35 @@ fn note_part<E: Write>(found: &ArgMatches<'_>, faults: &mut E) {
             );
         }
     }
+}
+
+/// A page without steps, since it begins after the last one.
+fn note_past<E: Write>(found: &ArgMatches<'_>, steps: u64, faults: &mut E) {
+    match step_of(found, "from") {
+        Some(from) if from > steps => {
+            let _ = writeln!(
+                faults,
+                "hek: note: the page shows no step: --from {from} is past the last, {steps}"
+            );
+        }
+        _ => {}
+    }
+}
+
+/// A schedule with steps, in which no transaction begins.
+fn note_unbegun<E: Write>(schedule: &Schedule, faults: &mut E) {
+    if schedule.steps().is_empty() {
+        return;
+    }
+    for step in schedule.steps() {
+        if matches!(step.kind(), EventKind::Begin) {
+            return;
+        }
+    }
+    let _ = writeln!(
+        faults,
+        "hek: note: no transaction begins: --auto begins and ends them"
+    );
 }
 
 /// The number of an option, if the words have it.

@@ -1,21 +1,21 @@
-//! FILE, the schedule of a command: a text or an image, by its name, its first bytes and the words of the command line.
+//! FILE, the schedule of a command: a text or an image, by its name, its first word and the words of the command line.
 ghost use Rattle.std.specs.Prelude.{IfErr};
 ghost use Rattle.hek_report.specs.Files.{ReadFails};
 
 use crate::disk::{Disk, InputFile, open};
+use crate::opening::{BYTE_ORDER_MARK, Opening, read_opening};
+use crate::options::level_of;
 use clap::ArgMatches;
+use hek_permute_command::{auto_file, level_file};
 use hek_report::{HekFault, ScheduleFile, buffered, read_fault, read_text};
 use std::alloc::Global;
 use std::io::{BufReader, Chain, Cursor, Read};
 
-/// How the name of a schedule text ends.
+/// How the name of a schedule text ends, in small or in capital letters.
 const TEXT_NAME: &str = ".hek";
 
 /// The bytes that each image begins with.
 const IMAGE_MARK: &[u8] = b"HKSC";
-
-/// The byte order mark, with which an editor may begin a text.
-const BYTE_ORDER_MARK: &[u8] = b"\xEF\xBB\xBF";
 
 /// How many bytes at the front of a file are looked at.
 const FRONT: u64 = 4;
@@ -23,17 +23,20 @@ const FRONT: u64 = 4;
 /// A file from its first byte, also where its front has been looked at.
 type FromFront<I, F> = Chain<Cursor<Vec<u8>>, InputFile<I, F>>;
 
-/// What a file holds.
+/// What the words and the name say that a file holds.
 #[derive(Clone, Copy, PartialEq, Eq)]
 enum Holds {
     Text,
     Image,
     /// A text, unless its first bytes are those of an image.
     MaybeText,
+    /// A text if its first word is one of a schedule text, otherwise an image.
+    Unsaid,
 }
 
-/// The schedule file that the words name. `--text` and `--image` say what it holds; without them it is a text if its name ends
-/// in `.hek` and its first bytes aren't those of an image, otherwise an image.
+/// The schedule file that the words name. `--text` and `--image` say what it holds. Without them it is a text if its name
+/// ends in `.hek` and its first bytes aren't those of an image, or if its first word is one with which a line of a schedule
+/// text begins; otherwise it is an image.
 pub fn schedule_file<'a, D: Disk, I: Read + Drop>(
     alloc: Global,
     found: &ArgMatches<'a>,
@@ -41,19 +44,55 @@ pub fn schedule_file<'a, D: Disk, I: Read + Drop>(
     input: &mut Option<I>,
 ) -> Result<ScheduleFile<BufReader<FromFront<I, D::Reader>>>, HekFault<'a>> {
     let name = found.get_str("FILE").ok_or(HekFault::BadArgument)?;
-    let holds = holds_of(found, name);
     let mut file = open(disk, input, name)?;
-    let front = match holds {
-        Holds::Image => Vec::new(alloc),
-        Holds::Text | Holds::MaybeText => front_of(alloc, &mut file, name)?,
+    let (front, is_text) = match holds_of(found, name) {
+        Holds::Image => (Vec::new(alloc), false),
+        Holds::Text => (front_of(alloc, &mut file, name)?, true),
+        Holds::MaybeText => {
+            let front = front_of(alloc, &mut file, name)?;
+            let is_image = front.starts_with(IMAGE_MARK);
+            (front, !is_image)
+        }
+        Holds::Unsaid => {
+            let Opening { front, is_text } = read_opening(alloc, &mut file, name)?;
+            (front, is_text)
+        }
     };
-    let is_image = holds == Holds::Image
-        || (holds == Holds::MaybeText && front.starts_with(IMAGE_MARK));
-    let file = from_front(front, file);
-    if is_image {
-        Ok(ScheduleFile::Image(buffered(alloc, file)?))
+    file_of(alloc, is_text, from_front(front, file), name)
+}
+
+/// The schedule file that the words name, as they ask for it to run: with `--level` all transactions at one level, with
+/// `--auto` with its reads and writes alone, and the steps that begin and end each transaction.
+pub fn schedule_to_run<'a, D: Disk, I: Read + Drop>(
+    alloc: Global,
+    found: &ArgMatches<'a>,
+    disk: &D,
+    input: &mut Option<I>,
+) -> Result<ScheduleFile<BufReader<FromFront<I, D::Reader>>>, HekFault<'a>> {
+    let level = level_of(found)?;
+    let file = schedule_file(alloc, found, disk, input)?;
+    let file = match level {
+        Some(level) => level_file(alloc, file, level)?,
+        None => file,
+    };
+    if found.get_flag("auto") {
+        auto_file(alloc, file)
     } else {
+        Ok(file)
+    }
+}
+
+/// The text or the image that a file holds.
+fn file_of<'a, R: Read + Drop>(
+    alloc: Global,
+    is_text: bool,
+    file: R,
+    name: &'a str,
+) -> Result<ScheduleFile<BufReader<R>>, HekFault<'a>> {
+    if is_text {
         Ok(ScheduleFile::Text(read_text(alloc, file, name)?))
+    } else {
+        Ok(ScheduleFile::Image(buffered(alloc, file)?))
     }
 }
 
@@ -73,10 +112,21 @@ pub fn schedule_text<'a, R: Read + Drop>(
 fn holds_of(found: &ArgMatches<'_>, name: &str) -> Holds {
     if found.get_flag("text") {
         Holds::Text
-    } else if !found.get_flag("image") && name.ends_with(TEXT_NAME) {
+    } else if found.get_flag("image") {
+        Holds::Image
+    } else if is_text_name(name) {
         Holds::MaybeText
     } else {
-        Holds::Image
+        Holds::Unsaid
+    }
+}
+
+/// Whether a name is one of a schedule text.
+fn is_text_name(name: &str) -> bool {
+    let bytes = name.as_bytes();
+    match bytes.split_last_chunk::<4>() {
+        Some((_, end)) => end.eq_ignore_ascii_case(TEXT_NAME.as_bytes()),
+        None => false,
     }
 }
 

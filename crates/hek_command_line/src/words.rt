@@ -4,7 +4,6 @@ use clap::ArgMatches;
 use hek_convert_command::hex_number;
 use hek_report::INPUT;
 use hek_rules::number;
-use std::convert::AsStr;
 use std::io::Write;
 
 /// Says what is wrong with the first bad word or the waits of `release` and `word`.
@@ -60,14 +59,13 @@ fn put_carets<E: Write>(text: &str, faults: &mut E) {
 }
 
 /// Says that a number of an option has a sign, if one has.
-pub fn advise_sign<S: AsStr, E: Write>(words: &[S], faults: &mut E) {
+pub fn advise_sign<E: Write>(words: &[&str], faults: &mut E) {
     for (place, word) in words.iter().enumerate() {
-        let Some(name) = word.as_str().strip_prefix("--") else {
+        let Some(name) = word.strip_prefix("--") else {
             continue;
         };
-        let value = match words.get(place.saturating_add(1)) {
-            Some(value) => value.as_str(),
-            None => return,
+        let Some(value) = words.get(place.saturating_add(1)) else {
+            return;
         };
         if is_count(name) && has_sign(value) {
             let _ = writeln!(

@@ -19,10 +19,12 @@ enum Answer {
 }
 
 impl Answer {
-    fn is_lawful(&self) -> bool {
+    /// The exit status that a line with this answer asks for: 0 for a change, 1 for none, 4 for a line of another form.
+    fn status(&self) -> u8 {
         match self {
-            Answer::NotAChange | Answer::Broken(_) | Answer::Changes(None, None) => false,
-            Answer::Changes(_, _) => true,
+            Answer::NotAChange => 4,
+            Answer::Broken(_) | Answer::Changes(None, None) => 1,
+            Answer::Changes(_, _) => 0,
         }
     }
 }
@@ -42,7 +44,8 @@ impl fmt::Display for Answer {
 }
 
 /// Reads exchanges of words, one on each line of the input, and writes for each the change that leads from the old word to
-/// the new one. `words` must be `-` alone. Answers the exit status: 1 if a line is of no change.
+/// the new one. `words` must be `-` alone. Answers the exit status: 0 if each line is of a change, 4 if one has another
+/// form, otherwise 1.
 pub fn changes_command<'a, I: Read + Drop, W: Write>(
     alloc: Global,
     words: &[&'a str],
@@ -54,37 +57,37 @@ pub fn changes_command<'a, I: Read + Drop, W: Write>(
     }
     let mut lines = buffered(alloc, input)?;
     let mut chain = Chain::new(alloc);
-    let are_lawful = answer_lines(alloc, &mut lines, &mut chain, out)?;
-    Ok(if are_lawful { 0 } else { 1 })
+    answer_lines(alloc, &mut lines, &mut chain, out)
 }
 
-/// Writes what each line that isn't blank comes to. Answers whether every one is of a change.
+/// Writes what each line that isn't blank comes to. Answers the greatest status that one asks for.
 fn answer_lines<'a, B: BufRead, W: Write>(
     alloc: Global,
     lines: &mut B,
     chain: &mut Chain,
     out: &mut W,
-) -> Result<bool, HekFault<'a>> {
-    let mut are_lawful = true;
+) -> Result<u8, HekFault<'a>> {
+    let mut status = 0;
     for line in lines.lines(alloc) {
         let line = line.map_err(|error| line_fault(error.kind()))?;
         let text = line.as_str().trim();
         if !text.is_empty() {
-            are_lawful &= answer_line(text, chain, out)?;
+            let asked = answer_line(text, chain, out)?;
+            status = asked.max(status);
         }
     }
-    Ok(are_lawful)
+    Ok(status)
 }
 
-/// Writes what a line comes to. Answers whether it is of a change.
+/// Writes what a line comes to. Answers the status that it asks for.
 fn answer_line<'a, W: Write>(
     line: &str,
     chain: &mut Chain,
     out: &mut W,
-) -> Result<bool, HekFault<'a>> {
+) -> Result<u8, HekFault<'a>> {
     let answer = answer_to(line, chain)?;
     match writeln!(out, "{answer}") {
-        Ok(()) => Ok(answer.is_lawful()),
+        Ok(()) => Ok(answer.status()),
         Err(_) => Err(HekFault::CannotWrite),
     }
 }

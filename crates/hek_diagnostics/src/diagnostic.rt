@@ -5,7 +5,7 @@ use crate::finding::{Finding, Hint, Wanted};
 use crate::names::meant_name;
 use crate::nearest::nearest_word;
 use crate::numbers::meant_number;
-use crate::place::{Place, count_chars};
+use crate::place::Place;
 use crate::sentence::Sentence;
 use crate::token::meant_pair;
 use crate::vocabulary::Vocabulary;
@@ -133,70 +133,10 @@ fn near_bytes(alloc: Global, found: &[u8], words: &[&[u8]]) -> Result<Option<Str
     near(alloc, found, texts.as_slice())
 }
 
-/// The most characters of a line that are shown, and of those before the place.
-const ROOM: usize = 160;
-
-const BEFORE: usize = 60;
-
 /// The most words that are listed.
 const LISTED: usize = 20;
 
 impl Diagnostic<'_> {
-    /// The text of the line, without a carriage return at its end.
-    fn line(&self) -> &str {
-        let line = match self.place.line {
-            [line @ .., b'\r'] => line,
-            line => line,
-        };
-        match str::from_utf8(line) {
-            Ok(text) => text,
-            Err(_) => "",
-        }
-    }
-
-    /// How many characters of a long line are left out before those that are shown.
-    fn skipped(&self) -> usize {
-        if count_chars(self.place.line) <= ROOM {
-            return 0;
-        }
-        self.place.column().saturating_sub(BEFORE)
-    }
-
-    fn write_line<W: fmt::Write>(&self, f: &mut Formatter<W>) -> fmt::Result {
-        let skipped = self.skipped();
-        f.write_str(if skipped > 0 { "  | .." } else { "  | " })?;
-        for (place, mark) in self.line().chars().enumerate() {
-            if place >= skipped.saturating_add(ROOM) {
-                f.write_str("..")?;
-                break;
-            }
-            if place >= skipped {
-                f.write_char(pictured(mark))?;
-            }
-        }
-        f.write_str("\n")
-    }
-
-    /// Writes blanks up to the place, with the tabs of the line, and a caret for each character there.
-    fn write_carets<W: fmt::Write>(&self, f: &mut Formatter<W>) -> fmt::Result {
-        let skipped = self.skipped();
-        let before = self.place.column().saturating_sub(1);
-        f.write_str(if skipped > 0 { "  |   " } else { "  | " })?;
-        for (place, mark) in self.line().chars().enumerate() {
-            if place >= before {
-                break;
-            }
-            if place >= skipped {
-                f.write_char(if mark == '\t' { '\t' } else { ' ' })?;
-            }
-        }
-        let most = skipped.saturating_add(ROOM).saturating_sub(before);
-        for _ in 0..self.place.length().min(most).max(1) {
-            f.write_char('^')?;
-        }
-        Ok(())
-    }
-
     fn write_wanted<W: fmt::Write>(&self, f: &mut Formatter<W>) -> fmt::Result {
         match &self.wanted {
             Listed::Form(form) if form.is_empty() => Ok(()),
@@ -233,24 +173,14 @@ fn write_words<W: fmt::Write>(f: &mut Formatter<W>, words: &[&[u8]]) -> fmt::Res
     Ok(())
 }
 
-/// A character as a line shows it: a control character other than a tab is its picture.
-fn pictured(mark: char) -> char {
-    if mark == '\t' || !mark.is_control() {
-        return mark;
-    }
-    char::from_u32(0x2400 | (u32::from(mark) & 0x7F)).unwrap_or('?')
-}
-
 impl Display for Diagnostic<'_> {
     fn fmt<W: fmt::Write>(&self, f: &mut Formatter<W>) -> fmt::Result {
         let name = self.name;
         let number = self.place.number;
         let column = self.place.column();
         let sentence = self.sentence;
-        writeln!(f, "  {name}:{number}:{column}")?;
-        self.write_line(f)?;
-        self.write_carets(f)?;
-        writeln!(f, " {sentence}")?;
+        let excerpt = self.place.excerpt();
+        writeln!(f, "  {name}:{number}:{column}\n{excerpt} {sentence}")?;
         self.write_wanted(f)?;
         self.write_meant(f)
     }

@@ -125,9 +125,9 @@ fn no_magic<'t>(image: &'t [u8]) -> Problem<'t> {
     let wanted = "48 4B 53 43, which is HKSC";
     let front = part(image, 0, 64);
     if front.iter().all(|byte| is_text(*byte)) {
-        let form = "this looks like a schedule text, and an image is wanted without `--text`";
+        let form = "this looks like a schedule text, and `--image` wants an image";
         let mut problem = Problem::new(form, wanted);
-        problem.instead = "put `--text` before the file";
+        problem.instead = "leave out `--image`";
         return problem;
     }
     Problem::new(

@@ -4,6 +4,7 @@
 
 mod choice;
 mod diagnostic;
+mod excerpt;
 mod finding;
 mod foreign;
 mod image;
@@ -25,6 +26,7 @@ mod vocabulary;
 mod words;
 
 pub use diagnostic::{Diagnostic, Diagnostics};
+pub use excerpt::Excerpt;
 pub use image::{ImageDiagnostic, explain_image};
 pub use looks::{OtherBytes, explain_bytes};
 pub use nearest::nearest_word;

@@ -2,6 +2,7 @@
 ghost use Rattle.std.specs.Prelude.{◌≡◌, ◌+◌, ◌≤◌, false, length, drop};
 ghost use Rattle.hek_diagnostics.specs.Places.{IsLine, lines_and_end};
 
+use crate::excerpt::Excerpt;
 use hek_rules::next_line;
 
 /// Characters of a line of a text, from the byte `start` of the line up to `end`. Where these are equal, something is
@@ -48,6 +49,15 @@ impl<'t> Place<'t> {
     /// How many characters there are.
     pub fn length(&self) -> usize {
         count_chars(self.found())
+    }
+
+    /// The line with carets under the characters.
+    pub(crate) fn excerpt(&self) -> Excerpt<'t> {
+        Excerpt {
+            line: self.line,
+            start: self.start,
+            end: self.end,
+        }
     }
 }
 

@@ -87,6 +87,8 @@ pub(crate) struct Case {
     pub(crate) commands: Vec<Command>,
     pub(crate) input: Vec<u8>,
     pub(crate) is_terminal: bool,
+    /// A variable of the environment, `NAME=VALUE`, or nothing.
+    pub(crate) variable: String,
     pub(crate) outputs: Outputs,
     pub(crate) without: String,
     pub(crate) wants: Vec<Want>,
@@ -107,6 +109,7 @@ impl Case {
             commands: Vec::new(alloc),
             input: Vec::new(alloc),
             is_terminal: false,
+            variable: String::new(alloc),
             outputs: Outputs::files(),
             without: String::new(alloc),
             wants: Vec::new(alloc),
@@ -135,6 +138,7 @@ impl Case {
             "1" => 1,
             "2" => 2,
             "3" => 3,
+            "4" => 4,
             _ => return Err(unreadable()),
         };
         let words = Words::read(self.alloc, text)?;
@@ -191,6 +195,8 @@ impl Case {
         match name {
             "terminal" => self.is_terminal = true,
             "screen" => self.outputs.is_terminal = true,
+            "display" => self.outputs.is_display = true,
+            "env" => self.variable.push_str(text)?,
             "room" => self.outputs.room = Room::of(number_of(text)? as usize),
             "leaves" => self.outputs.room = Room::pipe(number_of(text)? as usize),
             "without" => self.without.push_str(text)?,

@@ -112,6 +112,18 @@ impl<'a> Disk for MemoryDisk<'a> {
             Err(_) => Err(refused()),
         }
     }
+
+    fn keep(&self, _file: Made<'a>) -> io::Result<()> {
+        Ok(())
+    }
+
+    fn discard(&self, file: Made<'a>) {
+        let _ = file.file.try_replace(None);
+    }
+
+    fn is_same(&self, first: &str, second: &str) -> bool {
+        first == second
+    }
 }
 
 /// Bytes of an input, which may be a terminal.

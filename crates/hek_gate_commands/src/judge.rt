@@ -6,6 +6,7 @@ use crate::parts::{under, without};
 use crate::run::{Ran, bytes_of, printed, run, text_of};
 use crate::system::System;
 use crate::tally::Tally;
+use crate::words::Given;
 use std::io;
 use std::io::ErrorKind;
 
@@ -35,7 +36,11 @@ fn ran_for<R: System>(scene: &Scene<'_, R>, case: &Case, command: &Command) -> i
         bytes: case.input.as_slice(),
         is_terminal: case.is_terminal,
     };
-    let mut ran = run(scene.rt, scene.files, &command.words, input, case.outputs);
+    let given = Given {
+        words: &command.words,
+        variable: case.variable.as_str(),
+    };
+    let mut ran = run(scene.rt, scene.files, &given, input, case.outputs);
     if !case.without.is_empty() {
         let out = text_of(ran.out.as_slice());
         ran.out = without(scene.rt.alloc(), out, case.without.as_str())?;
@@ -201,12 +206,13 @@ fn is_made(ran: &Ran, name: &str, bytes: &[u8]) -> bool {
     }
 }
 
-/// Whether a file was made of the name and the length that the words say.
+/// Whether a file was made of the name and the length that the words say, or of the name alone that they say.
 fn is_kept(ran: &Ran, words: &str) -> bool {
     match (&ran.made, words.split_once(' ')) {
         (Some(file), Some((name, length))) => {
             file.name.as_str() == name && is_number(length, file.bytes.len())
         }
-        _ => false,
+        (Some(file), None) => file.name.as_str() == words,
+        (None, _) => false,
     }
 }

@@ -2,7 +2,7 @@
 use crate::content::unreadable;
 use crate::disk::{Input, MemoryDisk, Output, Room, SceneFile};
 use crate::system::System;
-use crate::words::Words;
+use crate::words::{Given, Words};
 use hek_command_line::program;
 use std::cell::RefCell;
 use std::{io, str};
@@ -21,10 +21,11 @@ pub(crate) fn text_of(bytes: &[u8]) -> &str {
     str::from_utf8(bytes).unwrap_or("(not text)")
 }
 
-/// Where a command line writes: how much room its output has, and whether standard error is a terminal.
+/// Where a command line writes: how much room its output has, and whether it and standard error are terminals.
 #[derive(Clone, Copy)]
 pub(crate) struct Outputs {
     pub(crate) room: Room,
+    pub(crate) is_display: bool,
     pub(crate) is_terminal: bool,
 }
 
@@ -33,6 +34,7 @@ impl Outputs {
     pub(crate) fn files() -> Outputs {
         Outputs {
             room: Room::of(usize::MAX),
+            is_display: false,
             is_terminal: false,
         }
     }
@@ -42,13 +44,13 @@ impl Outputs {
 pub(crate) fn run<R: System>(
     rt: &R,
     files: &[SceneFile],
-    words: &Words,
+    words: &Given<'_>,
     input: Input<'_>,
     outputs: Outputs,
 ) -> Ran {
     let made = RefCell::new(None);
     let disk = MemoryDisk::new(rt.alloc(), files, &made);
-    let mut out = Output::new(rt.alloc(), outputs.room, false);
+    let mut out = Output::new(rt.alloc(), outputs.room, outputs.is_display);
     let mut faults = Output::new(rt.alloc(), Room::of(usize::MAX), outputs.is_terminal);
     let status = program(words, rt, &disk, input, &mut out, &mut faults);
     Ran {
@@ -71,7 +73,11 @@ pub(crate) fn printed<R: System>(
         bytes: input,
         is_terminal: false,
     };
-    Ok(run(rt, files, &words, input, Outputs::files()).out)
+    let given = Given {
+        words: &words,
+        variable: "",
+    };
+    Ok(run(rt, files, &given, input, Outputs::files()).out)
 }
 
 /// The bytes of the last file of this name.

@@ -49,11 +49,18 @@ impl Words {
     }
 }
 
-impl Alloc for Words {
+/// The words of a command line, and a variable of its environment: `NAME=VALUE`, or nothing.
+#[derive(Drop)]
+pub(crate) struct Given<'a> {
+    pub(crate) words: &'a Words,
+    pub(crate) variable: &'a str,
+}
+
+impl Alloc for Given<'_> {
     type A = Global;
 
     fn alloc(&self) -> Global {
-        self.alloc
+        self.words.alloc
     }
 }
 
@@ -69,16 +76,19 @@ fn fill(buf: &mut [u8], bytes: &[u8]) -> Result<usize, FillError>
     Ok(bytes.len())
 }
 
-impl Env for Words {
+impl Env for Given<'_> {
     fn arg(&self, i: usize, buf: &mut [u8]) -> Result<usize, FillError> {
-        match self.words.get(i) {
+        match self.words.words.get(i) {
             Some(word) => fill(buf, word.as_slice()),
             None => Err(FillError::NotPresent),
         }
     }
 
-    fn var(&self, _name: &str, _buf: &mut [u8]) -> Result<usize, FillError> {
-        Err(FillError::NotPresent)
+    fn var(&self, name: &str, buf: &mut [u8]) -> Result<usize, FillError> {
+        match self.variable.split_once('=') {
+            Some((known, value)) if known == name => fill(buf, value.as_bytes()),
+            _ => Err(FillError::NotPresent),
+        }
     }
 
     fn var_at(&self, _i: usize, _buf: &mut [u8]) -> Result<usize, FillError> {

@@ -11,6 +11,8 @@ pub struct Choice {
     pub order: Option<Order>,
     /// Whether to go on after an anomaly.
     pub all: bool,
+    /// Whether faults of the log are explained.
+    pub explains: bool,
     pub printing: Printing,
 }
 
@@ -33,4 +35,14 @@ pub(crate) fn set_level(history: &mut History, level: Level) {
     for transaction in history.transactions.iter_mut() {
         transaction.level = level;
     }
+}
+
+/// Whether something of a history is judged: a transaction that has committed. Those of unknown status need not take place.
+pub(crate) fn is_judged(history: &History) -> bool {
+    for transaction in history.transactions.iter() {
+        if transaction.status == Status::Committed {
+            return true;
+        }
+    }
+    false
 }

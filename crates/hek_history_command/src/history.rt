@@ -3,14 +3,15 @@ ghost use Rattle.std.specs.Prelude.{◌≡◌, IfOk};
 ghost use Rattle.hek_history_search.specs.Verdicts.{IsVerdict};
 ghost use Rattle.hek_history_command.specs.Answers.{IsStatus};
 
-use crate::choice::{Choice, order_of, set_level};
+use crate::choice::{Choice, is_judged, order_of, set_level};
 use crate::counts::counts_of;
+use crate::explained::Explained;
 use crate::forgetting::forget_answers;
 use crate::order_lines::write_order;
 use crate::twins::have_both;
 use crate::{verdict_json, verdict_text};
 use hek_history::{History, Order, Point, Writer};
-use hek_history_log::{Log, LogFault, read_log};
+use hek_history_log::{Log, LogFault, read_log_watching};
 use hek_history_report::turn;
 use hek_history_search::{Cause, Progress, Verdict, judge};
 use hek_report::{HekFault, Lines, Printing, buffered, send};
@@ -21,6 +22,11 @@ use std::io::{Read, Write};
 /// How much the search tries before it gives up.
 const EFFORT: usize = 100_000;
 
+/// The exit status after a fault of the log, and that of a log of which nothing is known.
+const AT_FAULT: u8 = 4;
+
+const NOT_KNOWN: u8 = 3;
+
 /// What the command asks of a log.
 #[derive(Clone, Copy)]
 struct Question {
@@ -30,8 +36,8 @@ struct Question {
 }
 
 /// Reads the log in a file, and writes whether it has a serial order, with the order to `order_out` if there is one.
-/// Answers the exit status: 0 if it has one, 1 if it has none or after a fault of the log, 3 if neither is known. The
-/// line of a fault of the log goes to `faults`.
+/// Answers the exit status: 0 if it has one, 1 if it has none, 3 if neither is known or there is nothing to judge, 4 after a
+/// fault of the log. The line of the first fault goes to `faults`, and if the choice says so an explanation of each.
 pub fn history_command<'a, R: Read + Drop, W: Write, O: Write, E: Write>(
     alloc: Global,
     file: R,
@@ -42,13 +48,15 @@ pub fn history_command<'a, R: Read + Drop, W: Write, O: Write, E: Write>(
     faults: &mut E,
 ) -> Result<u8, HekFault<'a>> {
     let mut input = buffered(alloc, file)?;
-    match read_log(alloc, &mut input) {
+    let mut explained = Explained::new(alloc, name, choice.explains);
+    match read_log_watching(alloc, &mut input, &mut explained) {
         Ok(log) => answer(alloc, log, choice, order_out, out),
         Err(LogFault::NoMemory) => Err(HekFault::NoMemory),
         Err(LogFault::CannotRead) => Err(HekFault::CannotRead(name)),
         Err(fault) => {
             let _ = writeln!(faults, "hek: history: {fault}");
-            Ok(1)
+            explained.write(faults);
+            Ok(AT_FAULT)
         }
     }
 }
@@ -80,7 +88,29 @@ fn judge_log<'a, W: Write, O: Write>(
         all: choice.all,
         printing: choice.printing,
     };
+    if !is_judged(&log.history) {
+        write_nothing(alloc, question, out)?;
+        return Ok(NOT_KNOWN);
+    }
     write_verdict(alloc, log, question, order_out, out)
+}
+
+/// Writes that no transaction is judged.
+fn write_nothing<'a, W: Write>(
+    alloc: Global,
+    question: Question,
+    out: &mut W,
+) -> Result<(), HekFault<'a>> {
+    let mut lines = Vec::new(alloc);
+    match question.printing {
+        Printing::Text => verdict_text::put_nothing(&mut lines)?,
+        Printing::Json => {
+            let mut objects = Lines::after(alloc, &mut lines);
+            verdict_json::put_nothing(question.order, &mut objects);
+            objects.put_back(&mut lines)?;
+        }
+    }
+    send(&mut lines, out)
 }
 
 /// Writes the verdict on a history. The status is that of the verdict.

@@ -3,6 +3,7 @@
 
 mod choice;
 mod counts;
+mod explained;
 mod forgetting;
 mod history;
 mod order_lines;

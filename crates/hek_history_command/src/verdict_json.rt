@@ -44,3 +44,11 @@ pub(crate) fn put_unknown(order: Order, progress: Progress, out: &mut Lines) {
     out.put_text("verdict", "unknown");
     out.end_line();
 }
+
+/// The object of a history of which nothing is judged.
+pub(crate) fn put_nothing(order: Order, out: &mut Lines) {
+    out.begin_line();
+    out.put_text("order", order.word());
+    out.put_text("verdict", "nothing to judge");
+    out.end_line();
+}

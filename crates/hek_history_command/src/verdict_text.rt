@@ -29,6 +29,11 @@ pub(crate) fn put_serial(counts: Counts, lines: &mut Vec<u8>) -> Result<(), NoMe
     }
 }
 
+/// The line of a history of which nothing is judged.
+pub(crate) fn put_nothing(lines: &mut Vec<u8>) -> Result<(), NoMemory> {
+    put(writeln!(lines, "nothing to judge"))
+}
+
 /// A number of things.
 #[derive(Clone, Copy)]
 struct Counted {

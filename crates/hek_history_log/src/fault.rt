@@ -20,6 +20,11 @@ pub enum LogFault {
         column: u64,
         wanted: Wanted,
     },
+    /// The line has more than 16777216 bytes.
+    #[error("line {line}: wanted a line of at most 16777216 bytes")]
+    Long {
+        line: u64,
+    },
     /// The transaction, as it prints, is in the log before this line.
     #[error("line {line}, column {column}: wanted each transaction once, and {name} is on line {before} too")]
     Duplicate {
@@ -51,6 +56,28 @@ pub enum LogFault {
     NoMemory,
 }
 
+impl LogFault {
+    /// The line and the column of the place, if the fault has one.
+    pub fn place(&self) -> Option<(u64, u64)> {
+        match self {
+            LogFault::Json { line, column }
+            | LogFault::Wanted { line, column, .. }
+            | LogFault::Duplicate { line, column, .. } => Some((*line, *column)),
+            LogFault::Long { line }
+            | LogFault::RowTwice { line, .. }
+            | LogFault::TextKey { line, .. } => Some((*line, 1)),
+            LogFault::NoRoom(_) | LogFault::Empty | LogFault::CannotRead | LogFault::NoMemory => {
+                None
+            }
+        }
+    }
+
+    /// Whether reading ended there, so that nothing more can be said of the log.
+    pub(crate) fn is_end(&self) -> bool {
+        matches!(self, LogFault::CannotRead | LogFault::NoMemory)
+    }
+}
+
 impl From<NoMemory> for LogFault {
     fn from(_fault: NoMemory) -> LogFault {
         LogFault::NoMemory
@@ -76,6 +103,12 @@ pub enum Wanted {
     Object,
     /// Only the first line has no transaction.
     Transaction,
+    /// A member of the opening line has a known name.
+    OpeningMember,
+    /// A member of a transaction's line has a known name.
+    Member,
+    /// No member is twice in an object.
+    Once,
     Rows,
     Buckets,
     Row,
@@ -84,6 +117,10 @@ pub enum Wanted {
     Status,
     Time,
     Interval,
+    /// A transaction doesn't end before it begins.
+    EndAfterBegin,
+    /// A transaction isn't answered before it is invoked.
+    AnsweredAfterInvoked,
     Operations,
     Operation,
     Read,
@@ -95,6 +132,8 @@ pub enum Wanted {
     Range,
     /// The two ends of a range are both numbers or both texts.
     Ends,
+    /// The high end of a range isn't below the low one.
+    EndsInOrder,
     /// The opening line has the number of buckets.
     BucketCount,
     /// The scanned bucket is below the number of buckets.
@@ -104,6 +143,16 @@ pub enum Wanted {
 impl Wanted {
     fn text(self) -> &'static str {
         match self {
+            Wanted::OpeningMember => {
+                r#""txn", or on the first line "rows", "buckets", "note" or a name that begins with x- alone"#
+            }
+            Wanted::Member => {
+                r#"one of "txn", "level", "status", "begin", "end", "at", "ops", "note" or a name that begins with x-"#
+            }
+            Wanted::Once => "each member once",
+            Wanted::EndAfterBegin => r#""end" not before "begin""#,
+            Wanted::AnsweredAfterInvoked => r#""at" with ANSWERED not before INVOKED"#,
+            Wanted::EndsInOrder => "a range whose HIGH is not below its LOW",
             Wanted::Object => r#"an object, as {"txn":NAME,"ops":[..]}"#,
             Wanted::Transaction => r#""txn" on each line but the first"#,
             Wanted::Rows => r#""rows", an array of [KEY, VALUE]"#,

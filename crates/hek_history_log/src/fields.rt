@@ -14,6 +14,59 @@ const STATUSES: [(&str, Status); 3] = [
     ("unknown", Status::Unknown),
 ];
 
+/// The members of the opening line, and of a transaction's line. `note`, and a name that begins with `x-`, may stand beside
+/// them.
+pub const OPENING_MEMBERS: [&str; 3] = ["rows", "buckets", "note"];
+
+pub const MEMBERS: [&str; 8] = [
+    "txn", "level", "status", "begin", "end", "at", "ops", "note",
+];
+
+/// How the name of a member begins that a log may have beside the others.
+const OWN: &str = "x-";
+
+/// Refuses members that a line can't have, and members that are there twice.
+pub(crate) fn check_members(
+    line: LogLine<'_>,
+    members: &[(&str, Value<'_>)],
+    known: &[&str],
+    wanted: Wanted,
+) -> Result<(), LogFault> {
+    for place in 0..members.len() {
+        let name = members[place].0;
+        if is_known(name, known) {
+            if is_among(name, members, place) {
+                return Err(line.wants(Spot::Member(place), Wanted::Once));
+            }
+        } else if !name.starts_with(OWN) {
+            return Err(line.wants(Spot::Member(place), wanted));
+        }
+    }
+    Ok(())
+}
+
+fn is_known(name: &str, known: &[&str]) -> bool {
+    for it in known {
+        if *it == name {
+            return true;
+        }
+    }
+    false
+}
+
+/// Whether one of the first members has a name.
+fn is_among(name: &str, members: &[(&str, Value<'_>)], count: usize) -> bool {
+    for (place, member) in members.iter().enumerate() {
+        if place >= count {
+            return false;
+        }
+        if member.0 == name {
+            return true;
+        }
+    }
+    false
+}
+
 /// The name of a transaction.
 pub(crate) fn name_of<'a>(line: LogLine<'_>, object: &Value<'a>) -> Result<Label<'a>, LogFault> {
     match object.get("txn") {
@@ -51,7 +104,7 @@ pub(crate) fn status_of(line: LogLine<'_>, object: &Value<'_>) -> Result<Status,
 }
 
 /// A time, if it is given and not null.
-pub(crate) fn time_of(
+fn time_of(
     line: LogLine<'_>,
     object: &Value<'_>,
     name: &'static str,
@@ -76,6 +129,27 @@ fn time_in(value: &Value<'_>) -> Option<Option<u64>> {
     }
 }
 
+/// When a transaction began, and when it ended.
+pub(crate) fn times_of(
+    line: LogLine<'_>,
+    object: &Value<'_>,
+) -> Result<(Option<u64>, Option<u64>), LogFault> {
+    let begin = time_of(line, object, "begin")?;
+    let end = time_of(line, object, "end")?;
+    if are_reversed(begin, end) {
+        return Err(line.wants(Spot::Field("end"), Wanted::EndAfterBegin));
+    }
+    Ok((begin, end))
+}
+
+/// Whether the second of two times is before the first, if both are known.
+fn are_reversed(first: Option<u64>, second: Option<u64>) -> bool {
+    match (first, second) {
+        (Some(first), Some(second)) => second < first,
+        _ => false,
+    }
+}
+
 /// When a transaction was invoked, and when it was answered.
 pub(crate) fn interval_of(
     line: LogLine<'_>,
@@ -87,6 +161,9 @@ pub(crate) fn interval_of(
     if let Value::Array(items) = value {
         if let [invoked, answered] = items.as_slice() {
             if let (Some(invoked), Some(answered)) = (time_in(invoked), time_in(answered)) {
+                if are_reversed(invoked, answered) {
+                    return Err(line.wants(Spot::Field("at"), Wanted::AnsweredAfterInvoked));
+                }
                 return Ok((invoked, answered));
             }
         }

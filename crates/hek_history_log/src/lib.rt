@@ -9,6 +9,7 @@ mod log_line;
 mod logged;
 mod numbering;
 mod operations;
+mod pinpoint;
 mod reader;
 mod run;
 mod shown;
@@ -17,6 +18,7 @@ mod symbols;
 
 pub use fault::{LogFault, Wanted};
 pub use logged::Log;
-pub use reader::read_log;
+pub use pinpoint::{Mistake, Pinpoint, mistake_in};
+pub use reader::{FaultWatch, read_log, read_log_watching};
 pub use run::write_run;
 pub use shown::Label;

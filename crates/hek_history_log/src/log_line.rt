@@ -4,6 +4,9 @@ use crate::spot::{Spot, column_of};
 use hek_rules::NoMemory;
 use std::alloc::{AllocError, AllocFailed};
 
+/// The byte order mark, with which an editor may begin a text.
+const BYTE_ORDER_MARK: &[u8] = b"\xEF\xBB\xBF";
+
 /// A line that is JSON, with its number from 1.
 #[derive(Clone, Copy)]
 pub(crate) struct LogLine<'a> {
@@ -12,12 +15,15 @@ pub(crate) struct LogLine<'a> {
 }
 
 impl<'a> LogLine<'a> {
-    /// The line with a number, of these bytes without the line feed at their end.
+    /// The line with a number, of these bytes without the line feed at their end, and without a byte order mark before the
+    /// first line.
     pub(crate) fn new(number: u64, bytes: &'a [u8]) -> LogLine<'a> {
-        LogLine {
-            number,
-            bytes: bytes.strip_suffix(b"\n").unwrap_or(bytes),
-        }
+        let bytes = bytes.strip_suffix(b"\n").unwrap_or(bytes);
+        let bytes = match bytes.strip_prefix(BYTE_ORDER_MARK) {
+            Some(rest) if number == 1 => rest,
+            _ => bytes,
+        };
+        LogLine { number, bytes }
     }
 
     /// The fault that a value is not what is wanted there.

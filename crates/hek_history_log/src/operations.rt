@@ -2,6 +2,7 @@
 use crate::fault::{LogFault, Wanted};
 use crate::log_line::{LogLine, Misfit};
 use crate::numbering::Labels;
+use crate::shown::Label;
 use crate::spot::Spot;
 use crate::symbols::{Symbols, items_of};
 use hek_history::{Operation, Scope};
@@ -19,6 +20,11 @@ enum Kind {
     Scan,
     Range,
 }
+
+/// The first words of operations.
+pub const OPERATIONS: [&str; 7] = [
+    "read", "write", "insert", "update", "delete", "scan", "range",
+];
 
 const KINDS: [(&str, Kind); 7] = [
     ("read", Kind::Read),
@@ -260,9 +266,20 @@ fn range_of(
 ) -> Result<Scope, Misfit> {
     let low = symbols.key(alloc, low, Wanted::Range)?;
     let high = symbols.key(alloc, high, Wanted::Range)?;
-    if Labels::is_text(low) == Labels::is_text(high) {
-        Ok(Scope::Range(low, high))
-    } else {
-        Err(Misfit::Wanted(Wanted::Ends))
+    if Labels::is_text(low) != Labels::is_text(high) {
+        return Err(Misfit::Wanted(Wanted::Ends));
+    }
+    if is_below(symbols.keys.label(high), symbols.keys.label(low)) {
+        return Err(Misfit::Wanted(Wanted::EndsInOrder));
+    }
+    Ok(Scope::Range(low, high))
+}
+
+/// Whether a key is below another of its kind: numbers by their size, texts by their bytes.
+fn is_below(key: Label<'_>, other: Label<'_>) -> bool {
+    match (key, other) {
+        (Label::Number(key), Label::Number(other)) => key < other,
+        (Label::Text(key), Label::Text(other)) => key < other,
+        _ => false,
     }
 }

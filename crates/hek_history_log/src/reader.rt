@@ -1,6 +1,9 @@
 //! Reading a log.
 use crate::fault::{LogFault, Wanted};
-use crate::fields::{buckets_of, interval_of, level_of, name_of, read_rows, status_of, time_of};
+use crate::fields::{
+    MEMBERS, OPENING_MEMBERS, buckets_of, check_members, interval_of, level_of, name_of, read_rows,
+    status_of, times_of,
+};
 use crate::finish::finish;
 use crate::log_line::LogLine;
 use crate::logged::{Log, Names};
@@ -12,7 +15,7 @@ use hek_history::{History, Status, Transaction};
 use indexmap::IndexSet;
 use json::{Scratch, Value};
 use std::alloc::Global;
-use std::io::{BufRead, ErrorKind};
+use std::io::{BufRead, ErrorKind, Read};
 
 /// What was read so far: the log, whose keys and values have the numbers of `symbols` until its end. `seen` has the
 /// numbers of the names, and `lines` where each was read; `rows_line` is the number of the opening line, or 0.
@@ -47,45 +50,78 @@ impl Draft {
     }
 }
 
+/// Sees the faults of a log while it is read.
+pub trait FaultWatch {
+    /// Sees a fault, and the bytes of its line without the line feed. Answers whether the lines after it are read too.
+    fn see(&mut self, line: &[u8], fault: &LogFault) -> bool;
+}
+
+/// A watch that ends at the first fault.
+#[derive(Drop)]
+struct FirstFault;
+
+impl FaultWatch for FirstFault {
+    fn see(&mut self, _line: &[u8], _fault: &LogFault) -> bool {
+        false
+    }
+}
+
 /// Reads a log to its end, one line at a time. No line is kept.
 pub fn read_log<B: BufRead>(alloc: Global, input: &mut B) -> Result<Log, LogFault> {
+    read_log_watching(alloc, input, &mut FirstFault)
+}
+
+/// Reads a log as `read_log` does. The watch sees the faults of its lines, and the first one is the answer.
+pub fn read_log_watching<B: BufRead, F: FaultWatch>(
+    alloc: Global,
+    input: &mut B,
+    watch: &mut F,
+) -> Result<Log, LogFault> {
     let mut draft = Draft::new(alloc);
-    read_lines(alloc, input, &mut draft)?;
+    read_lines(alloc, input, watch, &mut draft)?;
     finish(alloc, draft)
 }
 
-fn read_lines<B: BufRead>(alloc: Global, input: &mut B, draft: &mut Draft) -> Result<(), LogFault> {
-    let mut scratch = Scratch::new(alloc);
-    let mut bytes = Vec::new(alloc);
-    add_lines(alloc, input, &mut bytes, &mut scratch, draft)
-}
-
-fn add_lines<B: BufRead>(
+fn read_lines<B: BufRead, F: FaultWatch>(
     alloc: Global,
     input: &mut B,
-    bytes: &mut Vec<u8>,
-    scratch: &mut Scratch,
+    watch: &mut F,
     draft: &mut Draft,
 ) -> Result<(), LogFault> {
+    let mut scratch = Scratch::new(alloc);
+    let mut bytes = Vec::new(alloc);
+    let mut first = None;
     for number in 1..u64::MAX {
-        read_line(input, bytes)?;
+        match read_line(input, number, &mut bytes) {
+            Ok(()) => {}
+            Err(fault) => return Err(first.unwrap_or(fault)),
+        }
         if bytes.is_empty() {
             break;
         }
-        add_line(
-            alloc,
-            LogLine::new(number, bytes.as_slice()),
-            scratch,
-            draft,
-        )?;
+        let line = LogLine::new(number, bytes.as_slice());
+        if let Err(fault) = add_line(alloc, line, &mut scratch, draft) {
+            let goes_on = !fault.is_end() && watch.see(line.bytes, &fault);
+            first = first.or(Some(fault));
+            if !goes_on {
+                break;
+            }
+        }
     }
-    Ok(())
+    match first {
+        Some(fault) => Err(fault),
+        None => Ok(()),
+    }
 }
 
+/// The most bytes that a line has.
+const MOST_BYTES: u64 = 1 << 24;
+
 /// Reads the next line in place of the last one; nothing at the end.
-fn read_line<B: BufRead>(input: &mut B, bytes: &mut Vec<u8>) -> Result<(), LogFault> {
+fn read_line<B: BufRead>(input: &mut B, number: u64, bytes: &mut Vec<u8>) -> Result<(), LogFault> {
     bytes.clear();
-    match input.read_until(b'\n', bytes) {
+    match Read::take(input, MOST_BYTES + 1).read_until(b'\n', bytes) {
+        Ok(_) if bytes.len() as u64 > MOST_BYTES => Err(LogFault::Long { line: number }),
         Ok(_) => Ok(()),
         Err(error) => Err(read_fault(error.kind())),
     }
@@ -112,16 +148,27 @@ fn add_line(
     add_object(alloc, line, &object, draft)
 }
 
+/// The members of an object, each with its name.
+fn members_of<'v, 'a>(object: &'v Value<'a>) -> &'v [(&'a str, Value<'a>)] {
+    match object {
+        Value::Object(members) => members.as_slice(),
+        _ => &[],
+    }
+}
+
 fn add_object(
     alloc: Global,
     line: LogLine<'_>,
     object: &Value<'_>,
     draft: &mut Draft,
 ) -> Result<(), LogFault> {
+    let members = members_of(object);
     if draft.is_empty() && object.get("txn").is_none() {
+        check_members(line, members, &OPENING_MEMBERS, Wanted::OpeningMember)?;
         return add_opening(alloc, line, object, draft);
     }
     let name = name_of(line, object)?;
+    check_members(line, members, &MEMBERS, Wanted::Member)?;
     let number = add_name(alloc, line, name, draft)?;
     add_transaction(alloc, line, object, number, draft)
 }
@@ -235,11 +282,14 @@ fn transaction_in(
     symbols: &mut Symbols,
 ) -> Result<Transaction, LogFault> {
     let (invoked, answered) = interval_of(line, object)?;
+    let level = level_of(line, object)?;
+    let status = status_of(line, object)?;
+    let (begin, end) = times_of(line, object)?;
     Ok(Transaction {
-        level: level_of(line, object)?,
-        status: status_of(line, object)?,
-        begin: time_of(line, object, "begin")?,
-        end: time_of(line, object, "end")?,
+        level,
+        status,
+        begin,
+        end,
         invoked,
         answered,
         operations: read_operations(alloc, line, object, lacking, symbols)?,

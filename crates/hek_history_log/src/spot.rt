@@ -1,11 +1,13 @@
 //! Where a value is in a line of JSON.
 
-/// A value in a line: the whole, a field of it, or an item of a field that is an array, by its place from 0.
+/// A value in a line: the whole, a field of it, an item of a field that is an array, by its place from 0; or the name of a
+/// member, by its place.
 #[derive(Clone, Copy, Debug, PartialEq, Eq)]
 pub(crate) enum Spot {
     Line,
     Field(&'static str),
     Item(&'static str, usize),
+    Member(usize),
 }
 
 /// The column, from 1, at which a value begins in a line that is JSON; of the whole line if there is no such value.
@@ -13,6 +15,8 @@ pub(crate) fn column_of(line: &[u8], spot: Spot) -> u64 {
     let start = skip_blanks(line, 0);
     let found = match spot {
         Spot::Line => None,
+        // The members of an object are parted as the items of an array are.
+        Spot::Member(place) => Some(item_at(line, start, place)),
         Spot::Field(name) => field_at(line, start, name.as_bytes()),
         Spot::Item(name, place) => match field_at(line, start, name.as_bytes()) {
             Some(list) => Some(item_at(line, list, place)),
@@ -52,6 +56,37 @@ fn is_key(line: &[u8], at: usize, name: &[u8]) -> bool {
     match rest.strip_prefix(name) {
         Some(rest) => rest.first() == Some(&b'"'),
         None => false,
+    }
+}
+
+/// The bytes of the value that begins at a place, without blanks after it: where they begin and end.
+pub(crate) fn value_at(line: &[u8], at: usize) -> (usize, usize) {
+    let mut end = value_end(line, at, b',');
+    for _ in at..end {
+        match line.get(end.saturating_sub(1)) {
+            Some(byte) if byte.is_ascii_whitespace() => end = end.saturating_sub(1),
+            _ => break,
+        }
+    }
+    (at, end)
+}
+
+/// The bytes of the name that begins at a place: where they begin and end.
+pub(crate) fn name_at(line: &[u8], at: usize) -> (usize, usize) {
+    let end = value_end(line, at, b':');
+    (at, end)
+}
+
+/// The bytes of an item, in the array that begins at a place, if it has so many items: where they begin and end.
+pub(crate) fn item_in(line: &[u8], list: usize, place: usize) -> Option<(usize, usize)> {
+    if line.get(list) != Some(&b'[') {
+        return None;
+    }
+    let (start, end) = value_at(line, item_at(line, list, place));
+    if start < end {
+        Some((start, end))
+    } else {
+        None
     }
 }
 

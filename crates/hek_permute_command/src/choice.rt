@@ -39,6 +39,11 @@ impl Choice<'_> {
         self.each || self.find.is_some() || many != 1
     }
 
+    /// The exit status where there are too many orders: what is looked for may come in one or in none.
+    pub(crate) fn status_unplayed(&self) -> u8 {
+        if self.find.is_some() { 3 } else { 1 }
+    }
+
     pub(crate) fn most_orders(&self) -> u64 {
         self.limit.unwrap_or(MOST_ORDERS)
     }

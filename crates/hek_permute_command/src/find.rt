@@ -1,5 +1,6 @@
 //! The shortest beginning of an order in which something comes, as a schedule.
 use crate::details::details_of;
+use crate::kinds::{Beginning as Kind, begins_replies, find_kind};
 use crate::one::{Played, fault_of, leveled};
 use crate::progress::Progress;
 use hek_asm::{TraceFault, read_trace};
@@ -18,6 +19,8 @@ use std::io::Write;
 #[derive(Drop)]
 enum Wanted {
     Reply(Sought),
+    /// Replies that begin with some words.
+    Kind(Kind),
     /// An order with this verdict.
     Verdict(Serializability),
 }
@@ -48,22 +51,41 @@ fn verdict_named(text: &str) -> Option<Serializability> {
     }
 }
 
-/// What a text asks for: a verdict, a reply, or a name and a reply.
+/// What a text asks for: a verdict; a reply or the words with which replies begin, maybe after a name.
 fn wanted_of<'a>(alloc: Global, schedule: &Schedule, text: &str) -> Result<Wanted, HekFault<'a>> {
     if let Some(verdict) = verdict_named(text) {
         return Ok(Wanted::Verdict(verdict));
     }
-    if let Some(reply) = reply_named(alloc, schedule, text)? {
-        return Ok(Wanted::Reply(Sought { who: None, reply }));
+    if let Some(wanted) = wanted_by(alloc, schedule, None, text)? {
+        return Ok(wanted);
     }
     let (name, rest) = text.split_once(' ').ok_or(HekFault::BadArgument)?;
     let who = schedule.id_of(name.as_bytes());
     if who.is_none() {
         return Err(HekFault::BadArgument);
     }
-    match reply_named(alloc, schedule, rest)? {
-        Some(reply) => Ok(Wanted::Reply(Sought { who, reply })),
+    match wanted_by(alloc, schedule, who, rest)? {
+        Some(wanted) => Ok(wanted),
         None => Err(HekFault::BadArgument),
+    }
+}
+
+/// The replies of a transaction, or of any, that a text asks for, if it is a reply or the words with which some begin.
+fn wanted_by<'a>(
+    alloc: Global,
+    schedule: &Schedule,
+    who: Option<TxnId>,
+    text: &str,
+) -> Result<Option<Wanted>, HekFault<'a>> {
+    if let Some(reply) = reply_named(alloc, schedule, text)? {
+        return Ok(Some(Wanted::Reply(Sought { who, reply })));
+    }
+    if !begins_replies(text) {
+        return Ok(None);
+    }
+    match String::from_str(alloc, text) {
+        Ok(words) => Ok(Some(Wanted::Kind(Kind { who, words }))),
+        Err(_) => Err(HekFault::NoMemory),
     }
 }
 
@@ -107,6 +129,7 @@ fn beginning_of<'a, E: Write>(
     let most = first_order(alloc, moves.as_slice(), form)?.len();
     let found = match wanted {
         Wanted::Reply(sought) => find_order(alloc, schedule, form, sought, progress),
+        Wanted::Kind(kind) => find_kind(alloc, schedule, form, kind, progress),
         Wanted::Verdict(verdict) => first_with(alloc, schedule, form, *verdict, progress),
     };
     match found {
@@ -230,7 +253,7 @@ fn found_of<'a>(
     found: Beginning,
 ) -> Result<Found, HekFault<'a>> {
     let together = match wanted {
-        Wanted::Reply(_) => None,
+        Wanted::Reply(_) | Wanted::Kind(_) => None,
         Wanted::Verdict(verdict) => {
             let order = found.moves.as_slice();
             Some(details_of(alloc, schedule, form, order, *verdict)?)
@@ -247,10 +270,13 @@ fn events_upto(alloc: Global, play: &Play, wanted: &Wanted) -> Result<Vec<Event>
     let mut events = Vec::new(alloc);
     for entry in play.history.as_slice() {
         events.push(entry.event)?;
-        if let Wanted::Reply(sought) = wanted {
-            if sought.is_of(entry) {
-                break;
-            }
+        let is_last = match wanted {
+            Wanted::Reply(sought) => sought.is_of(entry),
+            Wanted::Kind(kind) => kind.is_of(alloc, entry)?,
+            Wanted::Verdict(_) => false,
+        };
+        if is_last {
+            break;
         }
     }
     Ok(events)

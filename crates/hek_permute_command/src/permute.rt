@@ -1,19 +1,20 @@
 //! The command `permute`: plays the orders that are asked for, and writes their outcomes.
 use crate::choice::{Choice, Extent, range_of};
+use crate::each::write_each;
 use crate::find::found_in;
 use crate::one::{fault_of, leveled, one_order};
-use crate::printed::{put_found, put_levels, put_none, put_order, put_played, put_tally};
+use crate::printed::{put_found, put_levels, put_none, put_played, put_tally};
 use crate::progress::Progress;
 use hek_explore::explore;
-use hek_permute::{Form, OrderFault, Outcome, Tally, Watch, moves_of, order_count, play_all};
-use hek_report::{HekFault, Printing, ScheduleFile, schedule_in, send};
-use hek_rules::{Level, Schedule, TxnId};
+use hek_permute::{Form, OrderFault, Tally, moves_of, order_count, play_all};
+use hek_report::{HekFault, ScheduleFile, schedule_in, send};
+use hek_rules::{Level, Schedule};
 use std::alloc::Global;
 use std::io::{Read, Write};
 
 /// Plays all orders of the moves of the schedule in a file, or does what else the choice asks for, and writes the
-/// outcomes. Answers the exit status. Nothing is written before the last order is over. If there are more orders or
-/// states than the limit, `faults` says so, and the status is 1. If the choice says so, `faults` is a terminal, and has a
+/// outcomes. Answers the exit status. The line of each order is written as it is over, and else nothing before the last
+/// order is. If there are more orders or states than the limit, `faults` says so, and the status is 1. If the choice says so, `faults` is a terminal, and has a
 /// line with the number of orders that have been played, until the last is over.
 pub fn permute_command<'a, R: Read + Drop, W: Write, E: Write>(
     alloc: Global,
@@ -37,8 +38,11 @@ fn permute<'a, W: Write, E: Write>(
         return at_order(alloc, schedule, choice, names, out);
     }
     let Some(extent) = extent_of(alloc, schedule, choice, faults)? else {
-        return Ok(1);
+        return Ok(choice.status_unplayed());
     };
+    if let (true, Extent::Orders(from, to)) = (choice.each, extent) {
+        return write_each(alloc, schedule, choice, (from, to), out);
+    }
     let mut progress = Progress::new(faults, choice.progress, most_plays(choice, extent));
     let mut lines = Vec::new(alloc);
     let played = put_asked(alloc, schedule, choice, extent, &mut progress, &mut lines);
@@ -72,12 +76,13 @@ fn put_asked<'a, E: Write>(
     }
     let leveled = leveled(alloc, schedule, choice.level, schedule.steps())?;
     match extent {
-        Extent::Orders(from, to) if choice.find.is_some() || choice.each => {
-            put_orders(alloc, &leveled, choice, (from, to), progress, lines).map(Some)
-        }
-        Extent::Orders(_, _) | Extent::States(_) => {
-            put_counts(alloc, &leveled, choice, extent, progress, lines)
-        }
+        Extent::Orders(_, count) => match choice.find {
+            Some(wanted) => {
+                put_search(alloc, &leveled, choice, wanted, count, progress, lines).map(Some)
+            }
+            None => put_counts(alloc, &leveled, choice, extent, progress, lines),
+        },
+        Extent::States(_) => put_counts(alloc, &leveled, choice, extent, progress, lines),
     }
 }
 
@@ -163,22 +168,6 @@ pub(crate) fn range<'a, E: Write>(
     Ok(Some((from, to)))
 }
 
-/// The lines of a range of orders, each of which is played: what was found, or each order. Answers the exit status.
-fn put_orders<'a, E: Write>(
-    alloc: Global,
-    schedule: &Schedule,
-    choice: Choice<'_>,
-    part: (u64, u64),
-    progress: &mut Progress<'_, E>,
-    lines: &mut Vec<u8>,
-) -> Result<u8, HekFault<'a>> {
-    if let Some(wanted) = choice.find {
-        return put_search(alloc, schedule, choice, wanted, part.1, progress, lines);
-    }
-    put_each(alloc, schedule, choice, part, progress, lines)?;
-    Ok(0)
-}
-
 /// Appends the shortest beginning of an order in which a reply or a verdict comes, or that it comes in none of `count`
 /// orders. Answers the exit status: 1 for none.
 fn put_search<'a, E: Write>(
@@ -259,53 +248,6 @@ pub(crate) fn sorted<'a>(counted: Result<Tally, OrderFault>) -> Result<Tally, He
             Ok(()) => Ok(tally),
             Err(fault) => Err(fault_of(fault)),
         },
-        Err(fault) => Err(fault_of(fault)),
-    }
-}
-
-/// A watcher that gathers a line for each order.
-#[derive(Drop)]
-struct Each<'s, 'p, 'e, 'l, E: Write> {
-    alloc: Global,
-    printing: Printing,
-    schedule: &'s Schedule,
-    progress: &'p mut Progress<'e, E>,
-    lines: &'l mut Vec<u8>,
-}
-
-impl<E: Write> Watch for Each<'_, '_, '_, '_, E> {
-    fn see(&mut self, order: &[TxnId], outcome: &Outcome) -> bool {
-        self.progress.count();
-        let schedule = self.schedule;
-        put_order(
-            self.alloc,
-            self.printing,
-            schedule,
-            order,
-            outcome,
-            self.lines,
-        )
-        .is_ok()
-    }
-}
-
-fn put_each<'a, E: Write>(
-    alloc: Global,
-    schedule: &Schedule,
-    choice: Choice<'_>,
-    part: (u64, u64),
-    progress: &mut Progress<'_, E>,
-    lines: &mut Vec<u8>,
-) -> Result<(), HekFault<'a>> {
-    let mut each = Each {
-        alloc,
-        printing: choice.printing,
-        schedule,
-        progress,
-        lines,
-    };
-    match play_all(alloc, schedule, choice.form, part.0, part.1, &mut each) {
-        Ok(_) => Ok(()),
         Err(fault) => Err(fault_of(fault)),
     }
 }

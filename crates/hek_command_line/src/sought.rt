@@ -1,0 +1,179 @@
+//! Which word is wrong in what `permute --find` is to look for.
+use hek_diagnostics::nearest_word;
+use hek_report::is_named;
+use hek_rules::{Cause, NoMemory, ReplyForm, ReplyOperands, Schedule, TxnId};
+use std::alloc::Global;
+use std::io::Write;
+
+/// What is wrong with a word.
+#[derive(Clone, Copy)]
+enum Wrong {
+    /// It is no transaction and begins no reply.
+    NoBeginning,
+    /// It stands after a transaction and begins no reply.
+    NoReply,
+    /// It is no cause of an abort.
+    NoCause,
+    /// No reply goes on with it.
+    NoOther,
+    /// Nothing stands after the name of a transaction.
+    NoMore,
+}
+
+/// The place of the word that is wrong, among the words of the text.
+#[derive(Clone, Copy)]
+struct Fault {
+    place: usize,
+    wrong: Wrong,
+}
+
+/// Says which word of a text is wrong that is neither a reply nor the beginning of one.
+pub fn advise_sought<E: Write>(
+    alloc: Global,
+    text: &str,
+    schedule: Option<&Schedule>,
+    faults: &mut E,
+) {
+    let fault = fault_of(text, schedule);
+    put_line(text, fault.place, faults);
+    let word = text.split(' ').nth(fault.place).unwrap_or("");
+    let _ = match fault.wrong {
+        Wrong::NoBeginning => {
+            writeln!(
+                faults,
+                " `{word}` is no transaction, and no reply begins with it"
+            )
+        }
+        Wrong::NoReply => writeln!(faults, " no reply begins with `{word}`"),
+        Wrong::NoCause => writeln!(faults, " no cause is called `{word}`"),
+        Wrong::NoOther => writeln!(faults, " no reply goes on with `{word}` here"),
+        Wrong::NoMore => writeln!(faults, " a reply is wanted after the name"),
+    };
+    let _ = writeln!(
+        faults,
+        "  | wanted: a reply as a trace has it, or its first words, maybe after the name of a transaction; or `not serial`"
+    );
+    if let Ok(Some(meant)) = meant_by(alloc, word, fault.wrong, schedule) {
+        let _ = writeln!(faults, "  | did you mean `{meant}`?");
+    }
+}
+
+/// The first word that is wrong.
+fn fault_of(text: &str, schedule: Option<&Schedule>) -> Fault {
+    let first = text.split(' ').next().unwrap_or("");
+    if begins_reply(first) {
+        return Fault {
+            place: 1,
+            wrong: wrong_after(first),
+        };
+    }
+    if !is_name(schedule, first) {
+        return Fault {
+            place: 0,
+            wrong: Wrong::NoBeginning,
+        };
+    }
+    match text.split(' ').nth(1) {
+        None => Fault {
+            place: 0,
+            wrong: Wrong::NoMore,
+        },
+        Some(second) if begins_reply(second) => Fault {
+            place: 2,
+            wrong: wrong_after(second),
+        },
+        Some(_) => Fault {
+            place: 1,
+            wrong: Wrong::NoReply,
+        },
+    }
+}
+
+/// Whether a reply begins with a word.
+fn begins_reply(word: &str) -> bool {
+    ReplyForm::ALL.iter().any(|form| form.first_word() == word)
+}
+
+/// What is wrong with the word after the first one of a reply.
+fn wrong_after(first: &str) -> Wrong {
+    for form in ReplyForm::ALL {
+        if form.first_word() == first && form.operands() == ReplyOperands::Cause {
+            return Wrong::NoCause;
+        }
+    }
+    Wrong::NoOther
+}
+
+/// Whether a word is the name of a transaction.
+fn is_name(schedule: Option<&Schedule>, word: &str) -> bool {
+    match schedule {
+        Some(schedule) => schedule.id_of(word.as_bytes()).is_some(),
+        None => false,
+    }
+}
+
+/// Writes the option with its value, and carets under a word of it.
+fn put_line<E: Write>(text: &str, place: usize, faults: &mut E) {
+    let _ = write!(faults, "  | --find {text}\n  |        ");
+    for (index, word) in text.split(' ').enumerate() {
+        let mark = if index == place { '^' } else { ' ' };
+        for _ in word.chars() {
+            let _ = write!(faults, "{mark}");
+        }
+        if index == place {
+            return;
+        }
+        let _ = write!(faults, " ");
+    }
+    let _ = write!(faults, "^");
+}
+
+/// The word that is meant by one that is wrong, if one is near.
+fn meant_by<'s>(
+    alloc: Global,
+    word: &str,
+    wrong: Wrong,
+    schedule: Option<&'s Schedule>,
+) -> Result<Option<&'s str>, NoMemory> {
+    let mut words: Vec<&'s str> = Vec::new(alloc);
+    match wrong {
+        Wrong::NoMore | Wrong::NoOther => return Ok(None),
+        Wrong::NoCause => push_causes(&mut words)?,
+        Wrong::NoReply => push_forms(&mut words)?,
+        Wrong::NoBeginning => {
+            push_forms(&mut words)?;
+            if let Some(schedule) = schedule {
+                push_names(schedule, &mut words)?;
+            }
+        }
+    }
+    Ok(nearest_word(alloc, word, words.as_slice()))
+}
+
+fn push_causes(words: &mut Vec<&str>) -> Result<(), NoMemory> {
+    for cause in Cause::ALL {
+        words.push(cause.word())?;
+    }
+    Ok(())
+}
+
+/// Adds the first words of replies, each once.
+fn push_forms(words: &mut Vec<&str>) -> Result<(), NoMemory> {
+    for form in ReplyForm::ALL {
+        let word = form.first_word();
+        if words.last() != Some(&word) {
+            words.push(word)?;
+        }
+    }
+    Ok(())
+}
+
+fn push_names<'s>(schedule: &'s Schedule, words: &mut Vec<&'s str>) -> Result<(), NoMemory> {
+    for number in 1..=schedule.txn_count() as u64 {
+        let txn = TxnId::new(number);
+        if is_named(schedule, txn) {
+            words.push(schedule.name_of(txn))?;
+        }
+    }
+    Ok(())
+}

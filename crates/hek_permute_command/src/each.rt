@@ -1,0 +1,65 @@
+//! A line for each order, written as the order is over.
+use crate::choice::Choice;
+use crate::one::{fault_of, leveled};
+use crate::printed::put_order;
+use hek_permute::{Outcome, Watch, play_all};
+use hek_report::{HekFault, Printing, send};
+use hek_rules::{Schedule, TxnId};
+use std::alloc::Global;
+use std::io::Write;
+
+/// A watcher that writes the line of each order. It stops where one can't be written.
+#[derive(Drop)]
+struct Each<'s, 'o, W: Write> {
+    alloc: Global,
+    printing: Printing,
+    schedule: &'s Schedule,
+    out: &'o mut W,
+    /// Whether the output took all lines so far.
+    is_open: bool,
+}
+
+impl<W: Write> Watch for Each<'_, '_, W> {
+    fn see(&mut self, order: &[TxnId], outcome: &Outcome) -> bool {
+        let schedule = self.schedule;
+        let mut lines = Vec::new(self.alloc);
+        if put_order(
+            self.alloc,
+            self.printing,
+            schedule,
+            order,
+            outcome,
+            &mut lines,
+        )
+        .is_err()
+        {
+            return false;
+        }
+        self.is_open = send(&mut lines, self.out).is_ok();
+        self.is_open
+    }
+}
+
+/// Plays a part of the orders, and writes the line of each. Answers the exit status.
+pub(crate) fn write_each<'a, W: Write>(
+    alloc: Global,
+    schedule: &Schedule,
+    choice: Choice<'_>,
+    part: (u64, u64),
+    out: &mut W,
+) -> Result<u8, HekFault<'a>> {
+    let leveled = leveled(alloc, schedule, choice.level, schedule.steps())?;
+    let mut each = Each {
+        alloc,
+        printing: choice.printing,
+        schedule: &leveled,
+        out,
+        is_open: true,
+    };
+    let played = play_all(alloc, &leveled, choice.form, part.0, part.1, &mut each);
+    match played {
+        Ok(_) => Ok(0),
+        Err(_) if !each.is_open => Err(HekFault::CannotWrite),
+        Err(fault) => Err(fault_of(fault)),
+    }
+}

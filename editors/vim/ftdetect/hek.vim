@@ -1,0 +1,1 @@
+autocmd BufRead,BufNewFile *.hek,*.HEK setfiletype hek
