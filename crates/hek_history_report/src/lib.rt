@@ -8,7 +8,7 @@ mod printing;
 mod together;
 mod turned;
 
-pub use anomaly_words::{anomaly_name, cycle_lines, edge_words};
+pub use anomaly_words::{Before, anomaly_name, befores, cycle_lines, edge_words};
 pub use cycle::put_cycle;
 pub use printing::{put_details, put_members, put_phrase, put_reasons, put_verdict, verdict_word};
 pub use together::{Together, together_of};

@@ -4,9 +4,10 @@ use crate::heading::{Heading, put_heading};
 use crate::members::{Members, put_lines, put_lines_if, put_number, put_text, put_value, text_of};
 use crate::step_text::StepText;
 use crate::story::{StepRange, Story, story_of};
-use hek_asm::put_reply;
-use hek_rules::{Level, NoMemory, Schedule, Transcript, Verdict};
-use hek_serial::{check, check_at, serial_reply_at};
+use crate::together::together_value;
+use hek_history_report::together_of;
+use hek_rules::{NoMemory, Schedule, Transcript, Verdict};
+use hek_serial::check;
 use serde_json::{Map, Value, json};
 use std::alloc::Global;
 
@@ -21,7 +22,7 @@ pub(crate) fn data_of(
     let story = story_of(alloc, schedule, range)?;
     let mut members = Map::new(alloc);
     put_head(alloc, schedule, range, heading, comments, &mut members)?;
-    put_story(alloc, range, comments, &story, &mut members)?;
+    put_story(alloc, schedule, range, comments, &story, &mut members)?;
     Ok(Value::Object(members))
 }
 
@@ -43,6 +44,7 @@ fn put_head(
 /// Adds the run.
 fn put_story(
     alloc: Global,
+    schedule: &Schedule,
     range: StepRange,
     comments: &Comments,
     story: &Story,
@@ -54,56 +56,29 @@ fn put_story(
     put_lines(alloc, "trace", story.trace.as_slice(), members)?;
     let steps = step_values(alloc, range, comments, story.steps.as_slice())?;
     put_value(alloc, "steps", steps, members)?;
-    put_verdicts(alloc, &story.transcript, members)
+    put_verdicts(alloc, schedule, &story.transcript, members)
 }
 
-/// Adds `fault`, the number of the first event that isn't serial, or 0; and `strict`, the same with the reply of the
-/// serial order if all transactions are taken as serializable, or null.
+/// Adds `fault`, the number of the first event whose reply its level doesn't promise, or 0; and `together`, whether the
+/// committed transactions can follow one another.
 fn put_verdicts(
     alloc: Global,
+    schedule: &Schedule,
     transcript: &Transcript,
     members: &mut Members,
 ) -> Result<(), NoMemory> {
     let fault = number_of(check(alloc, transcript)?);
     put_number(alloc, "fault", fault, members)?;
-    let strict = strict_value(alloc, transcript)?;
-    put_value(alloc, "strict", strict, members)
+    let together = together_of(alloc, schedule, transcript)?;
+    let value = together_value(alloc, schedule, &together)?;
+    put_value(alloc, "together", value, members)
 }
 
-/// The number of the first event that isn't serial, or 0.
+/// The number of the first event that isn't right, or 0.
 fn number_of(verdict: Verdict) -> u64 {
     match verdict {
         Verdict::Serial => 0,
         Verdict::NotSerial(number) => number,
-    }
-}
-
-/// The first event at fault if all transactions are taken as serializable, and the reply that it would have had in the
-/// serial order; null if there is none.
-fn strict_value(alloc: Global, transcript: &Transcript) -> Result<Value, NoMemory> {
-    let number = number_of(check_at(alloc, transcript, Level::Serializable)?);
-    if number == 0 {
-        return Ok(Value::Null);
-    }
-    let mut text = Vec::new(alloc);
-    put_serial_reply(alloc, transcript, number, &mut text)?;
-    let reply = text_of(text.as_slice());
-    let value = json!(in alloc; [number, reply])?;
-    Ok(value)
-}
-
-/// Appends the reply of an event in the serial order if all transactions are taken as serializable.
-fn put_serial_reply(
-    alloc: Global,
-    transcript: &Transcript,
-    number: u64,
-    text: &mut Vec<u8>,
-) -> Result<(), NoMemory> {
-    let place = number.saturating_sub(1) as usize;
-    let reply = serial_reply_at(alloc, transcript, Level::Serializable, place)?;
-    match &reply {
-        Some(reply) => put_reply(reply, text),
-        None => Ok(()),
     }
 }
 

@@ -18,6 +18,7 @@ mod sheet;
 mod step_text;
 mod story;
 mod style;
+mod together;
 mod tree;
 mod tree_data;
 mod waits;

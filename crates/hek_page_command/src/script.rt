@@ -497,15 +497,8 @@ function verdictText() {
   const last = run.txnIds.map((id) => run.txn(id, run.last)).filter((it) => it.kind === "committed" || (it.kind === "terminated" && it.end && run.phases.get(it.id).some((p) => p.kind === "committed")));
   last.sort((a, b) => a.end - b.end);
   const order = last.map((it) => `${tag(it.id)} at ${it.end}`).join(", then ");
-  const fault = data.fault ? `<b>not serial</b>, from step ${data.fault} on` : "<b>serial</b>";
-  const strict = data.strict && !data.fault ? ` As serializable: <b>not serial</b> (step ${data.strict[0]}: ${strictStep()} \u2192 <code>${esc(data.strict[1])}</code> in that order).` : "";
-  return `<p class="note verdict">Checker: ${fault}${order ? `. By end time: ${order}` : ""}.${strict}</p>`;
-}
-
-/** The step at fault where all are taken as serializable. */
-function strictStep() {
-  const step = run.steps[data.strict[0] - 1 - run.done];
-  return step ? `<code>${tagName(step.name)} ${esc(step.event)}</code>` : "it";
+  const promised = data.fault ? `<b>no</b>, from step ${data.fault} on` : "<b>yes</b>";
+  return `<p class="note verdict">As promised: ${promised}. As one after another: ${togetherSaid(order)}.</p>`;
 }
 
 function kindOf(step) {
@@ -1415,6 +1408,8 @@ function hasRing() {
 }
 
 function showGraph() {
+  const together = togetherHere();
+  if (together && !isGraphCovered()) { showTogether(together); return; }
   const edges = run.edges(here);
   const step = here > 0 ? run.steps[here - 1] : null;
   const cycle = step?.r[0] === "victim" ? step.r.slice(3) : [];
@@ -1550,6 +1545,51 @@ function graphEdge(a, b, edge, r, u, both, apart) {
   return `<g class="edge ${edge.kind}${edge.isHot ? " hot" : ""}${edge.isWeak ? " weak" : ""}"><path class="line" d="M${f1(p.x)} ${f1(p.y)}Q${f1(m.x)} ${f1(m.y)} ${f1(end.x)} ${f1(end.y)}"/>
     <path class="tip" d="M${f1(q.x)} ${f1(q.y)}l${f1(-vx * tip - vy * tip * 0.55)} ${f1(-vy * tip + vx * tip * 0.55)}l${f1(vy * tip * 1.1)} ${f1(-vx * tip * 1.1)}z"/>
     <rect class="back" x="${f1(lx - wide / 2)}" y="${f1(ly - 0.65 * u)}" width="${f1(wide)}" height="${f1(1.3 * u)}"/><text x="${f1(lx)}" y="${f1(ly + 0.33 * u)}" text-anchor="middle">${esc(label)}</text></g>`;
+}
+
+/* ---- who comes before whom */
+
+/** What is said of the committed transactions together, at the end of a run that isn't serial by end time. */
+function togetherHere() {
+  const told = isTree || here !== run.last ? null : data.together;
+  return told && told.verdict !== "serial" ? told : null;
+}
+
+/** Whether the committed transactions can follow one another, with the order or with who comes before whom. */
+function togetherSaid(byEnd) {
+  const told = data.together;
+  switch (told.verdict) {
+    case "serial": return `<b>yes</b>${byEnd ? `, by end time: ${byEnd}` : ""}`;
+    case "another order": return `<b>yes</b>, in another order: ${told.order.map(tagName).join(", then ")}${byEnd ? ` (by end time: ${byEnd})` : ""}`;
+    case "not serial": return `<b>no</b>: ${told.cycle.map(beforeSaid).join(", ")}`;
+    default: return "not by end time; whether in another order is unknown";
+  }
+}
+
+const beforeSaid = ({ from, to }) => `${from === null ? "the opening" : tagName(from)} before ${to === null ? "the opening" : tagName(to)}`;
+
+/** The pairs that are drawn: the edges of a cycle with the key that each is by, or each transaction of an order and the next. */
+function beforesOf(told) {
+  if (told.cycle) return told.cycle.filter((it) => it.from !== null && it.to !== null).map((it) => ({ from: it.from, to: it.to, by: it.key === null ? [] : [String(it.key)] }));
+  return told.order.slice(1).map((to, index) => ({ from: told.order[index], to, by: [] }));
+}
+
+/** Draws who comes before whom in the place of who waits for whom. */
+function showTogether(told) {
+  const pairs = beforesOf(told).map((it) => ({ kind: "before", from: run.ids.get(it.from), to: run.ids.get(it.to), by: it.by, isHot: Boolean(told.cycle) }));
+  const nodes = [...new Set(pairs.flatMap((it) => [it.from, it.to]))].sort((a, b) => a - b).slice(0, MOST_NODES);
+  $("waits-title").innerHTML = `Who comes before whom <small>${told.cycle ? "in no order" : "in another order"}</small>`;
+  $("graph-said").textContent = told.cycle ? told.cycle.map((it) => it.words).join("; ") : told.order.join(", then ");
+  if (!nodes.length) { put("graph", ""); return; }
+  const [W, H] = [sizes.graph[0], Math.max(sizes.graph[1], 2 * rem())];
+  const at = graphLayout(nodes, W, H);
+  const shown = pairs.filter((it) => at.spot.has(it.from) && at.spot.has(it.to));
+  const out = shown.map((it) => {
+    const both = shown.some((other) => other.from === it.to && other.to === it.from);
+    return graphEdge(at.spot.get(it.from), at.spot.get(it.to), it, at.r, at.u, both, at.isFlat ? Math.abs(nodes.indexOf(it.from) - nodes.indexOf(it.to)) : 0);
+  });
+  for (const id of nodes) out.push(graphNode(id, at, false));
+  put("graph", `<svg width="${W}" height="${f1(H)}" viewBox="0 0 ${W} ${f1(H)}" style="font-size:${f1(at.u)}px" role="img" aria-labelledby="graph-said">${out.join("")}</svg>`);
 }
 
 /* ---- a word, field by field */
@@ -1753,7 +1793,7 @@ function outcomeOf(text) {
   const telling = txns.length > 2 ? txns.filter(([, state]) => state !== "committed") : txns;
   const endOf = (state, cause) => (state === "committed" ? "commits" : state === "unended" ? "goes on" : `aborts (${cause})`);
   const said = telling.map(([name, state, cause]) => `${tagName(name)} ${endOf(state, cause)}`).join(", ") || "all commit";
-  return `${said}<span class="soft"> \u00b7 ${esc(rows.replace("rows ", ""))}${serial === "serial" ? "" : " \u00b7 <b>not serial</b>"}</span>`;
+  return `${said}<span class="soft"> \u00b7 ${esc(rows.replace("rows ", ""))}${serial === "serial" ? "" : ` \u00b7 <b>${esc(serial)}</b>`}</span>`;
 }
 
 const letterOf = (outcome) => "ABCDEFGHIJKLMNOPQRSTUVWXYZ"[outcome] ?? String(outcome);
@@ -1919,7 +1959,7 @@ function isNews() {
 function endsSaid(text) {
   const parts = text.split("; ");
   const verdict = parts.pop();
-  return `${parts.map(esc).join("; ")}; <b class="${verdict === "serial" ? "good" : "bad"}">${esc(verdict)}</b>`;
+  return `${parts.map(esc).join("; ")}; <b class="${verdict === "not serial" ? "bad" : "good"}">${esc(verdict)}</b>`;
 }
 
 function showLevels() {

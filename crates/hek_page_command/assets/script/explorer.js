@@ -49,7 +49,7 @@ function outcomeOf(text) {
   const telling = txns.length > 2 ? txns.filter(([, state]) => state !== "committed") : txns;
   const endOf = (state, cause) => (state === "committed" ? "commits" : state === "unended" ? "goes on" : `aborts (${cause})`);
   const said = telling.map(([name, state, cause]) => `${tagName(name)} ${endOf(state, cause)}`).join(", ") || "all commit";
-  return `${said}<span class="soft"> \u00b7 ${esc(rows.replace("rows ", ""))}${serial === "serial" ? "" : " \u00b7 <b>not serial</b>"}</span>`;
+  return `${said}<span class="soft"> \u00b7 ${esc(rows.replace("rows ", ""))}${serial === "serial" ? "" : ` \u00b7 <b>${esc(serial)}</b>`}</span>`;
 }
 
 const letterOf = (outcome) => "ABCDEFGHIJKLMNOPQRSTUVWXYZ"[outcome] ?? String(outcome);

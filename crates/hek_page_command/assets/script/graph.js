@@ -10,6 +10,8 @@ function hasRing() {
 }
 
 function showGraph() {
+  const together = togetherHere();
+  if (together && !isGraphCovered()) { showTogether(together); return; }
   const edges = run.edges(here);
   const step = here > 0 ? run.steps[here - 1] : null;
   const cycle = step?.r[0] === "victim" ? step.r.slice(3) : [];

@@ -62,7 +62,7 @@ function isNews() {
 function endsSaid(text) {
   const parts = text.split("; ");
   const verdict = parts.pop();
-  return `${parts.map(esc).join("; ")}; <b class="${verdict === "serial" ? "good" : "bad"}">${esc(verdict)}</b>`;
+  return `${parts.map(esc).join("; ")}; <b class="${verdict === "not serial" ? "bad" : "good"}">${esc(verdict)}</b>`;
 }
 
 function showLevels() {

@@ -175,15 +175,8 @@ function verdictText() {
   const last = run.txnIds.map((id) => run.txn(id, run.last)).filter((it) => it.kind === "committed" || (it.kind === "terminated" && it.end && run.phases.get(it.id).some((p) => p.kind === "committed")));
   last.sort((a, b) => a.end - b.end);
   const order = last.map((it) => `${tag(it.id)} at ${it.end}`).join(", then ");
-  const fault = data.fault ? `<b>not serial</b>, from step ${data.fault} on` : "<b>serial</b>";
-  const strict = data.strict && !data.fault ? ` As serializable: <b>not serial</b> (step ${data.strict[0]}: ${strictStep()} \u2192 <code>${esc(data.strict[1])}</code> in that order).` : "";
-  return `<p class="note verdict">Checker: ${fault}${order ? `. By end time: ${order}` : ""}.${strict}</p>`;
-}
-
-/** The step at fault where all are taken as serializable. */
-function strictStep() {
-  const step = run.steps[data.strict[0] - 1 - run.done];
-  return step ? `<code>${tagName(step.name)} ${esc(step.event)}</code>` : "it";
+  const promised = data.fault ? `<b>no</b>, from step ${data.fault} on` : "<b>yes</b>";
+  return `<p class="note verdict">As promised: ${promised}. As one after another: ${togetherSaid(order)}.</p>`;
 }
 
 function kindOf(step) {

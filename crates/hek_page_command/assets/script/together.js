@@ -1,0 +1,44 @@
+/* ---- who comes before whom */
+
+/** What is said of the committed transactions together, at the end of a run that isn't serial by end time. */
+function togetherHere() {
+  const told = isTree || here !== run.last ? null : data.together;
+  return told && told.verdict !== "serial" ? told : null;
+}
+
+/** Whether the committed transactions can follow one another, with the order or with who comes before whom. */
+function togetherSaid(byEnd) {
+  const told = data.together;
+  switch (told.verdict) {
+    case "serial": return `<b>yes</b>${byEnd ? `, by end time: ${byEnd}` : ""}`;
+    case "another order": return `<b>yes</b>, in another order: ${told.order.map(tagName).join(", then ")}${byEnd ? ` (by end time: ${byEnd})` : ""}`;
+    case "not serial": return `<b>no</b>: ${told.cycle.map(beforeSaid).join(", ")}`;
+    default: return "not by end time; whether in another order is unknown";
+  }
+}
+
+const beforeSaid = ({ from, to }) => `${from === null ? "the opening" : tagName(from)} before ${to === null ? "the opening" : tagName(to)}`;
+
+/** The pairs that are drawn: the edges of a cycle with the key that each is by, or each transaction of an order and the next. */
+function beforesOf(told) {
+  if (told.cycle) return told.cycle.filter((it) => it.from !== null && it.to !== null).map((it) => ({ from: it.from, to: it.to, by: it.key === null ? [] : [String(it.key)] }));
+  return told.order.slice(1).map((to, index) => ({ from: told.order[index], to, by: [] }));
+}
+
+/** Draws who comes before whom in the place of who waits for whom. */
+function showTogether(told) {
+  const pairs = beforesOf(told).map((it) => ({ kind: "before", from: run.ids.get(it.from), to: run.ids.get(it.to), by: it.by, isHot: Boolean(told.cycle) }));
+  const nodes = [...new Set(pairs.flatMap((it) => [it.from, it.to]))].sort((a, b) => a - b).slice(0, MOST_NODES);
+  $("waits-title").innerHTML = `Who comes before whom <small>${told.cycle ? "in no order" : "in another order"}</small>`;
+  $("graph-said").textContent = told.cycle ? told.cycle.map((it) => it.words).join("; ") : told.order.join(", then ");
+  if (!nodes.length) { put("graph", ""); return; }
+  const [W, H] = [sizes.graph[0], Math.max(sizes.graph[1], 2 * rem())];
+  const at = graphLayout(nodes, W, H);
+  const shown = pairs.filter((it) => at.spot.has(it.from) && at.spot.has(it.to));
+  const out = shown.map((it) => {
+    const both = shown.some((other) => other.from === it.to && other.to === it.from);
+    return graphEdge(at.spot.get(it.from), at.spot.get(it.to), it, at.r, at.u, both, at.isFlat ? Math.abs(nodes.indexOf(it.from) - nodes.indexOf(it.to)) : 0);
+  });
+  for (const id of nodes) out.push(graphNode(id, at, false));
+  put("graph", `<svg width="${W}" height="${f1(H)}" viewBox="0 0 ${W} ${f1(H)}" style="font-size:${f1(at.u)}px" role="img" aria-labelledby="graph-said">${out.join("")}</svg>`);
+}
