@@ -37,23 +37,25 @@ function outcome(row, counts, parts) {
   return row;
 }
 
-// A row of `permute` is a count, the ends, the rows, the verdict, how many waited, and the first order; of `permute --levels` a count for
-// each level, and an outcome.
+// A row of `permute` is a count, the ends, the rows, the verdict, how many waited, the first order, and in which other order it is serial or
+// who comes before whom; of `permute --levels` a count for each level, and an outcome.
 async function showOrders(out, schedule, isStill) {
   const [head, ...rows] = out.trimEnd().split("\n");
   const [, orders] = head.match(/^orders (\d+)/);
   const own = tableOf(["orders", "ends", "rows", "verdict", "waited", "play"]);
   for (const line of rows) {
     const [, count, all] = line.match(/^(\d+) (.*)$/), parts = all.split("; ");
+    const beside = /^(order|cycle) /.test(parts.at(-1)) ? parts.pop().replace(/^(order|cycle) /, ": ") : "";
     const first = parts.pop().replace(/^first /, ""), waited = parts.pop().replace(/^waited /, "");
     const row = outcome(own.insertRow(), [count], parts);
+    row.lastElementChild.append(beside);
     cell(row, BigInt(waited).toLocaleString("en")).className = "n waited";
     const title = `The first of these orders: ${first}. Ctrl-Z in the text takes it back`;
     const play = cell(row, "");
     play.className = "play";
     play.append(playButton("show one", title, `show one of: ${all.split("; waited")[0]}`, () => showOne(first, schedule)));
   }
-  const isSerial = rows.every(line => !line.includes("; not serial;"));
+  const isSerial = rows.every(line => line.includes("; serial;"));
   $("plain").replaceChildren(heading(`${BigInt(orders).toLocaleString("en")} orders of the moves, as written${isSerial ? ": all serial" : ""}`), own.parentNode);
   reveal("plain");
   const got = await hek(["permute", "--levels", NAME], {[NAME]: schedule});
@@ -86,7 +88,7 @@ async function showOneAt(level, said, schedule) {
   const got = await hek(["permute", "--level", level, NAME], {[NAME]: schedule});
   if (got.status !== 0) return;
   const row = got.out.split("\n").find(line => line.replace(/^\d+ /, "").split("; waited ")[0] === said);
-  showOne(row.match(/; first (.*)$/)[1], atLevel(schedule, level));
+  showOne(row.match(/; first ([^;]*)/)[1], atLevel(schedule, level));
 }
 
 const atLevel = (schedule, level) => schedule.replace(/^(\s*txn\s+\S+\s+)\S+/gm, `$1${level}`);
