@@ -2,6 +2,7 @@
 use crate::faults::Fault;
 use crate::sources::{Source, missing_reads};
 use crate::told::Told;
+use hek_history_report::put_members;
 use hek_report::Lines;
 use hek_rules::{NoMemory, Verdict};
 use std::alloc::Global;
@@ -13,7 +14,7 @@ pub(crate) fn put_told(
     lines: &mut Vec<u8>,
 ) -> Result<(), NoMemory> {
     let mut objects = Lines::after(alloc, lines);
-    put_verdict(told, &mut objects);
+    put_verdict(alloc, told, &mut objects)?;
     if told.asked.all {
         for fault in told.faults.as_slice() {
             put_fault(alloc, told, fault, &mut objects)?;
@@ -23,7 +24,7 @@ pub(crate) fn put_told(
 }
 
 /// The line of a verdict, with how much is judged if that is asked for.
-fn put_verdict(told: &Told<'_>, out: &mut Lines) {
+fn put_verdict(alloc: Global, told: &Told<'_>, out: &mut Lines) -> Result<(), NoMemory> {
     out.begin_line();
     match told.verdict {
         Verdict::Serial => out.put_text("verdict", "serial"),
@@ -33,7 +34,14 @@ fn put_verdict(told: &Told<'_>, out: &mut Lines) {
         out.put_number("committed", told.judged.committed as u64);
         out.put_number("judged", told.judged.events as u64);
     }
+    if let Some(together) = &told.together {
+        out.put_key("together");
+        out.begin_object();
+        put_members(alloc, told.schedule, together, out)?;
+        out.end_object();
+    }
     out.end_line();
+    Ok(())
 }
 
 /// The verdict that the event with a number is the first at fault, with its serial reply if that is asked for.

@@ -3,6 +3,7 @@ use crate::check::put_serial_reply;
 use crate::faults::Fault;
 use crate::sources::{Source, missing_reads};
 use crate::told::Told;
+use hek_history_report::put_phrase;
 use hek_report::put;
 use hek_rules::{NoMemory, Verdict};
 use std::alloc::Global;
@@ -34,6 +35,10 @@ fn put_verdict(told: &Told<'_>, lines: &mut Vec<u8>) -> Result<(), NoMemory> {
     if told.asked.summary {
         let judged = told.judged;
         put(write!(lines, ": {judged}"))?;
+    }
+    if let Some(together) = &told.together {
+        put(write!(lines, "; one after another: "))?;
+        put_phrase(told.schedule, together, lines)?;
     }
     put(writeln!(lines))
 }

@@ -9,6 +9,7 @@ use crate::faults::{Fault, faults_of};
 use crate::judged::Judged;
 use crate::verdict::{status_of, transcript_of_text, verdict_of};
 use crate::{json, text};
+use hek_history_report::{Together, together_of};
 use hek_report::{HekFault, Printing, ScheduleFile, schedule_in, send};
 use hek_rules::{Level, NoMemory, Schedule, Transcript, Verdict};
 use std::alloc::Global;
@@ -22,7 +23,7 @@ pub struct Asked {
     pub level: Option<Level>,
     /// Whether the serial reply of the first event at fault is told.
     pub why: bool,
-    /// Whether it is told how much is judged.
+    /// Whether it is told how much is judged, and whether the committed transactions can follow one another.
     pub summary: bool,
     /// Whether each event at fault is told.
     pub all: bool,
@@ -39,6 +40,8 @@ pub(crate) struct Told<'a> {
     pub(crate) asked: Asked,
     pub(crate) verdict: Verdict,
     pub(crate) judged: Judged,
+    /// Whether the committed transactions can follow one another, if it is told how much is judged.
+    pub(crate) together: Option<Together>,
     /// The events at fault, as far as they are asked for: none, the first, or all.
     pub(crate) faults: Vec<Fault>,
 }
@@ -83,6 +86,7 @@ fn judge<'a, W: Write>(
         asked,
         verdict,
         judged: judged_of(alloc, text)?,
+        together: together_asked(alloc, schedule, transcript, asked)?,
         faults: faults_asked(alloc, transcript, asked, verdict)?,
     };
     write_told(alloc, &told, out)?;
@@ -111,6 +115,20 @@ fn judged_of(alloc: Global, text: &str) -> Result<Judged, NoMemory> {
         Ok(judged) => Ok(judged),
         // A text has no other fault.
         Err(_) => Err(NoMemory),
+    }
+}
+
+/// Whether the committed transactions can follow one another, if it is asked for.
+fn together_asked(
+    alloc: Global,
+    schedule: &Schedule,
+    transcript: &Transcript,
+    asked: Asked,
+) -> Result<Option<Together>, NoMemory> {
+    if asked.summary {
+        Ok(Some(together_of(alloc, schedule, transcript)?))
+    } else {
+        Ok(None)
     }
 }
 

@@ -1,5 +1,5 @@
 //! Whether transactions can follow one another, as text and as JSON.
-use crate::anomaly_words::{cycle_lines, writer_name};
+use crate::anomaly_words::writer_name;
 use crate::cycle::put_cycle;
 use crate::together::Together;
 use hek_history_log::Log;
@@ -33,19 +33,44 @@ pub fn put_verdict(verdict: Serializability, out: &mut Lines) {
     out.put_text("verdict", json_word(verdict));
 }
 
+/// The exact verdict, where the search has one.
+fn verdict_of(together: &Together) -> Option<Serializability> {
+    match together {
+        Together::ByEndTime => Some(Serializability::ByEndTime),
+        Together::InAnotherOrder(_) => Some(Serializability::InAnotherOrder),
+        Together::NotSerial(_, _) => Some(Serializability::NotSerial),
+        Together::Unknown => None,
+    }
+}
+
+/// What is said where the search gave up.
+const UNKNOWN: &str = "not by end time; whether in another order is unknown";
+
+/// Appends the verdict without the order and the cycle.
+pub fn put_word(together: &Together, lines: &mut Vec<u8>) -> Result<(), NoMemory> {
+    let word = match verdict_of(together) {
+        Some(verdict) => verdict_word(verdict),
+        None => UNKNOWN,
+    };
+    lines.extend_from_slice(word.as_bytes())?;
+    Ok(())
+}
+
+/// Puts the member `verdict` alone.
+pub fn put_short(together: &Together, out: &mut Lines) {
+    match verdict_of(together) {
+        Some(verdict) => put_verdict(verdict, out),
+        None => out.put_text("verdict", "unknown"),
+    }
+}
+
 /// Appends the verdict on one line: `serial`, `serial in another order: b a`, or `not serial: a before b, b before a`.
 pub fn put_phrase(
     schedule: &Schedule,
     together: &Together,
     lines: &mut Vec<u8>,
 ) -> Result<(), NoMemory> {
-    let verdict = match together {
-        Together::ByEndTime => "serial",
-        Together::InAnotherOrder(_) => "serial in another order",
-        Together::NotSerial(_, _) => "not serial",
-        Together::Unknown => "not by end time; whether in another order is unknown",
-    };
-    lines.extend_from_slice(verdict.as_bytes())?;
+    put_word(together, lines)?;
     put_after(schedule, together, [": ", ": "], lines)
 }
 
@@ -104,21 +129,6 @@ fn put_edges(log: &Log, cause: &Cause, lines: &mut Vec<u8>) -> Result<(), NoMemo
     Ok(())
 }
 
-/// Appends why one transaction is before another, a line for each, as `hek history` has them; nothing for a verdict
-/// without a cycle.
-pub fn put_reasons(
-    alloc: Global,
-    together: &Together,
-    lines: &mut Vec<u8>,
-) -> Result<(), NoMemory> {
-    if let Together::NotSerial(log, cause) = together {
-        for line in cycle_lines(alloc, log, cause)?.iter() {
-            put(writeln!(lines, "{line}"))?;
-        }
-    }
-    Ok(())
-}
-
 /// Puts the member `verdict`, and with it `order` or `cycle` where there is one.
 pub fn put_members(
     alloc: Global,
@@ -126,17 +136,11 @@ pub fn put_members(
     together: &Together,
     out: &mut Lines,
 ) -> Result<(), NoMemory> {
+    put_short(together, out);
     match together {
-        Together::ByEndTime => put_verdict(Serializability::ByEndTime, out),
-        Together::InAnotherOrder(order) => {
-            put_verdict(Serializability::InAnotherOrder, out);
-            out.put_names("order", schedule, order.as_slice());
-        }
-        Together::NotSerial(log, cause) => {
-            put_verdict(Serializability::NotSerial, out);
-            put_cycle(alloc, log, cause, out)?;
-        }
-        Together::Unknown => out.put_text("verdict", "unknown"),
+        Together::InAnotherOrder(order) => out.put_names("order", schedule, order.as_slice()),
+        Together::NotSerial(log, cause) => put_cycle(alloc, log, cause, out)?,
+        Together::ByEndTime | Together::Unknown => {}
     }
     Ok(())
 }

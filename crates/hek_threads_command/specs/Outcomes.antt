@@ -1,11 +1,8 @@
 -- The outcome of a run in threads.
-use Rattle.std.specs.Prelude.{ℕ, List, [], ◌∷◌, ◌++◌, codes}
-use Rattle.std.specs.Fmt.{decimal}
+use Rattle.std.specs.Prelude.{List, [], ◌∷◌}
 use Rattle.hek_rules.specs.declared.event.Cause.TheVariants as cause
 use Rattle.hek_rules.specs.declared.event.Event.{Event}
 use Rattle.hek_rules.specs.declared.reply.Reply.{Reply}
-use Rattle.hek_rules.specs.declared.serial.Verdict.{Verdict}
-use Rattle.hek_rules.specs.declared.serial.Verdict.TheVariants.{Serial, NotSerial}
 use Rattle.hek_rules.specs.declared.reply.Reply.TheVariants.{Nothing, Committed, Failed, Aborted}
 
 -- how a transaction ends with a reply, or by a later one
@@ -19,8 +16,3 @@ ending_reply_or r later = later
 abbrev pub ending_reply : List (Event × Reply) → Reply
 ending_reply [] = Nothing
 ending_reply (x ∷ xs) = ending_reply_or x.1 (ending_reply xs)
-
--- the verdict at the end of an outcome's line
-abbrev pub verdict_ending : Verdict → List ℕ
-verdict_ending Serial = codes "; serial"
-verdict_ending (NotSerial number) = codes "; not serial " ++ decimal number

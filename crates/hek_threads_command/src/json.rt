@@ -1,7 +1,8 @@
 //! Histories and outcomes as objects of JSON.
 use crate::outcome::Outcome;
+use hek_history_report::{put_members, put_short};
 use hek_report::{Lines, StateText};
-use hek_rules::{NoMemory, Reply, Schedule, State, TxnId, Verdict};
+use hek_rules::{NoMemory, Reply, Schedule, State, TxnId};
 use hek_threads::Entry;
 use std::alloc::Global;
 
@@ -30,13 +31,32 @@ pub(crate) fn put_heading(outcomes: usize, runs: u64, out: &mut Lines) {
 }
 
 /// The line of an outcome, and of how many runs had it.
-pub(crate) fn put_seen(schedule: &Schedule, runs: u64, outcome: &Outcome, out: &mut Lines) {
+pub(crate) fn put_seen(
+    alloc: Global,
+    schedule: &Schedule,
+    runs: u64,
+    outcome: &Outcome,
+    out: &mut Lines,
+) -> Result<(), NoMemory> {
+    put_outcome(schedule, runs, outcome, out);
+    put_members(alloc, schedule, &outcome.together, out)?;
+    out.end_line();
+    Ok(())
+}
+
+/// The line of an outcome by which it is told from others: without who comes before whom.
+pub(crate) fn put_key(schedule: &Schedule, outcome: &Outcome, out: &mut Lines) {
+    put_outcome(schedule, 0, outcome, out);
+    put_short(&outcome.together, out);
+    out.end_line();
+}
+
+/// The members of an outcome up to the verdict.
+fn put_outcome(schedule: &Schedule, runs: u64, outcome: &Outcome, out: &mut Lines) {
     out.begin_line();
     out.put_number("runs", runs);
     put_ends(schedule, outcome.ends.as_slice(), out);
     out.put_rows(outcome.rows.items());
-    out.put_flag("serial", matches!(outcome.verdict, Verdict::Serial));
-    out.end_line();
 }
 
 /// How each transaction ended, by ID.

@@ -1,10 +1,12 @@
-//! The outcome of a run: which transactions committed, which aborted and why, the rows, and the checker's verdict.
+//! The outcome of a run: which transactions committed, which aborted and why, the rows, the checker's verdict, and whether
+//! the committed transactions can follow one another.
 ghost use Rattle.std.specs.Prelude.{◌≡◌, IfOk};
 ghost use Rattle.hek_rules.specs.declared.serial.Verdict.TheVariants as verdict;
 ghost use Rattle.hek_worker.specs.History.{IsSerialHistory};
 ghost use Rattle.hek_threads_command.specs.Threaded.{HasRun};
 ghost use Rattle.hek_threads_command.specs.Outcomes.{ending_reply};
 
+use hek_history_report::{Together, together_of};
 use hek_rules::{Cause, NoMemory, Pairs, Reply, Schedule, Verdict};
 use hek_serial::check;
 use hek_threads::{Part, Report, transcript_of};
@@ -17,8 +19,10 @@ pub(crate) struct Outcome {
     pub(crate) ends: Vec<Reply>,
     /// The committed rows.
     pub(crate) rows: Pairs,
-    /// The checker's verdict on the history.
+    /// The checker's verdict on the history, each transaction at its own level.
     pub(crate) verdict: Verdict,
+    /// Whether the committed transactions can follow one another, all taken as serializable.
+    pub(crate) together: Together,
 }
 
 /// The outcome of a run; its verdict is always `Serial`.
@@ -32,11 +36,12 @@ pub(crate) fn outcome_of(
 {
     let ends = ends_of(alloc, report.transcripts.as_slice())?;
     let rows = report.machine.rows()?;
-    let verdict = judge(alloc, schedule, report)?;
+    let (verdict, together) = judge(alloc, schedule, report)?;
     Ok(Outcome {
         ends,
         rows,
         verdict,
+        together,
     })
 }
 
@@ -64,10 +69,15 @@ fn end_of(part: &Part) -> Reply
     Reply::Nothing
 }
 
-/// The checker's verdict on a history that is serial.
-fn judge(alloc: Global, schedule: &Schedule, report: Report) -> Result<Verdict, NoMemory>
+/// The checker's verdict on a history that is serial, each transaction at its own level; and whether the committed
+/// transactions can follow one another, all taken as serializable.
+fn judge(
+    alloc: Global,
+    schedule: &Schedule,
+    report: Report,
+) -> Result<(Verdict, Together), NoMemory>
     requires { IsSerialHistory schedule.now report.history.items }
-    ensures { IfOk result (λ v. v ≡ verdict.Serial) }
+    ensures { IfOk result (λ v. v.0 ≡ verdict.Serial) }
 {
     let Report {
         machine: _,
@@ -75,5 +85,7 @@ fn judge(alloc: Global, schedule: &Schedule, report: Report) -> Result<Verdict, 
         transcripts: _,
     } = report;
     let told = transcript_of(alloc, schedule, history)?;
-    check(alloc, &told)
+    let together = together_of(alloc, schedule, &told)?;
+    let verdict = check(alloc, &told)?;
+    Ok((verdict, together))
 }

@@ -109,7 +109,7 @@ fn count_one(
     printing: Printing,
 ) -> Result<(), NoMemory> {
     let mut key = Vec::new(alloc);
-    put_seen(alloc, schedule, 0, &outcome, printing, &mut key)?;
+    put_outcome_key(alloc, schedule, &outcome, printing, &mut key)?;
     match outcomes.entry(key) {
         Ok(entry) => {
             let seen = entry.or_insert(Seen { runs: 0, outcome });
@@ -174,8 +174,26 @@ fn put_seen(
         Printing::Text => text::put_seen(schedule, runs, outcome, lines),
         Printing::Json => {
             let mut objects = Lines::after(alloc, lines);
-            json::put_seen(schedule, runs, outcome, &mut objects);
+            json::put_seen(alloc, schedule, runs, outcome, &mut objects)?;
             objects.put_back(lines)
+        }
+    }
+}
+
+/// Appends what tells an outcome from others.
+fn put_outcome_key(
+    alloc: Global,
+    schedule: &Schedule,
+    outcome: &Outcome,
+    printing: Printing,
+    key: &mut Vec<u8>,
+) -> Result<(), NoMemory> {
+    match printing {
+        Printing::Text => text::put_outcome(schedule, outcome, key),
+        Printing::Json => {
+            let mut objects = Lines::after(alloc, key);
+            json::put_key(schedule, outcome, &mut objects);
+            objects.put_back(key)
         }
     }
 }

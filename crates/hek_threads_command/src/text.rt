@@ -1,14 +1,14 @@
 //! Histories and outcomes as text.
-ghost use Rattle.std.specs.Prelude.{◌≡◌, ◌++◌, ℕ, List, length, IfOk};
+ghost use Rattle.std.specs.Prelude.{◌≡◌, length, IfOk};
 ghost use Rattle.std.specs.List.{AllByRecursion};
 ghost use Rattle.hek_asm.specs.Trace.{NamesDeclared, trace};
 ghost use Rattle.hek_worker.specs.History.{IsHistory, history_events, replies_in};
-ghost use Rattle.hek_threads_command.specs.Outcomes.{verdict_ending};
 
 use crate::outcome::Outcome;
 use hek_asm::{put_reply, put_trace};
+use hek_history_report::{put_details, put_word};
 use hek_report::{put, put_name};
-use hek_rules::{Event, NoMemory, Reply, Schedule, TxnId, Verdict};
+use hek_rules::{Event, NoMemory, Reply, Schedule, TxnId};
 use hek_threads::Entry;
 use std::alloc::Global;
 use std::io::Write;
@@ -69,16 +69,16 @@ fn text_of(
     Ok(text)
 }
 
-/// Appends an outcome: each transaction by name, with how it ended; the committed rows; the verdict.
+/// Appends an outcome: each transaction by name, with how it ended; the committed rows; whether the committed
+/// transactions can follow one another.
 pub(crate) fn put_outcome(
     schedule: &Schedule,
     outcome: &Outcome,
     text: &mut Vec<u8>,
-) -> Result<(), NoMemory>
-    ensures { IfOk result (λ _. (before : List ℕ) × (text.new.items ≡ before ++ verdict_ending outcome.now.verdict)) }
-{
+) -> Result<(), NoMemory> {
     put_ended(schedule, outcome, text)?;
-    put_verdict(outcome.verdict, text)
+    text.extend_from_slice(b"; ")?;
+    put_word(&outcome.together, text)
 }
 
 /// How each transaction ended, and the committed rows.
@@ -93,26 +93,13 @@ fn put_ended(schedule: &Schedule, outcome: &Outcome, text: &mut Vec<u8>) -> Resu
     put_reply(&rows, text)
 }
 
-/// Appends the verdict.
-fn put_verdict(verdict: Verdict, text: &mut Vec<u8>) -> Result<(), NoMemory>
-    ensures { IfOk result (λ _. text.new.items ≡ text.old.items ++ verdict_ending verdict) }
-{
-    let written = match verdict {
-        Verdict::Serial => write!(text, "; serial"),
-        Verdict::NotSerial(number) => write!(text, "; not serial {number}"),
-    };
-    match written {
-        Ok(()) => Ok(()),
-        Err(_) => Err(NoMemory),
-    }
-}
-
 /// How many outcomes there were in how many runs.
 pub(crate) fn put_heading(outcomes: usize, runs: u64, text: &mut Vec<u8>) -> Result<(), NoMemory> {
     put(writeln!(text, "outcomes {outcomes}; runs {runs}"))
 }
 
-/// The line of an outcome, and of how many runs had it.
+/// The line of an outcome, and of how many runs had it. In which other order it is serial, or who comes before whom, is
+/// that of the first run that had it.
 pub(crate) fn put_seen(
     schedule: &Schedule,
     runs: u64,
@@ -121,5 +108,6 @@ pub(crate) fn put_seen(
 ) -> Result<(), NoMemory> {
     put(write!(text, "{runs} "))?;
     put_outcome(schedule, outcome, text)?;
+    put_details(schedule, &outcome.together, text)?;
     put(writeln!(text))
 }
