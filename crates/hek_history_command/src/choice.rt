@@ -46,3 +46,12 @@ pub(crate) fn is_judged(history: &History) -> bool {
     }
     false
 }
+
+/// The level that is asked for of all transactions, if it is weaker than serializable.
+pub(crate) fn weaker_level(choice: Choice) -> Option<Level> {
+    match choice.level {
+        Some(Level::Repeatable) => Some(Level::Repeatable),
+        Some(Level::Snapshot) => Some(Level::Snapshot),
+        Some(Level::Serializable) | None => None,
+    }
+}

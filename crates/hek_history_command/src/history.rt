@@ -3,14 +3,14 @@ ghost use Rattle.std.specs.Prelude.{◌≡◌, IfOk};
 ghost use Rattle.hek_history_search.specs.Verdicts.{IsVerdict};
 ghost use Rattle.hek_history_command.specs.Answers.{IsStatus};
 
-use crate::choice::{Choice, is_judged, order_of, set_level};
+use crate::choice::{Choice, is_judged, order_of, set_level, weaker_level};
 use crate::counts::counts_of;
 use crate::explained::Explained;
 use crate::forgetting::forget_answers;
 use crate::order_lines::write_order;
 use crate::twins::have_both;
 use crate::{verdict_json, verdict_text};
-use hek_history::{History, Order, Point, Writer};
+use hek_history::{History, Level, Order, Point, Writer};
 use hek_history_log::{Log, LogFault, read_log_watching};
 use hek_history_report::turn;
 use hek_history_search::{Cause, Progress, Verdict, judge};
@@ -31,6 +31,8 @@ const NOT_KNOWN: u8 = 3;
 #[derive(Clone, Copy)]
 struct Question {
     order: Order,
+    /// The level of all transactions, if it is asked for and weaker than serializable.
+    weaker: Option<Level>,
     all: bool,
     printing: Printing,
 }
@@ -85,6 +87,7 @@ fn judge_log<'a, W: Write, O: Write>(
     }
     let question = Question {
         order: order_of(choice, &log.history),
+        weaker: weaker_level(choice),
         all: choice.all,
         printing: choice.printing,
     };
@@ -199,10 +202,10 @@ fn write_serial<'a, W: Write, O: Write>(
     let counts = counts_of(alloc, &log.history, points)?;
     let mut lines = Vec::new(alloc);
     match question.printing {
-        Printing::Text => verdict_text::put_serial(counts, &mut lines)?,
+        Printing::Text => verdict_text::put_serial(question.weaker, counts, &mut lines)?,
         Printing::Json => {
             let mut objects = Lines::after(alloc, &mut lines);
-            verdict_json::put_serial(question.order, counts, &mut objects);
+            verdict_json::put_serial(question.weaker, question.order, counts, &mut objects);
             objects.put_back(&mut lines)?;
         }
     }
@@ -236,10 +239,23 @@ fn write_not_serial<'a, W: Write>(
 ) -> Result<(), HekFault<'a>> {
     let mut lines = Vec::new(alloc);
     match question.printing {
-        Printing::Text => verdict_text::put_not_serial(alloc, log, cause, &mut lines)?,
+        Printing::Text => verdict_text::put_not_serial(
+            alloc,
+            question.weaker,
+            log,
+            cause,
+            &mut lines,
+        )?,
         Printing::Json => {
             let mut objects = Lines::after(alloc, &mut lines);
-            verdict_json::put_not_serial(alloc, question.order, log, cause, &mut objects)?;
+            verdict_json::put_not_serial(
+                alloc,
+                question.weaker,
+                question.order,
+                log,
+                cause,
+                &mut objects,
+            )?;
             objects.put_back(&mut lines)?;
         }
     }

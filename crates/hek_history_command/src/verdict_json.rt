@@ -1,6 +1,6 @@
 //! A verdict as JSON, one object on each line. The members of an object are in the order of their names.
 use crate::counts::Counts;
-use hek_history::Order;
+use hek_history::{Level, Order};
 use hek_history_log::Log;
 use hek_history_report::{anomaly_name, put_cycle};
 use hek_history_search::{Cause, Progress};
@@ -8,20 +8,29 @@ use hek_report::Lines;
 use hek_rules::NoMemory;
 use std::alloc::Global;
 
-/// The object of a serial history.
-pub(crate) fn put_serial(order: Order, counts: Counts, out: &mut Lines) {
+/// Puts the level, if it is a weaker one.
+fn put_level(weaker: Option<Level>, out: &mut Lines) {
+    if let Some(level) = weaker {
+        out.put_text("level", level.word());
+    }
+}
+
+/// The object of a serial history, or of one that holds at a weaker level.
+pub(crate) fn put_serial(weaker: Option<Level>, order: Order, counts: Counts, out: &mut Lines) {
     out.begin_line();
     out.put_maybe("elsewhere", counts.elsewhere);
+    put_level(weaker, out);
     out.put_text("order", order.word());
     out.put_number("reads", counts.reads);
     out.put_number("transactions", counts.transactions);
-    out.put_text("verdict", "serial");
+    out.put_text("verdict", if weaker.is_some() { "holds" } else { "serial" });
     out.end_line();
 }
 
-/// The object of a history that is not serial.
+/// The object of a history that is not serial, or that fails at a weaker level.
 pub(crate) fn put_not_serial(
     alloc: Global,
+    weaker: Option<Level>,
     order: Order,
     log: &Log,
     cause: &Cause,
@@ -30,8 +39,16 @@ pub(crate) fn put_not_serial(
     out.begin_line();
     out.put_text("anomaly", anomaly_name(cause.anomaly));
     put_cycle(alloc, log, cause, out)?;
+    put_level(weaker, out);
     out.put_text("order", order.word());
-    out.put_text("verdict", "not serial");
+    out.put_text(
+        "verdict",
+        if weaker.is_some() {
+            "fails"
+        } else {
+            "not serial"
+        },
+    );
     out.end_line();
     Ok(())
 }

@@ -1,6 +1,6 @@
 //! A verdict as text.
 use crate::counts::Counts;
-use hek_history::Order;
+use hek_history::{Level, Order};
 use hek_history_log::Log;
 use hek_history_report::{anomaly_name, cycle_lines};
 use hek_history_search::{Cause, Progress};
@@ -10,11 +10,19 @@ use std::alloc::Global;
 use std::fmt;
 use std::io::Write;
 
-/// The line of a serial history.
-pub(crate) fn put_serial(counts: Counts, lines: &mut Vec<u8>) -> Result<(), NoMemory> {
+/// The line of a serial history; at a weaker level, that the history holds there.
+pub(crate) fn put_serial(
+    weaker: Option<Level>,
+    counts: Counts,
+    lines: &mut Vec<u8>,
+) -> Result<(), NoMemory> {
     let transactions = number_of(counts.transactions, "transaction");
     let reads = number_of(counts.reads, "read");
-    put(write!(lines, "serial: {transactions}, {reads}"))?;
+    match weaker {
+        None => put(write!(lines, "serial"))?,
+        Some(level) => put(write!(lines, "holds at {}", level.word()))?,
+    }
+    put(write!(lines, ": {transactions}, {reads}"))?;
     match counts.elsewhere {
         None => put(writeln!(lines)),
         Some(0) => put(writeln!(lines, ", in the order of their ends")),
@@ -53,15 +61,19 @@ impl fmt::Display for Counted {
     }
 }
 
-/// The lines of a history that is not serial: the anomaly's name, and its cycle.
+/// The lines of a history that is not serial, or that fails at a weaker level: the anomaly's name, and its cycle.
 pub(crate) fn put_not_serial(
     alloc: Global,
+    weaker: Option<Level>,
     log: &Log,
     cause: &Cause,
     lines: &mut Vec<u8>,
 ) -> Result<(), NoMemory> {
     let name = anomaly_name(cause.anomaly);
-    put(writeln!(lines, "not serial: {name}"))?;
+    match weaker {
+        None => put(writeln!(lines, "not serial: {name}"))?,
+        Some(level) => put(writeln!(lines, "fails at {}: {name}", level.word()))?,
+    }
     for line in cycle_lines(alloc, log, cause)?.iter() {
         put(writeln!(lines, "{line}"))?;
     }
