@@ -56,11 +56,11 @@ impl<'a, R: Files + Alloc<A = Global>> SystemDisk<'a, R> {
         }
     }
 
-    /// Whether a name is one of a plain file, or of none.
+    /// Whether a name is one of a plain file, or of none. Where a system can't say that, it isn't.
     fn is_plain(&self, name: &str) -> bool {
         match fs::metadata(self.system, name) {
             Ok(found) => found.is_file(),
-            Err(_) => true,
+            Err(error) => error.kind() == ErrorKind::NotFound,
         }
     }
 
