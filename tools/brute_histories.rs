@@ -359,7 +359,7 @@ impl Drawing {
         let mut txn = Txn { level, status, begin: None, end: None, at: None, ops: Vec::new() };
         if manner.times {
             txn.end = self.time(end);
-            txn.begin = self.time(begin).filter(|_| level == Level::Snapshot);
+            txn.begin = self.time(begin).filter(|begin| level == Level::Snapshot && txn.end.map_or(true, |end| *begin <= end));
             let invoked = begin.saturating_sub(self.random.below(3000));
             let answered = if status == Status::Unknown { 100_000 } else { end + self.random.below(3000) };
             txn.at = Some((invoked, answered)).filter(|_| !self.random.once_in(5));

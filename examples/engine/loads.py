@@ -92,8 +92,8 @@ def save(path, transactions):
 def report(name, transactions, path, hek):
     """Prints how the transactions ended, and what `hek history` says if there is a program."""
     aborted = [it for it in transactions if it["status"] == "aborted"]
-    causes = sorted({it["cause"] for it in aborted})
-    counts = "".join(f", {sum(it['cause'] == cause for it in aborted)} aborted by {cause}" for cause in causes)
+    causes = sorted({it["x-cause"] for it in aborted})
+    counts = "".join(f", {sum(it['x-cause'] == cause for it in aborted)} aborted by {cause}" for cause in causes)
     print(f"{name}: {len(transactions) - len(aborted)} committed{counts}", flush=True)
     if hek:
         subprocess.run([hek, "history", path])

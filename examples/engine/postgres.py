@@ -107,7 +107,7 @@ def transaction(session, level, number, operations):
         made["xid"] = session.texts("select pg_current_xact_id_if_assigned()")[0]
         session.texts("commit")
     except Failed as failed:
-        made |= {"status": "aborted", "cause": str(failed)}
+        made |= {"status": "aborted", "x-cause": str(failed)}
         session.texts("rollback")
     return made
 

@@ -56,7 +56,7 @@ class Database:
             made["end"] = next(self.clock)
             connection.execute("commit")
         except sqlite3.OperationalError as fault:
-            made |= {"status": "aborted", "cause": str(fault)}
+            made |= {"status": "aborted", "x-cause": str(fault)}
             made.pop("end", None)
             if connection.in_transaction:
                 connection.execute("rollback")

@@ -1,5 +1,5 @@
 //! The front of a file, up to its first word, which says whether it is a schedule text.
-use hek_report::{HekFault, read_fault};
+use hek_report::{HekFault, INPUT};
 use std::alloc::Global;
 use std::io::{ErrorKind, Read};
 
@@ -49,7 +49,8 @@ pub fn read_opening<'a, R: Read>(
     })
 }
 
-/// Appends the next bytes of a file; answers whether there were some. A folder can't be read.
+/// Appends the next bytes of a file; answers whether there were some. A folder can't be read; of standard input that is
+/// closed, an image says so.
 fn read_piece<'a, R: Read>(
     file: &mut R,
     front: &mut Vec<u8>,
@@ -59,9 +60,8 @@ fn read_piece<'a, R: Read>(
     let count = match file.read(&mut piece) {
         Ok(count) => count.min(PIECE),
         Err(error) => match error.kind() {
-            ErrorKind::OutOfMemory | ErrorKind::IsADirectory => {
-                return Err(read_fault(error.kind(), name));
-            }
+            ErrorKind::OutOfMemory => return Err(HekFault::NoMemory),
+            ErrorKind::IsADirectory if name != INPUT => return Err(HekFault::CannotRead(name)),
             ErrorKind::Interrupted => return Ok(true),
             _ => 0,
         },

@@ -1,7 +1,7 @@
 //! The files of a system. One that is written is beside the file that has its name until it is whole.
 use crate::disk::Disk;
 use std::alloc::Global;
-use std::fs::File;
+use std::fs::{File, OpenOptions};
 use std::io::{ErrorKind, Write};
 use std::os::unix::fs::MetadataExt;
 use std::rt::Files;
@@ -56,11 +56,16 @@ impl<'a, R: Files + Alloc<A = Global>> SystemDisk<'a, R> {
         }
     }
 
-    /// Whether a name is one of a plain file, or of none.
-    fn is_plain(&self, name: &str) -> bool {
+    /// Whether a name is one of a plain file, or of none. Where a system can't say that, it isn't. A plain file that can't be
+    /// written is a fault.
+    fn is_plain(&self, name: &str) -> io::Result<bool> {
         match fs::metadata(self.system, name) {
-            Ok(found) => found.is_file(),
-            Err(_) => true,
+            Ok(found) if found.is_file() => {
+                let _file = OpenOptions::new().write(true).open(self.system, name)?;
+                Ok(true)
+            }
+            Ok(_) => Ok(false),
+            Err(error) => Ok(error.kind() == ErrorKind::NotFound),
         }
     }
 
@@ -94,7 +99,7 @@ impl<R: Files + Alloc<A = Global>> Disk for SystemDisk<'_, R> {
     }
 
     fn create(&self, name: &str) -> io::Result<NewFile<R::File>> {
-        if self.is_plain(name) {
+        if self.is_plain(name)? {
             let full = self.name_of(name)?;
             if let Some(file) = self.begin_beside(full)? {
                 return Ok(file);
