@@ -252,18 +252,21 @@ function shortForms(names) {
       if (form) { short.set(name, form); taken.add(form); }
     }
   }
-  names.forEach((name, index) => { if (!short.has(name)) short.set(name, `${name[0]}${index + 1}`); });
+  names.forEach((name, index) => { if (!short.has(name)) short.set(name, `${headOf(name)}${index + 1}`); });
   return short;
 }
+
+/** The letter before a number: a small v with a number is a version. */
+const headOf = (name) => (name[0] === "v" ? "V" : name[0]);
 
 /** `c8` of `customer8`. */
 function numberedForms(name) {
   const [number] = /\d{1,2}$/.exec(name) ?? [];
-  return number ? [name[0] + number] : [];
+  return number ? [headOf(name) + number] : [];
 }
 
 /** The first letter with each later one: `au`, `ad`, .. of `audit`. */
-const pairsOf = (name) => [...name.slice(1)].filter((it) => it !== "_").map((it) => name[0] + it);
+const pairsOf = (name) => [...name.slice(1)].filter((it) => it !== "_").map((it) => (/\d/.test(it) ? headOf(name) : name[0]) + it);
 
 /** The short form of a transaction's name, where there is no room for the whole. */
 const shortOf = (id) => run.short.get(nameOf(id)) ?? String(id);
@@ -1164,7 +1167,7 @@ function showChains() {
     if (bucket !== null) { out.push(bucketHead(bucket, y, it)); y += it.bucketH; }
     for (const { key, versions } of keys) {
       out.push(`<line class="rule" x1="0" x2="${W}" y1="${f1(y)}" y2="${f1(y)}"/>`);
-      out.push(`<text class="keyname" x="${f1(0.3 * u)}" y="${f1(y + rowH / 2 + 0.38 * u * k)}">${esc(fitting([`key ${key}`, key], marks.from - (isPhone ? 4.5 : narrow ? 4.9 : 5.4) * u * k, u * k))}</text>`);
+      out.push(`<text class="keyname" x="${f1(0.3 * u)}" y="${f1(y + rowH / 2 + 0.38 * u * k)}">${esc(fitting([`key ${key}`, key, ...[5, 4, 3, 2].map((count) => key.slice(0, count) + "\u2026")], marks.from - (isPhone ? 4.5 : narrow ? 4.9 : 5.4) * u * k, u * k))}</text>`);
       for (const version of versions) {
         const [under, over] = versionRow(version, y, rowH, { u: u * k, W, X, endX, futureX, left, right, marks, sights, actor, isPhone, narrow, now, readers, lookX });
         out.push(under);
@@ -1217,7 +1220,7 @@ function versionRow(it, y, h, at) {
   out.push(`<g class="version${touched ? " touched" : ""}${isNever ? " never" : ""}${pinned?.v === it.v ? " pinned" : ""}" data-v="${it.v}" role="button" tabindex="0" aria-label="${esc(label)}">`);
   out.push(`<rect class="hit" x="${f1(marks.from - 5.4 * u)}" y="${f1(y + 1)}" width="${f1(W - marks.from + 5.4 * u)}" height="${f1(h - 2)}"/>`);
   const base = y + h / 2 + 0.38 * u;
-  out.push(`<text class="vname" x="${f1(marks.from - (isPhone ? 4.1 : narrow ? 4.6 : 5) * u)}" y="${f1(base)}">v${it.v}</text><text class="value" x="${f1(marks.from - 0.35 * u)}" y="${f1(base)}" text-anchor="end">${esc(fitting([it.value, it.value.slice(0, 4) + "\u2026"], 3.1 * u, 1.15 * u, 700) || "\u2026")}</text>`);
+  out.push(`<text class="vname" x="${f1(marks.from - (isPhone ? 4.1 : narrow ? 4.6 : 5) * u)}" y="${f1(base)}">v${it.v}</text><text class="value" x="${f1(marks.from - 0.35 * u)}" y="${f1(base)}" text-anchor="end">${esc(fitting([it.value, ...[4, 3, 2].map((count) => it.value.slice(0, count) + "\u2026")], 3.1 * u, 1.15 * u, 700) || "\u2026")}</text>`);
   const barH = Math.min(h * 0.72, 3.5 * u);
   const barY = y + (h - barH) / 2;
   // from where

@@ -16,18 +16,21 @@ function shortForms(names) {
       if (form) { short.set(name, form); taken.add(form); }
     }
   }
-  names.forEach((name, index) => { if (!short.has(name)) short.set(name, `${name[0]}${index + 1}`); });
+  names.forEach((name, index) => { if (!short.has(name)) short.set(name, `${headOf(name)}${index + 1}`); });
   return short;
 }
+
+/** The letter before a number: a small v with a number is a version. */
+const headOf = (name) => (name[0] === "v" ? "V" : name[0]);
 
 /** `c8` of `customer8`. */
 function numberedForms(name) {
   const [number] = /\d{1,2}$/.exec(name) ?? [];
-  return number ? [name[0] + number] : [];
+  return number ? [headOf(name) + number] : [];
 }
 
 /** The first letter with each later one: `au`, `ad`, .. of `audit`. */
-const pairsOf = (name) => [...name.slice(1)].filter((it) => it !== "_").map((it) => name[0] + it);
+const pairsOf = (name) => [...name.slice(1)].filter((it) => it !== "_").map((it) => (/\d/.test(it) ? headOf(name) : name[0]) + it);
 
 /** The short form of a transaction's name, where there is no room for the whole. */
 const shortOf = (id) => run.short.get(nameOf(id)) ?? String(id);
