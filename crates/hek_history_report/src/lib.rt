@@ -10,6 +10,8 @@ mod turned;
 
 pub use anomaly_words::{Before, anomaly_name, befores, cycle_lines, edge_words};
 pub use cycle::put_cycle;
-pub use printing::{put_details, put_members, put_phrase, put_reasons, put_verdict, verdict_word};
+pub use printing::{
+    put_details, put_members, put_phrase, put_short, put_verdict, put_word, verdict_word,
+};
 pub use together::{Together, together_of};
 pub use turned::turn;
