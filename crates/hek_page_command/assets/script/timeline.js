@@ -258,9 +258,9 @@ function laneHead(id, y, { laneH: h, gutter, u, isPhone, tight }) {
   if (it.waits) said.push(`<tspan class="warn">waits ${it.waits}</tspan>`);
   if (it.commits) said.push(`<tspan class="warn">depends ${it.commits}</tspan>`);
   if (it.doomed && it.kind !== "aborted") said.push(`<tspan class="bad">must abort</tspan>`);
-  const first = tight ? state : level ? "" : it.level;
-  const text = !said.length ? (tight ? state : level ? state : it.level) : [first, ...(tight && said.length > 1 ? said.slice(-1) : said)].filter(Boolean);
-  parts.push(`<text class="lane-facts" x="${f1(0.2 * u)}" y="${f1(y + (tight ? 2.5 : 2.75) * u)}">${[text].flat().join(" \u00b7 ")}</text>`);
+  const front = tight || (level && !said.length) ? state : level ? "" : it.level;
+  const facts = [front, ...(tight ? said.slice(-1) : said)].filter(Boolean).join(" \u00b7 ");
+  parts.push(`<text class="lane-facts" x="${f1(0.2 * u)}" y="${f1(y + (tight ? 2.5 : 2.75) * u)}">${facts}</text>`);
   return parts.join("") + "</g>";
 }
 
