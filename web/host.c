@@ -20,8 +20,8 @@ IMPORT("exit") _Noreturn void host_exit(int status);
 IMPORT("arg_count") long host_arg_count(void);
 IMPORT("arg") long host_arg(long index, void *to, size_t room);
 
-// The error number "not a terminal", and the one of a thread that can't be started.
-enum { ENOTTY = 25, EAGAIN = 11 };
+// The error numbers of what isn't a terminal, of a thread that can't be started, and of a call that the host doesn't have.
+enum { ENOTTY = 25, EAGAIN = 11, ENOSYS = 38 };
 static int error;
 
 int rattle_errno(void) { return error; }
@@ -46,6 +46,21 @@ int open(const char *path, int flags, ...) {
 int isatty(int fd) {
   if (host_is_terminal(fd)) return 1;
   error = ENOTTY;
+  return 0;
+}
+
+// What the host can't say or do of its files: a file is written directly there.
+static int absent(void) {
+  error = ENOSYS;
+  return -1;
+}
+
+int statx(int folder, const char *path, int flags, unsigned mask, void *to) { return absent(); }
+int rename(const char *from, const char *to) { return absent(); }
+int unlink(const char *path) { return absent(); }
+int chmod(const char *path, unsigned mode) { return absent(); }
+char *realpath(const char *path, char *to) {
+  absent();
   return 0;
 }
 
