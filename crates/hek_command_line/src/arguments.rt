@@ -288,12 +288,12 @@ are answered with
 
 const CHECK: CommandText = CommandText {
     name: "check",
-    about: "Says whether a trace is serial",
+    about: "Says whether each transaction of a trace got what its level promises",
     example: r"Example:
   hek check first.img trace.txt
-It prints `serial` if the committed transactions could have run one after another, by end time, and otherwise
+It prints `serial` if each committed transaction got what its own level promises, by end time, and otherwise
   not serial 2
-with the number of the first event at fault, and status 1. Each transaction is judged by its own level: a repeatable one by the values and pairs that it found, so phantoms pass; a snapshot one by its reads as of its begin. `--level serializable` judges all as serializable.",
+with the number of the first event at fault, and status 1. A serializable transaction is judged by all its replies; a repeatable one by the values and pairs that it found, so phantoms pass; a snapshot one by its reads as of its begin, so write skew passes. `--level serializable` judges all as serializable, by end time; `--summary` says whether they can follow one another, in whatever order.",
     arguments: &[
         FILE,
         ArgumentText {
@@ -313,7 +313,7 @@ with the number of the first event at fault, and status 1. Each transaction is j
         },
         ArgumentText {
             name: "summary",
-            help: "also prints how many transactions have committed, and how many events are judged",
+            help: "also prints how many transactions have committed, how many events are judged, and whether the transactions can follow one another",
             form: Form::Flag,
         },
         ArgumentText {
@@ -429,7 +429,7 @@ it prints
   2 a aborted conflict; b committed; rows 10=2; serial; waited 0; first b a a b
   1 a committed; b committed; rows 10=2; serial; waited 0; first a a b b
   1 a committed; b committed; rows 10=1; serial; waited 0; first b b a a
-The verdict takes all transactions as serializable. `hek permute two.hek --order "a b a b"` prints the events of that order as a schedule."#,
+The verdict takes all transactions as serializable: `serial` by end time, `serial in another order`, or `not serial`. `hek permute two.hek --order "a b a b"` prints the events of that order as a schedule."#,
     arguments: &[
         FILE,
         TEXT,
@@ -475,7 +475,7 @@ The verdict takes all transactions as serializable. `hek permute two.hek --order
         },
         ArgumentText {
             name: "find",
-            help: "prints the shortest beginning of an order in which this comes: `a aborted deadlock`, `aborted`, `waiting`, `not serial`",
+            help: "prints the shortest beginning of an order in which this comes: `a aborted deadlock`, `aborted`, `waiting`, `not serial`, `another order`",
             form: Form::Value("TEXT"),
         },
         JSON,
@@ -676,7 +676,7 @@ prints the word and the waits that are left:
   hek dis first.img
 make the image of a schedule's text, and print it as text again
   hek check first.img trace.txt
-says whether a trace over it is serial
+says whether a trace over it has what each level promises
 
 `--explain`, anywhere among the words, or HEK_EXPLAIN=always in the environment explains each fault, as at a terminal; `--explain=never` and HEK_EXPLAIN=never only name it.",
         )

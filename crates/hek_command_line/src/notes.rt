@@ -2,6 +2,7 @@
 use crate::explain::schedule_of;
 use crate::kept::Kept;
 use clap::ArgMatches;
+use hek_check_command::note_together;
 use hek_rules::{EventKind, Schedule, next_line, next_word, number};
 use std::alloc::Global;
 use std::io::Write;
@@ -16,8 +17,21 @@ pub fn note<E: Write>(
 ) {
     match command {
         "debug" if !found.get_flag("auto") => note_breaks(alloc, kept, faults),
+        "check" => note_check(alloc, found, kept, faults),
         "page" => note_page(alloc, found, kept, faults),
         _ => {}
+    }
+}
+
+/// A trace that is right at each level, whose transactions can't follow one another by end time. Where a level or more than
+/// the verdict is asked for, nothing is noted.
+fn note_check<E: Write>(alloc: Global, found: &ArgMatches<'_>, kept: &Kept<'_>, faults: &mut E) {
+    if found.get_str("level").is_some() || found.get_flag("summary") || found.get_flag("json") {
+        return;
+    }
+    if let Some(schedule) = schedule_of(alloc, kept.file_bytes(alloc)) {
+        let trace = kept.other_bytes(alloc);
+        note_together(alloc, &schedule, trace.as_slice(), faults);
     }
 }
 

@@ -51,7 +51,7 @@ pub fn advise_sought<E: Write>(
     };
     let _ = writeln!(
         faults,
-        "  | wanted: a reply as a trace has it, or its first words, maybe after the name of a transaction; or `not serial`"
+        "  | wanted: a reply as a trace has it, or its first words, maybe after the name of a transaction; or a verdict: `serial`, `another order`, `not serial`"
     );
     if let Ok(Some(meant)) = meant_by(alloc, word, fault.wrong, schedule) {
         let _ = writeln!(faults, "  | did you mean `{meant}`?");
