@@ -1,5 +1,5 @@
 //! Whether transactions can follow one another, as text and as JSON.
-use crate::anomaly_words::writer_name;
+use crate::anomaly_words::{anomaly_name, writer_name};
 use crate::cycle::put_cycle;
 use crate::together::Together;
 use hek_history_log::Log;
@@ -116,8 +116,12 @@ fn put_order(schedule: &Schedule, order: &[TxnId], lines: &mut Vec<u8>) -> Resul
     Ok(())
 }
 
-/// `a before b, b before a`.
+/// `a before b, b before a`; the anomaly's name where it is no cycle of several.
 fn put_edges(log: &Log, cause: &Cause, lines: &mut Vec<u8>) -> Result<(), NoMemory> {
+    if cause.cycle.len() < 2 {
+        lines.extend_from_slice(anomaly_name(cause.anomaly).as_bytes())?;
+        return Ok(());
+    }
     for (place, edge) in cause.cycle.iter().enumerate() {
         if place > 0 {
             lines.extend_from_slice(b", ")?;

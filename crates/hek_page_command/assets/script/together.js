@@ -12,7 +12,7 @@ function togetherSaid(byEnd) {
   switch (told.verdict) {
     case "serial": return `<b>yes</b>${byEnd ? `, by end time: ${byEnd}` : ""}`;
     case "another order": return `<b>yes</b>, in another order: ${told.order.map(tagName).join(", then ")}${byEnd ? ` (by end time: ${byEnd})` : ""}`;
-    case "not serial": return `<b>no</b>: ${told.cycle.map(beforeSaid).join(", ")}`;
+    case "not serial": return `<b>no</b>: ${told.cycle.length > 1 ? told.cycle.map(beforeSaid).join(", ") : esc(told.cycle[0]?.words ?? "no order")}`;
     default: return "not by end time; whether in another order is unknown";
   }
 }
