@@ -133,7 +133,7 @@ fn put_edges(log: &Log, cause: &Cause, lines: &mut Vec<u8>) -> Result<(), NoMemo
     Ok(())
 }
 
-/// Puts the member `verdict`, and with it `order` or `cycle` where there is one.
+/// Puts the member `verdict`, and with it `order`, or `anomaly` and `cycle`, where there is one.
 pub fn put_members(
     alloc: Global,
     schedule: &Schedule,
@@ -143,7 +143,10 @@ pub fn put_members(
     put_short(together, out);
     match together {
         Together::InAnotherOrder(order) => out.put_names("order", schedule, order.as_slice()),
-        Together::NotSerial(log, cause) => put_cycle(alloc, log, cause, out)?,
+        Together::NotSerial(log, cause) => {
+            out.put_text("anomaly", anomaly_name(cause.anomaly));
+            put_cycle(alloc, log, cause, out)?;
+        }
         Together::ByEndTime | Together::Unknown => {}
     }
     Ok(())

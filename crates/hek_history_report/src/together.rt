@@ -3,7 +3,9 @@ use crate::turned::turn;
 use hek_history::{Level, Order, Point};
 use hek_history_log::{Label, Log, LogFault, read_log, write_run};
 use hek_history_search::{Cause, Verdict, judge};
-use hek_rules::{Level as RunLevel, NoMemory, Schedule, Transcript, TxnId, Verdict as Checked};
+use hek_rules::{
+    Level as RunLevel, NoMemory, Reply, Schedule, Transcript, TxnId, Verdict as Checked,
+};
 use hek_serial::check_at;
 use std::alloc::Global;
 
@@ -48,6 +50,9 @@ fn searched(
     match judge(alloc, &log.history, Order::Versions, EFFORT)? {
         Verdict::Serial(points) => {
             let order = order_of(alloc, schedule, &log, points.as_slice())?;
+            if order.len() < committed_in(transcript) {
+                return Ok(Together::Unknown);
+            }
             Ok(Together::InAnotherOrder(order))
         }
         Verdict::NotSerial(_steps, cause) => {
@@ -57,6 +62,17 @@ fn searched(
         }
         Verdict::Unknown(_) => Ok(Together::Unknown),
     }
+}
+
+/// How many commits a transcript has: one of a transaction that never began is in no log.
+fn committed_in(transcript: &Transcript) -> usize {
+    let mut count: usize = 0;
+    for reply in transcript.replies() {
+        if matches!(reply, Reply::Committed) {
+            count = count.saturating_add(1);
+        }
+    }
+    count
 }
 
 /// The log of a run, with all its transactions serializable; None if it can't be read again.
