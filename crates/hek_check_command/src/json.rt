@@ -16,7 +16,7 @@ pub(crate) fn put_told(
     let mut objects = Lines::after(alloc, lines);
     put_verdict(alloc, told, &mut objects)?;
     if told.asked.all {
-        for fault in told.faults.as_slice() {
+        for fault in told.faults {
             put_fault(alloc, told, fault, &mut objects)?;
         }
     }
@@ -34,7 +34,7 @@ fn put_verdict(alloc: Global, told: &Told<'_>, out: &mut Lines) -> Result<(), No
         out.put_number("committed", told.judged.committed as u64);
         out.put_number("judged", told.judged.events as u64);
     }
-    if let Some(together) = &told.together {
+    if let Some(together) = told.together {
         out.put_key("together");
         out.begin_object();
         put_members(alloc, told.schedule, together, out)?;

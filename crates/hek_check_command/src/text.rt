@@ -18,7 +18,7 @@ pub(crate) fn put_told(
 ) -> Result<(), NoMemory> {
     put_verdict(told, lines)?;
     if told.asked.why {
-        put_reason(told.faults.as_slice(), lines)?;
+        put_reason(told.faults, lines)?;
     }
     if told.asked.all {
         put_faults(alloc, told, lines)?;
@@ -36,7 +36,7 @@ fn put_verdict(told: &Told<'_>, lines: &mut Vec<u8>) -> Result<(), NoMemory> {
         let judged = told.judged;
         put(write!(lines, ": {judged}"))?;
     }
-    if let Some(together) = &told.together {
+    if let Some(together) = told.together {
         put(write!(lines, "; one after another: "))?;
         put_phrase(told.schedule, together, lines)?;
     }
@@ -58,7 +58,7 @@ fn put_faults(alloc: Global, told: &Told<'_>, lines: &mut Vec<u8>) -> Result<(),
     let names = names_of(alloc, told.text)?;
     let mut trace = told.text.lines();
     let mut next = 0usize;
-    for fault in told.faults.as_slice() {
+    for fault in told.faults {
         let line = trace.nth(fault.place.saturating_sub(next)).unwrap_or("");
         next = fault.place.saturating_add(1);
         put_fault(alloc, told, names.as_slice(), line, fault, lines)?;

@@ -31,7 +31,7 @@ pub struct Asked {
 }
 
 /// A verdict, and what is told with it.
-#[derive(Drop)]
+#[derive(Clone, Copy)]
 pub(crate) struct Told<'a> {
     pub(crate) schedule: &'a Schedule,
     pub(crate) transcript: &'a Transcript,
@@ -41,9 +41,9 @@ pub(crate) struct Told<'a> {
     pub(crate) verdict: Verdict,
     pub(crate) judged: Judged,
     /// Whether the committed transactions can follow one another, if it is told how much is judged.
-    pub(crate) together: Option<Together>,
+    pub(crate) together: &'a Option<Together>,
     /// The events at fault, as far as they are asked for: none, the first, or all.
-    pub(crate) faults: Vec<Fault>,
+    pub(crate) faults: &'a [Fault],
 }
 
 /// Writes the verdict on the transcript whose trace, over the schedule in a file, a text is, with what is asked for.
@@ -79,27 +79,51 @@ fn judge<'a, W: Write>(
     ensures err { IfErr result IsStop }
 {
     let verdict = verdict_of(alloc, transcript, asked.level)?;
+    write_judged(alloc, text, schedule, transcript, asked, verdict, out)?;
+    Ok(status_of(verdict))
+}
+
+/// Writes a verdict, and what is told with it.
+fn write_judged<'a, W: Write>(
+    alloc: Global,
+    text: &str,
+    schedule: &Schedule,
+    transcript: &Transcript,
+    asked: Asked,
+    verdict: Verdict,
+    out: &mut W,
+) -> Result<(), HekFault<'a>>
+    ensures { IfErr result IsStop }
+{
+    let mut lines = lines_of(alloc, text, schedule, transcript, asked, verdict)?;
+    send(&mut lines, out)
+}
+
+/// The lines of a verdict, and of what is told with it.
+fn lines_of(
+    alloc: Global,
+    text: &str,
+    schedule: &Schedule,
+    transcript: &Transcript,
+    asked: Asked,
+    verdict: Verdict,
+) -> Result<Vec<u8>, NoMemory> {
+    let together = together_asked(alloc, schedule, transcript, asked)?;
+    let faults = faults_asked(alloc, transcript, asked, verdict)?;
+    let judged = judged_of(alloc, text)?;
     let told = Told {
         schedule,
         transcript,
         text,
         asked,
         verdict,
-        judged: judged_of(alloc, text)?,
-        together: together_asked(alloc, schedule, transcript, asked)?,
-        faults: faults_asked(alloc, transcript, asked, verdict)?,
+        judged,
+        together: &together,
+        faults: faults.as_slice(),
     };
-    write_told(alloc, &told, out)?;
-    Ok(status_of(verdict))
-}
-
-/// Writes a verdict, and what is told with it.
-fn write_told<'a, W: Write>(alloc: Global, told: &Told<'_>, out: &mut W) -> Result<(), HekFault<'a>>
-    ensures { IfErr result IsStop }
-{
     let mut lines = Vec::new(alloc);
-    put_told(alloc, told, &mut lines)?;
-    send(&mut lines, out)
+    put_told(alloc, &told, &mut lines)?;
+    Ok(lines)
 }
 
 fn put_told(alloc: Global, told: &Told<'_>, lines: &mut Vec<u8>) -> Result<(), NoMemory> {
