@@ -28,16 +28,32 @@ fn note_of(
     transcript: &Transcript,
 ) -> Result<Option<Vec<u8>>, NoMemory> {
     match check(alloc, transcript)? {
-        Verdict::Serial => {}
-        Verdict::NotSerial(_) => return Ok(None),
+        Verdict::Serial => line_of(alloc, schedule, transcript),
+        Verdict::NotSerial(_) => Ok(None),
     }
+}
+
+/// The line of a trace that is right at each level, if its transactions can't follow one another by end time.
+fn line_of(
+    alloc: Global,
+    schedule: &Schedule,
+    transcript: &Transcript,
+) -> Result<Option<Vec<u8>>, NoMemory> {
     let together = together_of(alloc, schedule, transcript)?;
+    line_with(alloc, schedule, &together)
+}
+
+fn line_with(
+    alloc: Global,
+    schedule: &Schedule,
+    together: &Together,
+) -> Result<Option<Vec<u8>>, NoMemory> {
     if matches!(together, Together::ByEndTime) {
         return Ok(None);
     }
     let mut line = Vec::new(alloc);
     line.extend_from_slice(b"hek: note: as each level promises; one after another: ")?;
-    put_phrase(schedule, &together, &mut line)?;
+    put_phrase(schedule, together, &mut line)?;
     line.push(b'\n')?;
     Ok(Some(line))
 }

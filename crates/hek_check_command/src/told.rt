@@ -109,6 +109,19 @@ fn lines_of(
     verdict: Verdict,
 ) -> Result<Vec<u8>, NoMemory> {
     let together = together_asked(alloc, schedule, transcript, asked)?;
+    lines_with(alloc, text, schedule, transcript, asked, verdict, &together)
+}
+
+/// The same, given whether the committed transactions can follow one another.
+fn lines_with(
+    alloc: Global,
+    text: &str,
+    schedule: &Schedule,
+    transcript: &Transcript,
+    asked: Asked,
+    verdict: Verdict,
+    together: &Option<Together>,
+) -> Result<Vec<u8>, NoMemory> {
     let faults = faults_asked(alloc, transcript, asked, verdict)?;
     let judged = judged_of(alloc, text)?;
     let told = Told {
@@ -118,7 +131,7 @@ fn lines_of(
         asked,
         verdict,
         judged,
-        together: &together,
+        together,
         faults: faults.as_slice(),
     };
     let mut lines = Vec::new(alloc);

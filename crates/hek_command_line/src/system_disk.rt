@@ -130,7 +130,8 @@ impl<R: Files + Alloc<A = Global>> Disk for SystemDisk<'_, R> {
     }
 
     fn discard(&self, file: NewFile<R::File>) {
-        if let Some(names) = file.names {
+        let NewFile { file: _, names } = file;
+        if let Some(names) = names {
             let _ = fs::remove_file(self.system, names.beside.as_str());
         }
     }
