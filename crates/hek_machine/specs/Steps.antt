@@ -55,11 +55,12 @@ HasNoFaults p events replies =
     is_declared (levels_of p) (txn_of e) ≡ true →
     HasNoFault (recorded_of p events replies) i
 
--- the rows that the committed transactions leave, run one after another by end time
+-- the loaded rows under the writes of the committed transactions, laid over them one transaction after another by end
+-- time
 abbrev pub serial_rows_of : Plan → List Event → List Reply → List (ℕ × ℕ)
 serial_rows_of p events replies = serial_map (zip events replies) (put_all p.rows [])
 
--- the committed rows of the machine are those that the committed transactions leave in serial order
+-- the committed rows of the machine are `serial_rows_of`
 abbrev pub RowsAreSerial : Plan → List Event → List Reply → Engine → Type 0
 RowsAreSerial p events replies m = (rows : List (ℕ × ℕ)) → IsShown m committed_rows rows → rows ≡ serial_rows_of p events replies
 
