@@ -14,7 +14,7 @@ pub(crate) fn put_told(
     lines: &mut Vec<u8>,
 ) -> Result<(), NoMemory> {
     let mut objects = Lines::after(alloc, lines);
-    put_verdict(alloc, told, &mut objects)?;
+    put_verdict(told, &mut objects);
     if told.asked.all {
         for fault in told.faults {
             put_fault(alloc, told, fault, &mut objects)?;
@@ -24,7 +24,7 @@ pub(crate) fn put_told(
 }
 
 /// The line of a verdict, with how much is judged if that is asked for.
-fn put_verdict(alloc: Global, told: &Told<'_>, out: &mut Lines) -> Result<(), NoMemory> {
+fn put_verdict(told: &Told<'_>, out: &mut Lines) {
     out.begin_line();
     match told.verdict {
         Verdict::Serial => out.put_text("verdict", "serial"),
@@ -37,11 +37,10 @@ fn put_verdict(alloc: Global, told: &Told<'_>, out: &mut Lines) -> Result<(), No
     if let Some(together) = told.together {
         out.put_key("together");
         out.begin_object();
-        put_members(alloc, told.schedule, together, out)?;
+        put_members(told.schedule, together, out);
         out.end_object();
     }
     out.end_line();
-    Ok(())
 }
 
 /// The verdict that the event with a number is the first at fault, with its serial reply if that is asked for.

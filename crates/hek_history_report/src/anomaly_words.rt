@@ -58,6 +58,7 @@ impl fmt::Display for Who<'_> {
     }
 }
 
+/// The name of a writer of the log.
 pub(crate) fn writer_name(log: &Log, writer: Writer) -> Who<'_> {
     match writer {
         Writer::Opening => Who::Opening,
@@ -260,39 +261,4 @@ fn cycle_line(
     let first = writer_name(log, edge.first);
     let second = writer_name(log, edge.second);
     format!(in alloc; "  {text:<width$}    {first} before {second}")
-}
-
-/// Why one transaction is before another: their names, or None for the opening rows; the key that it is by, if it is by
-/// one; and in words.
-#[derive(Drop)]
-pub struct Before {
-    pub first: Option<String>,
-    pub second: Option<String>,
-    pub key: Option<u64>,
-    pub words: String,
-}
-
-/// The edges of a cycle as texts.
-pub fn befores(alloc: Global, log: &Log, cause: &Cause) -> Result<Vec<Before>, NoMemory> {
-    let mut told = Vec::with_capacity(alloc, cause.cycle.len())?;
-    for edge in cause.cycle.as_slice() {
-        told.push(Before {
-            first: name_text(alloc, log, edge.first)?,
-            second: name_text(alloc, log, edge.second)?,
-            key: edge.key,
-            words: edge_words(alloc, log, cause.anomaly, *edge)?,
-        })?;
-    }
-    Ok(told)
-}
-
-/// The name of a transaction; None for the opening rows.
-fn name_text(alloc: Global, log: &Log, writer: Writer) -> Result<Option<String>, NoMemory> {
-    match writer {
-        Writer::Opening => Ok(None),
-        Writer::Transaction(place) => {
-            let name = log.name(place);
-            Ok(Some(format!(in alloc; "{name}")?))
-        }
-    }
 }

@@ -1,13 +1,14 @@
 //! A cycle as JSON. The members of an edge are in the order of their names.
 use crate::anomaly_words::{edge_words, kind_word};
+use crate::before::{Before, Side};
 use hek_history::{Need, Writer};
 use hek_history_log::{Label, Log};
 use hek_history_search::{Anomaly, Cause, CycleEdge};
 use hek_report::Lines;
-use hek_rules::NoMemory;
+use hek_rules::{NoMemory, Schedule};
 use std::alloc::Global;
 
-/// Puts the member `cycle`: why one transaction is before another, edge by edge.
+/// Puts the member `cycle` of a log: why one transaction is before another, edge by edge.
 pub fn put_cycle(alloc: Global, log: &Log, cause: &Cause, out: &mut Lines) -> Result<(), NoMemory> {
     out.put_key("cycle");
     out.begin_array();
@@ -18,7 +19,17 @@ pub fn put_cycle(alloc: Global, log: &Log, cause: &Cause, out: &mut Lines) -> Re
     Ok(())
 }
 
-/// The object of an edge of a cycle.
+/// Puts the member `cycle` of a run.
+pub(crate) fn put_befores(schedule: &Schedule, befores: &[Before], out: &mut Lines) {
+    out.put_key("cycle");
+    out.begin_array();
+    for before in befores {
+        put_before(schedule, before, out);
+    }
+    out.end_array();
+}
+
+/// The object of an edge of a log.
 fn put_edge(
     alloc: Global,
     log: &Log,
@@ -67,5 +78,26 @@ fn put_label(name: &str, label: Option<Label<'_>>, out: &mut Lines) {
         None => out.put_null(name),
         Some(Label::Number(number)) => out.put_number(name, number),
         Some(Label::Text(text)) => out.put_text(name, text),
+    }
+}
+
+/// The object of an edge of a run.
+fn put_before(schedule: &Schedule, before: &Before, out: &mut Lines) {
+    out.begin_object();
+    put_side("from", schedule, before.first, out);
+    out.put_maybe("key", before.key);
+    out.put_text("kind", kind_word(before.kind));
+    out.put_maybe("read", before.read);
+    put_side("to", schedule, before.second, out);
+    out.put_text("words", before.words.as_str());
+    out.put_maybe("written", before.written);
+    out.end_object();
+}
+
+/// The name of a transaction of a run, or null for the opening.
+fn put_side(name: &str, schedule: &Schedule, side: Side, out: &mut Lines) {
+    match side {
+        Side::Opening => out.put_null(name),
+        Side::Txn(txn) => out.put_name(name, schedule, txn),
     }
 }

@@ -3,12 +3,14 @@
 #![tactic(auto)]
 
 mod anomaly_words;
+mod before;
 mod cycle;
 mod printing;
 mod together;
 mod turned;
 
-pub use anomaly_words::{Before, anomaly_name, befores, cycle_lines, edge_words};
+pub use anomaly_words::{anomaly_name, cycle_lines};
+pub use before::{Before, Side};
 pub use cycle::put_cycle;
 pub use printing::{
     put_details, put_members, put_phrase, put_short, put_verdict, put_word, verdict_word,

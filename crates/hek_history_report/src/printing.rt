@@ -1,14 +1,12 @@
 //! Whether transactions can follow one another, as text and as JSON.
-use crate::anomaly_words::{anomaly_name, writer_name};
-use crate::cycle::put_cycle;
+use crate::anomaly_words::anomaly_name;
+use crate::before::{Before, Side};
+use crate::cycle::put_befores;
 use crate::together::Together;
-use hek_history_log::Log;
-use hek_history_search::Cause;
-use hek_report::{Lines, put, put_name};
+use hek_history_search::Anomaly;
+use hek_report::{Lines, put_name};
 use hek_rules::{NoMemory, Schedule, TxnId};
 use hek_serial::Serializability;
-use std::alloc::Global;
-use std::io::Write;
 
 /// The words of a verdict in texts.
 pub fn verdict_word(verdict: Serializability) -> &'static str {
@@ -98,9 +96,9 @@ fn put_after(
             lines.extend_from_slice(before_order.as_bytes())?;
             put_order(schedule, order.as_slice(), lines)
         }
-        Together::NotSerial(log, cause) => {
+        Together::NotSerial(anomaly, befores) => {
             lines.extend_from_slice(before_cycle.as_bytes())?;
-            put_edges(log, cause, lines)
+            put_edges(schedule, *anomaly, befores.as_slice(), lines)
         }
     }
 }
@@ -117,37 +115,44 @@ fn put_order(schedule: &Schedule, order: &[TxnId], lines: &mut Vec<u8>) -> Resul
 }
 
 /// `a before b, b before a`; the anomaly's name where it is no cycle of several.
-fn put_edges(log: &Log, cause: &Cause, lines: &mut Vec<u8>) -> Result<(), NoMemory> {
-    if cause.cycle.len() < 2 {
-        lines.extend_from_slice(anomaly_name(cause.anomaly).as_bytes())?;
+fn put_edges(
+    schedule: &Schedule,
+    anomaly: Anomaly,
+    befores: &[Before],
+    lines: &mut Vec<u8>,
+) -> Result<(), NoMemory> {
+    if befores.len() < 2 {
+        lines.extend_from_slice(anomaly_name(anomaly).as_bytes())?;
         return Ok(());
     }
-    for (place, edge) in cause.cycle.iter().enumerate() {
+    for (place, before) in befores.iter().enumerate() {
         if place > 0 {
             lines.extend_from_slice(b", ")?;
         }
-        let first = writer_name(log, edge.first);
-        let second = writer_name(log, edge.second);
-        put(write!(lines, "{first} before {second}"))?;
+        put_side(schedule, before.first, lines)?;
+        lines.extend_from_slice(b" before ")?;
+        put_side(schedule, before.second, lines)?;
     }
     Ok(())
 }
 
+/// The name of a transaction, or `the opening`.
+fn put_side(schedule: &Schedule, side: Side, lines: &mut Vec<u8>) -> Result<(), NoMemory> {
+    match side {
+        Side::Opening => Ok(lines.extend_from_slice(b"the opening")?),
+        Side::Txn(txn) => put_name(schedule, txn, lines),
+    }
+}
+
 /// Puts the member `verdict`, and with it `order`, or `anomaly` and `cycle`, where there is one.
-pub fn put_members(
-    alloc: Global,
-    schedule: &Schedule,
-    together: &Together,
-    out: &mut Lines,
-) -> Result<(), NoMemory> {
+pub fn put_members(schedule: &Schedule, together: &Together, out: &mut Lines) {
     put_short(together, out);
     match together {
         Together::InAnotherOrder(order) => out.put_names("order", schedule, order.as_slice()),
-        Together::NotSerial(log, cause) => {
-            out.put_text("anomaly", anomaly_name(cause.anomaly));
-            put_cycle(alloc, log, cause, out)?;
+        Together::NotSerial(anomaly, befores) => {
+            out.put_text("anomaly", anomaly_name(*anomaly));
+            put_befores(schedule, befores.as_slice(), out);
         }
         Together::ByEndTime | Together::Unknown => {}
     }
-    Ok(())
 }

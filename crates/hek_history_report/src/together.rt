@@ -1,8 +1,9 @@
 //! Whether the committed transactions of a run can follow one another, and if so in which order, and if not, why not.
+use crate::before::{Before, befores_of, named};
 use crate::turned::turn;
 use hek_history::{Level, Order, Point};
-use hek_history_log::{Label, Log, LogFault, read_log, write_run};
-use hek_history_search::{Cause, Verdict, judge};
+use hek_history_log::{Log, LogFault, read_log, write_run};
+use hek_history_search::{Anomaly, Cause, Verdict, judge};
 use hek_rules::{
     Level as RunLevel, NoMemory, Reply, Schedule, Transcript, TxnId, Verdict as Checked,
 };
@@ -20,8 +21,8 @@ pub enum Together {
     ByEndTime,
     /// Not in the order of their end times, but in this one.
     InAnotherOrder(Vec<TxnId>),
-    /// In no order, for this cause. Its names, keys and values are those of the log of the run.
-    NotSerial(Log, Cause),
+    /// In no order, for this anomaly: who comes before whom, as far as it goes round.
+    NotSerial(Anomaly, Vec<Before>),
     /// The search gave up.
     Unknown,
 }
@@ -44,23 +45,53 @@ fn searched(
     schedule: &Schedule,
     transcript: &Transcript,
 ) -> Result<Together, NoMemory> {
-    let Some(log) = log_of(alloc, schedule, transcript)? else {
-        return Ok(Together::Unknown);
-    };
+    match log_of(alloc, schedule, transcript)? {
+        Some(log) => judged(alloc, schedule, &log, committed_in(transcript)),
+        None => Ok(Together::Unknown),
+    }
+}
+
+/// What the search over a log finds, given how many commits the run has.
+fn judged(
+    alloc: Global,
+    schedule: &Schedule,
+    log: &Log,
+    committed: usize,
+) -> Result<Together, NoMemory> {
     match judge(alloc, &log.history, Order::Versions, EFFORT)? {
-        Verdict::Serial(points) => {
-            let order = order_of(alloc, schedule, &log, points.as_slice())?;
-            if order.len() < committed_in(transcript) {
-                return Ok(Together::Unknown);
-            }
-            Ok(Together::InAnotherOrder(order))
-        }
-        Verdict::NotSerial(_steps, cause) => {
-            let mut cause = cause;
-            turn(&mut cause);
-            Ok(Together::NotSerial(log, cause))
-        }
+        Verdict::Serial(points) => ordered(alloc, schedule, log, points.as_slice(), committed),
+        Verdict::NotSerial(_steps, cause) => refuted(alloc, schedule, log, cause),
         Verdict::Unknown(_) => Ok(Together::Unknown),
+    }
+}
+
+/// The order of points, if each commit of the run has one.
+fn ordered(
+    alloc: Global,
+    schedule: &Schedule,
+    log: &Log,
+    points: &[Point],
+    committed: usize,
+) -> Result<Together, NoMemory> {
+    let order = order_of(alloc, schedule, log, points)?;
+    if order.len() < committed {
+        return Ok(Together::Unknown);
+    }
+    Ok(Together::InAnotherOrder(order))
+}
+
+/// Who comes before whom, by the names of the schedule.
+fn refuted(
+    alloc: Global,
+    schedule: &Schedule,
+    log: &Log,
+    cause: Cause,
+) -> Result<Together, NoMemory> {
+    let mut cause = cause;
+    turn(&mut cause);
+    match befores_of(alloc, schedule, log, &cause)? {
+        Some(befores) => Ok(Together::NotSerial(cause.anomaly, befores)),
+        None => Ok(Together::Unknown),
     }
 }
 
@@ -112,12 +143,4 @@ fn order_of(
         }
     }
     Ok(order)
-}
-
-/// The transaction that a name of the log is of.
-fn named(schedule: &Schedule, name: Label<'_>) -> Option<TxnId> {
-    match name {
-        Label::Text(text) => schedule.id_of(text.as_bytes()),
-        Label::Number(number) => Some(TxnId::new(number)),
-    }
 }

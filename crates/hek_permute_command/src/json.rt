@@ -56,27 +56,20 @@ pub(crate) fn put_tally<'a>(
     for row in tally.rows() {
         let verdict = row.outcome().verdict();
         let details = details_of(alloc, schedule, form, row.first(), verdict)?;
-        put_row(alloc, schedule, row, &details, out)?;
+        put_row(schedule, row, &details, out);
     }
     Ok(())
 }
 
 /// A row of the tally, with what is said of the verdict of its first order.
-fn put_row(
-    alloc: Global,
-    schedule: &Schedule,
-    row: &Row,
-    details: &Together,
-    out: &mut Lines,
-) -> Result<(), NoMemory> {
+fn put_row(schedule: &Schedule, row: &Row, details: &Together, out: &mut Lines) {
     out.begin_line();
     out.put_number("orders", row.orders());
     put_outcome(schedule, row.outcome(), out);
-    put_members(alloc, schedule, details, out)?;
+    put_members(schedule, details, out);
     out.put_number("waited", row.waited());
     out.put_names("first", schedule, row.first());
     out.end_line();
-    Ok(())
 }
 
 /// The line of an order with its outcome.
@@ -137,7 +130,7 @@ pub(crate) fn put_found(alloc: Global, found: &Found, lines: &mut Vec<u8>) -> Re
     objects.put_names("moves", &played.schedule, played.moves.as_slice());
     objects.put_number("of", played.most as u64);
     if let Some(together) = &found.together {
-        put_members(alloc, &played.schedule, together, &mut objects)?;
+        put_members(&played.schedule, together, &mut objects);
     }
     objects.end_line();
     objects.put_back(lines)?;

@@ -31,17 +31,10 @@ pub(crate) fn put_heading(outcomes: usize, runs: u64, out: &mut Lines) {
 }
 
 /// The line of an outcome, and of how many runs had it.
-pub(crate) fn put_seen(
-    alloc: Global,
-    schedule: &Schedule,
-    runs: u64,
-    outcome: &Outcome,
-    out: &mut Lines,
-) -> Result<(), NoMemory> {
+pub(crate) fn put_seen(schedule: &Schedule, runs: u64, outcome: &Outcome, out: &mut Lines) {
     put_outcome(schedule, runs, outcome, out);
-    put_members(alloc, schedule, &outcome.together, out)?;
+    put_members(schedule, &outcome.together, out);
     out.end_line();
-    Ok(())
 }
 
 /// The line of an outcome by which it is told from others: without who comes before whom.

@@ -174,7 +174,7 @@ fn put_seen(
         Printing::Text => text::put_seen(schedule, runs, outcome, lines),
         Printing::Json => {
             let mut objects = Lines::after(alloc, lines);
-            json::put_seen(alloc, schedule, runs, outcome, &mut objects)?;
+            json::put_seen(schedule, runs, outcome, &mut objects);
             objects.put_back(lines)
         }
     }
