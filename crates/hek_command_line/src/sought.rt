@@ -5,6 +5,9 @@ use hek_rules::{Cause, NoMemory, ReplyForm, ReplyOperands, Schedule, TxnId};
 use std::alloc::Global;
 use std::io::Write;
 
+/// The verdicts that can be looked for.
+const VERDICTS: [&str; 3] = ["serial", "another order", "not serial"];
+
 /// What is wrong with a word.
 #[derive(Clone, Copy)]
 enum Wrong {
@@ -53,8 +56,22 @@ pub fn advise_sought<E: Write>(
         faults,
         "  | wanted: a reply as a trace has it, or its first words, maybe after the name of a transaction; or a verdict: `serial`, `another order`, `not serial`"
     );
-    if let Ok(Some(meant)) = meant_by(alloc, word, fault.wrong, schedule) {
+    if let Ok(Some(meant)) = meant_instead(alloc, text, word, fault.wrong, schedule) {
         let _ = writeln!(faults, "  | did you mean `{meant}`?");
+    }
+}
+
+/// What is meant by a text with a word that is wrong: a verdict that the text is nearly, or else another word.
+fn meant_instead<'s>(
+    alloc: Global,
+    text: &str,
+    word: &str,
+    wrong: Wrong,
+    schedule: Option<&'s Schedule>,
+) -> Result<Option<&'s str>, NoMemory> {
+    match nearest_word(alloc, text, &VERDICTS) {
+        Some(verdict) => Ok(Some(verdict)),
+        None => meant_by(alloc, word, wrong, schedule),
     }
 }
 

@@ -163,7 +163,7 @@ fn all_levels<'a>(
     ensures stops { IfErr result IsExploreStop }
 {
     let mut trees = Vec::new(alloc);
-    for level in [Level::Serializable, Level::Repeatable, Level::Snapshot] {
+    for level in Level::ALL {
         match data_at(alloc, schedule, level, extent, heading, comments) {
             Ok(Some(tree)) => {
                 if trees.push(tree).is_err() {
