@@ -1,4 +1,5 @@
-# Completions of hek for bash; tools/completions writes this file. Read it with `source`, or put it into
+# Completions of hek for bash.
+# tools/completions writes this file. Read it with `source`, or put it into
 # ~/.local/share/bash-completion/completions under the name hek.
 _hek() {
     local word=${COMP_WORDS[COMP_CWORD]} before=${COMP_WORDS[COMP_CWORD - 1]} command=${COMP_WORDS[1]} words="" files=""

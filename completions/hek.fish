@@ -1,4 +1,5 @@
-# Completions of hek for fish; tools/completions writes this file. Put it into ~/.config/fish/completions.
+# Completions of hek for fish.
+# tools/completions writes this file. Put it into ~/.config/fish/completions.
 complete -c hek -f
 complete -c hek -n __fish_use_subcommand -a run -d 'Runs the steps of a schedule, and prints each with its reply'
 complete -c hek -n __fish_use_subcommand -a debug -d 'Runs a schedule step by step, to breakpoints and watches, and back'

@@ -1,6 +1,6 @@
 //! `tools/completions` writes this file.
-pub(crate) const TEXT: &str =
-    r#"# Completions of hek for bash; tools/completions writes this file. Read it with `source`, or put it into
+pub(crate) const TEXT: &str = r#"# Completions of hek for bash.
+# tools/completions writes this file. Read it with `source`, or put it into
 # ~/.local/share/bash-completion/completions under the name hek.
 _hek() {
     local word=${COMP_WORDS[COMP_CWORD]} before=${COMP_WORDS[COMP_CWORD - 1]} command=${COMP_WORDS[1]} words="" files=""
