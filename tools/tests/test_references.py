@@ -59,6 +59,21 @@ class References(Tree):
         wrong = ["a row for hek_old below words, where crates.txt has none", "no row for hek_top below machine"]
         self.assertEqual([*self.references.missing_rows(text)], wrong)
 
+    def test_a_definition_that_moved_is_found(self):
+        self.write("crates/hek_low/specs/Words.antt", "-- words\n\nabbrev pub lock : N\nlock = 1\n")
+        text = "A [`Words.lock`], and `Words.key`.\n\n<!-- lines of definitions, written by tools/references --write -->\n"
+        label = "[`Words.lock`]: ../crates/hek_low/specs/Words.antt#L3\n"
+        self.assertEqual(self.references.line_labels(text), label)
+        self.assertEqual([*self.references.wrong_lines(text + label)], [])
+        wrong = ["the label [`Words.lock`] isn't what the sources give: tools/references --write"]
+        self.assertEqual([*self.references.wrong_lines(text + label.replace("L3", "L2"))], wrong)
+        self.assertEqual([*self.references.wrong_lines("")], ["no labels below <!-- lines of definitions, written by tools/references --write -->"])
+
+    def test_a_task_that_the_list_lacks_is_found(self):
+        text = "# Commands\n\n[run it](#run-it) (`run`)\n\n## Run it\n\n## Judge it\n"
+        wrong = ["no task Judge it in the list at the top", "no command judge in the list at the top"]
+        self.assertEqual([*self.references.missing_tasks(text, 'words=""\nwords="run judge help --help"')], wrong)
+
     def test_another_number_of_crates_is_found(self):
         self.assertEqual([*self.references.wrong_count(ARCHITECTURE)], [])
         self.crates("hek_low:\nhek_new:\n")
