@@ -25,7 +25,7 @@ abbrev pub trace_of_steps : Plan → List ℕ
 trace_of_steps p = trace_of p p.steps
 
 -- the trace of all steps was written after the bytes that a writer held, if these are known; and no event of a declared
--- transaction in it is at fault if the committed transactions run one after another, by end time
+-- transaction in it is at fault: each committed transaction gets what its own level promises, by end time
 pub record Runs {R : Type 0} (left : R → Option (List ℕ)) (said : ScheduleFile R) (before after : Option (List ℕ)) : Type 0 where
   pub plan : Plan
   pub is : FileGives left said plan

@@ -20,8 +20,8 @@ use hek_step_report::text::{clock_line, state_lines};
 use std::alloc::Global;
 use std::io::{Read, Write};
 
-/// Runs the steps of the schedule in a file, and writes their trace while it runs. Answers the exit status. The replies
-/// are serial: the committed transactions could have run one after another, by end time. After a fault the lines of the
+/// Runs the steps of the schedule in a file, and writes their trace while it runs. Answers the exit status. No event is
+/// at fault: each committed transaction gets what its own level promises, by end time. After a fault the lines of the
 /// steps before it may have been written.
 pub fn run_command<'a, R: Read + Drop, W: Write>(
     alloc: Global,
