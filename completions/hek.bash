@@ -1,10 +1,11 @@
-# Completions of hek for bash; tools/completions writes this file. Read it with `source`, or put it into
+# Completions of hek for bash.
+# tools/completions writes this file. Read it with `source`, or put it into
 # ~/.local/share/bash-completion/completions under the name hek.
 _hek() {
     local word=${COMP_WORDS[COMP_CWORD]} before=${COMP_WORDS[COMP_CWORD - 1]} command=${COMP_WORDS[1]} words="" files=""
     COMPREPLY=()
     if [ "$COMP_CWORD" -eq 1 ]; then
-        words="run debug page permute check history drive threads word release asm dis help --help --version"
+        words="run debug page permute check history drive threads word release asm dis completions man help --help --version"
         mapfile -t COMPREPLY < <(compgen -W "$words" -- "$word")
         return
     fi
@@ -15,7 +16,8 @@ _hek() {
         before="${COMP_WORDS[COMP_CWORD - 2]}="
     fi
     case "$command $before" in
-    "help help") words="run debug page permute check history drive threads word release asm dis" ;;
+    "help help") words="run debug page permute check history drive threads word release asm dis completions man" ;;
+    "completions completions") words="bash zsh fish" ;;
     "run --explain=") words="always never" ;;
     "run --state-at") return ;;
     "run --why=") words="reasons rules" ;;
@@ -78,6 +80,8 @@ _hek() {
     release) words="--help" ;;
     asm) words="--explain --help" files=yes ;;
     dis) words="--text --image --explain --help" files=yes ;;
+    completions) words="--help" ;;
+    man) words="--help" ;;
     esac
     case "$word" in
     -*) mapfile -t COMPREPLY < <(compgen -W "$words" -- "$word") ;;

@@ -1,4 +1,5 @@
-# Completions of hek for fish; tools/completions writes this file. Put it into ~/.config/fish/completions.
+# Completions of hek for fish.
+# tools/completions writes this file. Put it into ~/.config/fish/completions.
 complete -c hek -f
 complete -c hek -n __fish_use_subcommand -a run -d 'Runs the steps of a schedule, and prints each with its reply'
 complete -c hek -n __fish_use_subcommand -a debug -d 'Runs a schedule step by step, to breakpoints and watches, and back'
@@ -12,10 +13,12 @@ complete -c hek -n __fish_use_subcommand -a word -d 'Explains lock words, as Beg
 complete -c hek -n __fish_use_subcommand -a release -d 'Gives up one read lock of an End word'
 complete -c hek -n __fish_use_subcommand -a asm -d 'Makes the image of a schedule text'
 complete -c hek -n __fish_use_subcommand -a dis -d 'Prints the canonical text of a schedule'
+complete -c hek -n __fish_use_subcommand -a completions -d 'Prints what a shell reads to complete the words of a command line'
+complete -c hek -n __fish_use_subcommand -a man -d 'Prints the manual page'
 complete -c hek -n __fish_use_subcommand -a help -d 'Print this message or the help of the given subcommand(s)'
 complete -c hek -n __fish_use_subcommand -s h -l help -d 'Print help'
 complete -c hek -n __fish_use_subcommand -s V -l version -d 'Print version'
-complete -c hek -n '__fish_seen_subcommand_from help' -a 'run debug page permute check history drive threads word release asm dis'
+complete -c hek -n '__fish_seen_subcommand_from help' -a 'run debug page permute check history drive threads word release asm dis completions man'
 complete -c hek -n '__fish_seen_subcommand_from run' -l text -d 'FILE is a schedule text, whatever it holds'
 complete -c hek -n '__fish_seen_subcommand_from run' -l image -d 'FILE is a schedule image, whatever it holds'
 complete -c hek -n '__fish_seen_subcommand_from run' -l explain -a 'always never' -d 'says of each fault what is wrong, what is wanted and what is meant, as at a terminal; =never only names it'
@@ -128,3 +131,6 @@ complete -c hek -n '__fish_seen_subcommand_from dis' -l image -d 'FILE is a sche
 complete -c hek -n '__fish_seen_subcommand_from dis' -l explain -a 'always never' -d 'says of each fault what is wrong, what is wanted and what is meant, as at a terminal; =never only names it'
 complete -c hek -n '__fish_seen_subcommand_from dis' -s h -l help -d 'Print help'
 complete -c hek -n '__fish_seen_subcommand_from dis' -F
+complete -c hek -n '__fish_seen_subcommand_from completions' -s h -l help -d 'Print help'
+complete -c hek -n '__fish_seen_subcommand_from completions' -a 'bash zsh fish'
+complete -c hek -n '__fish_seen_subcommand_from man' -s h -l help -d 'Print help'

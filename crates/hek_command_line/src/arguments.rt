@@ -1,6 +1,7 @@
 //! The words of the command line: the commands, their arguments and help.
 use clap::{Arg, ArgAction, ArgMatches, Command, Error};
 use hek_diagnostics::nearest_word;
+use hek_manual::Shell;
 use std::alloc::{AllocError, Global};
 use std::convert::AsStr;
 
@@ -27,6 +28,8 @@ enum Form {
     MaybeWord,
     /// Words at their place, at least one.
     Words,
+    /// One of these words at its place.
+    OneOf(&'static [&'static str]),
     /// `--name`.
     Flag,
     /// `--name N`.
@@ -611,16 +614,40 @@ The status is 0 if there is an order, 1 if there is none, 3 if that is not known
     ],
 };
 
+const COMPLETIONS: CommandText = CommandText {
+    name: "completions",
+    about: "Prints what a shell reads to complete the words of a command line",
+    example: r"Example:
+  source <(hek completions bash)
+completes the commands, options and files of hek in this shell. For zsh, `hek completions zsh` goes into a file _hek in a folder of $fpath; for fish, `hek completions fish` into ~/.config/fish/completions/hek.fish.",
+    arguments: &[ArgumentText {
+        name: "SHELL",
+        help: "the shell",
+        form: Form::OneOf(Shell::NAMES),
+    }],
+};
+
+const MAN: CommandText = CommandText {
+    name: "man",
+    about: "Prints the manual page",
+    example: r"Example:
+  hek man | man -l -
+shows the page in a pager.",
+    arguments: &[],
+};
+
 /// What `hek --version` prints after the name.
 const VERSION: &str = "0.2.0";
 
-/// The commands in the order in which `hek --help` lists them: those for schedules, for engines, for words and images. They are
-/// in three tables, each of which has a function, since a proof takes a table as one term.
+/// The commands in the order in which `hek --help` lists them: those for schedules, for engines, for words and images, for shells.
+/// They are in four tables, each of which has a function, since a proof takes a table as one term.
 const SCHEDULE_COMMANDS: &[CommandText] = &[RUN, DEBUG, PAGE];
 
 const ENGINE_COMMANDS: &[CommandText] = &[PERMUTE, CHECK, HISTORY, DRIVE, THREADS];
 
 const WORD_COMMANDS: &[CommandText] = &[WORD, RELEASE, ASM, DIS];
+
+const SHELL_COMMANDS: &[CommandText] = &[COMPLETIONS, MAN];
 
 fn schedule_commands() -> &'static [CommandText] {
     SCHEDULE_COMMANDS
@@ -634,10 +661,24 @@ fn word_commands() -> &'static [CommandText] {
     WORD_COMMANDS
 }
 
+fn shell_commands() -> &'static [CommandText] {
+    SHELL_COMMANDS
+}
+
+/// The four tables.
+fn tables() -> [&'static [CommandText]; 4] {
+    [
+        schedule_commands(),
+        engine_commands(),
+        word_commands(),
+        shell_commands(),
+    ]
+}
+
 /// The command that a word means which is none, if one is near. Without memory it is none.
 pub fn meant_command(alloc: Global, word: &str) -> Option<&'static str> {
     let mut names = Vec::new(alloc);
-    for texts in [schedule_commands(), engine_commands(), word_commands()] {
+    for texts in tables() {
         if push_names(texts, &mut names).is_err() {
             return None;
         }
@@ -659,7 +700,7 @@ pub fn read_words<'a, S: AsStr>(alloc: Global, words: &'a [S]) -> Result<ArgMatc
 
 fn hek<'a>(alloc: Global) -> Result<Command<'a>, AllocError> {
     let mut commands = Vec::new(alloc);
-    for texts in [schedule_commands(), engine_commands(), word_commands()] {
+    for texts in tables() {
         push_commands(alloc, texts, &mut commands)?;
     }
     Command::new(alloc, "hek")
@@ -741,6 +782,7 @@ fn argument_of<'a>(alloc: Global, text: &ArgumentText) -> Arg<'a> {
         Form::Word => argument.required(true),
         Form::MaybeWord => argument,
         Form::Words => argument.required(true).num_args(1..),
+        Form::OneOf(words) => argument.required(true).value_parser(words),
         Form::Flag => argument.long(text.name).action(ArgAction::SetTrue),
         Form::Number => argument.long(text.name).value_name("N"),
         Form::Value(value) => argument.long(text.name).value_name(value),

@@ -18,6 +18,7 @@ use clap::{ArgMatches, Error};
 use hek_check_command::{Asked, check_command, note_nothing, told_command};
 use hek_debug_command::{CommandFile, Manner, debug_command, debug_session, explained_command};
 use hek_history_command::run_log_command;
+use hek_manual::{Shell, manual_page};
 use hek_page_command::{
     Extent, Heading, MOST_NODES, Making, Part, explorer_command, levels_command, made_file,
     page_command,
@@ -224,8 +225,26 @@ fn run<'a, D: Disk, I: Read + IsTerminal + Drop, W: Write + IsTerminal, E: Write
         Some(("run", found)) => run_schedule(alloc, found, disk, input, out),
         Some(("debug", found)) => debug(alloc, found, explains, disk, input, out, faults),
         Some(("history", found)) => history(alloc, found, explains, disk, input, out, faults),
+        Some(("completions", found)) => completions(found, out),
+        Some(("man", _)) => print(manual_page(), out),
         Some((name, found)) => run_noting(alloc, name, found, disk, input, out, faults),
         None => Err(HekFault::BadArgument),
+    }
+}
+
+/// Prints the completions for the shell that the words name.
+fn completions<'a, W: Write>(found: &ArgMatches<'_>, out: &mut W) -> Result<u8, HekFault<'a>> {
+    match found.get_str("SHELL").and_then(Shell::named) {
+        Some(shell) => print(shell.completions(), out),
+        None => Err(HekFault::BadArgument),
+    }
+}
+
+/// Prints a text that the program has.
+fn print<'a, W: Write>(text: &str, out: &mut W) -> Result<u8, HekFault<'a>> {
+    match out.write_all(text.as_bytes()) {
+        Ok(()) => Ok(0),
+        Err(_) => Err(HekFault::CannotWrite),
     }
 }
 

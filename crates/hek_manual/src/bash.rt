@@ -1,0 +1,93 @@
+//! `tools/completions` writes this file.
+pub(crate) const TEXT: &str = r#"# Completions of hek for bash.
+# tools/completions writes this file. Read it with `source`, or put it into
+# ~/.local/share/bash-completion/completions under the name hek.
+_hek() {
+    local word=${COMP_WORDS[COMP_CWORD]} before=${COMP_WORDS[COMP_CWORD - 1]} command=${COMP_WORDS[1]} words="" files=""
+    COMPREPLY=()
+    if [ "$COMP_CWORD" -eq 1 ]; then
+        words="run debug page permute check history drive threads word release asm dis completions man help --help --version"
+        mapfile -t COMPREPLY < <(compgen -W "$words" -- "$word")
+        return
+    fi
+    # bash parts a word at `=`
+    if [ "$word" = "=" ]; then
+        before="$before=" word=""
+    elif [ "$before" = "=" ]; then
+        before="${COMP_WORDS[COMP_CWORD - 2]}="
+    fi
+    case "$command $before" in
+    "help help") words="run debug page permute check history drive threads word release asm dis completions man" ;;
+    "completions completions") words="bash zsh fish" ;;
+    "run --explain=") words="always never" ;;
+    "run --state-at") return ;;
+    "run --why=") words="reasons rules" ;;
+    "run --level") words="serializable repeatable snapshot" ;;
+    "debug --explain=") words="always never" ;;
+    "debug --level") words="serializable repeatable snapshot" ;;
+    "page --explain=") words="always never" ;;
+    "page --level") words="serializable repeatable snapshot" ;;
+    "page --output" | "page -o") compopt -o default; return ;;
+    "page --from") return ;;
+    "page --to") return ;;
+    "page --title") return ;;
+    "page --lesson") return ;;
+    "page --previous") return ;;
+    "page --next") return ;;
+    "page --grain") words="move split event" ;;
+    "page --limit") return ;;
+    "permute --explain=") words="always never" ;;
+    "permute --level") words="serializable repeatable snapshot" ;;
+    "permute --grain") words="move split event" ;;
+    "permute --limit") return ;;
+    "permute --part") return ;;
+    "permute --jobs") return ;;
+    "permute --order") return ;;
+    "permute --find") return ;;
+    "check --explain=") words="always never" ;;
+    "check --level") words="serializable repeatable snapshot" ;;
+    "history --explain=") words="always never" ;;
+    "history --level") words="serializable repeatable snapshot" ;;
+    "history --order") words="any versions commit real" ;;
+    "history --order-out") compopt -o default; return ;;
+    "drive --explain=") words="always never" ;;
+    "drive --why=") words="reasons rules" ;;
+    "drive --level") words="serializable repeatable snapshot" ;;
+    "threads --explain=") words="always never" ;;
+    "threads --turns") return ;;
+    "threads --repeat") return ;;
+    "threads --seed") return ;;
+    "threads --level") words="serializable repeatable snapshot" ;;
+    "word --clock") return ;;
+    "word --txns") return ;;
+    "word --readers") return ;;
+    "asm --explain=") words="always never" ;;
+    "dis --explain=") words="always never" ;;
+    esac
+    if [ -n "$words" ]; then
+        mapfile -t COMPREPLY < <(compgen -W "$words" -- "$word")
+        return
+    fi
+    case "$command" in
+    run) words="--text --image --explain --state --state-at --why --changes --history --auto --level --json --help" files=yes ;;
+    debug) words="--text --image --explain --auto --level --help" files=yes ;;
+    page) words="--text --image --explain --level --auto --output --from --to --title --lesson --previous --next --orders --levels --split --grain --limit --help" files=yes ;;
+    permute) words="--text --image --explain --auto --level --split --grain --limit --part --jobs --each --order --levels --find --json --help" files=yes ;;
+    check) words="--text --image --explain --auto --level --why --summary --all --json --help" files=yes ;;
+    history) words="--explain --level --order --all --order-out --json --help" files=yes ;;
+    drive) words="--text --image --explain --why --changes --state --ends --auto --level --json --help" files=yes ;;
+    threads) words="--text --image --explain --turns --repeat --seed --auto --level --json --help" files=yes ;;
+    word) words="--changes --clock --txns --readers --help" ;;
+    release) words="--help" ;;
+    asm) words="--explain --help" files=yes ;;
+    dis) words="--text --image --explain --help" files=yes ;;
+    completions) words="--help" ;;
+    man) words="--help" ;;
+    esac
+    case "$word" in
+    -*) mapfile -t COMPREPLY < <(compgen -W "$words" -- "$word") ;;
+    *) [ -z "$files" ] || compopt -o default ;;
+    esac
+}
+complete -F _hek hek
+"#;
