@@ -5,9 +5,6 @@ use hek_rules::{Cause, NoMemory, ReplyForm, ReplyOperands, Schedule, TxnId};
 use std::alloc::Global;
 use std::io::Write;
 
-/// The verdicts that can be looked for.
-const VERDICTS: [&str; 3] = ["serial", "another order", "not serial"];
-
 /// What is wrong with a word.
 #[derive(Clone, Copy)]
 enum Wrong {
@@ -69,7 +66,9 @@ fn meant_instead<'s>(
     wrong: Wrong,
     schedule: Option<&'s Schedule>,
 ) -> Result<Option<&'s str>, NoMemory> {
-    match nearest_word(alloc, text, &VERDICTS) {
+    let mut verdicts: Vec<&'s str> = Vec::new(alloc);
+    push_verdicts(&mut verdicts)?;
+    match nearest_word(alloc, text, verdicts.as_slice()) {
         Some(verdict) => Ok(Some(verdict)),
         None => meant_by(alloc, word, wrong, schedule),
     }
@@ -170,6 +169,14 @@ fn meant_by<'s>(
 fn push_causes(words: &mut Vec<&str>) -> Result<(), NoMemory> {
     for cause in Cause::ALL {
         words.push(cause.word())?;
+    }
+    Ok(())
+}
+
+/// Adds the verdicts that can be looked for.
+fn push_verdicts(words: &mut Vec<&str>) -> Result<(), NoMemory> {
+    for word in ["serial", "another order", "not serial"] {
+        words.push(word)?;
     }
     Ok(())
 }
