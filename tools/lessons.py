@@ -13,6 +13,8 @@ PLACE = re.compile(r"\blesson (\d+)|(?<![\w-])[a-z]+(?:-[a-z]+)+(?![\w-])")
 MARKED = re.compile(r"(`[^`]+`|\[[^\]]+\]\([^)]+\)|\*\*[^*]+\*\*)")
 # The line of a lesson or an anomaly that links to this page.
 HERE = re.compile(r"(?m)^In a browser: (.*)$\n?")
+# What tools/examples reads, and no reader of the page sees.
+COMMENT = re.compile(r"(?m)^<!-- .* -->\n")
 # Heads of a narrow column.
 SHORT = {"Serializable": "ser.", "Repeatable": "rep.", "Snapshot": "snap."}
 # Code of more letters may be broken into lines.
@@ -145,7 +147,7 @@ class Prose:
         return f"<p>{self.inline(' '.join(it.strip() for it in lines))}</p>"
 
     def html(self, text):
-        return "\n".join(self.block(it) for it in blocks(text.split("\n")))
+        return "\n".join(self.block(it) for it in blocks(COMMENT.sub("", text).split("\n")))
 
 
 def rows_of(made):

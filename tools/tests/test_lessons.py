@@ -21,6 +21,7 @@ See step 3, steps 4 to 6 and lesson 2.
 
 `a < b`
 </details>
+<!-- answer: `a < b` of: hek run -->
 
 ## 2. Two texts: second-lesson, third-lesson
 
@@ -81,6 +82,7 @@ class Lessons(Tree):
 
     def test_answers_are_folded(self):
         self.assertIn('<details><summary>Answer</summary>\n<p><code class="short">a &lt; b</code></p>\n</details>', self.prose("first-lesson"))
+        self.assertNotIn("of: hek run", self.prose("first-lesson"))
 
     def test_an_anomaly_has_its_own_prose_and_counts(self):
         prose = self.prose("anomaly-bad-read")
