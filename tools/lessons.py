@@ -93,7 +93,7 @@ class Prose:
         head, body = cells(rows[0]), [cells(it) for it in rows[2:]]
         if head[0] == "Step":
             return self.steps(body)
-        if head[0] == "Example":
+        if head[0] == "Example" and head[-1] == "Outcome":
             return self.outcomes(head, body)
         made = ["".join(f'<th scope="col">{self.inline(it)}</th>' for it in head)]
         made += ["".join(f"<td>{self.inline(it)}</td>" for it in row) for row in body]
@@ -240,8 +240,8 @@ class Pages:
 
     def counts(self, name):
         """The head of the tables at each level, and this example's rows without its name; nothing where it has none."""
-        found = re.search(rf"(?m)^\| {name}( \|.*\n(?:\| \|.*\n)*)", self.anomalies)
-        head = re.search(r"(?m)^\| Example \|.*\n.*\n", self.anomalies)
+        found = re.search(rf"(?m)^\| {name}( \| \d.*\n(?:\| \|.*\n)*)", self.anomalies)
+        head = re.search(r"(?m)^\| Example \|.*\| Outcome \|\n.*\n", self.anomalies)
         return [*head[0].splitlines(), *f"|{found[1]}".splitlines()] if found else []
 
 

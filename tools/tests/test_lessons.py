@@ -29,6 +29,10 @@ In a browser: [second-lesson](play.html#second-lesson), [third-lesson](play.html
 """
 ANOMALIES = """# Anomalies
 
+| Example | Serializable | Repeatable | Snapshot |
+|---|---|---|---|
+| bad-read | no | yes | no |
+
 | Example | Serializable | Repeatable | Snapshot | Outcome |
 |---|---|---|---|---|
 | bad-read | 1 | 2 | 3 | serial |
