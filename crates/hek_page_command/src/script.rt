@@ -440,6 +440,21 @@ function showSay() {
   const rule = ruleOf(step);
   $("because").innerHTML = `${told}${why.length ? `<ul class="why" aria-label="Why">${why.slice(0, most).join("")}${rest}</ul>` : ""}
     <p class="chips">${chips.length ? chips.join(" ") : '<span class="soft">Nothing changed.</span>'} <button type="button" class="rule" data-rule="${step.op}" title="What the rule says">rule: ${esc(rule[0])}</button></p>`;
+  fitSay();
+}
+
+/** Texts of so many characters have room in any case. */
+const SURE_TO_FIT = 90;
+
+/** Makes the words of a step smaller where they have no room, as with long numbers or names, in two steps. Short ones aren't measured, since
+    that would have the browser lay out the page. */
+function fitSay() {
+  for (const id of ["said", "because"]) {
+    const place = $(id);
+    delete place.dataset.fit;
+    if (isSmall() || place.textContent.length < SURE_TO_FIT) continue;
+    for (const fit of ["1", "2"]) if (place.scrollHeight > place.clientHeight + 1) place.dataset.fit = fit;
+  }
 }
 
 /** The comment above a step; while replies are guessed, and where a question stands there, the question and then the comment. */
@@ -774,12 +789,28 @@ function detailOf(step) {
 /** How wide the text of a card is drawn. */
 const CARD = { padding: 0.42, size: 0.98, detail: 0.955 };
 
-/** How wide the columns are at least, so that each card has its key and value; of very long ones six letters. */
+/** So wide a second line of a card may be; of what is wider, the first line takes the key and the second one the value. */
+const MOST_DETAIL = 5.6;
+
+/** For a step whose key and value are too long for one line: the first line with the key, longest first, and the second one with the value. */
+function longCard(step) {
+  const { op, args, r } = step;
+  const value = r[0] === "found" ? r[1] : r[0] === "done" && args.length > 1 ? args[1] : r[0] === "absent" || r[0] === "exists" ? r[0] : r[0] === "done" ? "" : null;
+  if (value === null || widthOf(detailOf(step).at(-1), CARD.detail) <= MOST_DETAIL) return null;
+  const labels = LABELS[op] ?? [op];
+  return { tops: [...labels.map((it) => `${it} ${args[0]}`), args[0]], bottoms: value === "" ? [""] : [`${r[0] === "found" ? "is" : r[0] === "done" ? ":=" : ""} ${value}`.trim(), value] };
+}
+
+/** How wide the columns are at least, so that each card has its key and value. */
 function leastCell(u) {
   if (run.leastCell === undefined) {
     let most = 0;
-    for (const step of run.steps) most = Math.max(most, widthOf(detailOf(step).at(-1), CARD.detail), widthOf((LABELS[step.op] ?? [step.op]).at(-1), CARD.size, 600));
-    run.leastCell = Math.min(most, 5.6) + CARD.padding;
+    for (const step of run.steps) {
+      const long = longCard(step);
+      const texts = long ? [[long.tops.at(-1), CARD.size, 600], [long.bottoms.at(-1), CARD.detail]] : [[detailOf(step).at(-1), CARD.detail], [(LABELS[step.op] ?? [step.op]).at(-1), CARD.size, 600]];
+      for (const text of texts) most = Math.max(most, widthOf(...text));
+    }
+    run.leastCell = most + CARD.padding;
   }
   return run.leastCell * u;
 }
@@ -943,8 +974,9 @@ function cardOf(number, step, id, at, marked, again) {
   const ops = again === null ? (LABELS[step.op] ?? [step.op]) : ["asks again", "again"];
   const about = step.args.length ? (step.op === "scan" ? [`b ${step.args[0]}`] : [step.args[0]]) : [""];
   const details = isCovered ? (again === null ? about : [""]) : again === null ? detailOf(step) : [timesSaid(again), `${again}\u00d7`];
-  const top = fitting(ops, inner, size, 600) || ops.at(-1);
-  const bottom = fitting([...details, details.at(-1).slice(0, 5) + "\u2026"], inner + 0.14 * u, size * 0.975);
+  const long = again === null && !isCovered ? longCard(step) : null;
+  const top = long ? fitting(long.tops, inner + 0.14 * u, size, 600) : fitting(ops, inner, size, 600) || ops.at(-1);
+  const bottom = fitting(long ? long.bottoms : [...details, details.at(-1).slice(0, 5) + "\u2026"], inner + 0.14 * u, size * 0.975);
   const cx = x(number) + cell / 2;
   const said = again === null ? `step ${run.done + number}: ${step.name ?? ""} ${step.event}${isCovered ? "" : `, ${step.reply}`}` : `steps up to ${run.done + number}: ${nameOf(id)} asks again ${timesSaid(again)}`;
   const line = (text, y, name) => `<text x="${f1(cx)}" y="${f1(cellY(id) + y)}" text-anchor="middle" class="${name}"${tight ? ` style="font-size:${f1(name === "op" ? size : size * 0.975)}px"` : ""}>${esc(text)}</text>`;
@@ -1066,6 +1098,20 @@ function keysShown(rows, step, sights) {
   return { keys: some, hidden: count - rows };
 }
 
+/** The type of a key and a value that take a line each. */
+const LONG = { size: 0.78 };
+
+/** How wide the longest key or value of the run is, in its own line, if one is too long to stand beside the others; else 0. */
+function longestNumber() {
+  if (run.longest === undefined) {
+    const its = [...run.past].filter(([subject]) => subject.startsWith("version ")).flatMap(([, list]) => list.map(([, it]) => it));
+    const texts = [...new Set(its.flatMap((it) => [it.key, it.value]))];
+    const isLong = its.some((it) => it.key.length > 6 || it.value.length > 4);
+    run.longest = isLong ? Math.max(...texts.map((it) => widthOf(it, LONG.size, 700))) : 0;
+  }
+  return run.longest;
+}
+
 /** Where the columns and rows of the versions are. */
 function chainLayout(step, sights, time) {
   const u = rem();
@@ -1074,7 +1120,8 @@ function chainLayout(step, sights, time) {
   const isLow = viewHeight < 48 * u && !isPhone;
   const lookH = !isLow && run.steps.some((it) => it.sees !== "") ? 1.4 * u : 0;
   const axisH = 1.5 * u + lookH;
-  const least = (isLow ? 1.6 : 2.05) * u;
+  const longest = longestNumber();
+  const least = (longest ? (isLow ? 1.65 : 2.15) : isLow ? 1.6 : 2.05) * u;
   const bucketH = bucketIsShown() ? (isLow ? 1.5 : 1.7) * u : 0;
   const fitRows = (buckets) => (isPhone ? 12 : Math.max(bucketH ? 1 : 2, Math.floor((room - axisH - buckets * bucketH - 0.3 * u) / least)));
   let { keys, hidden } = keysShown(fitRows(bucketH ? 1 : 0), step, sights);
@@ -1086,7 +1133,8 @@ function chainLayout(step, sights, time) {
   const k = isPhone ? 1 : Math.max(1, Math.min(1.28, each / (3.3 * u), (W / u - 20) / 19));
   const rowH = isPhone ? least * 1.15 : Math.min(each, 6.4 * u * k);
   const narrow = W < 36 * u;
-  const values = (isPhone ? 6.7 : narrow ? 8.5 : 9.2) * u * k;
+  const usual = (isPhone ? 6.7 : narrow ? 8.5 : 9.2) * u * k;
+  const values = longest ? Math.max(usual, (longest + 2.6) * u * k) : usual;
   const r = Math.min(rowH * 0.36, 0.9 * u * k);
   const marks = { from: values, readers: narrow || isPhone ? 2 : 3, r, wide: marksWidth(narrow || isPhone ? 2 : 3, r, u * k) };
   const left = values + marks.wide;
@@ -1167,7 +1215,8 @@ function showChains() {
     if (bucket !== null) { out.push(bucketHead(bucket, y, it)); y += it.bucketH; }
     for (const { key, versions } of keys) {
       out.push(`<line class="rule" x1="0" x2="${W}" y1="${f1(y)}" y2="${f1(y)}"/>`);
-      out.push(`<text class="keyname" x="${f1(0.3 * u)}" y="${f1(y + rowH / 2 + 0.38 * u * k)}">${esc(fitting([`key ${key}`, key, ...[5, 4, 3, 2].map((count) => key.slice(0, count) + "\u2026")], marks.from - (isPhone ? 4.5 : narrow ? 4.9 : 5.4) * u * k, u * k))}</text>`);
+      if (longestNumber()) out.push(`<text class="keyname" x="${f1(0.3 * u)}" y="${f1(y + rowH / 2 - 0.15 * u * k)}" style="font-size:${f1(LONG.size * u * k)}px">${esc(fitting([`key ${key}`, key], marks.from - 0.5 * u, LONG.size * u * k) || key)}</text>`);
+      else out.push(`<text class="keyname" x="${f1(0.3 * u)}" y="${f1(y + rowH / 2 + 0.38 * u * k)}">${esc(fitting([`key ${key}`, key, ...[5, 4, 3, 2].map((count) => key.slice(0, count) + "\u2026")], marks.from - (isPhone ? 4.5 : narrow ? 4.9 : 5.4) * u * k, u * k))}</text>`);
       for (const version of versions) {
         const [under, over] = versionRow(version, y, rowH, { u: u * k, W, X, endX, futureX, left, right, marks, sights, actor, isPhone, narrow, now, readers, lookX });
         out.push(under);
@@ -1220,7 +1269,10 @@ function versionRow(it, y, h, at) {
   out.push(`<g class="version${touched ? " touched" : ""}${isNever ? " never" : ""}${pinned?.v === it.v ? " pinned" : ""}" data-v="${it.v}" role="button" tabindex="0" aria-label="${esc(label)}">`);
   out.push(`<rect class="hit" x="${f1(marks.from - 5.4 * u)}" y="${f1(y + 1)}" width="${f1(W - marks.from + 5.4 * u)}" height="${f1(h - 2)}"/>`);
   const base = y + h / 2 + 0.38 * u;
-  out.push(`<text class="vname" x="${f1(marks.from - (isPhone ? 4.1 : narrow ? 4.6 : 5) * u)}" y="${f1(base)}">v${it.v}</text><text class="value" x="${f1(marks.from - 0.35 * u)}" y="${f1(base)}" text-anchor="end">${esc(fitting([it.value, ...[4, 3, 2].map((count) => it.value.slice(0, count) + "\u2026")], 3.1 * u, 1.15 * u, 700) || "\u2026")}</text>`);
+  if (longestNumber()) {
+    const [line, type] = [y + h / 2 + 0.68 * u, `style="font-size:${f1(LONG.size * u)}px"`];
+    out.push(`<text class="vname" x="${f1(0.3 * u)}" y="${f1(line)}" ${type}>v${it.v}</text><text class="value" x="${f1(marks.from - 0.35 * u)}" y="${f1(line)}" text-anchor="end" ${type}>${esc(it.value)}</text>`);
+  } else out.push(`<text class="vname" x="${f1(marks.from - (isPhone ? 4.1 : narrow ? 4.6 : 5) * u)}" y="${f1(base)}">v${it.v}</text><text class="value" x="${f1(marks.from - 0.35 * u)}" y="${f1(base)}" text-anchor="end">${esc(fitting([it.value, ...[4, 3, 2].map((count) => it.value.slice(0, count) + "\u2026")], 3.1 * u, 1.15 * u, 700) || "\u2026")}</text>`);
   const barH = Math.min(h * 0.72, 3.5 * u);
   const barY = y + (h - barH) / 2;
   // from where
@@ -1319,7 +1371,9 @@ function marksOf(it, writer, readers, mid, { from, readers: most, r }, u) {
 /** A reader, or a holder, as a round token; `more`: of so many others too. */
 function readerToken(id, x, mid, r, u, more = 0) {
   const said = more ? `+${more}` : shortOf(id);
-  return `<g class="reader ${colourOf(id)}"><title>${esc(nameOf(id))}</title><circle cx="${f1(x)}" cy="${f1(mid)}" r="${f1(r)}"/><text x="${f1(x)}" y="${f1(mid + 0.34 * u)}" text-anchor="middle">${esc(said)}</text></g>`;
+  const usual = 0.98 * u;
+  const size = Math.min(usual, (usual * 1.7 * r) / widthOf(said, usual, 700));
+  return `<g class="reader ${colourOf(id)}"><title>${esc(nameOf(id))}</title><circle cx="${f1(x)}" cy="${f1(mid)}" r="${f1(r)}"/><text x="${f1(x)}" y="${f1(mid + 0.35 * size)}" text-anchor="middle"${size < usual ? ` style="font-size:${f1(size)}px"` : ""}>${esc(said)}</text></g>`;
 }
 
 /* ---- buckets: who locks one, and who waits for those */
@@ -1422,20 +1476,22 @@ function showGraph() {
   const nodes = live.length <= MOST_NODES ? live : near.length ? near : live.filter((id) => busy.has(id)).slice(0, MOST_NODES);
   const told = edges.map((it) => `${nameOf(it.from)} ${it.kind === "waits" ? "waits for" : "commits after"} ${nameOf(it.to)} (${it.by.join(", ")})`);
   $("graph-said").textContent = isGraphCovered() ? "" : told.join("; ") || "nobody waits";
-  showGraphTitle(edges, nodes);
+  showGraphTitle(edges, nodes, 0);
   if (isGraphCovered()) { put("graph", `<p class="soft quiet">Hidden while you guess. <button type="button" data-do="graph">Show</button></p>`); return; }
   if (!nodes.length) { put("graph", ""); return; }
-  drawGraph(nodes, edges, cycle, cycle.length ? step.r[1] : null);
+  const bare = drawGraph(nodes, edges, cycle, cycle.length ? step.r[1] : null);
+  if (bare) showGraphTitle(edges, nodes, bare);
 }
 
 /** Whether a transaction has asked for what it waits for. */
 const hasAsked = (edge) => run.waitings.get(edge.from).some((it) => it.kind === "waits" && it.from <= here && (it.to === null || it.to > here));
 
-function showGraphTitle(edges, nodes) {
+/** The title, with what the lines don't say; `bare`: how many of them have no room for a label. */
+function showGraphTitle(edges, nodes, bare) {
   const left = edges.filter((it) => !nodes.includes(it.from) || !nodes.includes(it.to)).length;
   const isWeak = edges.some((it) => it.kind === "waits" && !hasAsked(it) && run.txn(it.from, here).kind === "active");
   const isDotted = edges.some((it) => it.kind === "commits");
-  const notes = [left ? `and ${left} waits of others` : "", isWeak ? "dashed: has not asked yet" : "", isDotted ? "dotted: may commit only after" : ""].filter(Boolean);
+  const notes = [left ? `and ${left} waits of others` : "", isWeak ? "dashed: has not asked yet" : "", isDotted ? "dotted: may commit only after" : "", bare ? `${bare} without a label` : ""].filter(Boolean);
   const note = edges.length ? notes.join("; ") : "nobody";
   $("waits-title").innerHTML = `Who waits for whom${isGraphCovered() || !note ? "" : ` <small>${note}</small>`}`;
 }
@@ -1470,32 +1526,45 @@ function graphLayout(nodes, W, H) {
   return { u, r, W, H, isFlat, isBelow, isLow, isWide, spot, gap };
 }
 
+/** Draws the nodes and lines; answers how many lines have no label. */
 function drawGraph(nodes, edges, cycle, victim) {
   const [W, H] = [sizes.graph[0], Math.max(sizes.graph[1], 2 * rem())];
   const at = graphLayout(nodes, W, H);
   const { u, r, spot, isFlat } = at;
   const inCycle = new Set(cycle.map((id, index) => `${id} ${cycle[(index + 1) % cycle.length]}`));
-  const out = [];
+  const shapes = [];
   for (const edge of edges) {
     if (!spot.has(edge.from) || !spot.has(edge.to)) continue;
     const from = run.txn(edge.from, here);
     const isHot = edge.kind === "waits" && inCycle.has(`${edge.from} ${edge.to}`);
     const isGone = from.kind === "aborted" || from.kind === "committed" || from.kind === "terminated";
     const both = edges.some((it) => it.from === edge.to && it.to === edge.from);
-    out.push(graphEdge(spot.get(edge.from), spot.get(edge.to), { ...edge, isHot, isWeak: !isHot && ((edge.kind === "waits" && !hasAsked(edge)) || isGone) }, r, u, both, isFlat ? Math.abs(nodes.indexOf(edge.from) - nodes.indexOf(edge.to)) : 0));
+    shapes.push(edgeShape(spot.get(edge.from), spot.get(edge.to), { ...edge, isHot, isWeak: !isHot && ((edge.kind === "waits" && !hasAsked(edge)) || isGone) }, r, u, both, isFlat ? Math.abs(nodes.indexOf(edge.from) - nodes.indexOf(edge.to)) : 0));
   }
-  for (const id of nodes) out.push(graphNode(id, at, victim === id));
+  const circles = nodes.map((id) => graphNode(id, at, victim === id));
+  const heads = shapes.map((it) => it.head);
+  // words that a line's head would cover are left out: the node's short form, and its title, still say whose it is
+  for (const it of circles) if (heads.some((head) => isOver(head, it.box))) { it.svg = it.bare; it.box = { left: 0, right: 0, top: 0, bottom: 0 }; }
+  placeLabels(shapes, circles.map((it) => it.box), at);
+  const out = [...shapes.map((it) => it.line), ...shapes.map((it) => edgeLabel(it, u)), ...circles.map((it) => it.svg)];
   put("graph", `<svg width="${W}" height="${f1(H)}" viewBox="0 0 ${W} ${f1(H)}" style="font-size:${f1(u)}px" role="img" aria-labelledby="graph-said">${out.join("")}</svg>`);
+  return shapes.filter((it) => !it.spot).length;
 }
 
 /** The words of a node at the left or right edge of a wide graph: above it, or below it in the lower half. */
 function noteAtEdge(x, y, { u, r, W, H }, texts, isBad) {
   const side = x < W / 2 ? -1 : 1;
-  const note = fitting(texts, W / 4, u);
-  return `<text class="nodenote${isBad ? " bad" : ""}" x="${f1(side < 0 ? Math.max(x - r, 2) : Math.min(x + r, W - 2))}" y="${f1(y < H / 2 ? y - r - 0.35 * u : y + r + 1.05 * u)}" text-anchor="${side < 0 ? "start" : "end"}">${esc(note)}</text>`;
+  return nodeNote(fitting(texts, W / 4, u), side < 0 ? Math.max(x - r, 2) : Math.min(x + r, W - 2), y < H / 2 ? y - r - 0.35 * u : y + r + 1.05 * u, side < 0 ? "start" : "end", u, isBad);
 }
 
-/** A transaction: its name in the circle, or its short form there and its name beside it. */
+/** The words of a node, and the box that they take. */
+function nodeNote(note, x, y, anchor, u, isBad) {
+  const wide = widthOf(note, u);
+  const left = anchor === "start" ? x : anchor === "end" ? x - wide : x - wide / 2;
+  return { svg: `<text class="nodenote${isBad ? " bad" : ""}" x="${f1(x)}" y="${f1(y)}" text-anchor="${anchor}">${esc(note)}</text>`, box: { left, right: left + wide, top: y - 0.9 * u, bottom: y + 0.25 * u } };
+}
+
+/** A transaction: its name in the circle, or its short form there and its name beside it; the same without the words beside it, and the box of these. */
 function graphNode(id, at, isHit) {
   const { u, r, W, isBelow, isLow, spot, gap } = at;
   const { x, y } = spot.get(id);
@@ -1508,11 +1577,12 @@ function graphNode(id, at, isHit) {
   // the inner nodes of a wide graph have their words between them
   const side = (x < W / 2 - u ? -1 : 1) * (at.isWide ? -1 : 1);
   const phase = isHit ? "victim" : it.doomed && !isDead ? "must abort" : it.kind === "active" && it.finished ? "finished" : it.kind;
-  if (at.isWide && Math.abs(x - W / 2) > W / 3.4) return `${out.join("")}${noteAtEdge(x, y, at, isWhole ? [phase] : [name, short], isHit || it.doomed)}</g>`;
+  const withNote = ({ svg, box }) => ({ svg: `${out.join("")}${svg}</g>`, bare: `${out.join("")}</g>`, box });
+  if (at.isWide && Math.abs(x - W / 2) > W / 3.4) return withNote(noteAtEdge(x, y, at, isWhole ? [phase] : [name, short], isHit || it.doomed));
   const beside = [...spot.values()].filter((o) => (o.x - x) * side > 1 && Math.abs(o.y - y) < r + 0.55 * u).map((o) => Math.abs(o.x - x) - r);
   const room = isBelow ? (isLow ? 0 : Math.min((gap || 8 * u) - 0.3 * u, 2 * Math.min(x, W - x))) : (at.isWide ? Math.abs(x - W / 2) : Math.min(side < 0 ? x : W - x, ...beside)) - r - 0.45 * u;
-  const note = fitting(isWhole ? [phase, phase.slice(0, 4)] : [`${name}, ${phase}`, name, short], room, u);
-  return `${out.join("")}<text class="nodenote${isHit || it.doomed ? " bad" : ""}" x="${f1(isBelow ? x : x + side * (r + 0.35 * u))}" y="${f1(isBelow ? y + r + 1.1 * u : y + 0.33 * u)}" text-anchor="${isBelow ? "middle" : side < 0 ? "end" : "start"}">${esc(note)}</text></g>`;
+  const note = fitting(isWhole ? [phase, phase.slice(0, 4)] : [`${name}, ${phase}`, name], room, u);
+  return withNote(nodeNote(note, isBelow ? x : x + side * (r + 0.35 * u), isBelow ? y + r + 1.1 * u : y + 0.33 * u, isBelow ? "middle" : side < 0 ? "end" : "start", u, isHit || it.doomed));
 }
 
 /** The transaction that moves, and some around it: first a cycle, then those that it waits for, and those that wait for it. */
@@ -1525,7 +1595,8 @@ function nearby(me, edges, cycle) {
   return [...found].slice(0, Math.max(MOST_NODES, cycle.length)).sort((a, b) => a - b);
 }
 
-function graphEdge(a, b, edge, r, u, both, apart) {
+/** The line of an edge with its arrow head, the box of the head, the curve's three points, and the edge's label with its width. */
+function edgeShape(a, b, edge, r, u, both, apart) {
   const [dx, dy] = [b.x - a.x, b.y - a.y];
   const far = Math.hypot(dx, dy) || 1;
   const [ux, uy] = [dx / far, dy / far];
@@ -1541,13 +1612,53 @@ function graphEdge(a, b, edge, r, u, both, apart) {
   const tl = Math.hypot(tx, ty) || 1;
   const [vx, vy] = [tx / tl, ty / tl];
   const end = { x: q.x - vx * tip * 0.8, y: q.y - vy * tip * 0.8 };
+  const corners = [[0, 0], [-vx * tip - vy * tip * 0.55, -vy * tip + vx * tip * 0.55], [-vx * tip + vy * tip * 0.55, -vy * tip - vx * tip * 0.55]];
+  const [xs, ys] = [corners.map((it) => q.x + it[0]), corners.map((it) => q.y + it[1])];
   const label = edge.kind === "commits" ? "depends" : edge.by.join(", ");
-  const lx = (p.x + 2 * m.x + q.x) / 4;
-  const ly = (p.y + 2 * m.y + q.y) / 4;
-  const wide = widthOf(label, 0.95 * u, 600) + 0.5 * u;
-  return `<g class="edge ${edge.kind}${edge.isHot ? " hot" : ""}${edge.isWeak ? " weak" : ""}"><path class="line" d="M${f1(p.x)} ${f1(p.y)}Q${f1(m.x)} ${f1(m.y)} ${f1(end.x)} ${f1(end.y)}"/>
-    <path class="tip" d="M${f1(q.x)} ${f1(q.y)}l${f1(-vx * tip - vy * tip * 0.55)} ${f1(-vy * tip + vx * tip * 0.55)}l${f1(vy * tip * 1.1)} ${f1(-vx * tip * 1.1)}z"/>
-    <rect class="back" x="${f1(lx - wide / 2)}" y="${f1(ly - 0.65 * u)}" width="${f1(wide)}" height="${f1(1.3 * u)}"/><text x="${f1(lx)}" y="${f1(ly + 0.33 * u)}" text-anchor="middle">${esc(label)}</text></g>`;
+  const kind = `${edge.kind}${edge.isHot ? " hot" : ""}${edge.isWeak ? " weak" : ""}`;
+  const said = `${nameOf(edge.from)} ${edge.kind === "waits" ? "waits for" : "commits after"} ${nameOf(edge.to)} (${edge.by.join(", ")})`;
+  return {
+    edge, kind, label, wide: widthOf(label, 0.95 * u, 600) + 0.5 * u, curve: [p, m, end], spot: null,
+    head: { left: Math.min(...xs), right: Math.max(...xs), top: Math.min(...ys), bottom: Math.max(...ys) },
+    line: `<g class="edge ${kind}"><title>${esc(said)}</title><path class="line" d="M${f1(p.x)} ${f1(p.y)}Q${f1(m.x)} ${f1(m.y)} ${f1(end.x)} ${f1(end.y)}"/>
+    <path class="tip" d="M${f1(q.x)} ${f1(q.y)}l${f1(-vx * tip - vy * tip * 0.55)} ${f1(-vy * tip + vx * tip * 0.55)}l${f1(vy * tip * 1.1)} ${f1(-vx * tip * 1.1)}z"/></g>`,
+  };
+}
+
+/** Where along its line a label may stand: the middle first, then further out. */
+const LABEL_PLACES = [0.5, 0.45, 0.55, 0.4, 0.6, 0.35, 0.65, 0.3, 0.7, 0.25, 0.75, 0.2, 0.8, 0.15, 0.85];
+
+const isOver = (a, b) => a.left < b.right && b.left < a.right && a.top < b.bottom && b.top < a.bottom;
+
+/** Whether a box touches a circle. */
+const isOnCircle = (box, { x, y }, r) => Math.hypot(Math.max(box.left - x, 0, x - box.right), Math.max(box.top - y, 0, y - box.bottom)) < r;
+
+/** Gives each label a place on its line where it covers no node, no words of one, no arrow head and no other label. First come a cycle's, then
+    those of the transaction that moves. A label that has no such place is left out; the title of its edge says it. */
+function placeLabels(shapes, notes, { u, r, W, H, spot }) {
+  const me = here > 0 ? run.ids.get(run.steps[here - 1].name) : undefined;
+  const rank = ({ edge, wide }) => (edge.isHot ? 0 : edge.from === me || edge.to === me ? 1000 : edge.isWeak ? 3000 : 2000) + wide / u;
+  const taken = [...notes, ...shapes.map((it) => it.head)];
+  for (const shape of [...shapes].sort((a, b) => rank(a) - rank(b))) {
+    const [p, m, end] = shape.curve;
+    for (const t of LABEL_PLACES) {
+      const along = (axis) => (1 - t) * (1 - t) * p[axis] + 2 * t * (1 - t) * m[axis] + t * t * end[axis];
+      const [x, y] = [along("x"), along("y")];
+      const box = { left: x - shape.wide / 2, right: x + shape.wide / 2, top: y - 0.65 * u, bottom: y + 0.65 * u };
+      if (box.left < 0 || box.right > W || box.top < 0 || box.bottom > H) continue;
+      if ([...spot.values()].some((it) => isOnCircle(box, it, r + 1)) || taken.some((it) => isOver(box, it))) continue;
+      shape.spot = { x, y };
+      taken.push(box);
+      break;
+    }
+  }
+}
+
+/** The label of an edge, over a ground that hides the lines below it; none where it has no place. */
+function edgeLabel({ kind, label, wide, spot }, u) {
+  if (!spot) return "";
+  const { x, y } = spot;
+  return `<g class="edge ${kind}"><rect class="back" x="${f1(x - wide / 2)}" y="${f1(y - 0.65 * u)}" width="${f1(wide)}" height="${f1(1.3 * u)}"/><text x="${f1(x)}" y="${f1(y + 0.33 * u)}" text-anchor="middle">${esc(label)}</text></g>`;
 }
 
 /* ---- who comes before whom */

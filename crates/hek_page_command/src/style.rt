@@ -165,6 +165,10 @@ html.present #said:has(.verdict) .plain { font-size: 1rem; } html.present .verdi
 .rule[type] { border: 0; background: none; color: var(--soft); padding: 0; text-decoration: underline; stroke: none; font-size: 0.95rem; }
 .onward { float: right; font-size: 1rem; margin-left: 0.6rem; }
 .note { white-space: nowrap; overflow: hidden; text-overflow: ellipsis; } .verdict { white-space: normal; }
+#said[data-fit] :is(.plain, .plain.long) { font-size: 1.05rem !important; line-height: 1.15; margin-top: 0.1rem !important; } #said[data-fit] .event { font-size: 1rem; line-height: 1.15; }
+#said[data-fit="2"] :is(.plain, .plain.long) { font-size: 0.92rem !important; line-height: 1.1; } #said[data-fit="2"] .event { font-size: 0.92rem; } #said[data-fit="2"] .note:not(.verdict) { display: none; } #said[data-fit="2"] .verdict { font-size: 0.9rem; line-height: 1.1; }
+#because[data-fit] .why { font-size: 0.94rem; line-height: 1.15; } #because[data-fit] .chips { font-size: 0.92rem; line-height: 1.4; }
+#because[data-fit="2"] .why { font-size: 0.84rem; line-height: 1.1; margin-bottom: 0.1rem; } #because[data-fit="2"] .chips { font-size: 0.84rem; line-height: 1.3; } #because[data-fit="2"] .chip { line-height: 1.15; margin-bottom: 0; }
 @media (min-width: 62rem) and (min-height: 42rem) { :root:not(.present) body:is([data-lanes="1"], [data-lanes="2"]):not(.tree) #say { height: 9.6rem; } :root:not(.present) body:is([data-lanes="1"], [data-lanes="2"]):not(.tree) .plain { font-size: 1.65rem; } :root:not(.present) body:is([data-lanes="1"], [data-lanes="2"]):not(.tree) .why { font-size: 1.12rem; } :root:not(.present) body:is([data-lanes="1"], [data-lanes="2"]):not(.tree) .plain.long { font-size: 1.4rem !important; } }
 .key .ph { display: inline-block; width: 1.9rem; height: 0.85rem; margin: 0 0.25rem 0 0.7rem; border: 1px solid var(--bar-line); vertical-align: -0.05rem; }
 .key .ph:first-child { margin-left: 0; }

@@ -115,6 +115,21 @@ function showSay() {
   const rule = ruleOf(step);
   $("because").innerHTML = `${told}${why.length ? `<ul class="why" aria-label="Why">${why.slice(0, most).join("")}${rest}</ul>` : ""}
     <p class="chips">${chips.length ? chips.join(" ") : '<span class="soft">Nothing changed.</span>'} <button type="button" class="rule" data-rule="${step.op}" title="What the rule says">rule: ${esc(rule[0])}</button></p>`;
+  fitSay();
+}
+
+/** Texts of so many characters have room in any case. */
+const SURE_TO_FIT = 90;
+
+/** Makes the words of a step smaller where they have no room, as with long numbers or names, in two steps. Short ones aren't measured, since
+    that would have the browser lay out the page. */
+function fitSay() {
+  for (const id of ["said", "because"]) {
+    const place = $(id);
+    delete place.dataset.fit;
+    if (isSmall() || place.textContent.length < SURE_TO_FIT) continue;
+    for (const fit of ["1", "2"]) if (place.scrollHeight > place.clientHeight + 1) place.dataset.fit = fit;
+  }
 }
 
 /** The comment above a step; while replies are guessed, and where a question stands there, the question and then the comment. */

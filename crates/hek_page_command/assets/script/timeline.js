@@ -36,12 +36,28 @@ function detailOf(step) {
 /** How wide the text of a card is drawn. */
 const CARD = { padding: 0.42, size: 0.98, detail: 0.955 };
 
-/** How wide the columns are at least, so that each card has its key and value; of very long ones six letters. */
+/** So wide a second line of a card may be; of what is wider, the first line takes the key and the second one the value. */
+const MOST_DETAIL = 5.6;
+
+/** For a step whose key and value are too long for one line: the first line with the key, longest first, and the second one with the value. */
+function longCard(step) {
+  const { op, args, r } = step;
+  const value = r[0] === "found" ? r[1] : r[0] === "done" && args.length > 1 ? args[1] : r[0] === "absent" || r[0] === "exists" ? r[0] : r[0] === "done" ? "" : null;
+  if (value === null || widthOf(detailOf(step).at(-1), CARD.detail) <= MOST_DETAIL) return null;
+  const labels = LABELS[op] ?? [op];
+  return { tops: [...labels.map((it) => `${it} ${args[0]}`), args[0]], bottoms: value === "" ? [""] : [`${r[0] === "found" ? "is" : r[0] === "done" ? ":=" : ""} ${value}`.trim(), value] };
+}
+
+/** How wide the columns are at least, so that each card has its key and value. */
 function leastCell(u) {
   if (run.leastCell === undefined) {
     let most = 0;
-    for (const step of run.steps) most = Math.max(most, widthOf(detailOf(step).at(-1), CARD.detail), widthOf((LABELS[step.op] ?? [step.op]).at(-1), CARD.size, 600));
-    run.leastCell = Math.min(most, 5.6) + CARD.padding;
+    for (const step of run.steps) {
+      const long = longCard(step);
+      const texts = long ? [[long.tops.at(-1), CARD.size, 600], [long.bottoms.at(-1), CARD.detail]] : [[detailOf(step).at(-1), CARD.detail], [(LABELS[step.op] ?? [step.op]).at(-1), CARD.size, 600]];
+      for (const text of texts) most = Math.max(most, widthOf(...text));
+    }
+    run.leastCell = most + CARD.padding;
   }
   return run.leastCell * u;
 }
@@ -205,8 +221,9 @@ function cardOf(number, step, id, at, marked, again) {
   const ops = again === null ? (LABELS[step.op] ?? [step.op]) : ["asks again", "again"];
   const about = step.args.length ? (step.op === "scan" ? [`b ${step.args[0]}`] : [step.args[0]]) : [""];
   const details = isCovered ? (again === null ? about : [""]) : again === null ? detailOf(step) : [timesSaid(again), `${again}\u00d7`];
-  const top = fitting(ops, inner, size, 600) || ops.at(-1);
-  const bottom = fitting([...details, details.at(-1).slice(0, 5) + "\u2026"], inner + 0.14 * u, size * 0.975);
+  const long = again === null && !isCovered ? longCard(step) : null;
+  const top = long ? fitting(long.tops, inner + 0.14 * u, size, 600) : fitting(ops, inner, size, 600) || ops.at(-1);
+  const bottom = fitting(long ? long.bottoms : [...details, details.at(-1).slice(0, 5) + "\u2026"], inner + 0.14 * u, size * 0.975);
   const cx = x(number) + cell / 2;
   const said = again === null ? `step ${run.done + number}: ${step.name ?? ""} ${step.event}${isCovered ? "" : `, ${step.reply}`}` : `steps up to ${run.done + number}: ${nameOf(id)} asks again ${timesSaid(again)}`;
   const line = (text, y, name) => `<text x="${f1(cx)}" y="${f1(cellY(id) + y)}" text-anchor="middle" class="${name}"${tight ? ` style="font-size:${f1(name === "op" ? size : size * 0.975)}px"` : ""}>${esc(text)}</text>`;

@@ -38,6 +38,20 @@ function keysShown(rows, step, sights) {
   return { keys: some, hidden: count - rows };
 }
 
+/** The type of a key and a value that take a line each. */
+const LONG = { size: 0.78 };
+
+/** How wide the longest key or value of the run is, in its own line, if one is too long to stand beside the others; else 0. */
+function longestNumber() {
+  if (run.longest === undefined) {
+    const its = [...run.past].filter(([subject]) => subject.startsWith("version ")).flatMap(([, list]) => list.map(([, it]) => it));
+    const texts = [...new Set(its.flatMap((it) => [it.key, it.value]))];
+    const isLong = its.some((it) => it.key.length > 6 || it.value.length > 4);
+    run.longest = isLong ? Math.max(...texts.map((it) => widthOf(it, LONG.size, 700))) : 0;
+  }
+  return run.longest;
+}
+
 /** Where the columns and rows of the versions are. */
 function chainLayout(step, sights, time) {
   const u = rem();
@@ -46,7 +60,8 @@ function chainLayout(step, sights, time) {
   const isLow = viewHeight < 48 * u && !isPhone;
   const lookH = !isLow && run.steps.some((it) => it.sees !== "") ? 1.4 * u : 0;
   const axisH = 1.5 * u + lookH;
-  const least = (isLow ? 1.6 : 2.05) * u;
+  const longest = longestNumber();
+  const least = (longest ? (isLow ? 1.65 : 2.15) : isLow ? 1.6 : 2.05) * u;
   const bucketH = bucketIsShown() ? (isLow ? 1.5 : 1.7) * u : 0;
   const fitRows = (buckets) => (isPhone ? 12 : Math.max(bucketH ? 1 : 2, Math.floor((room - axisH - buckets * bucketH - 0.3 * u) / least)));
   let { keys, hidden } = keysShown(fitRows(bucketH ? 1 : 0), step, sights);
@@ -58,7 +73,8 @@ function chainLayout(step, sights, time) {
   const k = isPhone ? 1 : Math.max(1, Math.min(1.28, each / (3.3 * u), (W / u - 20) / 19));
   const rowH = isPhone ? least * 1.15 : Math.min(each, 6.4 * u * k);
   const narrow = W < 36 * u;
-  const values = (isPhone ? 6.7 : narrow ? 8.5 : 9.2) * u * k;
+  const usual = (isPhone ? 6.7 : narrow ? 8.5 : 9.2) * u * k;
+  const values = longest ? Math.max(usual, (longest + 2.6) * u * k) : usual;
   const r = Math.min(rowH * 0.36, 0.9 * u * k);
   const marks = { from: values, readers: narrow || isPhone ? 2 : 3, r, wide: marksWidth(narrow || isPhone ? 2 : 3, r, u * k) };
   const left = values + marks.wide;
@@ -139,7 +155,8 @@ function showChains() {
     if (bucket !== null) { out.push(bucketHead(bucket, y, it)); y += it.bucketH; }
     for (const { key, versions } of keys) {
       out.push(`<line class="rule" x1="0" x2="${W}" y1="${f1(y)}" y2="${f1(y)}"/>`);
-      out.push(`<text class="keyname" x="${f1(0.3 * u)}" y="${f1(y + rowH / 2 + 0.38 * u * k)}">${esc(fitting([`key ${key}`, key, ...[5, 4, 3, 2].map((count) => key.slice(0, count) + "\u2026")], marks.from - (isPhone ? 4.5 : narrow ? 4.9 : 5.4) * u * k, u * k))}</text>`);
+      if (longestNumber()) out.push(`<text class="keyname" x="${f1(0.3 * u)}" y="${f1(y + rowH / 2 - 0.15 * u * k)}" style="font-size:${f1(LONG.size * u * k)}px">${esc(fitting([`key ${key}`, key], marks.from - 0.5 * u, LONG.size * u * k) || key)}</text>`);
+      else out.push(`<text class="keyname" x="${f1(0.3 * u)}" y="${f1(y + rowH / 2 + 0.38 * u * k)}">${esc(fitting([`key ${key}`, key, ...[5, 4, 3, 2].map((count) => key.slice(0, count) + "\u2026")], marks.from - (isPhone ? 4.5 : narrow ? 4.9 : 5.4) * u * k, u * k))}</text>`);
       for (const version of versions) {
         const [under, over] = versionRow(version, y, rowH, { u: u * k, W, X, endX, futureX, left, right, marks, sights, actor, isPhone, narrow, now, readers, lookX });
         out.push(under);
@@ -192,7 +209,10 @@ function versionRow(it, y, h, at) {
   out.push(`<g class="version${touched ? " touched" : ""}${isNever ? " never" : ""}${pinned?.v === it.v ? " pinned" : ""}" data-v="${it.v}" role="button" tabindex="0" aria-label="${esc(label)}">`);
   out.push(`<rect class="hit" x="${f1(marks.from - 5.4 * u)}" y="${f1(y + 1)}" width="${f1(W - marks.from + 5.4 * u)}" height="${f1(h - 2)}"/>`);
   const base = y + h / 2 + 0.38 * u;
-  out.push(`<text class="vname" x="${f1(marks.from - (isPhone ? 4.1 : narrow ? 4.6 : 5) * u)}" y="${f1(base)}">v${it.v}</text><text class="value" x="${f1(marks.from - 0.35 * u)}" y="${f1(base)}" text-anchor="end">${esc(fitting([it.value, ...[4, 3, 2].map((count) => it.value.slice(0, count) + "\u2026")], 3.1 * u, 1.15 * u, 700) || "\u2026")}</text>`);
+  if (longestNumber()) {
+    const [line, type] = [y + h / 2 + 0.68 * u, `style="font-size:${f1(LONG.size * u)}px"`];
+    out.push(`<text class="vname" x="${f1(0.3 * u)}" y="${f1(line)}" ${type}>v${it.v}</text><text class="value" x="${f1(marks.from - 0.35 * u)}" y="${f1(line)}" text-anchor="end" ${type}>${esc(it.value)}</text>`);
+  } else out.push(`<text class="vname" x="${f1(marks.from - (isPhone ? 4.1 : narrow ? 4.6 : 5) * u)}" y="${f1(base)}">v${it.v}</text><text class="value" x="${f1(marks.from - 0.35 * u)}" y="${f1(base)}" text-anchor="end">${esc(fitting([it.value, ...[4, 3, 2].map((count) => it.value.slice(0, count) + "\u2026")], 3.1 * u, 1.15 * u, 700) || "\u2026")}</text>`);
   const barH = Math.min(h * 0.72, 3.5 * u);
   const barY = y + (h - barH) / 2;
   // from where
@@ -291,5 +311,7 @@ function marksOf(it, writer, readers, mid, { from, readers: most, r }, u) {
 /** A reader, or a holder, as a round token; `more`: of so many others too. */
 function readerToken(id, x, mid, r, u, more = 0) {
   const said = more ? `+${more}` : shortOf(id);
-  return `<g class="reader ${colourOf(id)}"><title>${esc(nameOf(id))}</title><circle cx="${f1(x)}" cy="${f1(mid)}" r="${f1(r)}"/><text x="${f1(x)}" y="${f1(mid + 0.34 * u)}" text-anchor="middle">${esc(said)}</text></g>`;
+  const usual = 0.98 * u;
+  const size = Math.min(usual, (usual * 1.7 * r) / widthOf(said, usual, 700));
+  return `<g class="reader ${colourOf(id)}"><title>${esc(nameOf(id))}</title><circle cx="${f1(x)}" cy="${f1(mid)}" r="${f1(r)}"/><text x="${f1(x)}" y="${f1(mid + 0.35 * size)}" text-anchor="middle"${size < usual ? ` style="font-size:${f1(size)}px"` : ""}>${esc(said)}</text></g>`;
 }
