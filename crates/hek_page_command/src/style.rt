@@ -288,7 +288,7 @@ dialog::backdrop { background: #0009; }
   html { font-size: 16px; } html.present { font-size: 19px; }
   body { display: block; height: auto; overflow: auto; }
   #bar { flex-wrap: wrap; padding: 0.3rem 0.5rem; gap: 0.3rem; } #bar > :is(h1, .way) { order: -1; } #about { display: none; } #bar h1 { font-size: 1.05rem; flex: 1 1 40%; } #bar .space { display: none; } .modes { flex: 1 1 14rem !important; min-width: 0; overflow-x: auto; } .modes button { min-height: 2.4rem; white-space: nowrap; } #bar nav { flex: none; gap: 0.15rem; } #bar nav button { min-width: 2.3rem; min-height: 2.4rem; padding: 0; } #position { min-width: 3.7rem; font-size: 1rem; }
-  [data-do="present"] { display: none; } [data-do="legend"], [data-do="picture"] { display: inline-block; }
+  [data-do="present"] { display: none; } [data-do="legend"] { display: inline-block; }
   .modes { padding-right: 2.2rem; -webkit-mask-image: linear-gradient(90deg, #000 calc(100% - 2.4rem), transparent); mask-image: linear-gradient(90deg, #000 calc(100% - 2.4rem), transparent); }
   main { display: block; padding: 0.2rem 0.5rem; }
   #top { position: sticky; top: 0; background: var(--bg); z-index: 2; padding-bottom: 0.3rem; }
