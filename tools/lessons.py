@@ -91,7 +91,7 @@ class Prose:
         head, body = cells(rows[0]), [cells(it) for it in rows[2:]]
         if head[0] == "Step":
             return self.steps(body)
-        if head[0] == "Example":
+        if head[0] == "Example" and all(row[0] in self.names or not row[0] for row in body):
             return self.outcomes(head, body)
         made = ["".join(f'<th scope="col">{self.inline(it)}</th>' for it in head)]
         made += ["".join(f"<td>{self.inline(it)}</td>" for it in row) for row in body]
