@@ -453,7 +453,7 @@ function fitSay() {
     const place = $(id);
     delete place.dataset.fit;
     if (isSmall() || place.textContent.length < SURE_TO_FIT) continue;
-    for (const fit of ["1", "2"]) if (place.scrollHeight > place.clientHeight + 1) place.dataset.fit = fit;
+    for (const fit of ["1", "2"]) if (place.scrollHeight > place.clientHeight + 2) place.dataset.fit = fit;
   }
 }
 
@@ -1205,8 +1205,9 @@ function showChains() {
     until = X(t) + half;
     out.push(`<text class="tick${isNow ? " at" : ""}" x="${f1(X(t))}" y="${f1(lookH + 1.05 * u)}" text-anchor="middle">${isNow ? (unit > 2.05 * u ? "now " : "") + t : t}</text>`);
   }
-  out.push(`<text class="tick inf" x="${f1(endX)}" y="${f1(lookH + 1.12 * u)}" text-anchor="middle">\u221e</text>`);
-  if (marks.wide) out.push(`<text class="tick" x="${f1(marks.from + 0.25 * u)}" y="${f1(lookH + 1.05 * u)}">${fitting(["locks"], marks.wide - 0.6 * u, 0.95 * u)}</text>`);
+  const isUnderPlate = (from, to) => plate !== null && !lookH && from < plate.from + plate.wide + 0.2 * u && to > plate.from - 0.2 * u;
+  if (!isUnderPlate(endX - 0.5 * u, endX + 0.5 * u)) out.push(`<text class="tick inf" x="${f1(endX)}" y="${f1(lookH + 1.12 * u)}" text-anchor="middle">\u221e</text>`);
+  if (marks.wide && !isUnderPlate(marks.from + 0.25 * u, marks.from + 0.25 * u + widthOf("locks", 0.95 * u))) out.push(`<text class="tick" x="${f1(marks.from + 0.25 * u)}" y="${f1(lookH + 1.05 * u)}">${fitting(["locks"], marks.wide - 0.6 * u, 0.95 * u)}</text>`);
   const readers = readersHere();
   const tokens = [];
   let y = axisH;
@@ -1541,14 +1542,19 @@ function drawGraph(nodes, edges, cycle, victim) {
     const both = edges.some((it) => it.from === edge.to && it.to === edge.from);
     shapes.push(edgeShape(spot.get(edge.from), spot.get(edge.to), { ...edge, isHot, isWeak: !isHot && ((edge.kind === "waits" && !hasAsked(edge)) || isGone) }, r, u, both, isFlat ? Math.abs(nodes.indexOf(edge.from) - nodes.indexOf(edge.to)) : 0));
   }
-  const circles = nodes.map((id) => graphNode(id, at, victim === id));
+  return putGraph(shapes, nodes.map((id) => graphNode(id, at, victim === id)), at);
+}
+
+/** Puts lines, labels and nodes into the panel; answers how many lines have a label that has no room. */
+function putGraph(shapes, circles, at) {
+  const { u, W, H } = at;
   const heads = shapes.map((it) => it.head);
   // words that a line's head would cover are left out: the node's short form, and its title, still say whose it is
   for (const it of circles) if (heads.some((head) => isOver(head, it.box))) { it.svg = it.bare; it.box = { left: 0, right: 0, top: 0, bottom: 0 }; }
   placeLabels(shapes, circles.map((it) => it.box), at);
   const out = [...shapes.map((it) => it.line), ...shapes.map((it) => edgeLabel(it, u)), ...circles.map((it) => it.svg)];
   put("graph", `<svg width="${W}" height="${f1(H)}" viewBox="0 0 ${W} ${f1(H)}" style="font-size:${f1(u)}px" role="img" aria-labelledby="graph-said">${out.join("")}</svg>`);
-  return shapes.filter((it) => !it.spot).length;
+  return shapes.filter((it) => it.label && !it.spot).length;
 }
 
 /** The words of a node at the left or right edge of a wide graph: above it, or below it in the lower half. */
@@ -1595,6 +1601,9 @@ function nearby(me, edges, cycle) {
   return [...found].slice(0, Math.max(MOST_NODES, cycle.length)).sort((a, b) => a - b);
 }
 
+/** What a line of each kind says. */
+const EDGES = { waits: "waits for", commits: "commits after", before: "comes before" };
+
 /** The line of an edge with its arrow head, the box of the head, the curve's three points, and the edge's label with its width. */
 function edgeShape(a, b, edge, r, u, both, apart) {
   const [dx, dy] = [b.x - a.x, b.y - a.y];
@@ -1616,7 +1625,7 @@ function edgeShape(a, b, edge, r, u, both, apart) {
   const [xs, ys] = [corners.map((it) => q.x + it[0]), corners.map((it) => q.y + it[1])];
   const label = edge.kind === "commits" ? "depends" : edge.by.join(", ");
   const kind = `${edge.kind}${edge.isHot ? " hot" : ""}${edge.isWeak ? " weak" : ""}`;
-  const said = `${nameOf(edge.from)} ${edge.kind === "waits" ? "waits for" : "commits after"} ${nameOf(edge.to)} (${edge.by.join(", ")})`;
+  const said = `${nameOf(edge.from)} ${EDGES[edge.kind]} ${nameOf(edge.to)}${edge.by.length ? ` (${edge.by.join(", ")})` : ""}`;
   return {
     edge, kind, label, wide: widthOf(label, 0.95 * u, 600) + 0.5 * u, curve: [p, m, end], spot: null,
     head: { left: Math.min(...xs), right: Math.max(...xs), top: Math.min(...ys), bottom: Math.max(...ys) },
@@ -1639,7 +1648,7 @@ function placeLabels(shapes, notes, { u, r, W, H, spot }) {
   const me = here > 0 ? run.ids.get(run.steps[here - 1].name) : undefined;
   const rank = ({ edge, wide }) => (edge.isHot ? 0 : edge.from === me || edge.to === me ? 1000 : edge.isWeak ? 3000 : 2000) + wide / u;
   const taken = [...notes, ...shapes.map((it) => it.head)];
-  for (const shape of [...shapes].sort((a, b) => rank(a) - rank(b))) {
+  for (const shape of shapes.filter((it) => it.label).sort((a, b) => rank(a) - rank(b))) {
     const [p, m, end] = shape.curve;
     for (const t of LABEL_PLACES) {
       const along = (axis) => (1 - t) * (1 - t) * p[axis] + 2 * t * (1 - t) * m[axis] + t * t * end[axis];
@@ -1698,12 +1707,11 @@ function showTogether(told) {
   const [W, H] = [sizes.graph[0], Math.max(sizes.graph[1], 2 * rem())];
   const at = graphLayout(nodes, W, H);
   const shown = pairs.filter((it) => at.spot.has(it.from) && at.spot.has(it.to));
-  const out = shown.map((it) => {
+  const shapes = shown.map((it) => {
     const both = shown.some((other) => other.from === it.to && other.to === it.from);
-    return graphEdge(at.spot.get(it.from), at.spot.get(it.to), it, at.r, at.u, both, at.isFlat ? Math.abs(nodes.indexOf(it.from) - nodes.indexOf(it.to)) : 0);
+    return edgeShape(at.spot.get(it.from), at.spot.get(it.to), it, at.r, at.u, both, at.isFlat ? Math.abs(nodes.indexOf(it.from) - nodes.indexOf(it.to)) : 0);
   });
-  for (const id of nodes) out.push(graphNode(id, at, false));
-  put("graph", `<svg width="${W}" height="${f1(H)}" viewBox="0 0 ${W} ${f1(H)}" style="font-size:${f1(at.u)}px" role="img" aria-labelledby="graph-said">${out.join("")}</svg>`);
+  putGraph(shapes, nodes.map((id) => graphNode(id, at, false)), at);
 }
 
 /* ---- a word, field by field */
@@ -1806,8 +1814,12 @@ function drawWord(it, W, u, density, isSingle, hasHex) {
   const foldW = 5.4 * u;
   const bit = Math.min((W - labelW - gaps - foldW - 0.4 * u) / (10 + tail), 1.75 * u);
   const x = (at) => labelW + (at <= 10 ? at * bit : 10 * bit + foldW + (at - fold) * bit) + (at >= 1 ? 0.35 * u : 0) + (at >= 2 ? 0.35 * u : 0) + (at >= 10 ? 0.7 * u : 0);
-  const rowH = [2.3, 1.68, 1.2, 1][density] * u;
-  const head = [1.4, 1.25, 1.02, 0.9][density] * u;
+  const rowH = [2.3, 1.68, 1.2, 1.1][density] * u;
+  const head = [1.4, 1.25, 1.02, 0.88][density] * u;
+  // where there is little room the names of the fields are small, and stand only over the word as it is
+  const isTight = density >= 2;
+  const type = isTight ? `style="font-size:${f1(0.8 * u)}px"` : "";
+  const line = isTight ? head - 0.2 * u : u;
   const out = [];
   let y = 0;
   rows.forEach((row, index) => {
@@ -1815,14 +1827,14 @@ function drawWord(it, W, u, density, isSingle, hasHex) {
     const fields = fieldsOf(row.word, which);
     const names = fields.map((it) => it.name).join();
     const before = index > 0 ? fieldsOf(rows[index - 1].word, which).map((it) => it.name).join() : null;
-    if (names !== before) {
+    if (names !== before && !(isTight && index === 0 && rows.length > 1 && fieldsOf(rows[1].word, which).map((it) => it.name).join() !== names)) {
       for (const it of fields) {
         const [l, r] = [x(it.from), it.to >= 64 ? x(63) + bit : x(it.to - 1) + bit];
         const texts = { ContentType: ["ContentType", "type", "T"], NoMoreReadLocks: ["NoMoreReadLocks", "NoMore", "NM"], ReadLockCount: ["ReadLockCount", "readers"], WriteLock: ["WriteLock"], TransactionId: ["Transaction"], Time: ["Time"] }[it.name] ?? [it.name];
         const slack = it.name === "ContentType" ? l - 0 + bit - 0.2 * u : r - l;
-        if (it.name === "ContentType") { const t = fitting(["type"], labelW + bit, 0.95 * u) || "T"; out.push(`<text class="field" x="${f1(r)}" y="${f1(y + u)}" text-anchor="end">${t}</text>`); }
-        else if (it.name === "NoMoreReadLocks") out.push(`<text class="field" x="${f1(l)}" y="${f1(y + u)}">${fitting(["NoMore", "NM"], bit + 2.4 * u, 0.95 * u)}</text>`);
-        else { const shift = it.name === "ReadLockCount" ? Math.max(0, widthOf("NoMore", 0.95 * u) - bit - 0.1 * u) : 0; out.push(`<text class="field" x="${f1(l + shift)}" y="${f1(y + u)}">${fitting(texts, slack - shift, 0.95 * u)}</text>`); }
+        if (it.name === "ContentType") { const t = fitting(["type"], labelW + bit, 0.95 * u) || "T"; out.push(`<text class="field" x="${f1(r)}" y="${f1(y + line)}" ${type} text-anchor="end">${t}</text>`); }
+        else if (it.name === "NoMoreReadLocks") out.push(`<text class="field" x="${f1(l)}" y="${f1(y + line)}" ${type}>${fitting(["NoMore", "NM"], bit + 2.4 * u, 0.95 * u)}</text>`);
+        else { const shift = it.name === "ReadLockCount" ? Math.max(0, widthOf("NoMore", 0.95 * u) - bit - 0.1 * u) : 0; out.push(`<text class="field" x="${f1(l + shift)}" y="${f1(y + line)}" ${type}>${fitting(texts, slack - shift, 0.95 * u)}</text>`); }
       }
       y += head;
     }
@@ -1851,7 +1863,7 @@ function drawWord(it, W, u, density, isSingle, hasHex) {
   const html = `<figure class="wordbox">${isSingle ? "" : `<figcaption><span>${caption}</span> <code>${hex(word, old?.[which])}</code></figcaption>`}
     <svg width="${W}" height="${f1(y)}" viewBox="0 0 ${W} ${f1(y)}" role="img" aria-label="${caption.replace(/<[^>]*>/g, "")}: ${word}">${out.join("")}</svg>${hasHex && isSingle ? `<p class="hex">${told}</p>` : ""}</figure>`;
   const lines = Math.ceil((widthOf(caption.replace(/<[^>]*>/g, ""), 1.02 * u, 600) + 10.5 * u) / W);
-  return { html, height: y + (isSingle ? (hasHex ? 1.35 * u : 0) : lines * 1.35 * u + 0.4 * u) };
+  return { html, height: y + (isSingle ? (hasHex ? (old && W < 23 * u ? 2.65 : 1.35) * u : 0) : lines * 1.35 * u + 0.4 * u) };
 }
 
 const bitBox = (x, y, w, h, bit, isMoved, u) => `<rect class="bit b${bit}${isMoved ? " moved" : ""}" x="${f1(x + 0.5)}" y="${f1(y + 1)}" width="${f1(w - 2)}" height="${f1(h - 3)}" rx="2"/><text class="bittext b${bit}${isMoved ? " moved" : ""}" x="${f1(x + w / 2 - 0.5)}" y="${f1(y + h * 0.5 + 0.34 * Math.min(u, w * 1.4))}" text-anchor="middle"${w < 0.72 * u ? ` style="font-size:${f1(w * 1.4)}px"` : ""}>${bit}</text>`;

@@ -86,14 +86,19 @@ function drawGraph(nodes, edges, cycle, victim) {
     const both = edges.some((it) => it.from === edge.to && it.to === edge.from);
     shapes.push(edgeShape(spot.get(edge.from), spot.get(edge.to), { ...edge, isHot, isWeak: !isHot && ((edge.kind === "waits" && !hasAsked(edge)) || isGone) }, r, u, both, isFlat ? Math.abs(nodes.indexOf(edge.from) - nodes.indexOf(edge.to)) : 0));
   }
-  const circles = nodes.map((id) => graphNode(id, at, victim === id));
+  return putGraph(shapes, nodes.map((id) => graphNode(id, at, victim === id)), at);
+}
+
+/** Puts lines, labels and nodes into the panel; answers how many lines have a label that has no room. */
+function putGraph(shapes, circles, at) {
+  const { u, W, H } = at;
   const heads = shapes.map((it) => it.head);
   // words that a line's head would cover are left out: the node's short form, and its title, still say whose it is
   for (const it of circles) if (heads.some((head) => isOver(head, it.box))) { it.svg = it.bare; it.box = { left: 0, right: 0, top: 0, bottom: 0 }; }
   placeLabels(shapes, circles.map((it) => it.box), at);
   const out = [...shapes.map((it) => it.line), ...shapes.map((it) => edgeLabel(it, u)), ...circles.map((it) => it.svg)];
   put("graph", `<svg width="${W}" height="${f1(H)}" viewBox="0 0 ${W} ${f1(H)}" style="font-size:${f1(u)}px" role="img" aria-labelledby="graph-said">${out.join("")}</svg>`);
-  return shapes.filter((it) => !it.spot).length;
+  return shapes.filter((it) => it.label && !it.spot).length;
 }
 
 /** The words of a node at the left or right edge of a wide graph: above it, or below it in the lower half. */
@@ -140,6 +145,9 @@ function nearby(me, edges, cycle) {
   return [...found].slice(0, Math.max(MOST_NODES, cycle.length)).sort((a, b) => a - b);
 }
 
+/** What a line of each kind says. */
+const EDGES = { waits: "waits for", commits: "commits after", before: "comes before" };
+
 /** The line of an edge with its arrow head, the box of the head, the curve's three points, and the edge's label with its width. */
 function edgeShape(a, b, edge, r, u, both, apart) {
   const [dx, dy] = [b.x - a.x, b.y - a.y];
@@ -161,7 +169,7 @@ function edgeShape(a, b, edge, r, u, both, apart) {
   const [xs, ys] = [corners.map((it) => q.x + it[0]), corners.map((it) => q.y + it[1])];
   const label = edge.kind === "commits" ? "depends" : edge.by.join(", ");
   const kind = `${edge.kind}${edge.isHot ? " hot" : ""}${edge.isWeak ? " weak" : ""}`;
-  const said = `${nameOf(edge.from)} ${edge.kind === "waits" ? "waits for" : "commits after"} ${nameOf(edge.to)} (${edge.by.join(", ")})`;
+  const said = `${nameOf(edge.from)} ${EDGES[edge.kind]} ${nameOf(edge.to)}${edge.by.length ? ` (${edge.by.join(", ")})` : ""}`;
   return {
     edge, kind, label, wide: widthOf(label, 0.95 * u, 600) + 0.5 * u, curve: [p, m, end], spot: null,
     head: { left: Math.min(...xs), right: Math.max(...xs), top: Math.min(...ys), bottom: Math.max(...ys) },
@@ -184,7 +192,7 @@ function placeLabels(shapes, notes, { u, r, W, H, spot }) {
   const me = here > 0 ? run.ids.get(run.steps[here - 1].name) : undefined;
   const rank = ({ edge, wide }) => (edge.isHot ? 0 : edge.from === me || edge.to === me ? 1000 : edge.isWeak ? 3000 : 2000) + wide / u;
   const taken = [...notes, ...shapes.map((it) => it.head)];
-  for (const shape of [...shapes].sort((a, b) => rank(a) - rank(b))) {
+  for (const shape of shapes.filter((it) => it.label).sort((a, b) => rank(a) - rank(b))) {
     const [p, m, end] = shape.curve;
     for (const t of LABEL_PLACES) {
       const along = (axis) => (1 - t) * (1 - t) * p[axis] + 2 * t * (1 - t) * m[axis] + t * t * end[axis];

@@ -128,7 +128,7 @@ function fitSay() {
     const place = $(id);
     delete place.dataset.fit;
     if (isSmall() || place.textContent.length < SURE_TO_FIT) continue;
-    for (const fit of ["1", "2"]) if (place.scrollHeight > place.clientHeight + 1) place.dataset.fit = fit;
+    for (const fit of ["1", "2"]) if (place.scrollHeight > place.clientHeight + 2) place.dataset.fit = fit;
   }
 }
 

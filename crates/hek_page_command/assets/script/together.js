@@ -35,10 +35,9 @@ function showTogether(told) {
   const [W, H] = [sizes.graph[0], Math.max(sizes.graph[1], 2 * rem())];
   const at = graphLayout(nodes, W, H);
   const shown = pairs.filter((it) => at.spot.has(it.from) && at.spot.has(it.to));
-  const out = shown.map((it) => {
+  const shapes = shown.map((it) => {
     const both = shown.some((other) => other.from === it.to && other.to === it.from);
-    return graphEdge(at.spot.get(it.from), at.spot.get(it.to), it, at.r, at.u, both, at.isFlat ? Math.abs(nodes.indexOf(it.from) - nodes.indexOf(it.to)) : 0);
+    return edgeShape(at.spot.get(it.from), at.spot.get(it.to), it, at.r, at.u, both, at.isFlat ? Math.abs(nodes.indexOf(it.from) - nodes.indexOf(it.to)) : 0);
   });
-  for (const id of nodes) out.push(graphNode(id, at, false));
-  put("graph", `<svg width="${W}" height="${f1(H)}" viewBox="0 0 ${W} ${f1(H)}" style="font-size:${f1(at.u)}px" role="img" aria-labelledby="graph-said">${out.join("")}</svg>`);
+  putGraph(shapes, nodes.map((id) => graphNode(id, at, false)), at);
 }

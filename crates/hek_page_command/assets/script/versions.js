@@ -145,8 +145,9 @@ function showChains() {
     until = X(t) + half;
     out.push(`<text class="tick${isNow ? " at" : ""}" x="${f1(X(t))}" y="${f1(lookH + 1.05 * u)}" text-anchor="middle">${isNow ? (unit > 2.05 * u ? "now " : "") + t : t}</text>`);
   }
-  out.push(`<text class="tick inf" x="${f1(endX)}" y="${f1(lookH + 1.12 * u)}" text-anchor="middle">\u221e</text>`);
-  if (marks.wide) out.push(`<text class="tick" x="${f1(marks.from + 0.25 * u)}" y="${f1(lookH + 1.05 * u)}">${fitting(["locks"], marks.wide - 0.6 * u, 0.95 * u)}</text>`);
+  const isUnderPlate = (from, to) => plate !== null && !lookH && from < plate.from + plate.wide + 0.2 * u && to > plate.from - 0.2 * u;
+  if (!isUnderPlate(endX - 0.5 * u, endX + 0.5 * u)) out.push(`<text class="tick inf" x="${f1(endX)}" y="${f1(lookH + 1.12 * u)}" text-anchor="middle">\u221e</text>`);
+  if (marks.wide && !isUnderPlate(marks.from + 0.25 * u, marks.from + 0.25 * u + widthOf("locks", 0.95 * u))) out.push(`<text class="tick" x="${f1(marks.from + 0.25 * u)}" y="${f1(lookH + 1.05 * u)}">${fitting(["locks"], marks.wide - 0.6 * u, 0.95 * u)}</text>`);
   const readers = readersHere();
   const tokens = [];
   let y = axisH;

@@ -98,8 +98,12 @@ function drawWord(it, W, u, density, isSingle, hasHex) {
   const foldW = 5.4 * u;
   const bit = Math.min((W - labelW - gaps - foldW - 0.4 * u) / (10 + tail), 1.75 * u);
   const x = (at) => labelW + (at <= 10 ? at * bit : 10 * bit + foldW + (at - fold) * bit) + (at >= 1 ? 0.35 * u : 0) + (at >= 2 ? 0.35 * u : 0) + (at >= 10 ? 0.7 * u : 0);
-  const rowH = [2.3, 1.68, 1.2, 1][density] * u;
-  const head = [1.4, 1.25, 1.02, 0.9][density] * u;
+  const rowH = [2.3, 1.68, 1.2, 1.1][density] * u;
+  const head = [1.4, 1.25, 1.02, 0.88][density] * u;
+  // where there is little room the names of the fields are small, and stand only over the word as it is
+  const isTight = density >= 2;
+  const type = isTight ? `style="font-size:${f1(0.8 * u)}px"` : "";
+  const line = isTight ? head - 0.2 * u : u;
   const out = [];
   let y = 0;
   rows.forEach((row, index) => {
@@ -107,14 +111,14 @@ function drawWord(it, W, u, density, isSingle, hasHex) {
     const fields = fieldsOf(row.word, which);
     const names = fields.map((it) => it.name).join();
     const before = index > 0 ? fieldsOf(rows[index - 1].word, which).map((it) => it.name).join() : null;
-    if (names !== before) {
+    if (names !== before && !(isTight && index === 0 && rows.length > 1 && fieldsOf(rows[1].word, which).map((it) => it.name).join() !== names)) {
       for (const it of fields) {
         const [l, r] = [x(it.from), it.to >= 64 ? x(63) + bit : x(it.to - 1) + bit];
         const texts = { ContentType: ["ContentType", "type", "T"], NoMoreReadLocks: ["NoMoreReadLocks", "NoMore", "NM"], ReadLockCount: ["ReadLockCount", "readers"], WriteLock: ["WriteLock"], TransactionId: ["Transaction"], Time: ["Time"] }[it.name] ?? [it.name];
         const slack = it.name === "ContentType" ? l - 0 + bit - 0.2 * u : r - l;
-        if (it.name === "ContentType") { const t = fitting(["type"], labelW + bit, 0.95 * u) || "T"; out.push(`<text class="field" x="${f1(r)}" y="${f1(y + u)}" text-anchor="end">${t}</text>`); }
-        else if (it.name === "NoMoreReadLocks") out.push(`<text class="field" x="${f1(l)}" y="${f1(y + u)}">${fitting(["NoMore", "NM"], bit + 2.4 * u, 0.95 * u)}</text>`);
-        else { const shift = it.name === "ReadLockCount" ? Math.max(0, widthOf("NoMore", 0.95 * u) - bit - 0.1 * u) : 0; out.push(`<text class="field" x="${f1(l + shift)}" y="${f1(y + u)}">${fitting(texts, slack - shift, 0.95 * u)}</text>`); }
+        if (it.name === "ContentType") { const t = fitting(["type"], labelW + bit, 0.95 * u) || "T"; out.push(`<text class="field" x="${f1(r)}" y="${f1(y + line)}" ${type} text-anchor="end">${t}</text>`); }
+        else if (it.name === "NoMoreReadLocks") out.push(`<text class="field" x="${f1(l)}" y="${f1(y + line)}" ${type}>${fitting(["NoMore", "NM"], bit + 2.4 * u, 0.95 * u)}</text>`);
+        else { const shift = it.name === "ReadLockCount" ? Math.max(0, widthOf("NoMore", 0.95 * u) - bit - 0.1 * u) : 0; out.push(`<text class="field" x="${f1(l + shift)}" y="${f1(y + line)}" ${type}>${fitting(texts, slack - shift, 0.95 * u)}</text>`); }
       }
       y += head;
     }
@@ -143,7 +147,7 @@ function drawWord(it, W, u, density, isSingle, hasHex) {
   const html = `<figure class="wordbox">${isSingle ? "" : `<figcaption><span>${caption}</span> <code>${hex(word, old?.[which])}</code></figcaption>`}
     <svg width="${W}" height="${f1(y)}" viewBox="0 0 ${W} ${f1(y)}" role="img" aria-label="${caption.replace(/<[^>]*>/g, "")}: ${word}">${out.join("")}</svg>${hasHex && isSingle ? `<p class="hex">${told}</p>` : ""}</figure>`;
   const lines = Math.ceil((widthOf(caption.replace(/<[^>]*>/g, ""), 1.02 * u, 600) + 10.5 * u) / W);
-  return { html, height: y + (isSingle ? (hasHex ? 1.35 * u : 0) : lines * 1.35 * u + 0.4 * u) };
+  return { html, height: y + (isSingle ? (hasHex ? (old && W < 23 * u ? 2.65 : 1.35) * u : 0) : lines * 1.35 * u + 0.4 * u) };
 }
 
 const bitBox = (x, y, w, h, bit, isMoved, u) => `<rect class="bit b${bit}${isMoved ? " moved" : ""}" x="${f1(x + 0.5)}" y="${f1(y + 1)}" width="${f1(w - 2)}" height="${f1(h - 3)}" rx="2"/><text class="bittext b${bit}${isMoved ? " moved" : ""}" x="${f1(x + w / 2 - 0.5)}" y="${f1(y + h * 0.5 + 0.34 * Math.min(u, w * 1.4))}" text-anchor="middle"${w < 0.72 * u ? ` style="font-size:${f1(w * 1.4)}px"` : ""}>${bit}</text>`;
