@@ -420,6 +420,7 @@ function showSay() {
     const about = (isSpoilerHidden() ? data.question : data.about) || "The rows are loaded, and nobody has begun.";
     $("said").innerHTML = `<p class="event"><span class="num">start</span> Before the first step</p><p class="plain${about.length > 150 ? " longer" : about.length > 105 ? " long" : ""}">${esc(about)}</p>`;
     $("because").innerHTML = opening();
+    fitSay();
     return;
   }
   const reply = `<span class="reply">${esc(step.reply)}</span>`;
@@ -1767,11 +1768,11 @@ function showWord() {
   const [W, H] = sizes.word;
   const room = isSmall() ? Infinity : H;
   const ways = all.length > 1 ? [[2, 1, false]] : [];
-  ways.push([1, 0, true], [1, 1, true], [1, 1, false], [1, 2, false], [1, 3, false]);
+  ways.push([1, 0, true], [1, 1, true], [1, 1, false], [1, 2, false], [1, 3, false], [1, 4, false]);
   let made = null;
   for (const [count, density, hasHex] of ways) {
     const isSingle = count === 1 && !pinned;
-    const parts = all.slice(0, count).map((it) => (it.bucket === undefined ? drawWord(it, W, u, density, isSingle, hasHex) : drawBucket(it, W, u, density, isSingle)));
+    const parts = all.slice(0, count).map((it) => (it.bucket === undefined ? drawWord(it, W, u, density, isSingle, hasHex) : drawBucket(it, W, u, Math.min(density, 3), isSingle)));
     made = { list: all.slice(0, count), html: parts.map((it) => it.html).join(""), isSingle };
     if (parts.reduce((sum, it) => sum + it.height, 0) <= room + 0.1 * u) break;
   }
@@ -1814,9 +1815,9 @@ function drawWord(it, W, u, density, isSingle, hasHex) {
   const foldW = 5.4 * u;
   const bit = Math.min((W - labelW - gaps - foldW - 0.4 * u) / (10 + tail), 1.75 * u);
   const x = (at) => labelW + (at <= 10 ? at * bit : 10 * bit + foldW + (at - fold) * bit) + (at >= 1 ? 0.35 * u : 0) + (at >= 2 ? 0.35 * u : 0) + (at >= 10 ? 0.7 * u : 0);
-  const rowH = [2.3, 1.68, 1.2, 1.1][density] * u;
-  const head = [1.4, 1.25, 1.02, 0.88][density] * u;
-  // where there is little room the names of the fields are small, and stand only over the word as it is
+  const rowH = [2.3, 1.68, 1.2, 1.1, 0.98][density] * u;
+  const head = [1.4, 1.25, 1.02, 0.88, 0][density] * u;
+  // where there is little room the names of the fields are small, and stand only over the word as it is; with the least room there are none
   const isTight = density >= 2;
   const type = isTight ? `style="font-size:${f1(0.8 * u)}px"` : "";
   const line = isTight ? head - 0.2 * u : u;
@@ -1827,7 +1828,7 @@ function drawWord(it, W, u, density, isSingle, hasHex) {
     const fields = fieldsOf(row.word, which);
     const names = fields.map((it) => it.name).join();
     const before = index > 0 ? fieldsOf(rows[index - 1].word, which).map((it) => it.name).join() : null;
-    if (names !== before && !(isTight && index === 0 && rows.length > 1 && fieldsOf(rows[1].word, which).map((it) => it.name).join() !== names)) {
+    if (head && names !== before && !(isTight && index === 0 && rows.length > 1 && fieldsOf(rows[1].word, which).map((it) => it.name).join() !== names)) {
       for (const it of fields) {
         const [l, r] = [x(it.from), it.to >= 64 ? x(63) + bit : x(it.to - 1) + bit];
         const texts = { ContentType: ["ContentType", "type", "T"], NoMoreReadLocks: ["NoMoreReadLocks", "NoMore", "NM"], ReadLockCount: ["ReadLockCount", "readers"], WriteLock: ["WriteLock"], TransactionId: ["Transaction"], Time: ["Time"] }[it.name] ?? [it.name];
@@ -1837,7 +1838,7 @@ function drawWord(it, W, u, density, isSingle, hasHex) {
         else { const shift = it.name === "ReadLockCount" ? Math.max(0, widthOf("NoMore", 0.95 * u) - bit - 0.1 * u) : 0; out.push(`<text class="field" x="${f1(l + shift)}" y="${f1(y + line)}" ${type}>${fitting(texts, slack - shift, 0.95 * u)}</text>`); }
       }
       y += head;
-    }
+    } else if (index === 0) y += 0.25 * u;
     out.push(`<text class="rowname" x="0" y="${f1(y + rowH * 0.66)}">${row.label}</text>`);
     const isTime = bits[0] === "0";
     const isInfinite = isTime && !bits.slice(1).includes("0");

@@ -95,6 +95,7 @@ function showSay() {
     const about = (isSpoilerHidden() ? data.question : data.about) || "The rows are loaded, and nobody has begun.";
     $("said").innerHTML = `<p class="event"><span class="num">start</span> Before the first step</p><p class="plain${about.length > 150 ? " longer" : about.length > 105 ? " long" : ""}">${esc(about)}</p>`;
     $("because").innerHTML = opening();
+    fitSay();
     return;
   }
   const reply = `<span class="reply">${esc(step.reply)}</span>`;
