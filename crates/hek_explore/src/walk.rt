@@ -7,6 +7,7 @@ ghost use Rattle.hek_permute.specs.Moves.{AreMoves, counts_of};
 ghost use Rattle.hek_permute.specs.Places.{AllRest, HasMoved};
 
 use crate::class::{Class, Layer};
+use crate::groups::Grouped;
 use crate::key::Key;
 use hek_permute::{
     Form, Moves, OrderFault, Outcome, Pace, Place, Play, Tally, first_places, make_move,
@@ -31,7 +32,20 @@ pub fn explore<P: Pace>(
 ) -> Result<Option<Tally>, OrderFault>
     ensures { IfOk result (λ found. IfSome found (IsCensus schedule.now form)) }
 {
-    let moves = moves_of(alloc, schedule)?;
+    let grouped = Grouped::of(alloc, schedule)?;
+    explore_grouped(alloc, &grouped, form, limit, pace)
+}
+
+fn explore_grouped<P: Pace>(
+    alloc: Global,
+    schedule: &Grouped<'_>,
+    form: Form,
+    limit: u64,
+    pace: &mut P,
+) -> Result<Option<Tally>, OrderFault>
+    ensures { IfOk result (λ found. IfSome found (IsCensus schedule.now form)) }
+{
+    let moves = moves_of(alloc, schedule.schedule())?;
     let left = counts_of(alloc, moves.as_slice(), form)?;
     let Some(most) = sum_of(left.as_slice()) else {
         return Err(OrderFault::TooMany);
@@ -79,7 +93,7 @@ ghost use Rattle.std.specs.Prelude.{sum};
 /// The class of the beginning without moves.
 fn first_layer(
     alloc: Global,
-    schedule: &Schedule,
+    schedule: &Grouped<'_>,
     moves: &[Moves],
     form: Form,
     left: Vec<u64>,
@@ -94,7 +108,7 @@ fn first_layer(
 
 fn start(
     alloc: Global,
-    schedule: &Schedule,
+    schedule: &Grouped<'_>,
     moves: &[Moves],
     form: Form,
     left: Vec<u64>,
@@ -113,13 +127,13 @@ fn start(
 }
 
 /// The key of the play without moves.
-fn first_key(alloc: Global, schedule: &Schedule, moves: &[Moves]) -> Result<Key, OrderFault>
+fn first_key(alloc: Global, schedule: &Grouped<'_>, moves: &[Moves]) -> Result<Key, OrderFault>
     requires { AreMoves schedule.now moves.now }
     ensures { IfOk result (λ key. (form : Form) → HasKey schedule.now form moves.now [] key 0) }
 {
-    let book = Book::load(alloc, schedule)?;
+    let book = Book::load(alloc, schedule.schedule())?;
     let places = first_places(alloc, moves)?;
-    let key = Key::of(alloc, &book, places.as_slice())?;
+    let key = Key::of(alloc, schedule.groups(), &book, places.as_slice())?;
     let (_machine, _history) = book.into_parts();
     Ok(key)
 }
@@ -127,7 +141,7 @@ fn first_key(alloc: Global, schedule: &Schedule, moves: &[Moves]) -> Result<Key,
 /// The classes with one more move; None if there are more than there is room for.
 fn next_layer<P: Pace>(
     alloc: Global,
-    schedule: &Schedule,
+    schedule: &Grouped<'_>,
     moves: &[Moves],
     form: Form,
     layer: &Layer,
@@ -152,7 +166,7 @@ fn next_layer<P: Pace>(
 /// Adds what the beginnings of a class become by one more move of each transaction that has moves left.
 fn extend<P: Pace>(
     alloc: Global,
-    schedule: &Schedule,
+    schedule: &Grouped<'_>,
     moves: &[Moves],
     form: Form,
     class: &Class,
@@ -172,7 +186,7 @@ fn extend<P: Pace>(
 /// Adds what the beginnings of a class become by one more move of the transaction at a place, if it has moves left.
 fn try_one<P: Pace>(
     alloc: Global,
-    schedule: &Schedule,
+    schedule: &Grouped<'_>,
     moves: &[Moves],
     form: Form,
     class: &Class,
@@ -196,7 +210,7 @@ fn try_one<P: Pace>(
 /// The class of the beginnings of this one with one more move of the transaction at a place.
 fn grow(
     alloc: Global,
-    schedule: &Schedule,
+    schedule: &Grouped<'_>,
     moves: &[Moves],
     form: Form,
     class: &Class,
@@ -239,7 +253,7 @@ fn one_fewer(alloc: Global, left: &[u64], place: usize) -> Result<Vec<u64>, Orde
 /// The key to which a move leads from the key of a class, and how many events the play has then.
 fn lead(
     alloc: Global,
-    schedule: &Schedule,
+    schedule: &Grouped<'_>,
     moves: &[Moves],
     form: Form,
     class: &Class,
@@ -250,7 +264,7 @@ fn lead(
 {
     let (mut book, mut places) = replay(alloc, schedule, moves, form, class)?;
     move_in(&mut book, moves, form, &mut places, mover)?;
-    let key = Key::of(alloc, &book, places.as_slice())?;
+    let key = Key::of(alloc, schedule.groups(), &book, places.as_slice())?;
     let (_machine, history) = book.into_parts();
     Ok((key, history.len()))
 }
@@ -271,7 +285,7 @@ ghost use Rattle.hek_rules.specs.Checks.{clock_end};
 /// The play of a class's first beginning: the book, and where each transaction is. It has the key of the class.
 fn replay<'a>(
     alloc: Global,
-    schedule: &'a Schedule,
+    schedule: &Grouped<'a>,
     moves: &[Moves],
     form: Form,
     class: &Class,
@@ -280,7 +294,7 @@ fn replay<'a>(
     ensures { IfOk result (λ r. IsReplayed schedule.now form moves.now class.now r.0.plan r.1.items r.0.history) }
 {
     let (book, places) = play_from(alloc, schedule, moves, form, class.first())?;
-    let key = Key::of(alloc, &book, places.as_slice())?;
+    let key = Key::of(alloc, schedule.groups(), &book, places.as_slice())?;
     if !key.same(class.key()) {
         return Err(OrderFault::Mismatch);
     }
@@ -290,7 +304,7 @@ fn replay<'a>(
 /// The play of these moves.
 fn play_from<'a>(
     alloc: Global,
-    schedule: &'a Schedule,
+    schedule: &Grouped<'a>,
     moves: &[Moves],
     form: Form,
     order: &[TxnId],
@@ -298,7 +312,7 @@ fn play_from<'a>(
     ensures plan { IfOk result (λ r. r.0.plan ≡ schedule.now) }
     ensures come { IfOk result (λ r. HasCome form moves.now (reverse order.now) r.1.items r.0.history) }
 {
-    let mut book = Book::load(alloc, schedule)?;
+    let mut book = Book::load(alloc, schedule.schedule())?;
     let mut places = first_places(alloc, moves)?;
     for &mover in order {
         move_in(&mut book, moves, form, &mut places, mover)?;
@@ -325,7 +339,7 @@ fn move_in(
 /// The outcomes of the classes of whole orders, and how many orders have each.
 fn tally_of(
     alloc: Global,
-    schedule: &Schedule,
+    schedule: &Grouped<'_>,
     moves: &[Moves],
     form: Form,
     layer: &Layer,
@@ -347,7 +361,7 @@ fn tally_of(
 /// The outcome of a class's orders.
 fn outcome_in(
     alloc: Global,
-    schedule: &Schedule,
+    schedule: &Grouped<'_>,
     moves: &[Moves],
     form: Form,
     class: &Class,
@@ -357,5 +371,5 @@ fn outcome_in(
 {
     let (book, _places) = replay(alloc, schedule, moves, form, class)?;
     let (machine, history) = book.into_parts();
-    Ok(outcome_of(alloc, schedule, Play { machine, history })?)
+    Ok(outcome_of(alloc, schedule.schedule(), Play { machine, history })?)
 }
