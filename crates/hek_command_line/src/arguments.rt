@@ -28,6 +28,8 @@ enum Form {
     MaybeWord,
     /// Words at their place, at least one.
     Words,
+    /// Words at their place, or none.
+    MaybeWords,
     /// One of these words at its place.
     OneOf(&'static [&'static str]),
     /// `--name`.
@@ -481,6 +483,21 @@ The verdict takes all transactions as serializable: `serial` by end time, `seria
             help: "prints the shortest beginning of an order in which this comes: `a aborted deadlock`, `aborted`, `waiting`, `not serial`, `another order`",
             form: Form::Value("TEXT"),
         },
+        ArgumentText {
+            name: "stats",
+            help: "says on standard error how many states the orders lead to",
+            form: Form::Flag,
+        },
+        ArgumentText {
+            name: "add",
+            help: "prints the sum of the tables FILE and TABLE.., which --part printed, as text or as JSON",
+            form: Form::Flag,
+        },
+        ArgumentText {
+            name: "TABLE",
+            help: "with --add: more tables",
+            form: Form::MaybeWords,
+        },
         JSON,
     ],
 };
@@ -761,6 +778,11 @@ fn rivals_of(command: &str, name: &str) -> &'static [&'static str] {
         ("page", "orders") => &["from", "to", "auto"],
         ("page", "levels") => &["from", "to", "auto", "level", "orders"],
         ("permute", "jobs") => &["each", "levels", "order", "find"],
+        ("permute", "stats") => &["each", "order", "find", "part"],
+        ("permute", "add") => &[
+            "text", "image", "auto", "level", "split", "grain", "limit", "part", "jobs", "each",
+            "order", "levels", "find", "stats", "json",
+        ],
         ("word", "clock" | "txns" | "readers") => &["changes"],
         (_, "image") => &["text"],
         _ => &[],
@@ -771,6 +793,7 @@ fn rivals_of(command: &str, name: &str) -> &'static [&'static str] {
 fn needs_of(command: &str, name: &str) -> &'static [&'static str] {
     match (command, name) {
         ("permute", "jobs") => &["part"],
+        ("permute", "TABLE") => &["add"],
         ("page", "split" | "grain" | "limit") => &["orders"],
         _ => &[],
     }
@@ -782,6 +805,7 @@ fn argument_of<'a>(alloc: Global, text: &ArgumentText) -> Arg<'a> {
         Form::Word => argument.required(true),
         Form::MaybeWord => argument,
         Form::Words => argument.required(true).num_args(1..),
+        Form::MaybeWords => argument.num_args(1..),
         Form::OneOf(words) => argument.required(true).value_parser(words),
         Form::Flag => argument.long(text.name).action(ArgAction::SetTrue),
         Form::Number => argument.long(text.name).value_name("N"),

@@ -6,6 +6,7 @@ pub mod Ordered
 pub mod Outcomes
 pub mod Ranks
 pub mod Taken
+pub mod Scanned
 pub mod Keys
 pub mod Sorted
 pub mod Shapes

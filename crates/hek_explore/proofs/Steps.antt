@@ -12,6 +12,7 @@ use Rattle.hek_rules.specs.Plan.{Plan, IsPlan, IsDeclared}
 use Rattle.hek_rules.specs.Run.{next, run}
 use Rattle.hek_rules.specs.World.{World}
 use Rattle.hek_laws.specs.Runs.{IsPlaced}
+use Rattle.hek_similar.specs.Places.{ScansGroup}
 use Rattle.hek_machine.specs.declared.engine.Engine.{Engine}
 use Rattle.hek_machine.specs.Observed.{opening_of}
 use Rattle.hek_machine.proofs.PlacedSteps.{steps_placed}
@@ -28,92 +29,110 @@ use Rattle.hek_permute.specs.Outcomes.{IsOutcomeOf}
 use Rattle.hek_permute.specs.Places.{AllRest, AreAt, HasMoved, first_place, standing_of}
 use Rattle.hek_permute.specs.Plays.{IsPlay, Standing, Walks, at_start}
 use Rattle.hek_permute.proofs.Plays.{IsSoFar, on_and_on, at_first}
+use Rattle.hek_explore.specs.Groups.{group_in}
 use Rattle.hek_explore.specs.Keys.{shape_of}
 use Rattle.hek_explore.specs.Twins.{HasPlayed, AreTwins}
 use Rattle.hek_explore.specs.Steps.{HasCome, HasKey, LeadsBy, EndsWith}
 use Rattle.hek_explore.specs.Laws.{HasTwin}
 use Rattle.hek_explore.proofs.Extended.{extends-alike}
+use Rattle.hek_explore.proofs.Scanned.{steps-scan}
 use Rattle.hek_explore.proofs.Grown.{events-append, replies-append, told, told-on}
 use Rattle.hek_explore.proofs.Keys.{keys-twins}
 use Rattle.hek_explore.proofs.Outcomes.{one-outcome}
 use Rattle.hek_explore.proofs.Shapes.{twins-shape}
 
--- ---- the events of a play scan buckets that exist
+-- ---- the events of a play scan buckets that exist, each of whose keys are of one group
+abbrev IsFit : (ℕ → ℕ) → ℕ → Event → Type 0
+IsFit g b e = IsPlaced b e × ScansGroup g b e
+
 all-got : {X : Type 0} (P : X → Type 0) (xs : List X) (i : ℕ) (x : X) → All P xs → slice_get xs i ≡ Some x → P x
 all-got P [] i x all e = absurd (cc)
 all-got P (y ∷ ys) zero x all e = let is : y ≡ x = cc in subst P is (All-head P y ys all)
 all-got P (y ∷ ys) (suc i) x all e = all-got P ys i x (All-tail P y ys all) e
 
-finish-placed : (b t : ℕ) (o : Option Event) → ((e : Event) → o ≡ Some e → IsPlaced b e) → IsPlaced b (or_finish t o)
-finish-placed b t None h = tt
-finish-placed b t (Some e) h = h e refl
+finish-fit : (g : ℕ → ℕ) (b t : ℕ) (o : Option Event) → ((e : Event) → o ≡ Some e → IsFit g b e) → IsFit g b (or_finish t o)
+finish-fit g b t None h = (tt, tt)
+finish-fit g b t (Some e) h = h e refl
 
-event-placed : (b t : ℕ) (work : List Event) (s : Stage) → All (IsPlaced b) work → IsPlaced b (event_at t work s)
-event-placed b t work Start all = tt
-event-placed b t work (Working n) all = finish-placed b t (slice_get work n) (λ e is. all-got (IsPlaced b) work n e all is)
-event-placed b t work Preparing all = tt
-event-placed b t work Looking all = tt
-event-placed b t work GivingUp all = tt
-event-placed b t work (Releasing cut) all = tt
-event-placed b t work Committing all = tt
-event-placed b t work (Stamping cut) all = tt
-event-placed b t work Ending all = tt
-event-placed b t work Ended all = tt
+event-fit : (g : ℕ → ℕ) (b t : ℕ) (work : List Event) (s : Stage) → All (IsFit g b) work → IsFit g b (event_at t work s)
+event-fit g b t work Start all = (tt, tt)
+event-fit g b t work (Working n) all = finish-fit g b t (slice_get work n) (λ e is. all-got (IsFit g b) work n e all is)
+event-fit g b t work Preparing all = (tt, tt)
+event-fit g b t work Looking all = (tt, tt)
+event-fit g b t work GivingUp all = (tt, tt)
+event-fit g b t work (Releasing cut) all = (tt, tt)
+event-fit g b t work Committing all = (tt, tt)
+event-fit g b t work (Stamping cut) all = (tt, tt)
+event-fit g b t work Ending all = (tt, tt)
+event-fit g b t work Ended all = (tt, tt)
 
 abbrev events_of : List (Event × Reply) → List Event
 events_of xs = map (λ (x : Event × Reply). x.0) xs
 
-walk-placed : (b : ℕ) (form : Form) (t : ℕ) (w : Work) (n : ℕ) (s z : Standing) (xs : List (Event × Reply)) → All (IsPlaced b) w.events → Walks form t w n s xs z → All (IsPlaced b) (events_of xs)
-walk-placed b form t w n s z [] all h = All-nil (IsPlaced b)
-walk-placed b form t w n s z (x ∷ xs) all h =
-    All-cons (IsPlaced b) x.0 (events_of xs)
+walk-fit : (g : ℕ → ℕ) (b : ℕ) (form : Form) (t : ℕ) (w : Work) (n : ℕ) (s z : Standing) (xs : List (Event × Reply)) → All (IsFit g b) w.events → Walks form t w n s xs z → All (IsFit g b) (events_of xs)
+walk-fit g b form t w n s z [] all h = All-nil (IsFit g b)
+walk-fit g b form t w n s z (x ∷ xs) all h =
+    All-cons (IsFit g b) x.0 (events_of xs)
     (elim h.1 [
-      | inl d ↦ subst (IsPlaced b) (sym d.0) tt
-      | inr m ↦ subst (IsPlaced b) (sym m.3) (event-placed b t w.events m.1 all)
+      | inl d ↦ subst (IsFit g b) (sym d.0) (tt, tt)
+      | inr m ↦ subst (IsFit g b) (sym m.3) (event-fit g b t w.events m.1 all)
     ])
-    (walk-placed b form t w n h.0 z xs all h.2)
+    (walk-fit g b form t w n h.0 z xs all h.2)
 
 part-head : (x : Entry) (xs : List Entry) → part_of x.worker (x ∷ xs) ≡ (x.event, x.reply) ∷ part_of x.worker xs
 part-head x xs = let h : (x.worker == x.worker) ≡ true = grind (arith, nat_tests) in rw h refl
 
-part-tail : (b t : ℕ) (x : Entry) (xs : List Entry) → All (IsPlaced b) (events_of (part_of t (x ∷ xs))) → All (IsPlaced b) (events_of (part_of t xs))
-part-tail b t x xs all = elim (cases_Bool (x.worker == t)) [
-  | inl h ↦ All-tail (IsPlaced b) x.event (events_of (part_of t xs)) (rw h at all)
+part-tail : (g : ℕ → ℕ) (b t : ℕ) (x : Entry) (xs : List Entry) → All (IsFit g b) (events_of (part_of t (x ∷ xs))) → All (IsFit g b) (events_of (part_of t xs))
+part-tail g b t x xs all = elim (cases_Bool (x.worker == t)) [
+  | inl h ↦ All-tail (IsFit g b) x.event (events_of (part_of t xs)) (rw h at all)
   | inr h ↦ rw h at all
 ]
 
-history-placed : (b n : ℕ) (xs : List Entry) → IsHistory n xs → ((t : ℕ) → IsDeclared n t → All (IsPlaced b) (events_of (part_of t xs))) → All (IsPlaced b) (history_events xs)
-history-placed b n [] formed parts = All-nil (IsPlaced b)
-history-placed b n (x ∷ xs) formed parts =
+history-fit : (g : ℕ → ℕ) (b n : ℕ) (xs : List Entry) → IsHistory n xs → ((t : ℕ) → IsDeclared n t → All (IsFit g b) (events_of (part_of t xs))) → All (IsFit g b) (history_events xs)
+history-fit g b n [] formed parts = All-nil (IsFit g b)
+history-fit g b n (x ∷ xs) formed parts =
     let head : IsEntry n x = All-head (IsEntry n) x xs formed in
-    let first : All (IsPlaced b) (x.event ∷ events_of (part_of x.worker xs)) = subst (λ l. All (IsPlaced b) (events_of l)) (part-head x xs) (parts x.worker head.0) in
-    All-cons (IsPlaced b) x.event (history_events xs) (All-head (IsPlaced b) x.event (events_of (part_of x.worker xs)) first)
-    (history-placed b n xs (All-tail (IsEntry n) x xs formed) (λ t d. part-tail b t x xs (parts t d)))
+    let first : All (IsFit g b) (x.event ∷ events_of (part_of x.worker xs)) = subst (λ l. All (IsFit g b) (events_of l)) (part-head x xs) (parts x.worker head.0) in
+    All-cons (IsFit g b) x.event (history_events xs) (All-head (IsFit g b) x.event (events_of (part_of x.worker xs)) first)
+    (history-fit g b n xs (All-tail (IsEntry n) x xs formed) (λ t d. part-tail g b t x xs (parts t d)))
 
 some-at : {X : Type 0} (xs : List X) (i : ℕ) → i < length xs → (x : X) × (slice_get xs i ≡ Some x)
 some-at [] i h = absurd (omega arith)
 some-at (x ∷ xs) zero h = (x, refl)
 some-at (x ∷ xs) (suc i) h = some-at xs i (omega arith)
 
-work-placed : (p : Plan) (works : List Work) (i : ℕ) (w : Work) → IsPlan p → AreMoves p works → slice_get works i ≡ Some w → All (IsPlaced p.buckets) w.events
-work-placed p works i w plan are g =
-    subst (λ (v : Work). All (IsPlaced p.buckets) v.events) (sym (are.each i w g))
-    (All-filter (is_work (i + 1)) (IsPlaced p.buckets) p.steps (steps_placed p p.steps plan refl))
+-- what holds of all, and another thing that does
+both-fit : {X : Type 0} (P Q : X → Type 0) (xs : List X) → All P xs → All Q xs → All (λ x. P x × Q x) xs
+both-fit P Q [] a b = All-nil (λ x. P x × Q x)
+both-fit P Q (x ∷ xs) a b = All-cons (λ x. P x × Q x) x xs (All-head P x xs a, All-head Q x xs b) (both-fit P Q xs (All-tail P x xs a) (All-tail Q x xs b))
 
-play-placed : (p : Plan) (form : Form) (works : List Work) (places : List Place) (h : List Entry) → IsPlan p → AreMoves p works → IsHistory (length p.txns) h → AreAt form works places h
-    → All (IsPlaced p.buckets) (history_events h)
-play-placed p form works places h plan are formed at =
-    history-placed p.buckets (length p.txns) h formed (λ t d. at-txn t d)
+firsts-fit : {X : Type 0} (P Q : X → Type 0) (xs : List X) → All (λ x. P x × Q x) xs → All P xs
+firsts-fit P Q [] a = All-nil P
+firsts-fit P Q (x ∷ xs) a = All-cons P x xs (All-head (λ x. P x × Q x) x xs a).0 (firsts-fit P Q xs (All-tail (λ x. P x × Q x) x xs a))
+
+seconds-fit : {X : Type 0} (P Q : X → Type 0) (xs : List X) → All (λ x. P x × Q x) xs → All Q xs
+seconds-fit P Q [] a = All-nil Q
+seconds-fit P Q (x ∷ xs) a = All-cons Q x xs (All-head (λ x. P x × Q x) x xs a).1 (seconds-fit P Q xs (All-tail (λ x. P x × Q x) x xs a))
+
+work-fit : (p : Plan) (works : List Work) (i : ℕ) (w : Work) → IsPlan p → AreMoves p works → slice_get works i ≡ Some w → All (IsFit (group_in p) p.buckets) w.events
+work-fit p works i w plan are g =
+    subst (λ (v : Work). All (IsFit (group_in p) p.buckets) v.events) (sym (are.each i w g))
+    (All-filter (is_work (i + 1)) (IsFit (group_in p) p.buckets) p.steps (both-fit (IsPlaced p.buckets) (ScansGroup (group_in p) p.buckets) p.steps (steps_placed p p.steps plan refl) (steps-scan p)))
+
+play-fit : (p : Plan) (form : Form) (works : List Work) (places : List Place) (h : List Entry) → IsPlan p → AreMoves p works → IsHistory (length p.txns) h → AreAt form works places h
+    → All (IsFit (group_in p) p.buckets) (history_events h)
+play-fit p form works places h plan are formed at =
+    history-fit (group_in p) p.buckets (length p.txns) h formed (λ t d. at-txn t d)
   where
-    at-place : (i : ℕ) → i < length p.txns → All (IsPlaced p.buckets) (events_of (part_of (i + 1) h))
+    at-place : (i : ℕ) → i < length p.txns → All (IsFit (group_in p) p.buckets) (events_of (part_of (i + 1) h))
     at-place i low =
         let w = some-at works i (omega (arith, low, are.count)) in
         let q = some-at places i (omega (arith, low, are.count, at.long)) in
-        walk-placed p.buckets form (i + 1) w.0 q.0.moves at_start (standing_of q.0) (part_of (i + 1) h) (work-placed p works i w.0 plan are w.1) (at.walks i w.0 q.0 w.1 q.1)
+        walk-fit (group_in p) p.buckets form (i + 1) w.0 q.0.moves at_start (standing_of q.0) (part_of (i + 1) h) (work-fit p works i w.0 plan are w.1) (at.walks i w.0 q.0 w.1 q.1)
 
-    at-txn : (t : ℕ) → IsDeclared (length p.txns) t → All (IsPlaced p.buckets) (events_of (part_of t h))
+    at-txn : (t : ℕ) → IsDeclared (length p.txns) t → All (IsFit (group_in p) p.buckets) (events_of (part_of t h))
     at-txn zero d = absurd (omega (arith, d.0))
-    at-txn (suc i) d = let n : i + 1 ≡ suc i = omega arith in subst (λ t. All (IsPlaced p.buckets) (events_of (part_of t h))) n (at-place i (omega (arith, d.1)))
+    at-txn (suc i) d = let n : i + 1 ≡ suc i = omega arith in subst (λ t. All (IsFit (group_in p) p.buckets) (events_of (part_of t h))) n (at-place i (omega (arith, d.1)))
 
 -- ---- the beginning of a play
 All-left : {X : Type 0} (P : X → Type 0) (xs ys : List X) → All P (xs ++ ys) → All P xs
@@ -146,7 +165,8 @@ played-by : (p : Plan) (form : Form) (works : List Work) (past : List ℕ) (plac
     → replies_in h ≡ told (opening_of p 1) (history_events h) → HasCome form works past places h → HasPlayed p form works past places h
 played-by p form works past places h plan are formed replies come = record {
   formed = formed;
-  placed = play-placed p form works places h plan are formed come.rest.at;
+  placed = firsts-fit (IsPlaced p.buckets) (ScansGroup (group_in p) p.buckets) (history_events h) (play-fit p form works places h plan are formed come.rest.at);
+  scans = seconds-fit (IsPlaced p.buckets) (ScansGroup (group_in p) p.buckets) (history_events h) (play-fit p form works places h plan are formed come.rest.at);
   replies = replies;
   play = come.play;
   rest = come.rest;

@@ -9,8 +9,9 @@ ghost use Rattle.hek_permute.specs.Places.{AllRest, HasMoved};
 use crate::class::{Class, Layer};
 use crate::groups::Grouped;
 use crate::key::Key;
+use crate::survey::Survey;
 use hek_permute::{
-    Form, Moves, OrderFault, Outcome, Pace, Place, Play, Tally, first_places, make_move,
+    Form, Moves, OrderFault, Outcome, Place, Play, Tally, first_places, make_move,
     move_count, moves_of, outcome_of,
 };
 use hek_rules::{Schedule, TxnId};
@@ -22,26 +23,27 @@ const MOST_EVENTS: u64 = 1 << 60;
 
 /// The outcomes of all orders of a schedule's moves, and how many orders have each. Beginnings of orders whose plays go
 /// on alike are a class, and only the first beginning of each class is played; None if there are more classes than the
-/// limit. Rows come in the order of their first orders. `pace` counts a play for each move that is tried.
-pub fn explore<P: Pace>(
+/// limit. Rows come in the order of their first orders. `survey` is told how
+/// far it has come.
+pub fn explore<S: Survey>(
     alloc: Global,
     schedule: &Schedule,
     form: Form,
     limit: u64,
-    pace: &mut P,
+    survey: &mut S,
 ) -> Result<Option<Tally>, OrderFault>
     ensures { IfOk result (λ found. IfSome found (IsCensus schedule.now form)) }
 {
     let grouped = Grouped::of(alloc, schedule)?;
-    explore_grouped(alloc, &grouped, form, limit, pace)
+    explore_grouped(alloc, &grouped, form, limit, survey)
 }
 
-fn explore_grouped<P: Pace>(
+fn explore_grouped<S: Survey>(
     alloc: Global,
     schedule: &Grouped<'_>,
     form: Form,
     limit: u64,
-    pace: &mut P,
+    survey: &mut S,
 ) -> Result<Option<Tally>, OrderFault>
     ensures { IfOk result (λ found. IfSome found (IsCensus schedule.now form)) }
 {
@@ -52,12 +54,14 @@ fn explore_grouped<P: Pace>(
     };
     let mut layer = first_layer(alloc, schedule, moves.as_slice(), form, left)?;
     let mut room = limit;
+    survey.begin(most);
     for _ in 0..most {
-        let Some(next) = next_layer(alloc, schedule, moves.as_slice(), form, &layer, room, pace)?
+        let Some(next) = next_layer(alloc, schedule, moves.as_slice(), form, &layer, room, survey)?
         else {
             return Ok(None);
         };
         layer = next;
+        survey.end_layer(layer.classes().len());
         let Some(rest) = room.checked_sub(layer.classes().len() as u64) else {
             return Ok(None);
         };
@@ -139,14 +143,14 @@ fn first_key(alloc: Global, schedule: &Grouped<'_>, moves: &[Moves]) -> Result<K
 }
 
 /// The classes with one more move; None if there are more than there is room for.
-fn next_layer<P: Pace>(
+fn next_layer<S: Survey>(
     alloc: Global,
     schedule: &Grouped<'_>,
     moves: &[Moves],
     form: Form,
     layer: &Layer,
     room: u64,
-    pace: &mut P,
+    survey: &mut S,
 ) -> Result<Option<Layer>, OrderFault>
     requires { AreMoves schedule.now moves.now }
     ensures { IfOk result (λ found. IfSome found (IsNextLayer schedule.now form moves.now layer.now)) }
@@ -154,7 +158,7 @@ fn next_layer<P: Pace>(
     let mut next = Layer::new(alloc)?;
     let mut rest = layer.classes();
     while let Some((class, later)) = rest.split_first() {
-        extend(alloc, schedule, moves, form, class, &mut next, pace)?;
+        extend(alloc, schedule, moves, form, class, &mut next, survey)?;
         if next.classes().len() as u64 > room {
             return Ok(None);
         }
@@ -164,27 +168,27 @@ fn next_layer<P: Pace>(
 }
 
 /// Adds what the beginnings of a class become by one more move of each transaction that has moves left.
-fn extend<P: Pace>(
+fn extend<S: Survey>(
     alloc: Global,
     schedule: &Grouped<'_>,
     moves: &[Moves],
     form: Form,
     class: &Class,
     next: &mut Layer,
-    pace: &mut P,
+    survey: &mut S,
 ) -> Result<(), OrderFault>
     requires { AreMoves schedule.now moves.now }
     ensures { OnOk result (IsExtended schedule.now form moves.now class.now next.old next.new) }
 {
     let left = class.left();
     for place in 0..left.len() {
-        try_one(alloc, schedule, moves, form, class, place, next, pace)?;
+        try_one(alloc, schedule, moves, form, class, place, next, survey)?;
     }
     Ok(())
 }
 
 /// Adds what the beginnings of a class become by one more move of the transaction at a place, if it has moves left.
-fn try_one<P: Pace>(
+fn try_one<S: Survey>(
     alloc: Global,
     schedule: &Grouped<'_>,
     moves: &[Moves],
@@ -192,7 +196,7 @@ fn try_one<P: Pace>(
     class: &Class,
     place: usize,
     next: &mut Layer,
-    pace: &mut P,
+    survey: &mut S,
 ) -> Result<(), OrderFault>
     requires are { AreMoves schedule.now moves.now }
     requires place_in { place < length class.now.left }
@@ -202,7 +206,7 @@ fn try_one<P: Pace>(
     if left[place] == 0 {
         return Ok(());
     }
-    pace.count_play();
+    survey.count_play();
     let grown = grow(alloc, schedule, moves, form, class, place)?;
     next.add(grown)
 }

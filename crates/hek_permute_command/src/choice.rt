@@ -23,6 +23,8 @@ pub struct Choice<'a> {
     pub find: Option<&'a str>,
     /// Whether standard error is a terminal, on which the number of orders that have been played is shown.
     pub progress: bool,
+    /// Whether to say how many states the orders lead to.
+    pub stats: bool,
     pub printing: Printing,
 }
 

@@ -4,7 +4,7 @@ use crate::each::write_each;
 use crate::find::found_in;
 use crate::one::{fault_of, leveled, one_order};
 use crate::printed::{put_found, put_levels, put_none, put_played, put_tally};
-use crate::progress::Progress;
+use crate::progress::{Census, Progress};
 use hek_explore::explore;
 use hek_permute::{Form, OrderFault, Tally, moves_of, order_count, play_all};
 use hek_report::{HekFault, ScheduleFile, schedule_in, send};
@@ -43,22 +43,35 @@ fn permute<'a, W: Write, E: Write>(
     if let (true, Extent::Orders(from, to)) = (choice.each, extent) {
         return write_each(alloc, schedule, choice, (from, to), out);
     }
-    let mut progress = Progress::new(faults, choice.progress, most_plays(choice, extent));
+    let most = most_plays(choice, extent);
+    let mut progress = Progress::new(faults, choice.progress, choice.stats, most);
     let mut lines = Vec::new(alloc);
     let played = put_asked(alloc, schedule, choice, extent, &mut progress, &mut lines);
     progress.clear();
+    let census = progress.census();
     let status = played?;
     if status.is_none() {
-        put_too_many(choice, faults);
+        put_too_many(choice, census, faults);
     }
     send(&mut lines, out)?;
     Ok(status.unwrap_or(1))
 }
 
-/// Says that there are more states than the limit.
-fn put_too_many<E: Write>(choice: Choice<'_>, faults: &mut E) {
+/// Says that there are more states than the limit, and how far the orders were played.
+fn put_too_many<E: Write>(choice: Choice<'_>, census: Census, faults: &mut E) {
     let most = choice.most_states();
     let _ = writeln!(faults, "hek: permute: more than {most} states");
+    let Census {
+        moves,
+        played,
+        states,
+        last,
+        ..
+    } = census;
+    let _ = writeln!(
+        faults,
+        "  after {played} of {moves} moves there are {last} states, {states} up to there; --limit N allows N"
+    );
 }
 
 /// Plays orders, and appends what the choice asks for. Answers the exit status, or None if there are more states than the
@@ -222,7 +235,10 @@ fn tally_of<'a, E: Write>(
         }
         Extent::States(most) => match explore(alloc, schedule, form, most, progress) {
             Ok(None) => Ok(None),
-            Ok(Some(tally)) => Ok(Some(sorted(Ok(tally))?)),
+            Ok(Some(tally)) => {
+                progress.tell();
+                Ok(Some(sorted(Ok(tally))?))
+            }
             Err(fault) => Err(fault_of(fault)),
         },
     }
