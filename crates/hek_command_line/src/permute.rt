@@ -62,10 +62,7 @@ fn add<'a, D: Disk, I: Read + Drop, W: Write, E: Write>(
 }
 
 /// The names of the tables.
-fn table_names<'a>(
-    alloc: Global,
-    found: &ArgMatches<'a>,
-) -> Result<Vec<&'a str>, HekFault<'a>> {
+fn table_names<'a>(alloc: Global, found: &ArgMatches<'a>) -> Result<Vec<&'a str>, HekFault<'a>> {
     let mut names = Vec::new(alloc);
     let first = found.get_str("FILE").ok_or(HekFault::BadArgument)?;
     if names.push(first).is_err() {
@@ -114,7 +111,10 @@ fn put_sum<'a, W: Write, E: Write>(
         }
         Err(TableFault::Line(table, line)) => {
             let name = names.get(table).copied().unwrap_or("");
-            let _ = writeln!(faults, "hek: permute: {name}: line {line} is not of a table like the others");
+            let _ = writeln!(
+                faults,
+                "hek: permute: {name}: line {line} is not of a table like the others"
+            );
             Ok(1)
         }
     }

@@ -11,8 +11,8 @@ use crate::groups::Grouped;
 use crate::key::Key;
 use crate::survey::Survey;
 use hek_permute::{
-    Form, Moves, OrderFault, Outcome, Place, Play, Tally, first_places, make_move,
-    move_count, moves_of, outcome_of,
+    Form, Moves, OrderFault, Outcome, Place, Play, Tally, first_places, make_move, move_count,
+    moves_of, outcome_of,
 };
 use hek_rules::{Schedule, TxnId};
 use hek_worker::Book;
@@ -23,8 +23,7 @@ const MOST_EVENTS: u64 = 1 << 60;
 
 /// The outcomes of all orders of a schedule's moves, and how many orders have each. Beginnings of orders whose plays go
 /// on alike are a class, and only the first beginning of each class is played; None if there are more classes than the
-/// limit. Rows come in the order of their first orders. `survey` is told how
-/// far it has come.
+/// limit. Rows come in the order of their first orders. `survey` is told how far it has come.
 pub fn explore<S: Survey>(
     alloc: Global,
     schedule: &Schedule,
@@ -56,7 +55,15 @@ fn explore_grouped<S: Survey>(
     let mut room = limit;
     survey.begin(most);
     for _ in 0..most {
-        let Some(next) = next_layer(alloc, schedule, moves.as_slice(), form, &layer, room, survey)?
+        let Some(next) = next_layer(
+            alloc,
+            schedule,
+            moves.as_slice(),
+            form,
+            &layer,
+            room,
+            survey,
+        )?
         else {
             return Ok(None);
         };

@@ -70,7 +70,7 @@ fn put_too_many<E: Write>(choice: Choice<'_>, census: Census, faults: &mut E) {
     } = census;
     let _ = writeln!(
         faults,
-        "  after {played} of {moves} moves there are {last} states, {states} up to there; --limit N allows N"
+        "  moves played in every order: {played} of {moves}; states so far: {states}, {last} of them after these moves; --limit N allows N states"
     );
 }
 

@@ -7,13 +7,13 @@ use std::io::Write;
 /// After how many orders the line is written anew: some times a second.
 const PACE: u64 = 16_384;
 
-/// How many states beginnings of orders lead to.
+/// How many states beginnings of orders lead to. Those after equally many moves are a layer.
 #[derive(Clone, Copy, Default)]
 pub struct Census {
     /// How many moves an order has, and how many of them are played in every order.
     pub moves: u64,
     pub played: u64,
-    /// How many states these lead to: all, those with equally many moves at most, and those with all the moves so far.
+    /// How many states these lead to, how many the widest layer has, and how many the last one has.
     pub states: u64,
     pub widest: u64,
     pub last: u64,
@@ -112,7 +112,7 @@ impl<'e, E: Write> Progress<'e, E> {
         } = self.census;
         let _ = writeln!(
             self.terminal,
-            "hek: permute: {states} states, {widest} at most after equally many of {played} moves; {plays} moves played"
+            "hek: permute: {states} states in {played} layers, at most {widest} in one; {plays} plays"
         );
     }
 

@@ -148,19 +148,12 @@ pub(crate) fn put_head(
 ) -> Result<(), NoMemory> {
     match written {
         Written::Text => put(writeln!(lines, "orders {orders} outcomes {outcomes}")),
-        Written::Json => put(writeln!(
-            lines,
-            "{{\"orders\":{orders},\"outcomes\":{outcomes}}}"
-        )),
+        Written::Json => put(writeln!(lines, "{{\"orders\":{orders},\"outcomes\":{outcomes}}}")),
     }
 }
 
 /// Appends the line of an outcome.
-pub(crate) fn put_row(
-    written: Written,
-    row: Row<'_>,
-    lines: &mut Vec<u8>,
-) -> Result<(), NoMemory> {
+pub(crate) fn put_row(written: Written, row: Row<'_>, lines: &mut Vec<u8>) -> Result<(), NoMemory> {
     let Row {
         orders,
         outcome,
