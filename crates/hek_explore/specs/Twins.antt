@@ -18,8 +18,7 @@ use Rattle.hek_permute.specs.declared.moves.Form.{Form}
 use Rattle.hek_permute.specs.declared.play.Place.{Place}
 use Rattle.hek_permute.specs.Moves.{Work}
 use Rattle.hek_permute.specs.Outcomes.{end_in, has_wait}
-use Rattle.hek_permute.specs.Places.{AllRest, MovesAreCounted}
-use Rattle.hek_permute.specs.Plays.{IsPlay}
+use Rattle.hek_permute.specs.Plays.{Plays}
 use Rattle.hek_explore.specs.Groups.{group_in}
 
 -- the world of the rule table after a history
@@ -34,16 +33,14 @@ steps_in h = map (λ (x : Entry). (x.event, x.reply)) h
 abbrev pub bare_entry : Entry → Entry
 bare_entry x = record x { reply = bare_reply x.reply }
 
--- a play of these moves, the last one first, with the replies of the rule table; it leads to these places, where no
--- transaction goes further; and the keys of each bucket that it scans are of one group
+-- the play of these moves, the last one first, with the replies of the rule table; it leads to these places; the keys of
+-- each bucket that it scans are of one group
 pub record HasPlayed (p : Plan) (form : Form) (works : List Work) (past : List ℕ) (places : List Place) (h : List Entry) : Type 0 where
   pub formed : IsHistory (length p.txns) h
   pub placed : All (IsPlaced p.buckets) (history_events h)
   pub scans : All (ScansGroup (group_in p) p.buckets) (history_events h)
   pub replies : replies_in h ≡ map (λ (x : Event × Reply). x.1) (transcript (opening_of p 1) (history_events h))
-  pub play : IsPlay form works past h
-  pub rest : AllRest form works places h
-  pub counted : MovesAreCounted places past
+  pub play : Plays form works past places h
 
 -- The worlds after both histories are alike, and what decides the outcome is equal: the order in which end times were
 -- drawn, what each transaction read, wrote and committed, how it ended, and whether a transaction had to wait.

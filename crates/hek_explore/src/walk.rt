@@ -2,9 +2,9 @@
 ghost use Rattle.std.specs.Prelude.{◌≡◌, ◌+◌, ◌<◌, [], ◌∷◌, IfOk, IfSome, OnOk, length, reverse, slice_index};
 ghost use Rattle.hek_explore.specs.Counts.{Group, IsCensus, IsFewer, IsGrown, IsReplayed, IsStart, IsTried};
 ghost use Rattle.hek_explore.specs.Deals.{IsExtended, IsNextLayer, IsTallied};
-ghost use Rattle.hek_explore.specs.Steps.{EndsWith, HasCome, HasKey, LeadsBy};
+ghost use Rattle.hek_explore.specs.Steps.{EndsWith, HasKey, LeadsBy};
 ghost use Rattle.hek_permute.specs.Moves.{AreMoves, counts_of};
-ghost use Rattle.hek_permute.specs.Places.{AllRest, HasMoved};
+ghost use Rattle.hek_permute.specs.Plays.{HasMoved, Plays};
 
 use crate::class::{Class, Layer};
 use crate::groups::Grouped;
@@ -321,7 +321,7 @@ fn play_from<'a>(
     order: &[TxnId],
 ) -> Result<(Book<'a>, Vec<Place>), OrderFault>
     ensures plan { IfOk result (λ r. r.0.plan ≡ schedule.now) }
-    ensures come { IfOk result (λ r. HasCome form moves.now (reverse order.now) r.1.items r.0.history) }
+    ensures come { IfOk result (λ r. Plays form moves.now (reverse order.now) r.1.items r.0.history) }
 {
     let mut book = Book::load(alloc, schedule.schedule())?;
     let mut places = first_places(alloc, moves)?;
@@ -339,9 +339,7 @@ fn move_in(
     places: &mut Vec<Place>,
     mover: TxnId,
 ) -> Result<(), OrderFault>
-    requires { AllRest form moves.now places.old.items book.old.history }
     ensures plan { book.new.plan ≡ book.old.plan }
-    ensures rest { OnOk result (AllRest form moves.now places.new.items book.new.history) }
     ensures moved { OnOk result (HasMoved form moves.now mover places.old.items book.old.history places.new.items book.new.history) }
 {
     make_move(book, moves, form, places.as_mut_slice(), mover)
