@@ -71,7 +71,7 @@ _hek() {
     run) words="--text --image --explain --state --state-at --why --changes --history --auto --level --json --help" files=yes ;;
     debug) words="--text --image --explain --auto --level --help" files=yes ;;
     page) words="--text --image --explain --level --auto --output --from --to --title --lesson --previous --next --orders --levels --split --grain --limit --help" files=yes ;;
-    permute) words="--text --image --explain --auto --level --split --grain --limit --part --jobs --each --order --levels --find --json --help" files=yes ;;
+    permute) words="--text --image --explain --auto --level --split --grain --limit --part --jobs --each --order --levels --find --stats --add --json --help" files=yes ;;
     check) words="--text --image --explain --auto --level --why --summary --all --json --help" files=yes ;;
     history) words="--explain --level --order --all --order-out --json --help" files=yes ;;
     drive) words="--text --image --explain --why --changes --state --ends --auto --level --json --help" files=yes ;;

@@ -224,10 +224,13 @@ The page shows each step with its reply, and the versions, waits and lock words 
 .SS permute
 Plays every order of a schedule's moves, and counts the outcomes.
 .PP
-\fBhek permute [OPTIONS] <FILE>\fR
+\fBhek permute [OPTIONS] <FILE> [TABLE]...\fR
 .TP
 \fIFILE\fR
 a schedule: a text by its name (.hek) or its first word, otherwise an image; \- is standard input
+.TP
+\fITABLE\fR
+with \-\-add: more tables
 .TP
 \fB\-\-text\fR
 FILE is a schedule text, whatever it holds
@@ -270,6 +273,12 @@ prints the outcomes at each level, side by side
 .TP
 \fB\-\-find\fR \fITEXT\fR
 prints the shortest beginning of an order in which this comes: \(gaa aborted deadlock\(ga, \(gaaborted\(ga, \(gawaiting\(ga, \(ganot serial\(ga, \(gaanother order\(ga
+.TP
+\fB\-\-stats\fR
+says on standard error how many states the orders lead to
+.TP
+\fB\-\-add\fR
+prints the sum of the tables FILE and TABLE.., which \-\-part printed, as text or as JSON
 .TP
 \fB\-\-json\fR
 prints JSON, one object on each line

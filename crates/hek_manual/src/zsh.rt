@@ -95,9 +95,12 @@ _hek() {
                 '--order[prints the events of one order as a schedule\: a name for each move]:NAMES:' \
                 '--levels[prints the outcomes at each level, side by side]' \
                 '--find[prints the shortest beginning of an order in which this comes\: `a aborted deadlock`, `aborted`, `waiting`, `not serial`, `another order`]:TEXT:' \
+                '--stats[says on standard error how many states the orders lead to]' \
+                '--add[prints the sum of the tables FILE and TABLE.., which --part printed, as text or as JSON]' \
                 '--json[prints JSON, one object on each line]' \
                 '(- *)'{-h,--help}'[Print help]' \
-                '1:FILE:_files'
+                '1:FILE:_files' \
+                '*:TABLE:'
             ;;
         check)
             _arguments \
