@@ -34,7 +34,7 @@ use Rattle.hek_permute.proofs.Plays.{plays_on}
 use Rattle.hek_explore.specs.Groups.{group_in}
 use Rattle.hek_explore.specs.Keys.{shape_of}
 use Rattle.hek_explore.specs.Twins.{HasPlayed, AreTwins}
-use Rattle.hek_explore.specs.Steps.{HasCome, HasKey, LeadsBy, EndsWith}
+use Rattle.hek_explore.specs.Steps.{HasKey, LeadsBy, EndsWith}
 use Rattle.hek_explore.specs.Laws.{HasTwin}
 use Rattle.hek_explore.proofs.Extended.{extends-alike}
 use Rattle.hek_explore.proofs.Scanned.{steps-scan}
