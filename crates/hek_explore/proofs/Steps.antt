@@ -32,7 +32,7 @@ use Rattle.hek_permute.specs.Plays.{IsPlay, Plays, HasMoved, Scene, Reaches, bot
 use Rattle.hek_permute.proofs.Plays.{plays_on}
 use Rattle.hek_explore.specs.Keys.{shape_of}
 use Rattle.hek_explore.specs.Twins.{HasPlayed, AreTwins}
-use Rattle.hek_explore.specs.Steps.{HasCome, HasKey, LeadsBy, EndsWith}
+use Rattle.hek_explore.specs.Steps.{HasKey, LeadsBy, EndsWith}
 use Rattle.hek_explore.specs.Laws.{HasTwin}
 use Rattle.hek_explore.proofs.Extended.{extends-alike}
 use Rattle.hek_explore.proofs.Grown.{events-append, replies-append, told, told-on}
