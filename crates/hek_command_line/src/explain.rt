@@ -122,8 +122,7 @@ pub fn schedule_of(alloc: Global, bytes: Vec<u8>) -> Option<Schedule> {
         ScheduleFile::Image(Cursor::new(bytes))
     } else {
         let mut text = Vec::new(alloc);
-        text.extend_from_slice(without_mark(bytes.as_slice()))
-            .ok()?;
+        text.extend_from_slice(without_mark(bytes.as_slice())).ok()?;
         ScheduleFile::Text(text)
     };
     schedule_in(alloc, file).ok()

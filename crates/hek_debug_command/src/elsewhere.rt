@@ -12,17 +12,22 @@ const END: &str = "no command is called @: a session ends with `quit`";
 
 const NONE: &str = "no command is called @";
 
-const SHOW: &str = "no command is called @: `show` prints the state, and `show version V` a version";
+const SHOW: &str =
+    "no command is called @: `show` prints the state, and `show version V` a version";
 
-const DISPLAY: &str = "no command is called @: a watch prints its word after each command, as `watch end 0`";
+const DISPLAY: &str =
+    "no command is called @: a watch prints its word after each command, as `watch end 0`";
 
-const INFO: &str = "no command is called @: `marks` prints breakpoints and watches, and `show` the state";
+const INFO: &str =
+    "no command is called @: `marks` prints breakpoints and watches, and `show` the state";
 
-const LIST: &str = "no command is called @: there are no calls, and `list` prints the steps round the position";
+const LIST: &str =
+    "no command is called @: there are no calls, and `list` prints the steps round the position";
 
 const DISABLE: &str = "no command is called @: `delete` takes one breakpoint away, and `clear` all";
 
-const ASSIGN: &str = "no command is called @: a session goes over the steps of FILE, and changes nothing";
+const ASSIGN: &str =
+    "no command is called @: a session goes over the steps of FILE, and changes nothing";
 
 /// Words of other debuggers, what is said of each, and the command that it means here; empty where it means none.
 const WORDS: &[(&str, &str, &str)] = &[

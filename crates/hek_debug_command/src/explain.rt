@@ -71,7 +71,15 @@ fn explain_in_file<E: Write>(
         return;
     };
     if let Some(mistake) = mistake_of(schedule, line, Medium::File) {
-        explain_at(alloc, schedule, commands.name, number, line, mistake, faults);
+        explain_at(
+            alloc,
+            schedule,
+            commands.name,
+            number,
+            line,
+            mistake,
+            faults,
+        );
     }
 }
 

@@ -446,14 +446,21 @@ fn on_help<'t>(line: &'t [u8]) -> Option<Mistake<'t>> {
     let commands = Wanted::Commands(Medium::Session);
     match meant_by(word.text) {
         Meaning::Several => {
-            Some(Mistake::new(word, "help", "several commands begin with @", Wanted::Longer))
+            Some(Mistake::new(
+                word,
+                "help",
+                "several commands begin with @",
+                Wanted::Longer,
+            ))
         }
         _ => match elsewhere(word.text) {
             Some(other) => {
                 Some(Mistake::new(word, "help", other.form, commands).meaning(other.meant))
             }
             None => {
-                Some(Mistake::new(word, "help", unknown(word.text), commands).meaning(Meant::Nearest))
+                Some(Mistake::new(word, "help", unknown(word.text), commands).meaning(
+                    Meant::Nearest,
+                ))
             }
         },
     }

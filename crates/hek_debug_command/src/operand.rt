@@ -12,8 +12,9 @@ pub(crate) const FILE_BREAKS: Vocabulary = Vocabulary::These(&["at", "event", "t
 
 pub(crate) const WATCHES: Vocabulary = Vocabulary::These(&["begin", "end", "waits"]);
 
-pub(crate) const SHOWS: Vocabulary =
-    Vocabulary::These(&["txn", "version", "key", "bucket", "clock", "waits"]);
+pub(crate) const SHOWS: Vocabulary = Vocabulary::These(&[
+    "txn", "version", "key", "bucket", "clock", "waits",
+]);
 
 /// What a condition compares.
 pub(crate) const COUNTERS: Vocabulary = Vocabulary::These(&["waits"]);
@@ -193,10 +194,7 @@ fn name_form(word: &[u8]) -> &'static str {
     if is_digits(word) {
         return "no transaction is called @: transactions go by their names";
     }
-    if word
-        .iter()
-        .any(|byte| matches!(*byte, b'<' | b'>' | b'='))
-    {
+    if word.iter().any(|byte| matches!(*byte, b'<' | b'>' | b'=')) {
         return "no transaction is called @: a comparison is a word by itself, as in `waits b > 0`";
     }
     "no transaction is called @"
@@ -215,7 +213,9 @@ pub(crate) fn condition_mistake<'t>(
     };
     if counter.text != b"waits".as_slice() {
         let form = "no counter is called @";
-        return Mistake::new(counter, command, form, Wanted::Among(COUNTERS)).meaning(Meant::Nearest);
+        return Mistake::new(counter, command, form, Wanted::Among(COUNTERS)).meaning(
+            Meant::Nearest,
+        );
     }
     let Some(name) = nth_word(line, 3) else {
         let form = "`waits` wants the name of a transaction after it";
@@ -228,11 +228,7 @@ pub(crate) fn condition_mistake<'t>(
 }
 
 /// What is wrong with the words after the name in a condition.
-fn comparison_mistake<'t>(
-    line: &'t [u8],
-    command: &'static str,
-    name: Word<'t>,
-) -> Mistake<'t> {
+fn comparison_mistake<'t>(line: &'t [u8], command: &'static str, name: Word<'t>) -> Mistake<'t> {
     let Some(comparison) = nth_word(line, 4) else {
         let form = "a comparison is wanted after @";
         return Mistake::new(name, command, form, Wanted::Form(CONDITION));
@@ -246,7 +242,12 @@ fn comparison_mistake<'t>(
         return Mistake::new(comparison, command, form, Wanted::Form(CONDITION));
     };
     if number(bound.text).is_none() {
-        return Mistake::new(bound, command, number_form(bound.text), Wanted::Form(NUMBER));
+        return Mistake::new(
+            bound,
+            command,
+            number_form(bound.text),
+            Wanted::Form(NUMBER),
+        );
     }
     let more = nth_word(line, 6).unwrap_or(bound);
     let form = "`% if` takes one condition, and @ is one word too many";

@@ -393,7 +393,11 @@ fn set<'a, W: Write>(
     is_temporary: bool,
     out: &mut W,
 ) -> Result<Onward, HekFault<'a>> {
-    next_after(session.moves.set_breakpoint(alloc, breakpoint, is_temporary, out))
+    next_after(
+        session
+            .moves
+            .set_breakpoint(alloc, breakpoint, is_temporary, out),
+    )
 }
 
 /// The session goes on after what was done.

@@ -3,7 +3,9 @@ use crate::stop_text::{put_name, put_number, put_text};
 use hek_debug::Debugger;
 use hek_machine::Machine;
 use hek_rules::{NoMemory, Schedule, TxnId, VersionId};
-use hek_step_report::text::{clock_line, put_bucket, put_reasons, put_txn, put_version, state_lines};
+use hek_step_report::text::{
+    clock_line, put_bucket, put_reasons, put_txn, put_version, state_lines,
+};
 use hek_why::{commit_reasons, wait_reasons};
 use std::alloc::Global;
 

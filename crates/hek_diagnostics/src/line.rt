@@ -142,7 +142,9 @@ fn judge_body<'t>(
 /// A line that is a comment of another language.
 pub(crate) fn foreign_comment(first: Word<'_>) -> Finding<'_> {
     let form = "no line begins with @: a comment begins with `#`";
-    Finding::at(first, form).wanting_starts().hinting(Hint::None)
+    Finding::at(first, form)
+        .wanting_starts()
+        .hinting(Hint::None)
 }
 
 /// One more than the rows and the transactions that a schedule can have.
@@ -355,7 +357,12 @@ fn no_level(level: Word<'_>) -> Finding<'_> {
 const STARTS: &[&str] = &["row", "txn", "detect"];
 
 /// Whether a line begins with a mistyped `row`, `txn` or `detect`, or with no known word and nothing after it.
-pub(crate) fn is_misspelled<'t>(alloc: Global, known: &Known<'t>, first: Word<'t>, rest: &[Word<'t>]) -> bool {
+pub(crate) fn is_misspelled<'t>(
+    alloc: Global,
+    known: &Known<'t>,
+    first: Word<'t>,
+    rest: &[Word<'t>],
+) -> bool {
     if known.has_name(first.text) {
         return false;
     }

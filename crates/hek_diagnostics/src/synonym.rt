@@ -10,16 +10,19 @@ enum Instead {
     Sentence(&'static str),
 }
 
-const WRITES: Instead =
-    Instead::Sentence("`update KEY VALUE` changes a row, and `insert KEY VALUE` makes one");
+const WRITES: Instead = Instead::Sentence(
+    "`update KEY VALUE` changes a row, and `insert KEY VALUE` makes one",
+);
 
-const READS: Instead =
-    Instead::Sentence("`read KEY` reads a row, and `scan BUCKET` all rows of a bucket");
+const READS: Instead = Instead::Sentence(
+    "`read KEY` reads a row, and `scan BUCKET` all rows of a bucket",
+);
 
 const LOCKS: Instead = Instead::Sentence("reads, scans and writes lock what they need");
 
-const READ_COMMITTED: Instead =
-    Instead::Sentence("there is no level read committed: `repeatable` and `snapshot` are the weakest");
+const READ_COMMITTED: Instead = Instead::Sentence(
+    "there is no level read committed: `repeatable` and `snapshot` are the weakest",
+);
 
 const EVENTS: &[(&str, Instead)] = &[
     ("write", WRITES),

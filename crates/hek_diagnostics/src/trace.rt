@@ -11,9 +11,7 @@ use crate::sentence::Sentence;
 use crate::step::{missing, too_many, unknown_event, wanting_form};
 use crate::token::{Tokens, trace_number};
 use crate::words::Word;
-use hek_rules::{
-    EventKind, NoMemory, Schedule, TxnId, next_line, next_word, number, same_bytes,
-};
+use hek_rules::{EventKind, NoMemory, Schedule, TxnId, next_line, next_word, number, same_bytes};
 use std::alloc::Global;
 
 /// The words with which lines of a state begin.

@@ -84,7 +84,15 @@ fn drive_schedule<'a, B: BufRead, W: Write, E: Write>(
     let mut machine = Machine::load(alloc, schedule)?;
     let mut telling = Telling::new(alloc, schedule, driving.extras, driving.printing);
     greet(driving.prompts, schedule, out)?;
-    drive(alloc, &mut telling, &mut machine, driving, input, out, faults)
+    drive(
+        alloc,
+        &mut telling,
+        &mut machine,
+        driving,
+        input,
+        out,
+        faults,
+    )
 }
 
 /// At a terminal, says how many transactions there are, and what a line is.
@@ -130,7 +138,15 @@ fn drive<'a, B: BufRead, W: Write, E: Write>(
         };
         let is_fault = answer_line(alloc, telling, machine, driving, number, text, out)?;
         status = status_after(status, is_fault);
-        say_more(alloc, telling.schedule, driving, is_fault, number, text, faults);
+        say_more(
+            alloc,
+            telling.schedule,
+            driving,
+            is_fault,
+            number,
+            text,
+            faults,
+        );
     }
     Ok(status)
 }
@@ -248,7 +264,15 @@ fn answer_to(
         Ok(Some(event)) => tell_placed(alloc, telling, machine, &event, &mut answer.told)?,
         Err(kind) => {
             let printing = telling.printing;
-            put_fault(alloc, printing, telling.schedule, number, line, kind, &mut answer.told)?;
+            put_fault(
+                alloc,
+                printing,
+                telling.schedule,
+                number,
+                line,
+                kind,
+                &mut answer.told,
+            )?;
             answer.is_fault = true;
         }
     }
