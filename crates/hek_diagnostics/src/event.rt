@@ -9,7 +9,7 @@ use crate::place::line_at;
 use crate::schedule::diagnosed;
 use crate::step::{judge_detect, judge_step, starts_as_comment};
 use crate::words::{Word, read_words};
-use hek_rules::{NoMemory, Schedule};
+use hek_rules::{EventKind, NoMemory, Schedule};
 use std::alloc::Global;
 
 /// The words that begin the lines of a schedule before its steps.
@@ -72,7 +72,26 @@ fn judge_event<'t>(
     if is_misspelled(known.alloc, known, *first, rest) {
         return Some(misspelled(known, *first, rest, 1));
     }
+    if let Some(finding) = without_name(known, *first, rest) {
+        return Some(finding);
+    }
     judge_step(known, *first, rest, line, 1)
+}
+
+/// A line that begins with no name, and whose second word is no event.
+fn without_name<'t>(known: &Known<'t>, first: Word<'t>, rest: &[Word<'t>]) -> Option<Finding<'t>> {
+    let [second, ..] = rest else {
+        return None;
+    };
+    if known.has_name(first.text) || EventKind::named(second.text).is_some() {
+        return None;
+    }
+    let form = if EventKind::named(first.text).is_some() {
+        "no transaction is before @: a line is a transaction, then its event"
+    } else {
+        "no transaction is called @: a line is a transaction, then its event"
+    };
+    Some(Finding::at(first, form).wanting_names())
 }
 
 /// A line that begins with a word of a schedule's other lines, of the debugger, or of the end of a session.
