@@ -61,7 +61,7 @@ answered-bare form i w p r =
 
 own-by : (form : Form) (i : ℕ) (places : List Place) (turn : Turn) (o : Option (Work × Place)) (r : Reply)
     → option_and_then (λ (x : Work × Place). option_map (come_to form i places turn x.0) (answered form i x.0 x.1 (bare_reply r))) o
-      ≡ option_and_then (λ (x : Work × Place). option_map (come_to form i places turn x.0) (answered form i x.0 x.1 r)) o
+    ≡ option_and_then (λ (x : Work × Place). option_map (come_to form i places turn x.0) (answered form i x.0 x.1 r)) o
 own-by form i places turn None r = refl
 own-by form i places turn (Some x) r = ap (option_map (come_to form i places turn x.0)) (answered-bare form i x.0 x.1 r)
 
@@ -91,8 +91,7 @@ reach-same form works t s z (x ∷ xs) (y ∷ ys) e h =
     let head : bare_entry x ≡ bare_entry y = cc in
     let tail : map bare_entry xs ≡ map bare_entry ys = cc in
     let made : ◌≡◌ {A = ℕ × Event} (x.worker, x.event) (y.worker, y.event) = ap (λ (q : Entry). (q.worker, q.event)) head in
-    let bare : bare_reply x.reply ≡ bare_reply y.reply = ap (λ (q : Entry). q.reply) head in
-    (
+    let bare : bare_reply x.reply ≡ bare_reply y.reply = ap (λ (q : Entry). q.reply) head in (
       h.0 ∙ ap (λ (q : ℕ × Event). Some q) made,
       h.1,
       sym (by-bare form works s.places s.turn y.reply) ∙ sym (ap (after_by form works s.places s.turn) bare) ∙ by-bare form works s.places s.turn x.reply ∙ h.2,
