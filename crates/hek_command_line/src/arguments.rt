@@ -449,7 +449,7 @@ The verdict takes all transactions as serializable: `serial` by end time, `seria
         GRAIN,
         ArgumentText {
             name: "limit",
-            help: "counts nothing if there are more than N states (1000000); with --each, --part or --find, more than N orders (100000)",
+            help: "counts nothing if there are more than N states (1000000); with --each, --part or --find of a reply, more than N orders (100000)",
             form: Form::Number,
         },
         ArgumentText {
