@@ -8,6 +8,7 @@ pub mod Ranks
 pub mod Taken
 pub mod Scanned
 pub mod Keys
+pub mod Shown
 pub mod Sorted
 pub mod Shapes
 pub mod Steps

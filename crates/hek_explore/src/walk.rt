@@ -34,37 +34,31 @@ pub fn explore<S: Survey>(
     ensures { IfOk result (λ found. IfSome found (IsCensus schedule.now form)) }
 {
     let grouped = Grouped::of(alloc, schedule)?;
-    explore_grouped(alloc, &grouped, form, limit, survey)
+    let moves = moves_of(alloc, schedule)?;
+    explore_moves(alloc, &grouped, moves.as_slice(), form, limit, survey)
 }
 
-fn explore_grouped<S: Survey>(
+/// `explore`, given the moves of all transactions.
+fn explore_moves<S: Survey>(
     alloc: Global,
     schedule: &Grouped<'_>,
+    moves: &[Moves],
     form: Form,
     limit: u64,
     survey: &mut S,
 ) -> Result<Option<Tally>, OrderFault>
+    requires { AreMoves schedule.now moves.now }
     ensures { IfOk result (λ found. IfSome found (IsCensus schedule.now form)) }
 {
-    let moves = moves_of(alloc, schedule.schedule())?;
-    let left = counts_of(alloc, moves.as_slice(), form)?;
+    let left = counts_of(alloc, moves, form)?;
     let Some(most) = sum_of(left.as_slice()) else {
         return Err(OrderFault::TooMany);
     };
-    let mut layer = first_layer(alloc, schedule, moves.as_slice(), form, left)?;
+    let mut layer = first_layer(alloc, schedule, moves, form, left)?;
     let mut room = limit;
     survey.begin(most);
     for _ in 0..most {
-        let Some(next) = next_layer(
-            alloc,
-            schedule,
-            moves.as_slice(),
-            form,
-            &layer,
-            room,
-            survey,
-        )?
-        else {
+        let Some(next) = next_layer(alloc, schedule, moves, form, &layer, room, survey)? else {
             return Ok(None);
         };
         layer = next;
@@ -74,7 +68,7 @@ fn explore_grouped<S: Survey>(
         };
         room = rest;
     }
-    Ok(Some(tally_of(alloc, schedule, moves.as_slice(), form, &layer)?))
+    Ok(Some(tally_of(alloc, schedule, moves, form, &layer)?))
 }
 
 /// How many moves each transaction has.
