@@ -1,9 +1,9 @@
 -- The keys of a bucket that a step scans are of one group.
-use Rattle.std.proofs.Common.{◌≡◌, ℕ, Bool, true, false, List, [], ◌∷◌, ◌++◌, inl, inr, refl, ◌∙◌, ap, sym}
+use Rattle.std.proofs.Common.{◌≡◌, ℕ, true, false, List, [], ◌∷◌, ◌++◌, inl, inr, refl, ◌∙◌, ap, sym}
 use Rattle.std.proofs.lemmas.Bool.{cond-false, eq-eqb, or_cases, or_left, or_right, and_right}
 use Rattle.std.proofs.lemmas.List.Elements.{All-cons, All-nil}
-use Rattle.std.specs.List.{All, list_any}
-use Rattle.std.specs.Prelude.{◌%◌, ◌==◌, ◌&&◌, ◌||◌, not}
+use Rattle.std.specs.List.{All}
+use Rattle.std.specs.Prelude.{◌%◌, ◌==◌, ◌&&◌, not}
 use Rattle.hek_rules.specs.declared.event.Event.{Event}
 use Rattle.hek_rules.specs.declared.event.Event.TheVariants as event
 use Rattle.hek_rules.specs.Listing.{is_among}

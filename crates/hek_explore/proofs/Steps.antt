@@ -1,15 +1,12 @@
 -- How a move leads from one key to another.
-use Rattle.std.proofs.Common.{◌≡◌, ℕ, suc, zero, ◌+◌, ◌<◌, ◌≤◌, true, List, [], ◌∷◌, ◌++◌, Option, Some, None, length, refl, ap, sym, subst, ◌∙◌, map, arith, inl, inr, replicate}
-use Rattle.std.proofs.lemmas.Bool.{cases_Bool}
-use Rattle.std.proofs.lemmas.Bool.Decides.{nat_tests}
+use Rattle.std.proofs.Common.{◌≡◌, ℕ, suc, zero, ◌+◌, ◌≤◌, List, [], ◌∷◌, ◌++◌, Option, Some, None, length, refl, ap, sym, subst, ◌∙◌, arith}
 use Rattle.std.proofs.lemmas.List.{length-map, reverse-reverse}
 use Rattle.std.proofs.lemmas.List.Elements.{All-append, All-cons, All-head, All-nil, All-tail, All-filter}
 use Rattle.std.specs.List.{All}
 use Rattle.std.specs.Prelude.{option_map, slice_get}
 use Rattle.hek_rules.specs.declared.event.Event.{Event}
 use Rattle.hek_rules.specs.declared.event.Event.TheVariants as event
-use Rattle.hek_rules.specs.declared.reply.Reply.{Reply}
-use Rattle.hek_rules.specs.Plan.{Plan, IsPlan, IsDeclared}
+use Rattle.hek_rules.specs.Plan.{Plan, IsPlan}
 use Rattle.hek_rules.specs.Run.{next, run}
 use Rattle.hek_rules.specs.World.{World}
 use Rattle.hek_laws.specs.Runs.{IsPlaced}
@@ -21,7 +18,7 @@ use Rattle.hek_worker.specs.declared.entry.Entry.{Entry}
 use Rattle.hek_worker.specs.declared.stage.Stage.{Stage}
 use Rattle.hek_worker.specs.declared.stage.Stage.TheVariants.{Start, Working, Preparing, Looking, GivingUp, Releasing, Committing, Stamping, Ending, Ended}
 use Rattle.hek_worker.specs.Grammar.{event_at, or_finish, is_work}
-use Rattle.hek_worker.specs.History.{IsEntry, IsHistory, Replays, history_events, replies_in, part_of}
+use Rattle.hek_worker.specs.History.{IsEntry, IsHistory, Replays, history_events, replies_in}
 use Rattle.hek_permute.specs.declared.moves.Form.{Form}
 use Rattle.hek_permute.specs.declared.play.Place.{Place}
 use Rattle.hek_permute.specs.Found.{Found}
