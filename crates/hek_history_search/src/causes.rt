@@ -3,7 +3,7 @@ use crate::anomalies::{Anomaly, Cause, CycleEdge, EdgeKind, Evidence};
 use crate::evident::{name_of_fault, own_edge};
 use crate::facts::{Rule, Says};
 use crate::known::Known;
-use crate::lists::add;
+use crate::lists::{add, at};
 use crate::naming::name_of;
 use hek_history::{Need, Order, Writer};
 use hek_rules::NoMemory;
@@ -204,7 +204,7 @@ impl Known<'_> {
         let edge = self.edge(kind, (first, second), self.key_of(rule), self.read_by(rule));
         Some(CycleEdge {
             scanned: self.is_scanned(rule),
-            evidence: evidence_of(rule),
+            evidence: self.evidence_of(rule),
             ..edge
         })
     }
@@ -216,13 +216,19 @@ impl Known<'_> {
             _ => false,
         }
     }
-}
 
-/// What shows the edge of a fact.
-fn evidence_of(rule: Rule) -> Evidence {
-    match rule {
-        Rule::Read(_) => Evidence::Answer,
-        Rule::Leave(_) => Evidence::EndTimes,
-        _ => Evidence::Steps,
+    /// What shows the edge of a fact.
+    fn evidence_of(&self, rule: Rule) -> Evidence {
+        match rule {
+            Rule::Read(reading) => {
+                if at(self.only.as_slice(), reading, None).is_some() {
+                    Evidence::Answer
+                } else {
+                    Evidence::Steps
+                }
+            }
+            Rule::Leave(_) => Evidence::EndTimes,
+            _ => Evidence::Steps,
+        }
     }
 }
