@@ -1,11 +1,7 @@
 //! The words of the command line: the commands, their arguments and help.
 use clap::{Arg, ArgAction, ArgMatches, Command, Error};
 use hek_diagnostics::nearest_word;
-<<<<<<< HEAD
 use hek_history_command::Extent;
-use hek_manual::Shell;
-=======
->>>>>>> aeebb018eeb3429053da6c7d830c3c4b57b0c919
 use std::alloc::{AllocError, Global};
 use std::convert::AsStr;
 
