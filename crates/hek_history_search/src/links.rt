@@ -157,7 +157,14 @@ impl Links {
         if let Order::Versions | Order::Times = evident.problem.order {
             self.add_ends(evident)?;
         }
+        self.add_backs(evident)?;
         self.add_times(evident.problem)?;
+        self.sort();
+        Ok(())
+    }
+
+    /// Sorts the links by their transactions, each once.
+    fn sort(&mut self) {
         self.all.sort_unstable_by_key(|link| {
             (
                 transaction_of(link.first),
@@ -165,9 +172,19 @@ impl Links {
                 link.shown,
                 link.reading,
                 link.other,
+                link.key,
             )
         });
-        Ok(())
+        self.all.dedup_by_key(|link| {
+            (
+                link.first,
+                link.second,
+                link.shown,
+                link.reading,
+                link.other,
+                link.key,
+            )
+        });
     }
 
     /// Gathers the readings that count by their sources and keys, and writers by their end times.
@@ -483,6 +500,55 @@ impl Links {
             other: NONE,
         };
         self.add_between(link)
+    }
+
+    /// Adds of each link what leads back, though other writers of the key stand between: that the second read the opening or, by end
+    /// times, before what the first wrote, or wrote before it.
+    fn add_backs(&mut self, evident: &Evident) -> Result<(), NoMemory> {
+        for place in 0..self.all.len() {
+            let link = at(self.all.as_slice(), place, NO_LINK);
+            let (x, t) = (transaction_of(link.first), transaction_of(link.second));
+            if evident.problem.is_committed(x) {
+                self.add_reads_back(evident, t, x)?;
+                self.add_versions_back(evident.problem, t, x)?;
+            }
+        }
+        Ok(())
+    }
+
+    /// Adds that a transaction read before what another wrote.
+    fn add_reads_back(&mut self, evident: &Evident, t: usize, x: usize) -> Result<(), NoMemory> {
+        let problem = evident.problem;
+        let from = problem.first_reading(t);
+        for place in from..problem.end_reading(t).min(from.saturating_add(READINGS)) {
+            let shown = match evident.source(place) {
+                Some(Writer::Opening) => Shown::OverwroteOpening,
+                Some(Writer::Transaction(writer)) => {
+                    if writer == x || !is_by_end(problem, writer, x) {
+                        continue;
+                    }
+                    Shown::OverwroteByEnd
+                }
+                None => continue,
+            };
+            if problem.left_at(x, problem.reading(place).key).is_some() {
+                self.add_between(overwritten(problem, place, x, shown, NONE))?;
+            }
+        }
+        Ok(())
+    }
+
+    /// Adds that a transaction wrote before another, by their end times.
+    fn add_versions_back(&mut self, problem: &Problem, t: usize, x: usize) -> Result<(), NoMemory> {
+        if !problem.is_committed(t) || !is_by_end(problem, t, x) {
+            return Ok(());
+        }
+        for left in problem.left_by(t) {
+            if problem.left_at(x, left.key).is_some() {
+                self.add_version(problem, left.key, t, x)?;
+            }
+        }
+        Ok(())
     }
 
     /// Adds the contrary of each link, where times show that.
