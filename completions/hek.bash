@@ -48,6 +48,7 @@ _hek() {
     "history --explain=") words="always never" ;;
     "history --level") words="serializable repeatable snapshot" ;;
     "history --order") words="any versions commit real" ;;
+    "history --all=") words="each counts" ;;
     "history --order-out") compopt -o default; return ;;
     "drive --explain=") words="always never" ;;
     "drive --why=") words="reasons rules" ;;

@@ -1,6 +1,7 @@
 //! The words of the command line: the commands, their arguments and help.
 use clap::{Arg, ArgAction, ArgMatches, Command, Error};
 use hek_diagnostics::nearest_word;
+use hek_history_command::Extent;
 use std::alloc::{AllocError, Global};
 use std::convert::AsStr;
 
@@ -614,8 +615,8 @@ The status is 0 if there is an order, 1 if there is none, 3 if that is not known
         },
         ArgumentText {
             name: "all",
-            help: "goes on after an anomaly, without the answers of its transactions",
-            form: Form::Flag,
+            help: "goes on after an anomaly, without the answers on which it rests, and counts them by name; =counts prints the counts alone",
+            form: Form::Choice("each", Extent::WORDS),
         },
         ArgumentText {
             name: "order-out",

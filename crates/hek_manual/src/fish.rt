@@ -92,7 +92,7 @@ complete -c hek -n '__fish_seen_subcommand_from check' -F
 complete -c hek -n '__fish_seen_subcommand_from history' -l explain -a 'always never' -d 'says of each fault what is wrong, what is wanted and what is meant, as at a terminal; =never only names it'
 complete -c hek -n '__fish_seen_subcommand_from history' -l level -x -a 'serializable repeatable snapshot' -d 'judges or runs all transactions as serializable, repeatable or snapshot'
 complete -c hek -n '__fish_seen_subcommand_from history' -l order -x -a 'any versions commit real' -d 'asks for an order of a kind: any, versions, commit or real'
-complete -c hek -n '__fish_seen_subcommand_from history' -l all -d 'goes on after an anomaly, without the answers of its transactions'
+complete -c hek -n '__fish_seen_subcommand_from history' -l all -a 'each counts' -d 'goes on after an anomaly, without the answers on which it rests, and counts them by name; =counts prints the counts alone'
 complete -c hek -n '__fish_seen_subcommand_from history' -l order-out -r -F -d 'writes the order that was found, a line for each transaction; - is standard output, after the verdict'
 complete -c hek -n '__fish_seen_subcommand_from history' -l json -d 'writes the verdict as JSON, one object on each line'
 complete -c hek -n '__fish_seen_subcommand_from history' -s h -l help -d 'Print help'

@@ -381,8 +381,8 @@ judges or runs all transactions as serializable, repeatable or snapshot
 \fB\-\-order\fR \fIKIND\fR
 asks for an order of a kind: any, versions, commit or real
 .TP
-\fB\-\-all\fR
-goes on after an anomaly, without the answers of its transactions
+\fB\-\-all\fR[=\fIHOW\fR]
+goes on after an anomaly, without the answers on which it rests, and counts them by name; =counts prints the counts alone (each, counts)
 .TP
 \fB\-\-order\-out\fR \fIOUT\fR
 writes the order that was found, a line for each transaction; \- is standard output, after the verdict

@@ -122,7 +122,7 @@ _hek() {
                 '--explain=-[says of each fault what is wrong, what is wanted and what is meant, as at a terminal; =never only names it]::HOW:(always never)' \
                 '--level[judges or runs all transactions as serializable, repeatable or snapshot]:L:(serializable repeatable snapshot)' \
                 '--order[asks for an order of a kind\: any, versions, commit or real]:KIND:(any versions commit real)' \
-                '--all[goes on after an anomaly, without the answers of its transactions]' \
+                '--all=-[goes on after an anomaly, without the answers on which it rests, and counts them by name; =counts prints the counts alone]::HOW:(each counts)' \
                 '--order-out[writes the order that was found, a line for each transaction; - is standard output, after the verdict]:OUT:_files' \
                 '--json[writes the verdict as JSON, one object on each line]' \
                 '(- *)'{-h,--help}'[Print help]' \
