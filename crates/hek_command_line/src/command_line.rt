@@ -107,7 +107,16 @@ pub fn answer_in_threads<
         Err(_) => return report(HekFault::NoMemory, faults),
     };
     let CommandWords { words, wishes } = words;
-    answer_words(system, alloc, words.as_slice(), wishes, disk, input, out, faults)
+    answer_words(
+        system,
+        alloc,
+        words.as_slice(),
+        wishes,
+        disk,
+        input,
+        out,
+        faults,
+    )
 }
 
 /// Answers the words of a command line without those that ask for explanations or colours.
@@ -135,7 +144,14 @@ fn answer_words<
             let paint = reply_paint(wishes, &matches, out);
             let mut out = Painted::new(alloc, out, paint);
             let status = answer_matches(
-                system, alloc, &matches, explains, disk, input, &mut out, &mut faults,
+                system,
+                alloc,
+                &matches,
+                explains,
+                disk,
+                input,
+                &mut out,
+                &mut faults,
             );
             let _ = out.flush();
             status
@@ -221,7 +237,9 @@ fn answer_kept<
     let kept = Kept::new(alloc, matches, explains);
     let disk = KeptDisk::new(disk, &kept);
     let mut input = Some(KeptReader::new(input, INPUT, &kept));
-    let ran = follow(system, alloc, matches, explains, &disk, &mut input, out, faults);
+    let ran = follow(
+        system, alloc, matches, explains, &disk, &mut input, out, faults,
+    );
     finish(alloc, ran, matches, &kept, out, faults)
 }
 

@@ -11,6 +11,11 @@ const VARIABLE: &str = "HEK_EXPLAIN";
 /// The variable of the environment that asks for no colours, whatever text it has.
 const NO_COLOURS: &str = "NO_COLOR";
 
+/// The variable of the environment that names the kind of terminal, and its word for one without colours.
+const TERMINAL: &str = "TERM";
+
+const DUMB: &str = "dumb";
+
 /// What ends the options of a command line.
 const END: &str = "--";
 
@@ -41,11 +46,16 @@ const COLOURINGS: [(&str, Colouring); 4] = [
 ];
 
 impl Colouring {
-    /// What the environment says: never where `NO_COLOR` is there and not empty, otherwise at a terminal.
+    /// What the environment says: never where `NO_COLOR` is there and not empty, and where `TERM` is missing, empty or `dumb`;
+    /// otherwise at a terminal.
     pub fn by_environment<R: Env + Alloc<A = Global>>(rt: &R) -> Colouring {
         match env::var(rt, NO_COLOURS) {
-            Ok(word) if !word.as_str().is_empty() => Colouring::Never,
-            _ => Colouring::AtTerminal,
+            Ok(word) if !word.as_str().is_empty() => return Colouring::Never,
+            _ => {}
+        }
+        match env::var(rt, TERMINAL) {
+            Ok(kind) if !kind.as_str().is_empty() && kind.as_str() != DUMB => Colouring::AtTerminal,
+            _ => Colouring::Never,
         }
     }
 

@@ -235,7 +235,9 @@ fn put_played<'a, E: Write>(
     faults: &mut E,
 ) -> Result<u8, HekFault<'a>> {
     let Translation {
-        schedule, order, ..
+        schedule,
+        order,
+        ..
     } = made;
     let choice = OrderChoice {
         level: None,
@@ -298,7 +300,10 @@ fn report_mistake<E: Write>(asked: Asked<'_>, mistake: Mistake<'_>, faults: &mut
         end: place.end,
     };
     let column = excerpt.column();
-    let _ = writeln!(faults, "hek: spec: line {number}, column {column}: {reason}");
+    let _ = writeln!(
+        faults,
+        "hek: spec: line {number}, column {column}: {reason}"
+    );
     if asked.explains {
         let name = asked.name;
         let _ = writeln!(faults, "  {name}:{number}:{column}\n{excerpt}");

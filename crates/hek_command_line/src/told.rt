@@ -2,9 +2,8 @@
 use clap::ArgMatches;
 use hek_report::Lines;
 use std::alloc::Global;
-use std::io;
 use std::io::{IsTerminal, Write};
-use std::str;
+use std::{io, str};
 
 /// The most bytes of a line that are kept.
 const MOST: usize = 4_096;

@@ -188,7 +188,11 @@ fn length_in(tokens: &[Token<'_>]) -> Option<usize> {
             depth = depth.saturating_sub(1);
         }
         if depth == 0 {
-            return if place > 0 { Some(place.saturating_add(1)) } else { None };
+            return if place > 0 {
+                Some(place.saturating_add(1))
+            } else {
+                None
+            };
         }
     }
     None

@@ -196,11 +196,7 @@ impl<'s> Play<'s> {
     }
 
     /// The place of the session's open transaction, or of a new one, which is the statement's alone.
-    fn txn_for(
-        &mut self,
-        session: usize,
-        place: Place<'s>,
-    ) -> Result<(usize, bool), NoMemory> {
+    fn txn_for(&mut self, session: usize, place: Place<'s>) -> Result<(usize, bool), NoMemory> {
         let open = match self.seats.get(session) {
             Some(seat) => seat.open,
             None => None,

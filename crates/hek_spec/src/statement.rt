@@ -113,10 +113,7 @@ fn select<'s>(cursor: &mut Cursor<'s>) -> Result<Statement<'s>, Trouble<'s>> {
 }
 
 /// That columns are read, and functions over them.
-fn check_columns<'s>(
-    columns: &'s [Token<'s>],
-    cursor: &Cursor<'s>,
-) -> Result<(), Trouble<'s>> {
+fn check_columns<'s>(columns: &'s [Token<'s>], cursor: &Cursor<'s>) -> Result<(), Trouble<'s>> {
     let mut ahead = Cursor::new(columns, cursor.place());
     for _ in 0..columns.len() {
         let Some(token) = ahead.peek() else {

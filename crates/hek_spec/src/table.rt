@@ -34,7 +34,14 @@ const WHOLE: [&[u8]; 9] = [
 ];
 
 /// Words that begin a rule of a table, in place of a column.
-const RULES: [&[u8]; 6] = [b"constraint", b"unique", b"check", b"foreign", b"exclude", b"like"];
+const RULES: [&[u8]; 6] = [
+    b"constraint",
+    b"unique",
+    b"check",
+    b"foreign",
+    b"exclude",
+    b"like",
+];
 
 /// Words after a column's type with which it has a rule other than its table's key.
 const COLUMN_RULES: [&[u8]; 4] = [b"unique", b"references", b"check", b"generated"];
@@ -97,7 +104,10 @@ impl<'s> Tables<'s> {
         };
         match value.checked_mul(self.buckets()) {
             Some(key) => {
-                key.checked_add(bucket).ok_or(Trouble::Mistake(Mistake::at(token.place, Reason::LargeKey)))
+                key.checked_add(bucket).ok_or(Trouble::Mistake(Mistake::at(
+                    token.place,
+                    Reason::LargeKey,
+                )))
             }
             None => Err(Trouble::Mistake(Mistake::at(token.place, Reason::LargeKey))),
         }
@@ -105,10 +115,7 @@ impl<'s> Tables<'s> {
 }
 
 /// The table with these definitions of columns.
-fn table_of<'s>(
-    name: Token<'s>,
-    definitions: &'s [Token<'s>],
-) -> Result<Table<'s>, Trouble<'s>> {
+fn table_of<'s>(name: Token<'s>, definitions: &'s [Token<'s>]) -> Result<Table<'s>, Trouble<'s>> {
     let key = match key_after(definitions)? {
         Some(key) => key,
         None => key_among(name, definitions)?,
@@ -155,10 +162,7 @@ fn sole_column<'s>(cursor: Cursor<'s>) -> Result<Token<'s>, Trouble<'s>> {
 }
 
 /// The column with the words `primary key`.
-fn key_among<'s>(
-    name: Token<'s>,
-    definitions: &'s [Token<'s>],
-) -> Result<Token<'s>, Trouble<'s>> {
+fn key_among<'s>(name: Token<'s>, definitions: &'s [Token<'s>]) -> Result<Token<'s>, Trouble<'s>> {
     let mut listed = Listed::new(definitions);
     for _ in 0..definitions.len() {
         let Some(definition) = listed.next() else {

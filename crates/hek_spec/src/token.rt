@@ -72,10 +72,7 @@ pub(crate) fn part(bytes: &[u8], start: usize, end: usize) -> &[u8] {
 }
 
 /// All tokens of a text. Comments are left out: outside of braces from `#` on, inside from `--` on, up to the end of the line.
-pub fn read_tokens<'s>(
-    alloc: Global,
-    text: &'s [u8],
-) -> Result<Vec<Token<'s>>, Trouble<'s>> {
+pub fn read_tokens<'s>(alloc: Global, text: &'s [u8]) -> Result<Vec<Token<'s>>, Trouble<'s>> {
     let mut tokens = Vec::new(alloc);
     let mut rest = text;
     let mut is_block = false;

@@ -77,7 +77,14 @@ fn translate_parts<'s>(
             let Some(order) = permutation(parts.as_slice(), number) else {
                 return Ok(());
             };
-            let play = played(alloc, &tables, parts.as_slice(), Some(order), choice, mistakes)?;
+            let play = played(
+                alloc,
+                &tables,
+                parts.as_slice(),
+                Some(order),
+                choice,
+                mistakes,
+            )?;
             put(alloc, &tables, &play, choice, made)
         }
     }
