@@ -1,12 +1,12 @@
 -- One pass over a line, for its words and for bytes that are not ASCII.
-use Rattle.std.proofs.Common.{◌≡◌, ℕ, ◌+◌, ◌-◌, ◌<◌, ◌≤◌, Bool, true, false, ◌||◌, List, [], ◌∷◌, ◌++◌, map, Bor, length, take, drop, drop-drop, drop_of_length-le, get_or, refl, sym, ap, ◌∙◌, arith, inl, inr}
+use Rattle.std.proofs.Common.{◌≡◌, ℕ, ◌+◌, ◌-◌, ◌<◌, ◌≤◌, Bool, true, false, ◌||◌, List, [], ◌∷◌, ◌++◌, map, Bor, length, take, drop, drop-drop, get_or, refl, sym, ap, ◌∙◌, arith, inl, inr}
 use Rattle.std.specs.Prelude.{nat_le}
 use Rattle.std.specs.Int.Bits.{bit_or}
 use Rattle.std.specs.List.{position_or_len}
 use Rattle.std.proofs.lemmas.Bool.{cases_Bool, true≢false, leb-true, leb-false, le-leb, lt-leb}
 use Rattle.std.proofs.lemmas.Nat.{or_lt, le_or_l, le_or_r}
 use Rattle.hek_rules.specs.Text.{words_of, is_blank, is_comment, ends_word}
-use Rattle.hek_rules.proofs.TextLemmas.{at_place, from_place, words_cut}
+use Rattle.hek_rules.proofs.TextLemmas.{at_place, words_cut}
 use Rattle.hek_asm.specs.Text.{has_foreign}
 
 -- a byte that ends no word
@@ -36,15 +36,6 @@ blank_read line i h e none = elim (cases_Bool (is_blank (get_or line i 0))) [
 -- a comment has no words
 pub comment_read : (line : List ℕ) (i : ℕ) → i < length line → get_or line i 0 ≡ 35 → words_of (drop i line) ≡ []
 comment_read line i h e = rw (at_place line i h, e) refl
-
--- the last word ends where the line ends
-pub last_read : (line : List ℕ) (start : ℕ) → start < length line → length line ≡ start + position_or_len ends_word (drop start line)
-    → words_of (drop start line) ≡ drop start line ∷ []
-last_read line start h e =
-    let all : take (length line - start) (drop start line) ≡ drop start line = from_place start line in
-    let rest : drop (length line) line ≡ [] = drop_of_length-le line (omega arith) in
-    word_read line start (length line) h (omega (arith, e)) ∙ ap (λ (w : List ℕ). w ∷ words_of (drop (length line) line)) all
-    ∙ ap (λ (bs : List ℕ). drop start line ∷ words_of bs) rest
 
 -- the bits of two bytes show whether one of them is not ASCII
 above : (a b : ℕ) → nat_le 128 (bit_or a b) ≡ (nat_le 128 a || nat_le 128 b)

@@ -2,20 +2,13 @@
 use Rattle.std.proofs.Common.{◌≡◌, ℕ, ◌+◌, ◌<◌, ◌≤◌, Bool, true, false, List, [], ◌∷◌, ◌++◌, length, refl, ◌∙◌, sym, ap, subst, arith, nat_eq, ⊎_elim, drop, get_or}
 use Rattle.std.specs.Prelude.{◌==◌, ◌||◌, not}
 use Rattle.std.proofs.lemmas.List.{drop_more}
-use Rattle.std.proofs.lemmas.Bool.{cond-true, cond-false, cond_both, cases_eq, false≢true}
+use Rattle.std.proofs.lemmas.Bool.{cond-false, cond_both, cases_eq, false≢true}
 use Rattle.hek_rules.specs.Listing.{is_among}
 use Rattle.hek_txn.specs.Entries.{Entries, no_entries, items_of, joined}
 use Rattle.hek_txn.specs.TxnTable.{TxnTable, Declared, IsEven, entry_at, set_at, waits_of, with_waits, waiting_list_of, with_waiting_list}
 use Rattle.hek_txn.specs.TxnLemmas.{among_flipped, entry_at_set, length_set_at}
-use Rattle.hek_txn.proofs.EntryLemmas.{set_at-same, set_at-twice, entry_at-other, items-entry, items-set, among-appended}
+use Rattle.hek_txn.proofs.EntryLemmas.{set_at-twice, entry_at-other, items-entry, items-set, among-appended}
 use Rattle.hek_buckets.specs.Waited.{Waiting, waiting_of, waiting_for, waiting_for_all, with_waiting, imposed_waits, IsReady, StaysReady}
-
--- t is the holder h or waits for it already: nothing changes
-pub waits_already : (ts : TxnTable) (t h : ℕ) → (h == t || is_among (waiting_list_of ts h).items t) ≡ true → waiting_of ts t ≡ waiting_for t (waiting_of ts t) h
-waits_already ts t h e = sym (cond-true _ _ _ (ap (λ xs. h == t || is_among xs t) (items-entry ts.waiting_lists h) ∙ e))
-
-pub frame-same : (ts : TxnTable) (t : ℕ) → ts ≡ with_waiting ts t ts
-frame-same ts t = ap (λ (ns : List ℕ). record ts { waits = ns }) (sym (set_at-same 0 ts.waits t))
 
 pub ready-same : (ts : TxnTable) (t : ℕ) → StaysReady ts ts t
 ready-same ts t = record { declared = λ h d. d; ready = λ h d r. r; even = λ e. e }

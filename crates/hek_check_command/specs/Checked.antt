@@ -26,6 +26,11 @@ TraceTextFails plan text (TraceLine number) = StopsAt plan number text
 TraceTextFails plan text NoMemory = Unit {0}
 TraceTextFails plan text other = ⊥
 
+-- the words of a verdict
+abbrev pub verdict_words : Verdict → List ℕ
+verdict_words Serial = codes "serial"
+verdict_words (NotSerial number) = codes "not serial " ++ decimal number
+
 abbrev pub verdict_text : Verdict → List ℕ
 verdict_text Serial = codes "serial" ++ 10 ∷ []
 verdict_text (NotSerial number) = codes "not serial " ++ decimal number ++ 10 ∷ []
@@ -40,25 +45,25 @@ reply_text (Some r) = joined_words (reply_words r)
 
 -- a line with the reply that the event with number n would have had in the serial order
 abbrev pub serial_line : Recorded → ℕ → List ℕ
-serial_line told n = codes "serial reply: " ++ reply_text (reply_at told (n - 1) (slice_get told.history (n - 1))) ++ 10 ∷ []
+serial_line recorded n = codes "serial reply: " ++ reply_text (reply_at recorded (n - 1) (slice_get recorded.history (n - 1))) ++ 10 ∷ []
 
 -- the line with the serial reply, if it is asked for and an event is at fault
 abbrev pub why_text : Bool → Recorded → Verdict → List ℕ
-why_text false told verdict = []
-why_text true told Serial = []
-why_text true told (NotSerial number) = serial_line told number
+why_text false recorded verdict = []
+why_text true recorded Serial = []
+why_text true recorded (NotSerial number) = serial_line recorded number
 
 -- a transcript with each transaction's own level, or with one level for all
 abbrev pub judged_as : Option Level → Recorded → Recorded
-judged_as None told = told
-judged_as (Some level) told = at_level level told
+judged_as None recorded = recorded
+judged_as (Some level) recorded = at_level level recorded
 
 -- the right verdict on a transcript was written after the bytes that a writer held, with the serial reply if it is
 -- asked for; the verdict gives the exit status
-pub record Judges (told : Recorded) (why : Bool) (before after : Option (List ℕ)) (status : ℕ) : Type 0 where
+pub record Judges (recorded : Recorded) (why : Bool) (before after : Option (List ℕ)) (status : ℕ) : Type 0 where
   pub verdict : Verdict
-  pub right : IsVerdict told verdict
-  pub written : Appends before after (verdict_text verdict ++ why_text why told verdict)
+  pub right : IsVerdict recorded verdict
+  pub written : Appends before after (verdict_text verdict ++ why_text why recorded verdict)
   pub answer : status ≡ verdict_status verdict
 
 -- the right verdict at a level, on the transcript whose trace a text is, was written after the bytes that a writer
@@ -66,9 +71,9 @@ pub record Judges (told : Recorded) (why : Bool) (before after : Option (List �
 pub record Checks {R : Type 0} (left : R → Option (List ℕ)) (said : ScheduleFile R) (text : List ℕ) (level : Option Level) (why : Bool) (before after : Option (List ℕ)) (status : ℕ) : Type 0 where
   pub plan : Plan
   pub is : FileGives left said plan
-  pub told : Recorded
-  pub read : IsTraceOf plan told text
-  pub judges : Judges (judged_as level told) why before after status
+  pub recorded : Recorded
+  pub read : IsTraceOf plan recorded text
+  pub judges : Judges (judged_as level recorded) why before after status
 
 abbrev pub CheckFails : {R : Type 0} → (R → Option (List ℕ)) → ScheduleFile R → List ℕ → HekFault → Type 0
 CheckFails left said text CannotWrite = Unit {0}

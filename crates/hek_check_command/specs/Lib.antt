@@ -1,2 +1,2 @@
 pub mod Checked
-pub mod Statuses
+pub mod Reported

@@ -6,13 +6,13 @@ mod faults;
 mod json;
 mod judged;
 mod noted;
+mod reported;
 mod sources;
 mod text;
-mod told;
 mod verdict;
 
 pub use check::check_command;
 pub use faults::{Fault, faults_of};
 pub use judged::{Judged, note_nothing};
 pub use noted::note_together;
-pub use told::{Asked, told_command};
+pub use reported::{Asked, reported_command};

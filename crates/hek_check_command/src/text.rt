@@ -1,44 +1,40 @@
 //! A verdict as text.
 use crate::check::put_serial_reply;
 use crate::faults::Fault;
+use crate::reported::Reported;
 use crate::sources::{Source, missing_reads};
-use crate::told::Told;
 use hek_history_report::put_phrase;
 use hek_report::put;
-use hek_rules::{NoMemory, Verdict};
+use hek_rules::NoMemory;
 use std::alloc::Global;
 use std::io::Write;
 
-/// Appends the line of a verdict, and the lines of what is told with it: the serial reply of the first event at fault, and
-/// each event at fault.
-pub(crate) fn put_told(
+/// Appends what follows the words of a verdict: the rest of its line, the serial reply of the first event at fault, and each
+/// event at fault.
+pub(crate) fn put_rest(
     alloc: Global,
-    told: &Told<'_>,
+    reported: &Reported<'_>,
     lines: &mut Vec<u8>,
 ) -> Result<(), NoMemory> {
-    put_verdict(told, lines)?;
-    if told.asked.why {
-        put_reason(told.faults, lines)?;
+    put_summary(reported, lines)?;
+    if reported.asked.why {
+        put_reason(reported.faults, lines)?;
     }
-    if told.asked.all {
-        put_faults(alloc, told, lines)?;
+    if reported.asked.all {
+        put_faults(alloc, reported, lines)?;
     }
     Ok(())
 }
 
-/// The line of a verdict, with what is judged at its end if that is asked for.
-fn put_verdict(told: &Told<'_>, lines: &mut Vec<u8>) -> Result<(), NoMemory> {
-    match told.verdict {
-        Verdict::Serial => put(write!(lines, "serial"))?,
-        Verdict::NotSerial(number) => put(write!(lines, "not serial {number}"))?,
-    }
-    if told.asked.summary {
-        let judged = told.judged;
+/// The end of the verdict's line: what is judged, if that is asked for.
+fn put_summary(reported: &Reported<'_>, lines: &mut Vec<u8>) -> Result<(), NoMemory> {
+    if reported.asked.summary {
+        let judged = reported.judged;
         put(write!(lines, ": {judged}"))?;
     }
-    if let Some(together) = told.together {
+    if let Some(together) = reported.together {
         put(write!(lines, "; one after another: "))?;
-        put_phrase(told.schedule, together, lines)?;
+        put_phrase(reported.schedule, together, lines)?;
     }
     put(writeln!(lines))
 }
@@ -54,14 +50,14 @@ fn put_reason(faults: &[Fault], lines: &mut Vec<u8>) -> Result<(), NoMemory> {
 }
 
 /// The lines of all faults.
-fn put_faults(alloc: Global, told: &Told<'_>, lines: &mut Vec<u8>) -> Result<(), NoMemory> {
-    let names = names_of(alloc, told.text)?;
-    let mut trace = told.text.lines();
+fn put_faults(alloc: Global, reported: &Reported<'_>, lines: &mut Vec<u8>) -> Result<(), NoMemory> {
+    let names = names_of(alloc, reported.text)?;
+    let mut trace = reported.text.lines();
     let mut next = 0usize;
-    for fault in told.faults {
+    for fault in reported.faults {
         let line = trace.nth(fault.place.saturating_sub(next)).unwrap_or("");
         next = fault.place.saturating_add(1);
-        put_fault(alloc, told, names.as_slice(), line, fault, lines)?;
+        put_fault(alloc, reported, names.as_slice(), line, fault, lines)?;
     }
     Ok(())
 }
@@ -79,7 +75,7 @@ fn names_of<'t>(alloc: Global, text: &'t str) -> Result<Vec<&'t str>, NoMemory> 
 /// serial reply lacks, and each that it lacks and the serial reply has: `; read 10=100 loaded; missed 10=200 by b at 4`.
 fn put_fault(
     alloc: Global,
-    told: &Told<'_>,
+    reported: &Reported<'_>,
     names: &[&str],
     line: &str,
     fault: &Fault,
@@ -87,7 +83,7 @@ fn put_fault(
 ) -> Result<(), NoMemory> {
     put(write!(lines, "{line}; serial reply: "))?;
     put_serial_reply(fault.serial.as_ref(), lines)?;
-    let missing = missing_reads(alloc, told.transcript, fault)?;
+    let missing = missing_reads(alloc, reported.transcript, fault)?;
     for (pair, source) in missing.read.as_slice() {
         put_source("; read", *pair, *source, names, lines)?;
     }

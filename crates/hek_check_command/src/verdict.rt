@@ -17,7 +17,7 @@ pub(crate) fn transcript_of_text<'a>(
     schedule: &Schedule,
     text: &str,
 ) -> Result<Transcript, HekFault<'a>>
-    ensures { MatchResult result (λ told. IsTraceOf schedule.now told text.now) (TraceTextFails schedule.now text.now) }
+    ensures { MatchResult result (λ reported. IsTraceOf schedule.now reported text.now) (TraceTextFails schedule.now text.now) }
 {
     match read_trace(alloc, schedule, text) {
         Ok(transcript) => Ok(transcript),

@@ -17,7 +17,7 @@ use crate::typed::TypedReader;
 use crate::words::advise_sign;
 use clap::error::ErrorKind as ClapKind;
 use clap::{ArgMatches, Error};
-use hek_check_command::{Asked, check_command, note_nothing, told_command};
+use hek_check_command::{Asked, check_command, note_nothing, reported_command};
 use hek_debug_command::{CommandFile, Manner, debug_command, debug_session, explained_command};
 use hek_figure_command::figure_command;
 use hek_history_command::run_log_command;
@@ -573,7 +573,7 @@ fn judge_trace<'a, R: Read + Drop, W: Write>(
     out: &mut W,
 ) -> Result<u8, HekFault<'a>> {
     if asked.summary || asked.all || asked.printing == Printing::Json {
-        told_command(alloc, file, trace, asked, out)
+        reported_command(alloc, file, trace, asked, out)
     } else {
         check_command(alloc, file, trace, asked.level, asked.why, out)
     }

@@ -69,10 +69,6 @@ among_below n y xs h e =
     let s : (k : ℕ) × (k < length xs) × (get_or xs k 0 ≡ y) = among_index y xs e in
     subst (λ (v : ℕ). v < n) s.2 (h s.0 0 s.1)
 
-unmarked_is : (o : Option ℕ) → is_unmarked o ≡ true → o ≡ None
-unmarked_is None e = refl
-unmarked_is (Some m) e = cc
-
 if_some : (b : Bool) (k : ℕ) → Some k ≡ cond b (Some k) None → b ≡ true
 if_some true k e = refl
 if_some false k e = cc

@@ -1,5 +1,5 @@
 -- One more ID is looked at, and listed if it is a node.
-use Rattle.std.proofs.Common.{ℕ, zero, suc, ◌≡◌, ◌+◌, ◌<◌, Bool, true, false, ◌||◌, List, [], ◌∷◌, ◌++◌, length, get_or, refl, sym, ap, ◌∙◌, subst, inl, inr, arith}
+use Rattle.std.proofs.Common.{ℕ, ◌≡◌, ◌+◌, ◌<◌, Bool, true, false, ◌||◌, List, [], ◌∷◌, ◌++◌, length, get_or, sym, ap, ◌∙◌, subst, inl, inr, arith}
 use Rattle.std.proofs.Math.Seq.{get_or-append_seam}
 use Rattle.std.proofs.lemmas.Bool.{cases_Bool, cases_eq, cases_lt, ne_eqb, eq-eqb}
 use Rattle.std.proofs.lemmas.List.{get_or_append_left, length-append}
@@ -7,7 +7,7 @@ use Rattle.hek_rules.specs.Listing.{is_among}
 use Rattle.hek_txn.specs.TxnTable.{TxnTable}
 use Rattle.hek_deadlock.specs.Edges.{is_node}
 use Rattle.hek_deadlock.specs.Places.{id_at, IsRising}
-use Rattle.hek_deadlock.proofs.GraphRows.{node_below, among_at}
+use Rattle.hek_deadlock.proofs.GraphRows.{among_at}
 use Rattle.hek_deadlock.proofs.Marks.{among_push, or_true, or_false}
 
 -- the nodes among the IDs up to n
@@ -15,17 +15,6 @@ pub record AreNodes (x : TxnTable) (n : ℕ) (ids : List ℕ) : Type 0 where
   pub rising : IsRising ids
   pub below : (u : ℕ) → is_among ids u ≡ true → u < n + 1
   pub each : (u : ℕ) → u < n + 1 → is_among ids u ≡ is_node x u
-
-pub no_nodes : (x : TxnTable) (ids : List ℕ) → ids ≡ [] → AreNodes x 0 ids
-no_nodes x ids e = subst (λ (ns : List ℕ). AreNodes x 0 ns) (sym e) (record {
-  rising = record { less = λ i j lt within. absurd (omega arith) };
-  below = λ u k. cc;
-  each = none;
-})
-  where
-    none : (u : ℕ) → u < 0 + 1 → is_among [] u ≡ is_node x u
-    none zero lt = refl
-    none (suc u) lt = absurd (omega arith)
 
 rising_more : (ids : List ℕ) (t : ℕ) → IsRising ids → ((u : ℕ) → is_among ids u ≡ true → u < t) → IsRising (ids ++ t ∷ [])
 rising_more ids t r below = record { less = at }
@@ -94,18 +83,3 @@ nodes_skip x n t ids are same none = record {
           | inl is ↦ subst (λ (v : ℕ). is_among ids v ≡ is_node x v) is (absent ∙ sym none)
           | inr ne ↦ are.each u (omega arith)
         ]
-
-pub nodes_all : (x : TxnTable) (n : ℕ) (ids : List ℕ) → AreNodes x n ids → n ≡ length x.cores → (u : ℕ) → is_among ids u ≡ is_node x u
-nodes_all x n ids are end u =
-    elim (cases_lt u (n + 1)) [
-      | inl lt ↦ are.each u lt
-      | inr ge ↦
-          elim (cases_Bool (is_among ids u)) [
-            | inl here ↦ (let b : u < n + 1 = are.below u here in absurd (omega arith))
-            | inr gone ↦
-                elim (cases_Bool (is_node x u)) [
-                  | inl node ↦ (let b : u < length x.cores + 1 = node_below x u node in absurd (omega arith))
-                  | inr none ↦ gone ∙ sym none
-                ]
-          ]
-    ]

@@ -1,6 +1,5 @@
 -- What is written command by command, and what is still to come.
-use Rattle.std.proofs.Common.{ℕ, List, [], ◌++◌, ◌∙◌, ap, sym, append_assoc, Option, Some, None}
-use Rattle.std.proofs.lemmas.List.{append-nil}
+use Rattle.std.proofs.Common.{ℕ, List, ◌++◌, ◌∙◌, ap, append_assoc, Option, Some, None}
 use Rattle.std.specs.Io.KnownBytes.{Appends}
 use Rattle.hek_report.specs.Sent.{Passes}
 
@@ -11,9 +10,3 @@ passes-next (Some held) None m whole line rest p q = absurd p
 passes-next (Some held) (Some now) None whole line rest p q = absurd q
 passes-next (Some held) (Some now) (Some then) whole line rest p q =
     ap (λ (xs : List ℕ). xs ++ rest) q ∙ append_assoc now line rest ∙ p
-
--- no line is to come
-pub passes-over : (b n : Option (List ℕ)) (whole : List ℕ) → Passes b whole n [] → Appends b n whole
-passes-over None n whole p = tt
-passes-over (Some held) None whole p = absurd p
-passes-over (Some held) (Some now) whole p = sym (append-nil now) ∙ p

@@ -30,7 +30,7 @@ fn try_groups<R: System + Files + Env>(rt: &R) -> io::Result<bool> {
 /// Tries a group: the hostile inputs, or what a folder has.
 fn try_group<R: System + Files>(rt: &R, group: &str) -> io::Result<bool> {
     match group {
-        "layers" => hek_gate_layers::play_folder(rt, group),
+        "calls" => hek_gate_calls::play_folder(rt, group),
         "commands" => hek_gate_commands::run_folder(rt, group),
         "histories" => hek_gate_history::judge_folder(rt, group),
         "hostile" => hek_gate_hostile::try_all(rt, rt.alloc()),

@@ -1,5 +1,5 @@
 -- Readers that take an exact number of bytes.
-use Rattle.std.proofs.Common.{◌≡◌, ℕ, ◌+◌, ◌<◌, Bool, length, take, drop, Err, refl, sym, ap, ◌∙◌, arith, inl, inr, length-drop}
+use Rattle.std.proofs.Common.{◌≡◌, ℕ, ◌+◌, Bool, length, take, drop, Err, refl, sym, ap, ◌∙◌, arith, inl, inr, length-drop}
 use Rattle.std.specs.Int.{Width, w8, w16, w32, w64, byte_len, from_be_bytes}
 use Rattle.std.proofs.lemmas.Bool.{cases_lt, lt-ltb, le-ltb}
 use Rattle.hek_rules.specs.declared.event.Level.{Level}
@@ -117,21 +117,10 @@ item_steady item.Row plan = row_steady plan
 item_steady (item.Name level len) plan = wider Any (len + 0) len (named_txn_at level len plan) (omega arith) (name_steady level len plan)
 item_steady item.Step plan = step_steady plan
 
--- ---- how many there are
-pub one_fits : (i : Item) (n : ℕ) (plan : Plan) → 0 < n → ItemsFit i n plan → ItemsFit i 1 plan
-one_fits item.Row n plan lt h = omega (arith, h)
-one_fits (item.Name level len) n plan lt h = omega (arith, h)
-one_fits item.Step n plan lt h = omega (arith, h)
-
 pub others_fit : (i : Item) (m n : ℕ) (plan after : Plan) → m ≡ n + 1 → ItemsFit i m plan → HasGrown i 1 plan after → ItemsFit i n after
 others_fit item.Row m n plan after e h k = omega (arith, h, k.0)
 others_fit (item.Name level len) m n plan after e h k = omega (arith, h, k.1)
 others_fit item.Step m n plan after e h k = omega (arith, h, k.2)
-
-pub none_grown : (i : Item) (plan : Plan) → HasGrown i 0 plan plan
-none_grown item.Row plan = (omega arith, omega arith, omega arith)
-none_grown (item.Name level len) plan = (omega arith, omega arith, omega arith)
-none_grown item.Step plan = (omega arith, omega arith, omega arith)
 
 pub one_more_grown : (i : Item) (n : ℕ) (first plan after : Plan) → HasGrown i n first plan → HasGrown i 1 plan after → HasGrown i (n + 1) first after
 one_more_grown item.Row n first plan after h k = (omega (arith, h.0, k.0), omega (arith, h.1, k.1), omega (arith, h.2, k.2))

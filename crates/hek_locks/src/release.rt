@@ -21,11 +21,11 @@ pub fn release_read(store: &mut Store, txns: &mut Txns, txn: TxnId, v: VersionId
     ensures txns { txns.new ≡ with_read_set (after_drop (dropped_of (version_at store.old v).end) txns.old) txn (read_set_of txns.new txn) }
     ensures reads { (read_set_of txns.new txn).items ≡ remove_key (nat_eq v) (read_set_of txns.old txn).items }
     ensures room { (read_set_of txns.old txn).room ≤ (read_set_of txns.new txn).room }
-    ensures told { result ≡ left_writer (dropped_of (version_at store.old v).end) }
+    ensures answer { result ≡ left_writer (dropped_of (version_at store.old v).end) }
 {
     let (left, dropped) = store.end_of(v).drop_reader();
     store.set_end(v, left);
-    let told = match dropped {
+    let waiter = match dropped {
         Dropped::Last(u) => {
             let waits = txns.waits(u);
             txns.set_waits(u, waits - 1);
@@ -34,5 +34,5 @@ pub fn release_read(store: &mut Store, txns: &mut Txns, txn: TxnId, v: VersionId
         Dropped::More | Dropped::Free => None,
     };
     txns.remove_read(txn, v);
-    told
+    waiter
 }

@@ -32,7 +32,7 @@ pub fn can_write_lock(store: &Store, txns: &Txns, v: VersionId) -> Result<(), Ca
 fn give_up(txns: &mut Txns, t: TxnId, v: VersionId, word: EndWord) -> bool
     requires txn { Declared txns.old t }
     requires reader { is_among (read_set_of txns.old t).items v ≡ true → 0 < readers_of word }
-    ensures told { result ≡ is_among (read_set_of txns.old t).items v }
+    ensures answer { result ≡ is_among (read_set_of txns.old t).items v }
     ensures txns { txns.new ≡ with_read_set txns.old t (read_set_of txns.new t) }
     ensures reads { (read_set_of txns.new t).items ≡ remove_key (nat_eq v) (read_set_of txns.old t).items }
     ensures room { (read_set_of txns.old t).room ≤ (read_set_of txns.new t).room }

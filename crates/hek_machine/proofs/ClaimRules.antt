@@ -13,12 +13,12 @@ use Rattle.hek_machine.proofs.WalkRules.{looks-same}
 use Rattle.hek_refinement.proofs.Stores.{begin-shown}
 
 -- a version claims its key in the parts exactly if it does in the world
-pub claim_told : (m : Engine) (t v : ℕ) (begin : BeginRecord) (b : Bool) → begin ≡ (version_at m.store v).begin → b ≡ claims m.txns.cores t (looks m t) (txn_in m.txns.cores t).level begin →
+pub claim_shown : (m : Engine) (t v : ℕ) (begin : BeginRecord) (b : Bool) → begin ≡ (version_at m.store v).begin → b ≡ claims m.txns.cores t (looks m t) (txn_in m.txns.cores t).level begin →
     IsShown m (λ w. is_claim w t (txn_in w.txns t).level (version_in w.versions v).creator) b
-claim_told m t v begin b at told w s =
+claim_shown m t v begin b at shown w s =
     ap (λ n. claims w.txns t n (txn_in w.txns t).level (version_in w.versions v).creator) (sym (looks-same m w t s))
     ∙ ap (λ ts. claims ts t (looks m t) (txn_in ts t).level (version_in w.versions v).creator) (sym s.shows.txns.cores)
-    ∙ ap (claims m.txns.cores t (looks m t) (txn_in m.txns.cores t).level) (sym (at ∙ begin-shown m.store w.buckets w.versions w.read_locks v s.shows.store)) ∙ sym told
+    ∙ ap (claims m.txns.cores t (looks m t) (txn_in m.txns.cores t).level) (sym (at ∙ begin-shown m.store w.buckets w.versions w.read_locks v s.shows.store)) ∙ sym shown
 
 -- one more version without a claim, in the loop over the versions
 pub claim_passed : (m : Engine) (t i v : ℕ) (vs : List ℕ) (b : Bool) → i < length vs → v ≡ get_or vs i v →

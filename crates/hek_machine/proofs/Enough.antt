@@ -29,7 +29,7 @@ use Rattle.hek_machine.specs.Written.{AreEnough}
 use Rattle.hek_machine.proofs.KeyPlaces.{of_key-below, of_key-same, filter_below}
 use Rattle.hek_machine.proofs.RuleWalks.{key_places}
 use Rattle.hek_machine.proofs.WalkRules.{sight-shown, sight_time}
-use Rattle.hek_machine.proofs.ClaimRules.{claim_told}
+use Rattle.hek_machine.proofs.ClaimRules.{claim_shown}
 use Rattle.hek_store.specs.Living.{IsLiving, is_over, is_over_by, is_past}
 
 -- ---- lists without some of their members
@@ -201,7 +201,7 @@ over_idle m t v o now over =
     let x = version_at m.store v in
     record {
       hidden = hidden-over m.txns.cores t (looks m t) x.begin x.end (sight_time m t o) (ap (λ n. is_over n x) same ∙ over);
-      claims = claim_told m t v x.begin false refl (sym (unclaimed m.txns.cores t (looks m t) m.clock level x.begin x.end now over));
+      claims = claim_shown m t v x.begin false refl (sym (unclaimed m.txns.cores t (looks m t) m.clock level x.begin x.end now over));
     }
 
 -- the living versions of a key suffice for a transaction that looks at the clock
@@ -213,6 +213,6 @@ living_enough m t key vs o now living =
     before : (v from : ℕ) → not (nat_lt v from) ≡ false → v < from
     before v from n = ⊎_elim (λ (l : v < from). l) (λ (g : from ≤ v). absurd (false≢true (sym n ∙ ap not (le-ltb v from g)))) (cases_lt v from)
 
-pub now_by_level : (level told : Level) → told ≡ level → (told ≡ Serializable) ⊎ (told ≡ Repeatable) → LooksNow level
-now_by_level level told same which =
+pub now_by_level : (level found : Level) → found ≡ level → (found ≡ Serializable) ⊎ (found ≡ Repeatable) → LooksNow level
+now_by_level level found same which =
     subst LooksNow same (⊎_elim (λ s. subst LooksNow (sym s) tt) (λ r. subst LooksNow (sym r) tt) which)

@@ -29,7 +29,7 @@ use Rattle.hek_rules.specs.declared.event.Aim.TheVariants as aims
 use Rattle.hek_machine.specs.Stands.{Shows, StandsFor, StandsForSome, IsRule, StillShows}
 use Rattle.hek_machine.specs.Judgements.{IsShown, IsAimed, seen_among}
 use Rattle.hek_machine.specs.Room.{Reserved, CanMake, KeepsAdding}
-use Rattle.hek_machine.specs.Walked.{AreVersionPlaces, After, CanAddVersion, IsAdding, told, deleted_reply}
+use Rattle.hek_machine.specs.Walked.{AreVersionPlaces, After, CanAddVersion, IsAdding, reply_or_abort, deleted_reply}
 use Rattle.hek_machine.specs.Written.{AreEnough, key_walk, after_walk, after_making, after_conflict}
 use Rattle.hek_machine.proofs.Joining.{can_make_kept}
 use Rattle.hek_machine.proofs.Reserves.{reserved-shows}
@@ -77,15 +77,15 @@ key_walked m n t key bucket vs p answer o a b none came =
     rule_allowed m n t (λ w. after_walk w t answer (key_walk w t p key)) (λ w. key_walk w t p key) answer (λ w es s j. ap (after_walk w t answer) j) (came-on m n t key bucket vs p o None a b none came)
 
 -- the rule of a walk that is refused or allowed
-pub key_told : (m n : Engine) (t key bucket : ℕ) (vs : List ℕ) (p : Purpose) (answer : Reply) (o : Option Cause) → bucket ≡ key % m.store.buckets → AreEnough m t key vs →
-    Came m n t p bucket vs o → IsRule (λ w. after_walk w t answer (key_walk w t p key)) m n (told o answer)
-key_told m n t key bucket vs p answer None a b came = key_walked m n t key bucket vs p answer None a b refl came
-key_told m n t key bucket vs p answer (Some cause) a b came =
+pub key_replies : (m n : Engine) (t key bucket : ℕ) (vs : List ℕ) (p : Purpose) (answer : Reply) (o : Option Cause) → bucket ≡ key % m.store.buckets → AreEnough m t key vs →
+    Came m n t p bucket vs o → IsRule (λ w. after_walk w t answer (key_walk w t p key)) m n (reply_or_abort o answer)
+key_replies m n t key bucket vs p answer None a b came = key_walked m n t key bucket vs p answer None a b refl came
+key_replies m n t key bucket vs p answer (Some cause) a b came =
     key_refused m n t key bucket vs p (λ w j. after_walk w t answer j) (Some cause) cause (λ w c. refl) a b refl came
 
 -- the rule of equal outcomes, with the reply after the walk
-pub told_rule : (m n : Engine) (f g : World → Outcome) (o : Option Cause) (answer r : Reply) → r ≡ told o answer → ((w : World) → StandsFor m w → f w ≡ g w) → IsRule g m n (told o answer) → IsRule f m n r
-told_rule m n f g o answer r is same rule = rule_same m n f g r same (subst (IsRule g m n) (sym is) rule)
+pub reply_rule : (m n : Engine) (f g : World → Outcome) (o : Option Cause) (answer r : Reply) → r ≡ reply_or_abort o answer → ((w : World) → StandsFor m w → f w ≡ g w) → IsRule g m n (reply_or_abort o answer) → IsRule f m n r
+reply_rule m n f g o answer r is same rule = rule_same m n f g r same (subst (IsRule g m n) (sym is) rule)
 
 -- ---- room
 
@@ -205,15 +205,15 @@ read-is w t target (Refuse cause) = refl
 read-is w t target (Allow es) = refl
 
 -- a read answers with the value that it finds, or aborts
-pub read_told : (m n : Engine) (t key : ℕ) (o : Option Cause) (target : Option ℕ) (answer r : Reply) → r ≡ told o answer →
+pub read_replies : (m n : Engine) (t key : ℕ) (o : Option Cause) (target : Option ℕ) (answer r : Reply) → r ≡ reply_or_abort o answer →
     (o ≡ None → IsShown m (λ w. last (seen_of w t (walking.of_key w key))) target) → IsShown m (λ w. found w target) answer →
     ((w : World) → StandsFor m w → After n t w (key_walk w t ToRead key) o) → IsRule (λ w. read_rule w t key) m n r
-read_told m n t key None target answer r is seen shown after =
-    told_rule m n (λ w. read_rule w t key) (λ w. after_walk w t answer (key_walk w t ToRead key)) None answer r is
+read_replies m n t key None target answer r is seen shown after =
+    reply_rule m n (λ w. read_rule w t key) (λ w. after_walk w t answer (key_walk w t ToRead key)) None answer r is
     (λ w s. read-is w t (last (seen_of w t (walking.of_key w key))) (key_walk w t ToRead key)
     ∙ ap (λ x. after_walk w t x (key_walk w t ToRead key)) (ap (found w) (seen refl w s) ∙ shown w s))
     (rule_allowed m n t (λ w. after_walk w t answer (key_walk w t ToRead key)) (λ w. key_walk w t ToRead key) answer (λ w es s j. ap (after_walk w t answer) j) after)
-read_told m n t key (Some cause) target answer r is seen shown after =
+read_replies m n t key (Some cause) target answer r is seen shown after =
     subst (IsRule (λ w. read_rule w t key) m n) (sym is)
     (rule_refused m n t (λ w. read_rule w t key) (λ w. key_walk w t ToRead key) cause
     (λ w c s j. read-is w t (last (seen_of w t (walking.of_key w key))) (key_walk w t ToRead key) ∙ ap (after_walk w t (found w (last (seen_of w t (walking.of_key w key))))) j) after)

@@ -12,7 +12,7 @@ use Rattle.hek_store.specs.Stored.{of_bucket}
 use Rattle.hek_machine.specs.declared.engine.Engine.{Engine}
 use Rattle.hek_machine.specs.Stands.{StandsFor, IsRule}
 use Rattle.hek_machine.specs.Judgements.{IsShown, seen_among}
-use Rattle.hek_machine.specs.Walked.{AreVersionPlaces, After, told}
+use Rattle.hek_machine.specs.Walked.{AreVersionPlaces, After, reply_or_abort}
 use Rattle.hek_machine.proofs.WalkRules.{seen-same}
 use Rattle.hek_machine.proofs.KeyPlaces.{of_bucket-same}
 use Rattle.hek_machine.proofs.RuleWalks.{rule_refused, rule_allowed}
@@ -39,10 +39,10 @@ bucket-seen m w t bucket vs seen a e s =
     ap (seen_of w t) (sym (a ∙ of_bucket-same m.store w bucket s.shows.store)) ∙ seen-same m t vs w s ∙ sym e
 
 -- a scan answers with the pairs of the versions seen, or aborts
-pub scan_told : (m n : Engine) (t bucket : ℕ) (o : Option Cause) (seen : List ℕ) (pairs : List (ℕ × ℕ)) (r : Reply) → r ≡ told o (reply.Rows pairs) →
+pub scan_replies : (m n : Engine) (t bucket : ℕ) (o : Option Cause) (seen : List ℕ) (pairs : List (ℕ × ℕ)) (r : Reply) → r ≡ reply_or_abort o (reply.Rows pairs) →
     (o ≡ None → IsShown m (λ w. seen_of w t (walking.of_bucket w bucket)) seen) → IsShown m (λ w. pairs_of w.versions [] seen) pairs →
     ((w : World) → StandsFor m w → After n t w (walk w t walking.ToRead bucket (walking.of_bucket w bucket)) o) → IsRule (λ w. scan_rule w t bucket) m n r
-scan_told m n t bucket None seen pairs r is met shown after =
+scan_replies m n t bucket None seen pairs r is met shown after =
     subst (IsRule (λ w. scan_rule w t bucket) m n) (sym is)
     (rule_allowed m n t (λ w. scan_rule w t bucket) (λ w. walk w t walking.ToRead bucket (walking.of_bucket w bucket)) (reply.Rows pairs)
     (λ w es s j. ap (after_scan w t (seen_of w t (walking.of_bucket w bucket))) j
@@ -50,7 +50,7 @@ scan_told m n t bucket None seen pairs r is met shown after =
   where
     outcome : Reply → World → Outcome
     outcome x v = record { reply = x; world = v }
-scan_told m n t bucket (Some cause) seen pairs r is met shown after =
+scan_replies m n t bucket (Some cause) seen pairs r is met shown after =
     subst (IsRule (λ w. scan_rule w t bucket) m n) (sym is)
     (rule_refused m n t (λ w. scan_rule w t bucket) (λ w. walk w t walking.ToRead bucket (walking.of_bucket w bucket)) cause
     (λ w c s j. ap (after_scan w t (seen_of w t (walking.of_bucket w bucket))) j) after)

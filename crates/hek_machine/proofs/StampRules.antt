@@ -152,12 +152,12 @@ rest m w t store x r s d k [] here shown c phase =
       buckets = s.shows.buckets;
     }
 
-    told : r ≡ reply.Nothing
-    told = k.reply_is ∙ ap (stamp_reply m.store m.txns.cores t) (ap (λ xs. slice_get xs 0) here)
+    answered : r ≡ reply.Nothing
+    answered = k.reply_is ∙ ap (stamp_reply m.store m.txns.cores t) (ap (λ xs. slice_get xs 0) here)
 
     nothing : (c : Bool) → Gives m store x r (if c then stamp_committed w t [] else stamp_aborted w t [])
-    nothing true = (told, shows)
-    nothing false = (told, shows)
+    nothing true = (answered, shows)
+    nothing false = (answered, shows)
 rest m w t store x r s d k (e ∷ es) here shown true phase =
     rw (k.store_is ∙ ap (stamped_store m.store m.txns.cores t) first ∙ cond-true (is_committed (txn_in m.txns.cores t).state) _ _ done ∙ ap (λ ts. stamped_committed m.store (txn_in ts t).end e) s.shows.txns.cores)
     (rw (k.txns_is ∙ ap (λ o. with_write_set (stamped_txns m.store m.txns t o) t (write_set_of x t)) first ∙ ap (λ z. with_write_set z t (write_set_of x t)) (cond-true (is_committed (txn_in m.txns.cores t).state) m.txns (freed_aborted m.store m.txns t e) done))

@@ -25,9 +25,9 @@ After m t w (Refuse cause) None = ⊥
 After m t w (Refuse cause) (Some other) = (cause ≡ other) × Shows m (abort w t cause)
 
 -- the reply after a walk: an abort if there is a cause, otherwise this answer
-abbrev pub told : Option Cause → Reply → Reply
-told None answer = answer
-told (Some cause) answer = reply.Aborted cause
+abbrev pub reply_or_abort : Option Cause → Reply → Reply
+reply_or_abort None answer = answer
+reply_or_abort (Some cause) answer = reply.Aborted cause
 
 -- the reply of a delete that was allowed, from its target
 abbrev pub deleted_reply : Option ℕ → Reply

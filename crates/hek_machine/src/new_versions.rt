@@ -10,7 +10,7 @@ ghost use Rattle.hek_rules.specs.Aims.{purpose_of};
 ghost use Rattle.hek_machine.specs.Room.{HasRoom, CanMake, Reserved};
 ghost use Rattle.hek_buckets.specs.LockLists.{holders_of as holders_in};
 ghost use Rattle.hek_machine.specs.Stands.{Shows, StandsForSome, IsRule, StillShows};
-ghost use Rattle.hek_machine.specs.Walked.{CanAddVersion, IsAdding, told};
+ghost use Rattle.hek_machine.specs.Walked.{CanAddVersion, IsAdding, reply_or_abort};
 ghost use Rattle.hek_rules.specs.declared.reply.Reply.TheVariants.{Done};
 ghost use Rattle.hek_machine.specs.Written.{AreEnough, key_walk, after_making};
 ghost use Rattle.hek_rules.specs.Locks.{add_version as version_added};
@@ -72,7 +72,7 @@ impl Engine {
         requires aimed { IsAimed self.old t vs.now aim.now }
         requires bucket { bucket ≡ key % self.old.store.buckets }
         requires make { CanMake self.old t (key % self.old.store.buckets) }
-        ensures rule { IfOk result (λ refused. IsRule (λ w. after_making w t key value (key_walk w t (purpose_of aim.now) key)) self.old self.new (told refused Done)) }
+        ensures rule { IfOk result (λ refused. IsRule (λ w. after_making w t key value (key_walk w t (purpose_of aim.now) key)) self.old self.new (reply_or_abort refused Done)) }
         ensures still { OnErr result (StillShows self.old self.new) }
     {
         // The contract of `len` bounds the versions: their number is too small for a counter of waits to overflow.
@@ -102,7 +102,7 @@ impl Engine {
         requires walker { is_open (txn_in self.old.txns.cores t) ≡ true }
         requires versions { AreEnough self.old t key vs.now }
         requires aimed { IsAimed self.old t vs.now aim.now }
-        ensures rule { IfOk result (λ refused. IsRule (λ w. after_making w t key value (key_walk w t (purpose_of aim.now) key)) self.old self.new (told refused Done)) }
+        ensures rule { IfOk result (λ refused. IsRule (λ w. after_making w t key value (key_walk w t (purpose_of aim.now) key)) self.old self.new (reply_or_abort refused Done)) }
         ensures still { OnErr result (StillShows self.old self.new) }
     {
         let bucket = self.bucket_of(key);

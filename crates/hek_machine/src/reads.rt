@@ -17,7 +17,7 @@ ghost use Rattle.hek_machine.specs.Written.{key_walk};
 use crate::engine::Engine;
 use crate::judging::{is_hidden, is_seen};
 use crate::scratch::{Met, Scratch};
-use crate::walks::told;
+use crate::walks::reply_or_abort;
 use hek_rules::{Aim, Cause, Effect, NoMemory, Reply, Sight, TxnId, VersionId};
 use hek_store::KeyVersions;
 
@@ -114,6 +114,6 @@ impl Engine {
         let refused = self.walk_along(t, key, &mut scratch.effects, &mut scratch.met)?;
         let reply = self.found(scratch.met.seen);
         let refused = self.settle(t, refused, scratch.effects.as_slice(), 0)?;
-        Ok(told(refused, reply))
+        Ok(reply_or_abort(refused, reply))
     }
 }

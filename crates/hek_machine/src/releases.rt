@@ -16,8 +16,8 @@ impl Engine {
         requires first { slice_get (read_set_of self.old.txns t).items 0 ≡ Some v }
         ensures { IsRule (λ w. release_rule w t) self.old self.new result }
     {
-        let told = hek_locks::release_read(&mut self.store, &mut self.txns, t, v);
-        Reply::ReleasedRead(v, told)
+        let waiter = hek_locks::release_read(&mut self.store, &mut self.txns, t, v);
+        Reply::ReleasedRead(v, waiter)
     }
 
     #[tactic(auto, using(crate::proofs::ReleaseRules::bucket_made))]

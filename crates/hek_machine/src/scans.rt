@@ -18,7 +18,7 @@ use crate::engine::Engine;
 use crate::judging::{is_hidden, is_seen};
 use crate::pairs::put;
 use crate::scratch::Scratch;
-use crate::walks::told;
+use crate::walks::reply_or_abort;
 use hek_rules::{Aim, Cause, Effect, NoMemory, Pairs, Reply, Sight, State, TxnId, VersionId};
 use hek_store::Versions;
 use hek_word::{BeginWord, EndWord};
@@ -155,7 +155,7 @@ impl Engine {
         let refused = self.walk_bucket(t, bucket, &mut scratch.effects, &mut scratch.seen)?;
         let pairs = self.pairs_of(&scratch.seen)?;
         let refused = self.settle(t, refused, scratch.effects.as_slice(), 0)?;
-        Ok(told(refused, Reply::Rows(pairs)))
+        Ok(reply_or_abort(refused, Reply::Rows(pairs)))
     }
 
     /// Whether the version was loaded, or made by a transaction that has committed.

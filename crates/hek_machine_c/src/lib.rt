@@ -6,5 +6,7 @@ mod copied;
 mod made;
 mod run;
 mod state;
+#[cfg(test)]
+mod tests;
 
 pub use made::HekMade;

@@ -43,12 +43,6 @@ pub start_of_ends : (slots slot time : ℕ) (vs : List Version) (links : List �
     IsStart slots slot time vs (slice_index_or ends slot no_ends).first
 start_of_ends slots slot time vs links ends h below = start_first slots slot time vs (slice_index_or ends slot no_ends).first (ap (λ e. e.first) (h.ended slot below))
 
-pub start_of_end : (slots slot time : ℕ) (vs : List Version) (links : List ℕ) (ends : List Ends) (e : Ends) → AreBuckets slots (keys_of vs) links ends → slot < slots → e ≡ slice_index_or ends slot e →
-    IsStart slots slot time vs e.first
-start_of_end slots slot time vs links ends e h below at =
-    let count = h.count in
-    subst (λ x. IsStart slots slot time vs x.first) (sym (at ∙ same_item ends slot e no_ends (omega (arith, count, below)))) (start_of_ends slots slot time vs links ends h below)
-
 -- the start that the store has is one for any later time
 pub start_of : (slots slot passed time : ℕ) (vs : List Version) (starts : List ℕ) (link : ℕ) → length starts ≡ slots → ((b : ℕ) → b < slots → IsStart slots b passed vs (slice_index_or starts b 0)) →
     slot < slots → passed ≤ time → link ≡ slice_index_or starts slot link → IsStart slots slot time vs link

@@ -1,4 +1,4 @@
-//! Tests that neither the lines of hek_gate_layers nor the cases of hek_gate_commands can say: devices and memory that fail, each call
+//! Tests that neither the lines of hek_gate_calls nor the cases of hek_gate_commands can say: devices and memory that fail, each call
 //! that takes memory, library calls that no line or command makes, and models beside which a layer is held.
 #![tactic(auto)]
 

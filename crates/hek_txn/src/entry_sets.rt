@@ -132,7 +132,7 @@ impl<T: Copy + Eq + Hash> EntrySet<T> {
     /// Appends a member, unless it is in the set, and returns whether it was new.
     pub(crate) fn enter(&mut self, item: T) -> bool
         requires { 0 < self.old.room }
-        ensures told { result ≡ not (list_any (T.eq item) self.old.items) }
+        ensures answer { result ≡ not (list_any (T.eq item) self.old.items) }
         ensures items { self.new.items ≡ joined T.eq self.old.items item }
         ensures room { self.old.room ≤ self.new.room + 1 }
     {
@@ -175,7 +175,7 @@ impl<T: Copy + Eq + Hash> EntrySet<T> {
 
     /// Takes a member out that is not the first one, if it is in the set, and returns whether it was.
     fn take_later(&mut self, item: T) -> bool
-        ensures told { result ≡ list_any (T.eq item) self.old.items }
+        ensures answer { result ≡ list_any (T.eq item) self.old.items }
         ensures items { self.new.items ≡ remove_key (T.eq item) self.old.items }
         ensures room { self.old.room ≤ self.new.room }
     {
@@ -188,7 +188,7 @@ impl<T: Copy + Eq + Hash> EntrySet<T> {
 
     /// Takes a member out, if it is in the set, and returns whether it was.
     pub(crate) fn take(&mut self, item: T) -> bool
-        ensures told { result ≡ list_any (T.eq item) self.old.items }
+        ensures answer { result ≡ list_any (T.eq item) self.old.items }
         ensures items { self.new.items ≡ remove_key (T.eq item) self.old.items }
         ensures room { self.old.room ≤ self.new.room }
     {

@@ -1,7 +1,5 @@
 -- Changes that a loop appends, number by number.
-use Rattle.std.proofs.Common.{◌≡◌, ℕ, ◌+◌, ◌<◌, true, List, ◌++◌, append_assoc, ◌∙◌, ap, sym, subst, arith, length, add-one}
-use Rattle.std.proofs.lemmas.Bool.{lt-ltb}
-use Rattle.std.specs.Prelude.{nat_lt}
+use Rattle.std.proofs.Common.{◌≡◌, ℕ, ◌+◌, List, ◌++◌, append_assoc, ◌∙◌, ap, sym, subst, add-one}
 use Rattle.hek_rules.specs.World.{World}
 use Rattle.hek_machine.specs.declared.engine.Engine.{Engine}
 use Rattle.hek_machine.specs.Stands.{StandsFor}
@@ -20,7 +18,3 @@ adds_next m n f i v a b c same more so_far w x s r =
 pub adds_all : (m n : Engine) (f : World → World → ℕ → List Change) (number : World → ℕ) (i count : ℕ) (a b : List Change) → i ≡ count → IsShown n number count →
     Adds m n (λ w x. each_below (f w x) i) a b → Adds m n (λ w x. each_below (f w x) (number x)) a b
 adds_all m n f number i count a b same shown so_far w x s r = ap (λ k. a ++ each_below (f w x) k) (shown x r ∙ sym same) ∙ so_far w x s r
-
--- a version below the number of versions exists
-pub exists_below : (n : Engine) (i v count : ℕ) → v ≡ i → i < count → IsShown n (λ x. length x.versions) count → IsShown n (λ x. nat_lt v (length x.versions)) true
-exists_below n i v count same below shown x r = let e = shown x r in lt-ltb v (length x.versions) (omega (arith, same, below, e))

@@ -1,5 +1,5 @@
 -- The words of a version that exists, and what they say: sights and refusals by words are those of the world.
-use Rattle.std.proofs.Common.{◌≡◌, ℕ, Bool, true, false, ◌∙◌, ap, sym, arith, Option, Some, None, length}
+use Rattle.std.proofs.Common.{◌≡◌, ℕ, Bool, true, false, ◌∙◌, ap, sym, Option, Some, None, length}
 use Rattle.std.specs.Prelude.{if◌then◌else◌, nat_lt}
 use Rattle.hek_rules.specs.declared.event.Cause.{Cause}
 use Rattle.hek_rules.specs.declared.event.Sight.{Sight}
@@ -47,9 +47,6 @@ read_refused_by m w t v e f r s locks ends clears refuses =
     ∙ ap (λ ts. word_refusal ts (cleared_word ts (version_at m.store v).end)) s.shows.txns.cores
     ∙ ap (λ x. word_refusal w.txns (cleared_word w.txns x)) (word-shown m.store w.buckets w.versions w.read_locks v s.shows.store ∙ at_version end_word w v e ends)
     ∙ ap (word_refusal w.txns) clears ∙ refuses
-
-pub read_free : (w : World) (t v : ℕ) → reads_freely w t v ≡ true → no_read_lock w t v ≡ None
-read_free w t v free = grind (arith, free)
 
 pub write_refused_by : (m : Engine) (w : World) (v : ℕ) (e f : EndRecord) (r : Option Cause) → StandsFor m w →
     of_version end_word v w ≡ Some e → cleared_word w.txns e ≡ f → write_refusal (ender_of f) ≡ r → no_write_lock w v ≡ r

@@ -176,12 +176,3 @@ without-to r (p ∷ ps) a = ap (λ l. if p.0 == a then map (renumbered_write r) 
     by : (b : Bool) → (if b then map (renumbered_write r) ps else renumbered_write r p ∷ map (renumbered_write r) (without_entry ps a)) ≡ map (renumbered_write r) (if b then ps else p ∷ without_entry ps a)
     by true = refl
     by false = refl
-
--- a list that a program fills by the new places is the list renumbered
-pub is-filled : (r : Renumbering) (vs us : List Version) → Trades r (length vs) → length us ≡ length vs → ((v : ℕ) → v < length vs → version_in us (r.to v) ≡ version_in vs v) → us ≡ renumbered_versions r vs
-is-filled r vs us t long h =
-    is-renumbered r (length vs) t vs refl us long
-    (λ v. ⊎_elim
-    (λ l. ap (version_in us) (sym (t.forth v)) ∙ h (r.from v) (from-within r (length vs) t v l))
-    (λ l. version-past us v (omega (arith, l, long)) ∙ sym (ap (version_in vs) (from-past r (length vs) t v l) ∙ version-past vs v l))
-    (cases_lt v (length vs)))

@@ -4,7 +4,7 @@ use Rattle.hek_rules.specs.Table.{Outcome}
 use Rattle.hek_machine.specs.Stands.{IsRule, StillShows}
 use Rattle.hek_rules.specs.Aims.{purpose_of}
 use Rattle.hek_rules.specs.declared.reply.Reply.TheVariants.{Done}
-use Rattle.hek_machine.specs.Walked.{told}
+use Rattle.hek_machine.specs.Walked.{reply_or_abort}
 use Rattle.hek_machine.specs.Written.{key_walk, after_making}
 use Rattle.hek_machine.proofs.Reserves.{reserved-shows}
 use Rattle.hek_machine.proofs.RuleWalks.{reserved-ordered, on_err}
@@ -31,8 +31,8 @@ pub returns-clause-rule : goal.returns-clause-rule
 returns-clause-rule c =
     let m = c.args.self.now in
     let rule : World → Outcome = λ w. after_making w c.args.t c.args.key c.args.value (key_walk w c.args.t (purpose_of c.args.aim.now) c.args.key) in
-    IfOk-weaker c.make_with_room.result (λ r. IsRule rule c.reserve_version.new.self c.make_with_room.new.self (told r Done)) (λ r. IsRule rule m c.make_with_room.new.self (told r Done))
-    (λ r i. rule_after_room m c.reserve_version.new.self c.make_with_room.new.self rule (told r Done) c.reserve_version.ensures.reserved i) c.make_with_room.ensures.rule
+    IfOk-weaker c.make_with_room.result (λ r. IsRule rule c.reserve_version.new.self c.make_with_room.new.self (reply_or_abort r Done)) (λ r. IsRule rule m c.make_with_room.new.self (reply_or_abort r Done))
+    (λ r i. rule_after_room m c.reserve_version.new.self c.make_with_room.new.self rule (reply_or_abort r Done) c.reserve_version.ensures.reserved i) c.make_with_room.ensures.rule
 
 pub returns-clause-still : goal.returns-clause-still
 returns-clause-still c =

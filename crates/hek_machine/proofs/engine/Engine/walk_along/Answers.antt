@@ -18,20 +18,20 @@ returns-clause-judged c =
     let m = c.args.self.now in
     let vs = key_versions_left c.versions_for.result in
     let bucket = c.args.key % m.store.buckets in
-    let told = c.judge_along.new.effects.items in
-    IfOk-weaker c.judge_along.result _ (λ r. IsShown m (λ w. key_walk w c.args.t ToRead c.args.key) (verdict r told))
+    let planned = c.judge_along.new.effects.items in
+    IfOk-weaker c.judge_along.result _ (λ r. IsShown m (λ w. key_walk w c.args.t ToRead c.args.key) (verdict r planned))
     (λ r i w s. sym (walk-enough m w c.args.t c.args.key bucket vs ToRead s refl c.versions_for.ensures)
-    ∙ walked m c.args.t bucket vs aims.ToRead c.list_first_of.new.effects.items (verdict r told) _ c.in_ok-list_first_of.ensures i w s) c.judge_along.ensures.judged
+    ∙ walked m c.args.t bucket vs aims.ToRead c.list_first_of.new.effects.items (verdict r planned) _ c.in_ok-list_first_of.ensures i w s) c.judge_along.ensures.judged
 
 pub returns-clause-allowed : goal.returns-clause-allowed
 returns-clause-allowed c =
     let m = c.args.self.now in
     let vs = key_versions_left c.versions_for.result in
     let bucket = c.args.key % m.store.buckets in
-    let told = c.judge_along.new.effects.items in
+    let planned = c.judge_along.new.effects.items in
     IfOk-weaker c.judge_along.result _ _
-    (λ r i none. allowed_by m c.args.t bucket vs aims.ToRead r told (bucket_places m c.args.t c.args.key bucket vs refl c.versions_for.ensures)
-    c.requires.walker none (walked m c.args.t bucket vs aims.ToRead c.list_first_of.new.effects.items (verdict r told) _ c.in_ok-list_first_of.ensures i)) c.judge_along.ensures.judged
+    (λ r i none. allowed_by m c.args.t bucket vs aims.ToRead r planned (bucket_places m c.args.t c.args.key bucket vs refl c.versions_for.ensures)
+    c.requires.walker none (walked m c.args.t bucket vs aims.ToRead c.list_first_of.new.effects.items (verdict r planned) _ c.in_ok-list_first_of.ensures i)) c.judge_along.ensures.judged
 
 pub returns-clause-seen : goal.returns-clause-seen
 returns-clause-seen c =

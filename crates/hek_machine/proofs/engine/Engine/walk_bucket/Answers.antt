@@ -20,19 +20,19 @@ pub returns-clause-judged : goal.returns-clause-judged
 returns-clause-judged c =
     let m = c.args.self.now in
     let vs = versions_left c.versions_in.result in
-    let told = c.judge_bucket.new.effects.items in
-    IfOk-weaker c.judge_bucket.result _ (λ r. IsShown m (λ w. walk w c.args.t ToRead c.args.bucket (of_bucket w c.args.bucket)) (verdict r told))
+    let planned = c.judge_bucket.new.effects.items in
+    IfOk-weaker c.judge_bucket.result _ (λ r. IsShown m (λ w. walk w c.args.t ToRead c.args.bucket (of_bucket w c.args.bucket)) (verdict r planned))
     (λ r i w s. bucket-walk m w c.args.t c.args.bucket vs c.versions_in.ensures s
-    ∙ walked m c.args.t c.args.bucket vs aims.ToRead c.list_first.new.effects.items (verdict r told) _ c.in_ok-list_first.ensures i w s) c.judge_bucket.ensures.judged
+    ∙ walked m c.args.t c.args.bucket vs aims.ToRead c.list_first.new.effects.items (verdict r planned) _ c.in_ok-list_first.ensures i w s) c.judge_bucket.ensures.judged
 
 pub returns-clause-allowed : goal.returns-clause-allowed
 returns-clause-allowed c =
     let m = c.args.self.now in
     let vs = versions_left c.versions_in.result in
-    let told = c.judge_bucket.new.effects.items in
+    let planned = c.judge_bucket.new.effects.items in
     IfOk-weaker c.judge_bucket.result _ _
-    (λ r i none. allowed_by m c.args.t c.args.bucket vs aims.ToRead r told (bucket_places m c.args.bucket vs c.versions_in.ensures c.requires.bucket)
-    c.requires.walker none (walked m c.args.t c.args.bucket vs aims.ToRead c.list_first.new.effects.items (verdict r told) _ c.in_ok-list_first.ensures i)) c.judge_bucket.ensures.judged
+    (λ r i none. allowed_by m c.args.t c.args.bucket vs aims.ToRead r planned (bucket_places m c.args.bucket vs c.versions_in.ensures c.requires.bucket)
+    c.requires.walker none (walked m c.args.t c.args.bucket vs aims.ToRead c.list_first.new.effects.items (verdict r planned) _ c.in_ok-list_first.ensures i)) c.judge_bucket.ensures.judged
 
 pub returns-clause-seen : goal.returns-clause-seen
 returns-clause-seen c =
