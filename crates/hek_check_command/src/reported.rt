@@ -99,8 +99,16 @@ fn write_judged<'a, W: Write>(
     let mut lines = Vec::new(alloc);
     put_front(asked.printing, verdict, &mut lines)?;
     let rest = rest_of(alloc, text, schedule, transcript, asked, verdict)?;
-    lines.extend_from_slice(rest.as_slice())?;
+    put_rest(rest.as_slice(), &mut lines)?;
     send(&mut lines, out)
+}
+
+/// Appends what comes after the verdict.
+fn put_rest(rest: &[u8], lines: &mut Vec<u8>) -> Result<(), NoMemory>
+    ensures { OnOk result (lines.new.items ≡ lines.old.items ++ rest.now) }
+{
+    lines.extend_from_slice(rest)?;
+    Ok(())
 }
 
 /// Appends what the output begins with: as text the words of the verdict.
