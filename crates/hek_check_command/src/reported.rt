@@ -99,12 +99,12 @@ fn write_judged<'a, W: Write>(
     let mut lines = Vec::new(alloc);
     put_front(asked.printing, verdict, &mut lines)?;
     let rest = rest_of(alloc, text, schedule, transcript, asked, verdict)?;
-    put_rest(rest.as_slice(), &mut lines)?;
+    append(rest.as_slice(), &mut lines)?;
     send(&mut lines, out)
 }
 
-/// Appends what comes after the verdict.
-fn put_rest(rest: &[u8], lines: &mut Vec<u8>) -> Result<(), NoMemory>
+/// Appends bytes.
+fn append(rest: &[u8], lines: &mut Vec<u8>) -> Result<(), NoMemory>
     ensures { OnOk result (lines.new.items ≡ lines.old.items ++ rest.now) }
 {
     lines.extend_from_slice(rest)?;
