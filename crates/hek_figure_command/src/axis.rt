@@ -195,7 +195,7 @@ pub(crate) fn draw_look(
     let text = format!(in canvas.alloc; "{name} {verb} at {which}, {time}")?;
     let x = axis.x(time);
     let colour = colour_of(txn);
-    canvas.line(Class("look", colour, ""), (x, TOP - 22.0), (x, foot))?;
+    canvas.line(Class("look", colour, ""), (x, TOP), (x, foot))?;
     let wide = width_of(text.as_str(), SMALL) + 10.0;
     let from = greater(lesser(x - wide / 2.0, axis.wide - wide), 0.0);
     let frame = Frame::new(from, TOP - 42.0, wide, 20.0);

@@ -2,7 +2,7 @@
 use crate::canvas::{Canvas, Class, Frame, SMALL, TYPE, colour_of, greater, plain, width_of};
 use crate::columns::sorted;
 use crate::edges::{Edge, EdgeKind, befores_of, edges_of};
-use crate::lines::{draw_line, line_of};
+use crate::lines::{draw_label, draw_line, line_of};
 use crate::moment::Moment;
 use crate::stage::{Stage, stage_in};
 use crate::track::holds;
@@ -129,10 +129,7 @@ fn note_of(
         let text = format!(in canvas.alloc; "and {left} waits of others; ")?;
         note.push_str(text.as_str())?;
     }
-    if edges
-        .iter()
-        .any(|it| it.is_weak && it.kind == EdgeKind::Waits)
-    {
+    if has_unasked(moment, edges) {
         note.push_str("dashed: has not asked yet ")?;
     }
     if has_dependency(edges) {
@@ -244,7 +241,10 @@ fn draw_all(
         taken.push(frame)?;
     }
     for line in lines.as_slice() {
-        draw_line(canvas, line, &mut taken)?;
+        draw_line(canvas, line)?;
+    }
+    for line in lines.as_slice() {
+        draw_label(canvas, line, &mut taken)?;
     }
     for node in nodes.as_slice() {
         draw_node(canvas, moment, node)?;

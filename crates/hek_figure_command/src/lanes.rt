@@ -116,7 +116,7 @@ fn draw_head(
     let facts = fitted(canvas.alloc, facts.as_str(), gutter - 8.0, SMALL)?;
     canvas.text(plain("small"), 4.0, y + 42.0, facts.as_str())?;
     let counts = counts_of(canvas, moment.after, txn)?;
-    canvas.text(Class("bad", "small", ""), 4.0, y + 59.0, counts.as_str())
+    canvas.text(Class("warn", "small", ""), 4.0, y + 59.0, counts.as_str())
 }
 
 /// The stage of a transaction, and the times that it drew.

@@ -26,9 +26,7 @@ pub(crate) fn line_of<'a>(nodes: &[Node], edges: &[Edge], edge: &'a Edge) -> Opt
         return None;
     }
     let (ux, uy) = (dx / far, dy / far);
-    let is_both = edges
-        .iter()
-        .any(|it| it.from == edge.to && it.to == edge.from);
+    let is_both = has_counterpart(edges, edge);
     let (off, bend) = if is_both { (7.0, 22.0) } else { (0.0, 8.0) };
     let (near, nearer) = (reach(a, ux, uy), reach(b, ux, uy) + 3.0);
     let from = (a.x + ux * near - uy * off, a.y + uy * near + ux * off);
@@ -67,12 +65,8 @@ fn reach(node: Node, ux: f64, uy: f64) -> f64 {
     1.0 / (x * x + y * y).sqrt()
 }
 
-/// Draws a line with its arrow head, and its label where that meets nothing that is drawn there.
-pub(crate) fn draw_line(
-    canvas: &mut Canvas,
-    line: &Line<'_>,
-    taken: &mut Vec<Frame>,
-) -> Result<(), NoMemory> {
+/// Draws a line with its arrow head.
+pub(crate) fn draw_line(canvas: &mut Canvas, line: &Line<'_>) -> Result<(), NoMemory> {
     let (kind, hot) = classes_of(line.edge);
     let (dx, dy) = (line.to.0 - line.bend.0, line.to.1 - line.bend.1);
     let far = (dx * dx + dy * dy).sqrt();
@@ -89,8 +83,7 @@ pub(crate) fn draw_line(
         (back.0 - vy * 7.0, back.1 + vx * 7.0),
         (back.0 + vy * 7.0, back.1 - vx * 7.0),
     ];
-    canvas.shape(Class("edgetip", kind, hot), &corners)?;
-    draw_label(canvas, line, hot, taken)
+    canvas.shape(Class("edgetip", kind, hot), &corners)
 }
 
 /// The classes of a line: its kind, and whether it is of a cycle or has not been asked for.
@@ -109,12 +102,13 @@ fn classes_of(edge: &Edge) -> (&'static str, &'static str) {
     }
 }
 
-fn draw_label(
+/// Draws the label of a line, where it meets no node and no other label.
+pub(crate) fn draw_label(
     canvas: &mut Canvas,
     line: &Line<'_>,
-    hot: &str,
     taken: &mut Vec<Frame>,
 ) -> Result<(), NoMemory> {
+    let (_, hot) = classes_of(line.edge);
     let label = line.edge.label.as_str();
     if label.is_empty() {
         return Ok(());

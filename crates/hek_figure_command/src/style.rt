@@ -4,7 +4,7 @@ pub(crate) const STYLE: &str = r#"<style>
 text { font-family: ui-monospace, "SF Mono", Consolas, "Liberation Mono", monospace; font-size: 14px; fill: #101720; }
 .c0 { color: #0a4fb3; } .c1 { color: #a83a00; } .c2 { color: #6a22a3; } .c3 { color: #00635a; } .c4 { color: #9b1150; } .c5 { color: #4f5900; }
 .ground { fill: #ffffff; } .rule { stroke: #c3cad3; } .middle { text-anchor: middle; } .end { text-anchor: end; }
-.title { font-size: 18px; font-weight: 700; } .heading { font-weight: 700; } .soft { fill: #47515e; } .small { font-size: 13px; } .bad { fill: #a3001b; font-weight: 700; }
+.title { font-size: 18px; font-weight: 700; } .heading { font-weight: 700; } .soft { fill: #47515e; } .small { font-size: 13px; } .bad { fill: #a3001b; font-weight: 700; } .warn { fill: #8a4b00; font-weight: 700; }
 .event { font-size: 16px; font-weight: 700; } .sentence { font-size: 18px; } .note { font-style: italic; fill: #47515e; }
 .pf1 { fill: #cfe0f5; } .pf2 { fill: #35598a; } .pp1, .pa1 { fill: #ffffff; } .pp2 { fill: #101720; } .pa2 { stroke: #a3001b; stroke-width: 1.6; fill: none; }
 .pw1 { fill: #ffe7bd; } .pw2 { fill: #8a4b00; } .pn1 { fill: #f4f6f8; } .pn2 { stroke: #47515e; fill: none; }
@@ -20,7 +20,7 @@ text { font-family: ui-monospace, "SF Mono", Consolas, "Liberation Mono", monosp
 .bar.never { fill: url(#never); stroke: #47515e; stroke-dasharray: 3 3; } .taken { fill: #ffffff; fill-opacity: 0.62; stroke: currentColor; stroke-width: 2.4; stroke-dasharray: 7 4; } .cut { stroke: currentColor; stroke-width: 4; stroke-dasharray: 5 3; }
 .by { font-size: 13px; fill: currentColor; } .ground.by { fill: #ffffff; } .seen { fill: #14532d; font-weight: 700; }
 .reader { fill: #ffffff; stroke: currentColor; stroke-width: 2.4; } .readername { fill: currentColor; font-weight: 700; font-size: 13px; } .writer { fill: currentColor; } .writername { fill: #ffffff; font-weight: 700; font-size: 13px; }
-.gate { fill: #a3001b; } .gatebar { stroke: #ffffff; stroke-width: 4; } .look { stroke: currentColor; stroke-width: 3; } .lookplate { fill: currentColor; } .lookname { fill: #ffffff; font-weight: 700; font-size: 13px; }
+.gate { fill: #a3001b; } .gatebar { stroke: #ffffff; stroke-width: 4; } .look { stroke: currentColor; stroke-width: 3; stroke-opacity: 0.55; } .lookplate { fill: currentColor; } .lookname { fill: #ffffff; font-weight: 700; font-size: 13px; }
 .bucket { fill: none; stroke: #44505e; } .buckethead { fill: #eceff3; } .buckethead.moved { fill: #ffd24d; }
 .node { fill: currentColor; } .nodename { fill: #ffffff; font-weight: 700; } .nodestage { fill: #ffffff; font-size: 13px; } .node.dead { fill: #ffffff; stroke: #a3001b; stroke-width: 3; } .nodename.dead, .nodestage.dead { fill: #a3001b; }
 .edge { fill: none; stroke: #101720; stroke-width: 3; } .edgetip { fill: #101720; } .edgelabel { font-size: 13px; font-weight: 700; } .edge.hot { stroke: #a3001b; stroke-width: 5; } .edgetip.hot, .edgelabel.hot { fill: #a3001b; }
