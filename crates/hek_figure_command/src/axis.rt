@@ -3,7 +3,7 @@ use crate::canvas::{Canvas, Class, Frame, SMALL, colour_of, greater, lesser, pla
 use crate::moment::Moment;
 use crate::rows::{Looks, Rows, Start, Stop, start_of, stop_of};
 use crate::versions::TOP;
-use hek_rules::{NoMemory, TxnId};
+use hek_rules::{Event, NoMemory, TxnId};
 use std::alloc::Global;
 use std::num::nearest_usize_to_f64;
 
@@ -185,10 +185,9 @@ pub(crate) fn draw_look(
     else {
         return Ok(());
     };
-    let verb = if event.second() > 0 || event.kind().word() == "delete" {
-        "looks"
-    } else {
-        "reads"
+    let verb = match event {
+        Event::Insert(..) | Event::Update(..) | Event::Delete(..) => "looks",
+        _ => "reads",
     };
     let name = moment.name_of(txn);
     let which = time_said(moment, txn);

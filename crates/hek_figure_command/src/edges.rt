@@ -61,7 +61,7 @@ fn label_of(alloc: Global, wait: &WaitLine<'_>) -> Result<String, NoMemory> {
         ("version", Some(index)) => format!(in alloc; "v{index}")?,
         ("commit", _) => String::from_str(alloc, "depends")?,
         (what, Some(number)) => format!(in alloc; "{what} {number}")?,
-        (what, None) => String::from_str(alloc, what)?,
+        (_, None) => String::from_str(alloc, "listed")?,
     };
     Ok(text)
 }
