@@ -17,7 +17,7 @@ _hek() {
     fi
     case "$command $before" in
     "help help") words="run debug page permute check history drive threads word release asm dis completions man" ;;
-    "completions completions") words="bash zsh fish" ;;
+    "completions completions") words="bash zsh fish words" ;;
     "run --explain=") words="always never" ;;
     "run --state-at") return ;;
     "run --why=") words="reasons rules" ;;

@@ -132,5 +132,5 @@ complete -c hek -n '__fish_seen_subcommand_from dis' -l explain -a 'always never
 complete -c hek -n '__fish_seen_subcommand_from dis' -s h -l help -d 'Print help'
 complete -c hek -n '__fish_seen_subcommand_from dis' -F
 complete -c hek -n '__fish_seen_subcommand_from completions' -s h -l help -d 'Print help'
-complete -c hek -n '__fish_seen_subcommand_from completions' -a 'bash zsh fish'
+complete -c hek -n '__fish_seen_subcommand_from completions' -a 'bash zsh fish words'
 complete -c hek -n '__fish_seen_subcommand_from man' -s h -l help -d 'Print help'

@@ -1,7 +1,6 @@
 //! The words of the command line: the commands, their arguments and help.
 use clap::{Arg, ArgAction, ArgMatches, Command, Error};
 use hek_diagnostics::nearest_word;
-use hek_manual::Shell;
 use std::alloc::{AllocError, Global};
 use std::convert::AsStr;
 
@@ -342,7 +341,7 @@ const DEBUG: CommandText = CommandText {
   watch end V        stops where the End word of version V changes
   watch waits NAME   stops where the number that a transaction waits for changes
   clear              forgets all breakpoints and watches
-Without COMMANDS they are read from standard input, and each is answered at once; there `help` lists them, with the commands and questions that only such a session has.
+Without COMMANDS, and with -, they are read from standard input, and each is answered at once; there `help` lists them, with the commands and questions that only such a session has. At a terminal `rlwrap -f <(hek completions words) hek debug FILE` adds arrow keys, a history and completion.
 
 Example:
   hek debug first.hek
@@ -364,7 +363,7 @@ are answered with
         FILE,
         ArgumentText {
             name: "COMMANDS",
-            help: "a text of commands, or - for standard input",
+            help: "a text of these commands; - is standard input, where they are those of a session",
             form: Form::MaybeWord,
         },
         TEXT,
@@ -659,13 +658,16 @@ const COMPLETIONS: CommandText = CommandText {
     about: "Prints what a shell reads to complete the words of a command line",
     example: r"Example:
   source <(hek completions bash)
-completes the commands, options and files of hek in this shell. For zsh, `hek completions zsh` goes into a file _hek in a folder of $fpath; for fish, `hek completions fish` into ~/.config/fish/completions/hek.fish.",
+completes the commands, options and files of hek in this shell. For zsh, `hek completions zsh` goes into a file _hek in a folder of $fpath; for fish, `hek completions fish` into ~/.config/fish/completions/hek.fish. `hek completions words` prints the words of a session of hek debug, a line each, for rlwrap -f.",
     arguments: &[ArgumentText {
         name: "SHELL",
-        help: "the shell",
-        form: Form::OneOf(Shell::NAMES),
+        help: "the shell; words for the words of a session of hek debug",
+        form: Form::OneOf(COMPLETED),
     }],
 };
+
+/// What is completed: the command line in a shell, and the words of a session.
+const COMPLETED: &[&str] = &["bash", "zsh", "fish", "words"];
 
 const MAN: CommandText = CommandText {
     name: "man",

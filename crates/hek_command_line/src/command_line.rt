@@ -6,6 +6,7 @@ use crate::explain::finish;
 use crate::explaining::{CommandWords, Explaining};
 use crate::kept::{Kept, KeptDisk, KeptReader};
 use crate::log::history;
+use crate::opening::without_mark;
 use crate::options::{
     count_from, form_of, level_of, number_of, portion_of, printing_of, step_of, text,
 };
@@ -13,12 +14,14 @@ use crate::output::NotedOutput;
 use crate::permute::{permute_alone, permute_jobs};
 use crate::refused::{OUTPUT, refuse_page, refuse_picture, refuse_same};
 use crate::schedule::{schedule_file, schedule_to_run};
-use crate::typed::TypedReader;
+use crate::sources::SourceFiles;
 use crate::words::advise_sign;
 use clap::error::ErrorKind as ClapKind;
 use clap::{ArgMatches, Error};
 use hek_check_command::{Asked, check_command, note_nothing, reported_command};
-use hek_debug_command::{CommandFile, Manner, debug_command, debug_session, explained_command};
+use hek_debug_command::{
+    CommandFile, Manner, debug_command, debug_session, explained_command, put_words,
+};
 use hek_figure_command::figure_command;
 use hek_history_command::run_log_command;
 use hek_manual::{Shell, manual_page};
@@ -26,7 +29,7 @@ use hek_page_command::{
     Extent, Heading, MOST_NODES, Making, Part, explorer_command, levels_command, made_file,
     page_command,
 };
-use hek_report::{HekFault, INPUT, Printing, ScheduleFile, read_text, report};
+use hek_report::{HekFault, INPUT, Printing, ScheduleFile, read_text, report, send};
 use hek_rules::Level;
 use hek_run_command::{Driving, Steps, drive_command, run_command, state_command, steps_command};
 use hek_step_report::{Extras, Why};
@@ -228,19 +231,35 @@ fn run<'a, D: Disk, I: Read + IsTerminal + Drop, W: Write + IsTerminal, E: Write
         Some(("run", found)) => run_schedule(alloc, found, disk, input, out),
         Some(("debug", found)) => debug(alloc, found, explains, disk, input, out, faults),
         Some(("history", found)) => history(alloc, found, explains, disk, input, out, faults),
-        Some(("completions", found)) => completions(found, out),
+        Some(("completions", found)) => completions(alloc, found, out),
         Some(("man", _)) => print(manual_page(), out),
-        Some((name, found)) => run_noting(alloc, name, found, disk, input, out, faults),
+        Some((name, found)) => run_noting(alloc, name, found, explains, disk, input, out, faults),
         None => Err(HekFault::BadArgument),
     }
 }
 
-/// Prints the completions for the shell that the words name.
-fn completions<'a, W: Write>(found: &ArgMatches<'_>, out: &mut W) -> Result<u8, HekFault<'a>> {
-    match found.get_str("SHELL").and_then(Shell::named) {
-        Some(shell) => print(shell.completions(), out),
+/// Prints the completions for the shell that the words name, or the words of a session.
+fn completions<'a, W: Write>(
+    alloc: Global,
+    found: &ArgMatches<'_>,
+    out: &mut W,
+) -> Result<u8, HekFault<'a>> {
+    match found.get_str("SHELL") {
+        Some("words") => session_words(alloc, out),
+        Some(name) => match Shell::named(name) {
+            Some(shell) => print(shell.completions(), out),
+            None => Err(HekFault::BadArgument),
+        },
         None => Err(HekFault::BadArgument),
     }
+}
+
+/// Prints the words of a session of `debug`, one on each line.
+fn session_words<'a, W: Write>(alloc: Global, out: &mut W) -> Result<u8, HekFault<'a>> {
+    let mut words = Vec::new(alloc);
+    put_words(alloc, &mut words)?;
+    send(&mut words, out)?;
+    Ok(0)
 }
 
 /// Prints a text that the program has.
@@ -262,13 +281,14 @@ fn run_noting<
     alloc: Global,
     name: &str,
     found: &ArgMatches<'a>,
+    explains: bool,
     disk: &D,
     input: &mut Option<I>,
     out: &mut W,
     faults: &mut E,
 ) -> Result<u8, HekFault<'a>> {
     match name {
-        "drive" => drive(alloc, found, disk, input, out, faults),
+        "drive" => drive(alloc, found, explains, disk, input, out, faults),
         "check" => check(alloc, found, disk, input, out, faults),
         "permute" => permute_alone(alloc, found, disk, input, out, faults),
         "page" => page(alloc, found, disk, input, out, faults),
@@ -331,24 +351,26 @@ fn extras_of(found: &ArgMatches<'_>) -> Extras {
 fn drive<'a, D: Disk, I: Read + IsTerminal + Drop, W: Write, E: Write>(
     alloc: Global,
     found: &ArgMatches<'a>,
+    explains: bool,
     disk: &D,
     input: &mut Option<I>,
     out: &mut W,
     faults: &mut E,
 ) -> Result<u8, HekFault<'a>> {
     let printing = printing_of(found);
+    let is_typed = is_typed(input);
     let driving = Driving {
         extras: extras_of(found),
         state: found.get_flag("state"),
         ends: found.get_flag("ends"),
-        prompts: is_typed(input) && printing == Printing::Text,
+        prompts: is_typed && printing == Printing::Text,
+        is_typed,
+        explains,
         printing,
     };
-    let is_typed = is_typed(input);
     let file = schedule_to_run(alloc, found, disk, input)?;
     let events = open(disk, input, INPUT)?;
-    let events = TypedReader::new(events, is_typed, faults);
-    drive_command(alloc, file, events, driving, out)
+    drive_command(alloc, file, events, driving, out, faults)
 }
 
 /// Whether standard input is a terminal.
@@ -374,14 +396,15 @@ fn debug<'a, D: Disk, I: Read + IsTerminal + Drop, W: Write, E: Write>(
     };
     let file = schedule_to_run(alloc, found, disk, input)?;
     match found.get_str("COMMANDS") {
-        Some(name) => {
+        Some(name) if name != INPUT => {
             let commands = read_text(alloc, open(disk, input, name)?, name)?;
-            let text = commands.as_slice();
+            let text = without_mark(commands.as_slice());
             debug_file(alloc, file, CommandFile { name, text }, manner, out, faults)
         }
-        None => {
+        _ => {
             let typed = open(disk, input, INPUT)?;
-            debug_session(alloc, file, typed, manner, out, faults)
+            let sources = SourceFiles { disk };
+            debug_session(alloc, file, typed, &sources, manner, out, faults)
         }
     }
 }
@@ -540,7 +563,8 @@ fn check<'a, D: Disk, I: Read + Drop, W: Write, E: Write + IsTerminal>(
     let file = schedule_file(alloc, found, disk, input)?;
     let name = text(found, "TRACE")?;
     let trace = read_text(alloc, open(disk, input, name)?, name)?;
-    check_trace(alloc, found, level, file, trace.as_slice(), out, faults)
+    let trace = without_mark(trace.as_slice());
+    check_trace(alloc, found, level, file, trace, out, faults)
 }
 
 fn check_trace<'a, R: Read + Drop, W: Write, E: Write + IsTerminal>(

@@ -21,6 +21,8 @@ pub struct Kept<'a> {
     other_bytes: RefCell<Vec<u8>>,
     /// A log is read line by line, so its bytes are not kept.
     is_log: bool,
+    /// Whether FILE is open, where TRACE or COMMANDS has the same name.
+    is_opened: Cell<bool>,
     failure: Failure,
 }
 
@@ -35,6 +37,7 @@ impl<'a> Kept<'a> {
             file_bytes: RefCell::new(Vec::new(alloc)),
             other_bytes: RefCell::new(Vec::new(alloc)),
             is_log: false,
+            is_opened: Cell::new(false),
             failure: Failure::new(),
         };
         if let Some((command, found)) = matches.subcommand() {
@@ -73,11 +76,12 @@ impl<'a> Kept<'a> {
         if !self.explains || self.is_log {
             return None;
         }
+        if self.file == Some(name) && !self.is_opened.get() {
+            self.is_opened.set(true);
+            return Some(&self.file_bytes);
+        }
         if self.other == Some(name) {
             return Some(&self.other_bytes);
-        }
-        if self.file == Some(name) {
-            return Some(&self.file_bytes);
         }
         None
     }

@@ -19,8 +19,8 @@ mod reasons;
 mod refused;
 mod schedule;
 mod sought;
+mod sources;
 mod system_disk;
-mod typed;
 mod words;
 
 pub use command_line::{answer_in_threads, program};

@@ -89,7 +89,7 @@ Runs a schedule step by step, to breakpoints and watches, and back.
 a schedule: a text by its name (.hek) or its first word, otherwise an image; \- is standard input
 .TP
 \fICOMMANDS\fR
-a text of commands, or \- for standard input
+a text of these commands; \- is standard input, where they are those of a session
 .TP
 \fB\-\-text\fR
 FILE is a schedule text, whatever it holds
@@ -121,7 +121,7 @@ watch waits NAME   stops where the number that a transaction waits for changes
 clear              forgets all breakpoints and watches
 .fi
 .RE
-Without COMMANDS they are read from standard input, and each is answered at once; there \(gahelp\(ga lists them, with the commands and questions that only such a session has.
+Without COMMANDS, and with \-, they are read from standard input, and each is answered at once; there \(gahelp\(ga lists them, with the commands and questions that only such a session has. At a terminal \(garlwrap \-f <(hek completions words) hek debug FILE\(ga adds arrow keys, a history and completion.
 .PP
 Example:
 .RS 4
@@ -637,7 +637,7 @@ Prints what a shell reads to complete the words of a command line.
 \fBhek completions <SHELL>\fR
 .TP
 \fISHELL\fR
-the shell [possible values: bash, zsh, fish]
+the shell; words for the words of a session of hek debug [possible values: bash, zsh, fish, words]
 .PP
 Example:
 .RS 4
@@ -645,7 +645,7 @@ Example:
 source <(hek completions bash)
 .fi
 .RE
-completes the commands, options and files of hek in this shell. For zsh, \(gahek completions zsh\(ga goes into a file _hek in a folder of $fpath; for fish, \(gahek completions fish\(ga into ~/.config/fish/completions/hek.fish.
+completes the commands, options and files of hek in this shell. For zsh, \(gahek completions zsh\(ga goes into a file _hek in a folder of $fpath; for fish, \(gahek completions fish\(ga into ~/.config/fish/completions/hek.fish. \(gahek completions words\(ga prints the words of a session of hek debug, a line each, for rlwrap \-f.
 .SS man
 Prints the manual page.
 .PP

@@ -187,7 +187,7 @@ _hek() {
         completions)
             _arguments \
                 '(- *)'{-h,--help}'[Print help]' \
-                '1:SHELL:(bash zsh fish)'
+                '1:SHELL:(bash zsh fish words)'
             ;;
         man)
             _arguments \
