@@ -38,6 +38,12 @@ _hek() {
     "page --next") return ;;
     "page --grain") words="move split event" ;;
     "page --limit") return ;;
+    "figure --explain=") words="always never" ;;
+    "figure --level") words="serializable repeatable snapshot" ;;
+    "figure --output" | "figure -o") compopt -o default; return ;;
+    "figure --step") return ;;
+    "figure --part") return ;;
+    "figure --title") return ;;
     "permute --explain=") words="always never" ;;
     "permute --level") words="serializable repeatable snapshot" ;;
     "permute --grain") words="move split event" ;;
