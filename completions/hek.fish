@@ -81,7 +81,7 @@ complete -c hek -n '__fish_seen_subcommand_from permute' -l auto -d 'as always h
 complete -c hek -n '__fish_seen_subcommand_from permute' -l level -x -a 'serializable repeatable snapshot' -d 'judges or runs all transactions as serializable, repeatable or snapshot'
 complete -c hek -n '__fish_seen_subcommand_from permute' -l split -d 'makes finish and precommit a separate move'
 complete -c hek -n '__fish_seen_subcommand_from permute' -l grain -x -a 'move split event' -d 'cuts the end of a transaction into one move (move), two (split), or a move for each event (event)'
-complete -c hek -n '__fish_seen_subcommand_from permute' -l limit -x -d 'counts nothing if there are more than N states (1000000); with --each, --part or --find, more than N orders (100000)'
+complete -c hek -n '__fish_seen_subcommand_from permute' -l limit -x -d 'counts nothing if there are more than N states (1000000); with --each, --part or --find of a reply, more than N orders (100000)'
 complete -c hek -n '__fish_seen_subcommand_from permute' -l part -x -d 'plays the Kth of N equal parts of the orders'
 complete -c hek -n '__fish_seen_subcommand_from permute' -l jobs -x -d 'with --part: plays the orders with N threads, 1 to 1000'
 complete -c hek -n '__fish_seen_subcommand_from permute' -l each -d 'prints a line for each order'

@@ -305,7 +305,7 @@ makes finish and precommit a separate move
 cuts the end of a transaction into one move (move), two (split), or a move for each event (event)
 .TP
 \fB\-\-limit\fR \fIN\fR
-counts nothing if there are more than N states (1000000); with \-\-each, \-\-part or \-\-find, more than N orders (100000)
+counts nothing if there are more than N states (1000000); with \-\-each, \-\-part or \-\-find of a reply, more than N orders (100000)
 .TP
 \fB\-\-part\fR \fIK/N\fR
 plays the Kth of N equal parts of the orders
