@@ -1,45 +1,104 @@
 //! The command line: its words, and what the program does for them.
-use crate::arguments::{RULES, meant_command, read_words};
-use crate::colour::{Paint, Painted};
-use crate::convert::{asm, dis, release, word};
-use crate::disk::{Disk, LateFile, open};
+use crate::arguments::RULES;
+use crate::arguments::meant_command;
+use crate::arguments::read_words;
+use crate::colour::Paint;
+use crate::colour::Painted;
+use crate::convert::asm;
+use crate::convert::dis;
+use crate::convert::release;
+use crate::convert::word;
+use crate::disk::Disk;
+use crate::disk::LateFile;
+use crate::disk::open;
 use crate::explain::finish;
-use crate::explaining::{Colouring, CommandWords, Explaining, Wishes};
+use crate::explaining::Colouring;
+use crate::explaining::CommandWords;
+use crate::explaining::Explaining;
+use crate::explaining::Wishes;
 use crate::import::import;
-use crate::kept::{Kept, KeptDisk, KeptReader};
+use crate::kept::Kept;
+use crate::kept::KeptDisk;
+use crate::kept::KeptReader;
 use crate::log::history;
 use crate::opening::without_mark;
-use crate::options::{count_from, form_of, level_of, number_of, printing_of, step_of, text};
+use crate::options::count_from;
+use crate::options::form_of;
+use crate::options::level_of;
+use crate::options::number_of;
+use crate::options::portion_of;
+use crate::options::printing_of;
+use crate::options::step_of;
+use crate::options::text;
 use crate::output::NotedOutput;
 use crate::page_data::write_data;
-use crate::permute::{permute_alone, permute_jobs};
-use crate::refused::{OUTPUT, refuse_page, refuse_same};
-use crate::schedule::{schedule_file, schedule_to_run};
+use crate::permute::permute_alone;
+use crate::permute::permute_jobs;
+use crate::refused::OUTPUT;
+use crate::refused::refuse_page;
+use crate::refused::refuse_picture;
+use crate::refused::refuse_same;
+use crate::schedule::schedule_file;
+use crate::schedule::schedule_to_run;
 use crate::sources::SourceFiles;
-use crate::told::{Told, put_fault, wants_json};
+use crate::told::Told;
+use crate::told::put_fault;
+use crate::told::wants_json;
 use crate::words::advise_sign;
+use clap::ArgMatches;
+use clap::Error;
 use clap::error::ErrorKind as ClapKind;
-use clap::{ArgMatches, Error};
-use hek_check_command::{Asked, check_command, note_nothing, reported_command};
-use hek_debug_command::{
-    CommandFile, Manner, debug_command, debug_session, explained_command, put_words,
-};
+use hek_check_command::Asked;
+use hek_check_command::check_command;
+use hek_check_command::note_nothing;
+use hek_check_command::reported_command;
+use hek_debug_command::CommandFile;
+use hek_debug_command::Manner;
+use hek_debug_command::debug_command;
+use hek_debug_command::debug_session;
+use hek_debug_command::explained_command;
+use hek_debug_command::put_words;
+use hek_figure_command::figure_command;
 use hek_history_command::run_log_command;
-use hek_manual::{Shell, manual_page};
-use hek_page_command::{
-    Extent, Heading, MOST_NODES, Making, Part, explorer_command, levels_command, made_file,
-    page_command,
-};
-use hek_report::{HekFault, INPUT, Printing, ScheduleFile, read_text, report, send};
+use hek_manual::Shell;
+use hek_manual::manual_page;
+use hek_page_command::Extent;
+use hek_page_command::Heading;
+use hek_page_command::MOST_NODES;
+use hek_page_command::Making;
+use hek_page_command::Part;
+use hek_page_command::explorer_command;
+use hek_page_command::levels_command;
+use hek_page_command::made_file;
+use hek_page_command::page_command;
+use hek_report::HekFault;
+use hek_report::INPUT;
+use hek_report::Printing;
+use hek_report::ScheduleFile;
+use hek_report::read_text;
+use hek_report::report;
+use hek_report::send;
 use hek_rules::Level;
-use hek_run_command::{Driving, Steps, drive_command, run_command, state_command, steps_command};
-use hek_step_report::{Extras, Why};
-use hek_threads_command::{Pace, Progress, repeat_command, threads_command};
+use hek_run_command::Driving;
+use hek_run_command::Steps;
+use hek_run_command::drive_command;
+use hek_run_command::run_command;
+use hek_run_command::state_command;
+use hek_run_command::steps_command;
+use hek_step_report::Extras;
+use hek_step_report::Why;
+use hek_threads_command::Pace;
+use hek_threads_command::Progress;
+use hek_threads_command::repeat_command;
+use hek_threads_command::threads_command;
 use std::alloc::Global;
 use std::convert::AsStr;
 use std::env;
 use std::env::Env;
-use std::io::{ErrorKind, IsTerminal, Read, Write};
+use std::io::ErrorKind;
+use std::io::IsTerminal;
+use std::io::Read;
+use std::io::Write;
 use std::sync::Wait;
 use std::thread::Threads;
 
@@ -414,6 +473,7 @@ fn run_noting<
         "check" => check(alloc, found, disk, input, out, faults),
         "permute" => permute_alone(alloc, found, disk, input, out, faults),
         "page" => page(alloc, found, disk, input, out, faults),
+        "figure" => figure(alloc, found, disk, input, out, faults),
         "threads" => Err(HekFault::NoWorker),
         _ => Err(HekFault::BadArgument),
     }
@@ -569,6 +629,59 @@ fn page<'a, D: Disk, I: Read + Drop, W: Write + IsTerminal, E: Write>(
         None if !found.get_flag("json") && refuse_page(out, faults) => Ok(2),
         _ => write_page(alloc, found, disk, input, out, faults),
     }
+}
+
+/// Answers `figure`: the picture goes to standard output, or with `-o` to a file.
+fn figure<'a, D: Disk, I: Read + Drop, W: Write + IsTerminal, E: Write>(
+    alloc: Global,
+    found: &ArgMatches<'a>,
+    disk: &D,
+    input: &mut Option<I>,
+    out: &mut W,
+    faults: &mut E,
+) -> Result<u8, HekFault<'a>> {
+    let name = text(found, "FILE")?;
+    match found.get_str("output") {
+        Some(picture) if picture != OUTPUT => {
+            if refuse_same(disk, name, picture, faults) {
+                return Ok(2);
+            }
+            let mut file = LateFile::new(disk, picture);
+            let ran = write_figure(alloc, found, disk, input, &mut file, faults);
+            let is_whole = matches!(ran, Ok(0));
+            file.settle(is_whole, ran)
+        }
+        None if refuse_picture(out, faults) => Ok(2),
+        _ => write_figure(alloc, found, disk, input, out, faults),
+    }
+}
+
+/// Writes the picture that the words ask for.
+fn write_figure<'a, D: Disk, I: Read + Drop, W: Write, E: Write>(
+    alloc: Global,
+    found: &ArgMatches<'a>,
+    disk: &D,
+    input: &mut Option<I>,
+    out: &mut W,
+    faults: &mut E,
+) -> Result<u8, HekFault<'a>> {
+    let step = number_of(found, "step")?;
+    let portion = portion_of(found)?;
+    let heading = title_of(found)?;
+    let file = schedule_file(alloc, found, disk, input)?;
+    let file = made_file(alloc, file, making_of(found)?)?;
+    figure_command(alloc, file, step, portion, heading, out, faults)
+}
+
+/// What the words say of a picture's title.
+fn title_of<'a>(found: &ArgMatches<'a>) -> Result<Heading<'a>, HekFault<'a>> {
+    Ok(Heading {
+        file: text(found, "FILE")?,
+        title: found.get_str("title"),
+        lesson: None,
+        previous: None,
+        next: None,
+    })
 }
 
 /// Writes the page that the words ask for, or its data alone.
