@@ -86,13 +86,13 @@ impl<'o, W: Write> Painted<'o, W> {
         match part {
             None => self.out.write_all(line)?,
             Some((start, colour)) => {
-                let start = start.min(line.len());
-                let end = end_of(line).max(start);
-                self.out.write_all(&line[..start])?;
+                let (front, rest) = line.split_at(start.min(line.len()));
+                let (part, end) = rest.split_at(end_of(rest).min(rest.len()));
+                self.out.write_all(front)?;
                 self.out.write_all(colour.front())?;
-                self.out.write_all(&line[start..end])?;
+                self.out.write_all(part)?;
                 self.out.write_all(PLAIN)?;
-                self.out.write_all(&line[end..])?;
+                self.out.write_all(end)?;
             }
         }
         self.line.clear();
@@ -145,7 +145,7 @@ fn reply_in(line: &[u8]) -> Option<(usize, Colour)> {
         return Some((0, Colour::Red));
     }
     let start = place_of(line, ARROW)?.saturating_add(ARROW.len());
-    let reply = &line[start.min(line.len())..];
+    let (_, reply) = line.split_at(start.min(line.len()));
     for (word, colour) in COLOURS {
         if reply.starts_with(word) {
             return Some((start, colour));
