@@ -1,104 +1,48 @@
 //! The command line: its words, and what the program does for them.
-use crate::arguments::RULES;
-use crate::arguments::meant_command;
-use crate::arguments::read_words;
-use crate::colour::Paint;
-use crate::colour::Painted;
-use crate::convert::asm;
-use crate::convert::dis;
-use crate::convert::release;
-use crate::convert::word;
-use crate::disk::Disk;
-use crate::disk::LateFile;
-use crate::disk::open;
+use crate::arguments::{RULES, meant_command, read_words};
+use crate::colour::{Paint, Painted};
+use crate::convert::{asm, dis, release, word};
+use crate::disk::{Disk, LateFile, open};
 use crate::explain::finish;
-use crate::explaining::Colouring;
-use crate::explaining::CommandWords;
-use crate::explaining::Explaining;
-use crate::explaining::Wishes;
+use crate::explaining::{Colouring, CommandWords, Explaining, Wishes};
 use crate::import::import;
-use crate::kept::Kept;
-use crate::kept::KeptDisk;
-use crate::kept::KeptReader;
+use crate::kept::{Kept, KeptDisk, KeptReader};
 use crate::log::history;
 use crate::opening::without_mark;
-use crate::options::count_from;
-use crate::options::form_of;
-use crate::options::level_of;
-use crate::options::number_of;
-use crate::options::portion_of;
-use crate::options::printing_of;
-use crate::options::step_of;
-use crate::options::text;
+use crate::options::{
+    count_from, form_of, level_of, number_of, portion_of, printing_of, step_of, text,
+};
 use crate::output::NotedOutput;
 use crate::page_data::write_data;
-use crate::permute::permute_alone;
-use crate::permute::permute_jobs;
-use crate::refused::OUTPUT;
-use crate::refused::refuse_page;
-use crate::refused::refuse_picture;
-use crate::refused::refuse_same;
-use crate::schedule::schedule_file;
-use crate::schedule::schedule_to_run;
+use crate::permute::{permute_alone, permute_jobs};
+use crate::refused::{OUTPUT, refuse_page, refuse_picture, refuse_same};
+use crate::schedule::{schedule_file, schedule_to_run};
 use crate::sources::SourceFiles;
-use crate::told::Told;
-use crate::told::put_fault;
-use crate::told::wants_json;
+use crate::told;
 use crate::words::advise_sign;
-use clap::ArgMatches;
-use clap::Error;
 use clap::error::ErrorKind as ClapKind;
-use hek_check_command::Asked;
-use hek_check_command::check_command;
-use hek_check_command::note_nothing;
-use hek_check_command::reported_command;
-use hek_debug_command::CommandFile;
-use hek_debug_command::Manner;
-use hek_debug_command::debug_command;
-use hek_debug_command::debug_session;
-use hek_debug_command::explained_command;
-use hek_debug_command::put_words;
+use clap::{ArgMatches, Error};
+use hek_check_command::{Asked, check_command, note_nothing, reported_command};
+use hek_debug_command::{
+    CommandFile, Manner, debug_command, debug_session, explained_command, put_words,
+};
 use hek_figure_command::figure_command;
 use hek_history_command::run_log_command;
-use hek_manual::Shell;
-use hek_manual::manual_page;
-use hek_page_command::Extent;
-use hek_page_command::Heading;
-use hek_page_command::MOST_NODES;
-use hek_page_command::Making;
-use hek_page_command::Part;
-use hek_page_command::explorer_command;
-use hek_page_command::levels_command;
-use hek_page_command::made_file;
-use hek_page_command::page_command;
-use hek_report::HekFault;
-use hek_report::INPUT;
-use hek_report::Printing;
-use hek_report::ScheduleFile;
-use hek_report::read_text;
-use hek_report::report;
-use hek_report::send;
+use hek_manual::{Shell, manual_page};
+use hek_page_command::{
+    Extent, Heading, MOST_NODES, Making, Part, explorer_command, levels_command, made_file,
+    page_command,
+};
+use hek_report::{HekFault, INPUT, Printing, ScheduleFile, read_text, report, send};
 use hek_rules::Level;
-use hek_run_command::Driving;
-use hek_run_command::Steps;
-use hek_run_command::drive_command;
-use hek_run_command::run_command;
-use hek_run_command::state_command;
-use hek_run_command::steps_command;
-use hek_step_report::Extras;
-use hek_step_report::Why;
-use hek_threads_command::Pace;
-use hek_threads_command::Progress;
-use hek_threads_command::repeat_command;
-use hek_threads_command::threads_command;
+use hek_run_command::{Driving, Steps, drive_command, run_command, state_command, steps_command};
+use hek_step_report::{Extras, Why};
+use hek_threads_command::{Pace, Progress, repeat_command, threads_command};
 use std::alloc::Global;
 use std::convert::AsStr;
 use std::env;
 use std::env::Env;
-use std::io::ErrorKind;
-use std::io::IsTerminal;
-use std::io::Read;
-use std::io::Write;
+use std::io::{ErrorKind, IsTerminal, Read, Write};
 use std::sync::Wait;
 use std::thread::Threads;
 
@@ -268,13 +212,20 @@ fn answer_matches<
     out: &mut W,
     faults: &mut E,
 ) -> u8 {
-    let mut told = Told::new(alloc, faults);
+    let mut kept_faults = told::Told::new(alloc, faults);
     let mut out = NotedOutput::new(out);
     let status = answer_kept(
-        system, alloc, matches, explains, disk, input, &mut out, &mut told,
+        system,
+        alloc,
+        matches,
+        explains,
+        disk,
+        input,
+        &mut out,
+        &mut kept_faults,
     );
-    if wants_json(matches) {
-        put_fault(alloc, status, &told, &mut out);
+    if told::wants_json(matches) {
+        told::put_fault(alloc, status, &kept_faults, &mut out);
     }
     status
 }
