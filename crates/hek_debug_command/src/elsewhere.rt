@@ -69,7 +69,7 @@ const WORDS: &[(&str, &str, &str)] = &[
 ];
 
 /// What is said of a word of another debugger, if it is one.
-pub(crate) fn elsewhere(word: &[u8]) -> Option<Elsewhere> {
+pub(crate) fn said_of(word: &[u8]) -> Option<Elsewhere> {
     for row in WORDS {
         if word == row.0.as_bytes() {
             return Some(Elsewhere {

@@ -1,5 +1,5 @@
 //! What is wrong with a line that is not a command.
-use crate::elsewhere::elsewhere;
+use crate::elsewhere::said_of;
 use crate::name::{Meaning, Name, NameText, Place, meant_by, name_of};
 use crate::operand::{
     BREAKS, FILE_BREAKS, Operand, SHOWS, WATCHES, condition_mistake, operand_mistake,
@@ -166,7 +166,7 @@ fn no_name<'t>(schedule: &Schedule, word: Word<'t>, medium: Medium) -> Mistake<'
     if medium == Medium::File {
         return Mistake::new(word, "", unknown_in_file(word.text), commands).meaning(Meant::Nearest);
     }
-    if let Some(other) = elsewhere(word.text) {
+    if let Some(other) = said_of(word.text) {
         return Mistake::new(word, "", other.form, commands).meaning(other.meant);
     }
     if EventKind::named(word.text).is_some() {
@@ -453,7 +453,7 @@ fn on_help<'t>(line: &'t [u8]) -> Option<Mistake<'t>> {
                 Wanted::Longer,
             ))
         }
-        _ => match elsewhere(word.text) {
+        _ => match said_of(word.text) {
             Some(other) => {
                 Some(Mistake::new(word, "help", other.form, commands).meaning(other.meant))
             }

@@ -172,11 +172,13 @@ impl Moves {
     /// Does steps until a breakpoint or a watch fits, or no step is left.
     fn run_on(&mut self, alloc: Global, until: Option<Breakpoint>) -> Result<Halt, NoMemory> {
         for _ in self.debugger.at()..self.count_steps() {
-            let was_met = self.is_met(until);
+            let before = until;
+            let after = until;
+            let was_met = self.is_met(before);
             if let Some(index) = self.look_on(alloc)? {
                 return Ok(Halt::Break(index));
             }
-            if self.is_reached(until, was_met)? {
+            if self.is_reached(after, was_met)? {
                 return Ok(Halt::Until);
             }
         }

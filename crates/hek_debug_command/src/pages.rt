@@ -176,7 +176,8 @@ fn put_mark(
     mark: Mark,
     lines: &mut Vec<u8>,
 ) -> Result<(), NoMemory> {
-    if is_breakpoint(mark) {
+    let set = mark;
+    if is_breakpoint(set) {
         put_text(word, lines)?;
     }
     match mark {

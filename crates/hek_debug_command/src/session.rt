@@ -465,7 +465,8 @@ fn step_after(last: Option<u64>, command: Command) -> Option<u64> {
 
 /// Says of a breakpoint at a position that no run stops there; `from` is the position before the line.
 fn note_place<E: Write>(session: &Session, typed: Typed, from: u64, faults: &mut E) {
-    let Some(place) = place_of(typed) else {
+    let asked = typed;
+    let Some(place) = place_of(asked) else {
         return;
     };
     let steps = session.moves.debugger.schedule().steps().len() as u64;

@@ -56,7 +56,7 @@ pub(crate) fn axis_of(
     alloc: Global,
     moment: &Moment<'_>,
     rows: &Rows,
-    looks: &Looks<'_>,
+    looks: &Looks,
 ) -> Result<Axis, NoMemory> {
     let now = moment.after.clock().number();
     let last = last_time(now);
@@ -90,7 +90,7 @@ fn last_time(now: u64) -> u64 {
 fn add_times(
     moment: &Moment<'_>,
     rows: &Rows,
-    looks: &Looks<'_>,
+    looks: &Looks,
     times: &mut Vec<u64>,
 ) -> Result<(), NoMemory> {
     add_time(moment.after.clock().number(), times)?;
@@ -181,12 +181,11 @@ pub(crate) fn draw_look(
     axis: &Axis,
     foot: f64,
 ) -> Result<(), NoMemory> {
-    let (Some(time), Some(txn), Some((event, _))) = (axis.look, moment.actor(), moment.last_done())
-    else {
+    let (Some(time), Some(txn)) = (axis.look, moment.actor()) else {
         return Ok(());
     };
-    let verb = match event {
-        Event::Insert(..) | Event::Update(..) | Event::Delete(..) => "looks",
+    let verb = match moment.last_event() {
+        Some(Event::Insert(..) | Event::Update(..) | Event::Delete(..)) => "looks",
         _ => "reads",
     };
     let name = moment.name_of(txn);

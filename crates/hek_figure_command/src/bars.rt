@@ -29,15 +29,10 @@ pub(crate) fn draw_bar(
         _ => end,
     };
     let place = Frame::new(from, frame.y, greater(to - from, 4.0), frame.high);
-    draw_shape(canvas, start, stop, row.is_touched, place)?;
-    draw_end(canvas, moment, axis, stop, place)?;
-    draw_maker(
-        canvas,
-        moment,
-        row,
-        start,
-        room_of(axis, start, stop, place),
-    )?;
+    draw_shape(canvas, &start, &stop, row.is_touched, place)?;
+    draw_end(canvas, moment, axis, &stop, place)?;
+    let room = room_of(axis, &start, &stop, place);
+    draw_maker(canvas, moment, row, &start, room)?;
     if row.begin.time().is_some() && row.begin.time() == row.end.time() {
         canvas.text(plain("by"), to + 8.0, frame.y + 19.0, "at no time")?;
     }
@@ -80,14 +75,14 @@ fn draw_never(
 /// Draws the bar itself: with a tip where it has no end.
 fn draw_shape(
     canvas: &mut Canvas,
-    start: Start,
-    stop: Stop,
+    start: &Start,
+    stop: &Stop,
     is_touched: bool,
     place: Frame,
 ) -> Result<(), NoMemory> {
     let touched = if is_touched { "touched" } else { "" };
     let class = match start {
-        Start::IfCommits(_, txn) | Start::Once(txn) => Class("bar", "open", colour_of(txn)),
+        Start::IfCommits(_, txn) | Start::Once(txn) => Class("bar", "open", colour_of(*txn)),
         _ => Class("bar", touched, ""),
     };
     if matches!(stop, Stop::At(_) | Stop::IfCommits(..)) {
@@ -114,7 +109,7 @@ fn draw_end(
     canvas: &mut Canvas,
     moment: &Moment<'_>,
     axis: &Axis,
-    stop: Stop,
+    stop: &Stop,
     place: Frame,
 ) -> Result<(), NoMemory> {
     let end = axis.right - 6.0;
@@ -122,10 +117,10 @@ fn draw_end(
         Stop::Once(txn) => {
             let from = greater(place.x, axis.future());
             let rest = Frame::new(from, place.y, end - from, place.high);
-            let colour = colour_of(txn);
+            let colour = colour_of(*txn);
             canvas.shape(Class("taken", colour, ""), &arrow_of(rest, 2.0))?;
             if from > place.x + 4.0 {
-                draw_until(canvas, moment, txn, rest)?;
+                draw_until(canvas, moment, *txn, rest)?;
             }
             Ok(())
         }
@@ -133,7 +128,7 @@ fn draw_end(
             let x = place.x + place.wide;
             let top = place.y - 2.0;
             let foot = place.y + place.high + 2.0;
-            canvas.line(Class("cut", colour_of(txn), ""), (x, top), (x, foot))
+            canvas.line(Class("cut", colour_of(*txn), ""), (x, top), (x, foot))
         }
         _ => Ok(()),
     }
@@ -159,10 +154,10 @@ fn draw_until(
 }
 
 /// The room for what is said of the maker.
-fn room_of(axis: &Axis, start: Start, stop: Stop, place: Frame) -> Frame {
-    let right = match (start, stop) {
-        (Start::At(_), Stop::Once(_)) => axis.future(),
-        (_, Stop::At(_) | Stop::IfCommits(..)) => place.x + place.wide,
+fn room_of(axis: &Axis, start: &Start, stop: &Stop, place: Frame) -> Frame {
+    let right = match stop {
+        Stop::Once(_) if matches!(start, Start::At(_)) => axis.future(),
+        Stop::At(_) | Stop::IfCommits(..) => place.x + place.wide,
         _ => axis.right - 16.0,
     };
     Frame::new(place.x, place.y, right - place.x, place.high)
@@ -173,7 +168,7 @@ fn draw_maker(
     canvas: &mut Canvas,
     moment: &Moment<'_>,
     row: &Row,
-    start: Start,
+    start: &Start,
     room: Frame,
 ) -> Result<(), NoMemory> {
     let Some(txn) = maker_of(row.begin) else {

@@ -35,10 +35,30 @@ fn names_of(fields: Fields) -> &'static [(&'static str, u32)] {
     }
 }
 
+/// When a word has these bits.
+#[derive(Clone, Copy, PartialEq, Eq)]
+pub(crate) enum When {
+    Before,
+    After,
+    New,
+    Unchanged,
+}
+
+impl When {
+    fn label(self) -> &'static str {
+        match self {
+            When::Before => "before",
+            When::After => "after",
+            When::New => "new",
+            When::Unchanged => "",
+        }
+    }
+}
+
 /// The rows of a word: before and after, or as it is.
 #[derive(Clone, Copy)]
-pub(crate) struct BitRow<'a> {
-    pub label: &'a str,
+pub(crate) struct BitRow {
+    pub when: When,
     pub bits: u64,
     pub fields: Fields,
 }
@@ -51,7 +71,7 @@ struct Grid {
 }
 
 impl Grid {
-    fn of(rows: &[BitRow<'_>], wide: f64) -> Grid {
+    fn of(rows: &[BitRow], wide: f64) -> Grid {
         let mut fold = 64 - HEAD - LEAST_TAIL;
         for row in rows {
             fold = fold.min(equal_bits(row.bits));
@@ -87,19 +107,19 @@ fn equal_bits(bits: u64) -> u32 {
 /// Draws rows of bits from a place on; answers where they end. What differs from the row above is marked.
 pub(crate) fn draw_bits(
     canvas: &mut Canvas,
-    rows: &[BitRow<'_>],
+    rows: &[BitRow],
     y: f64,
     wide: f64,
 ) -> Result<f64, NoMemory> {
     let grid = Grid::of(rows, wide);
     let mut y = y;
-    let mut above: Option<&BitRow<'_>> = None;
+    let mut above: Option<&BitRow> = None;
     for row in rows {
         if above.map(|it| it.fields) != Some(row.fields) {
             draw_names(canvas, grid, row.fields, y + 14.0)?;
             y = y + 20.0;
         }
-        canvas.text(plain("soft"), 4.0, y + 17.0, row.label)?;
+        canvas.text(plain("soft"), 4.0, y + 17.0, row.when.label())?;
         let old = above.map(|it| it.bits);
         draw_row(canvas, grid, row.bits, old.unwrap_or(row.bits), y)?;
         above = Some(row);

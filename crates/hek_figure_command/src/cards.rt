@@ -17,7 +17,7 @@ pub(crate) struct CardText {
 pub(crate) fn card_of(
     alloc: Global,
     moment: &Moment<'_>,
-    event: Event,
+    event: &Event,
     reply: &Reply,
 ) -> Result<CardText, NoMemory> {
     let bottom = detail_of(alloc, moment, event, reply)?;
@@ -43,7 +43,7 @@ pub(crate) fn card_of(
 }
 
 /// Whether a card says a key, and how that came out.
-fn has_row(event: Event, reply: &Reply) -> bool {
+fn has_row(event: &Event, reply: &Reply) -> bool {
     match reply {
         Reply::Found(_) | Reply::Absent | Reply::Exists => true,
         Reply::Done => matches!(event, Event::Insert(..) | Event::Update(..)),
@@ -52,7 +52,7 @@ fn has_row(event: Event, reply: &Reply) -> bool {
 }
 
 /// How a read or a write came out, without its key.
-fn outcome_of(alloc: Global, event: Event, reply: &Reply) -> Result<String, NoMemory> {
+fn outcome_of(alloc: Global, event: &Event, reply: &Reply) -> Result<String, NoMemory> {
     let value = event.second();
     let text = match reply {
         Reply::Found(value) => format!(in alloc; "is {value}")?,
@@ -67,7 +67,7 @@ fn outcome_of(alloc: Global, event: Event, reply: &Reply) -> Result<String, NoMe
 fn detail_of(
     alloc: Global,
     moment: &Moment<'_>,
-    event: Event,
+    event: &Event,
     reply: &Reply,
 ) -> Result<String, NoMemory> {
     let key = event.first();

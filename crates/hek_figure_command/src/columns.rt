@@ -203,7 +203,7 @@ fn fit_cells(alloc: Global, moment: &Moment<'_>, columns: &mut Columns) -> Resul
 fn least_cell(alloc: Global, moment: &Moment<'_>) -> Result<f64, NoMemory> {
     let mut wide = 0.0;
     for place in 0..moment.steps().len() {
-        if let Some((event, reply)) = moment.done_at(place) {
+        if let (Some(event), Some(reply)) = (moment.event_at(place), moment.reply_at(place)) {
             let text = card_of(alloc, moment, event, reply)?;
             wide = greater(wide, width_of(text.top.as_str(), SMALL));
             wide = greater(wide, width_of(text.bottom.as_str(), SMALL));

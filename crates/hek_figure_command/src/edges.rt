@@ -112,7 +112,7 @@ fn add_wait(
 
 /// Whether one waits for the other in the cycle that the step found.
 fn is_in_cycle(moment: &Moment<'_>, from: TxnId, to: TxnId) -> bool {
-    let Some((_, Reply::Victim(_, members))) = moment.last_done() else {
+    let Some(Reply::Victim(_, members)) = moment.last_reply() else {
         return false;
     };
     let members = members.items();

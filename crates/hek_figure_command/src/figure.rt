@@ -94,7 +94,7 @@ fn figure_of(
         start: &start,
         before: &before,
         after: &after,
-        ending: ending.as_ref(),
+        ending: &ending,
     };
     picture_of(alloc, &moment, portion, heading, comments)
 }

@@ -182,7 +182,7 @@ fn ends_of(alloc: Global, edges: &[Edge]) -> Result<Vec<TxnId>, NoMemory> {
 /// The transactions that are drawn, by ID: those of the step and of the lines first, and then the others that have begun.
 fn nodes_of(alloc: Global, moment: &Moment<'_>, edges: &[Edge]) -> Result<Vec<TxnId>, NoMemory> {
     let mut txns = Vec::new(alloc);
-    if let Some((_, Reply::Victim(_, members))) = moment.last_done() {
+    if let Some(Reply::Victim(_, members)) = moment.last_reply() {
         for txn in members.items() {
             add_node(*txn, &mut txns)?;
         }
@@ -338,7 +338,7 @@ fn draw_node(canvas: &mut Canvas, moment: &Moment<'_>, node: &Node) -> Result<()
 fn stage_said(moment: &Moment<'_>, txn: TxnId) -> (&'static str, &'static str) {
     let stage = stage_in(moment.after, txn);
     let dead = if stage == Stage::Aborted { "dead" } else { "" };
-    if let Some((_, Reply::Victim(victim, _))) = moment.last_done() {
+    if let Some(Reply::Victim(victim, _)) = moment.last_reply() {
         if *victim == txn {
             return ("victim", dead);
         }

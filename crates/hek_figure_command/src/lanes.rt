@@ -294,12 +294,12 @@ fn draw_step(
     index: usize,
     place: usize,
 ) -> Result<(), NoMemory> {
-    let Some((event, reply)) = moment.done_at(place) else {
+    let (Some(event), Some(reply)) = (moment.event_at(place), moment.reply_at(place)) else {
         return Ok(());
     };
     let text = card_of(canvas.alloc, moment, event, reply)?;
-    let lines = [text.top.as_str(), text.bottom.as_str()];
-    draw_card(canvas, at, index, event.txn(), kind_of(reply), lines)
+    let (top, bottom) = (text.top.as_str(), text.bottom.as_str());
+    draw_card(canvas, at, index, event.txn(), kind_of(reply), top, bottom)
 }
 
 /// Draws a card for each transaction that asks again in a column.
@@ -314,8 +314,8 @@ fn draw_polls(
         let count = polls_of(moment, column, *txn);
         if count > 0 {
             let bottom = times_said(canvas, count)?;
-            let lines = ["asks again", bottom.as_str()];
-            draw_card(canvas, at, index, Some(*txn), "waits", lines)?;
+            let bottom = bottom.as_str();
+            draw_card(canvas, at, index, Some(*txn), "waits", "asks again", bottom)?;
         }
     }
     Ok(())
@@ -325,7 +325,7 @@ fn draw_polls(
 pub(crate) fn polls_of(moment: &Moment<'_>, column: Column, txn: TxnId) -> usize {
     let mut count: usize = 0;
     for place in column.from..column.to.saturating_add(1) {
-        if let Some((event, _)) = moment.done_at(place) {
+        if let Some(event) = moment.event_at(place) {
             if event.txn() == Some(txn) {
                 count = count.saturating_add(1);
             }
@@ -351,7 +351,8 @@ fn draw_card(
     index: usize,
     txn: Option<TxnId>,
     kind: &str,
-    lines: [&str; 2],
+    op: &str,
+    detail: &str,
 ) -> Result<(), NoMemory> {
     let Some(y) = at.y(txn) else {
         return Ok(());
@@ -365,7 +366,6 @@ fn draw_card(
     let frame = Frame::new(at.x(index) + 2.0, top, at.cell - 4.0, CARD_HIGH);
     canvas.round_box(Class("card", kind, here), frame, 4.0)?;
     let x = at.x(index) + at.cell / 2.0;
-    let [op, detail] = lines;
     if detail.is_empty() {
         return canvas.text(Class("op middle text", kind, ""), x, top + 25.0, op);
     }

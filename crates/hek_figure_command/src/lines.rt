@@ -20,7 +20,8 @@ pub(crate) struct Line<'a> {
 pub(crate) fn line_of<'a>(nodes: &[Node], edges: &[Edge], edge: &'a Edge) -> Option<Line<'a>> {
     let a = node_of(nodes, edge.from)?;
     let b = node_of(nodes, edge.to)?;
-    let (dx, dy) = (b.x - a.x, b.y - a.y);
+    let (ax, ay, bx, by) = (a.x, a.y, b.x, b.y);
+    let (dx, dy) = (bx - ax, by - ay);
     let far = (dx * dx + dy * dy).sqrt();
     if far < 1.0 {
         return None;
@@ -28,15 +29,16 @@ pub(crate) fn line_of<'a>(nodes: &[Node], edges: &[Edge], edge: &'a Edge) -> Opt
     let (ux, uy) = (dx / far, dy / far);
     let is_both = has_counterpart(edges, edge);
     let (off, bend) = if is_both { (7.0, 22.0) } else { (0.0, 8.0) };
-    let (near, nearer) = (reach(a, ux, uy), reach(b, ux, uy) + 3.0);
-    let from = (a.x + ux * near - uy * off, a.y + uy * near + ux * off);
-    let to = (b.x - ux * nearer - uy * off, b.y - uy * nearer + ux * off);
-    let middle = ((from.0 + to.0) / 2.0, (from.1 + to.1) / 2.0);
+    let near = reach(a.half, ux, uy);
+    let nearer = reach(b.half, ux, uy) + 3.0;
+    let (x1, y1) = (ax + ux * near - uy * off, ay + uy * near + ux * off);
+    let (x2, y2) = (bx - ux * nearer - uy * off, by - uy * nearer + ux * off);
+    let (x, y) = ((x1 + x2) / 2.0, (y1 + y2) / 2.0);
     Some(Line {
         edge,
-        from,
-        bend: (middle.0 - uy * bend, middle.1 + ux * bend),
-        to,
+        from: (x1, y1),
+        bend: (x - uy * bend, y + ux * bend),
+        to: (x2, y2),
     })
 }
 
@@ -59,9 +61,9 @@ fn node_of(nodes: &[Node], txn: TxnId) -> Option<Node> {
     None
 }
 
-/// How far the edge of a node is from its middle in a direction, as if it were an ellipse around its box.
-fn reach(node: Node, ux: f64, uy: f64) -> f64 {
-    let (x, y) = (ux / (node.half + 2.0), uy / (HALF + 4.0));
+/// How far the edge of a node of half this width is from its middle in a direction, as if it were an ellipse around its box.
+fn reach(half: f64, ux: f64, uy: f64) -> f64 {
+    let (x, y) = (ux / (half + 2.0), uy / (HALF + 4.0));
     1.0 / (x * x + y * y).sqrt()
 }
 

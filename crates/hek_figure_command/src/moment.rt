@@ -21,7 +21,7 @@ pub(crate) struct Moment<'a> {
     pub before: &'a Machine,
     pub after: &'a Machine,
     /// After the last step of the schedule, how the run ended.
-    pub ending: Option<&'a Ending>,
+    pub ending: &'a Option<Ending>,
 }
 
 /// How a run ended: whether each transaction got what its level promises, and whether those that committed can follow one another.
@@ -42,23 +42,34 @@ impl<'a> Moment<'a> {
         self.story.steps.last()
     }
 
-    /// The event and the reply of a step that has a card.
-    pub(crate) fn done_at(&self, place: usize) -> Option<(Event, &'a Reply)> {
+    /// The event of a step that has a card.
+    pub(crate) fn event_at(&self, place: usize) -> Option<&'a Event> {
         let index = self.done.saturating_add(place);
-        let transcript = &self.story.transcript;
-        let event = transcript.events().get(index)?;
-        Some((*event, transcript.replies().get(index)?))
+        self.story.transcript.events().get(index)
     }
 
-    /// The event and the reply of the step that the figure is of.
-    pub(crate) fn last_done(&self) -> Option<(Event, &'a Reply)> {
-        self.done_at(self.steps().len().checked_sub(1)?)
+    /// The reply to the event of a step that has a card.
+    pub(crate) fn reply_at(&self, place: usize) -> Option<&'a Reply> {
+        let index = self.done.saturating_add(place);
+        self.story.transcript.replies().get(index)
+    }
+
+    /// The event of the step that the figure is of.
+    pub(crate) fn last_event(&self) -> Option<&'a Event> {
+        self.event_at(self.steps().len().checked_sub(1)?)
+    }
+
+    /// The reply of the step that the figure is of.
+    pub(crate) fn last_reply(&self) -> Option<&'a Reply> {
+        self.reply_at(self.steps().len().checked_sub(1)?)
     }
 
     /// The transaction of the step that the figure is of.
     pub(crate) fn actor(&self) -> Option<TxnId> {
-        let (event, _) = self.last_done()?;
-        event.txn()
+        match self.last_event() {
+            Some(event) => event.txn(),
+            None => None,
+        }
     }
 
     /// The number of a step that has a card.

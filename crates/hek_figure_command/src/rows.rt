@@ -10,22 +10,22 @@ const MOST_ROWS: usize = 20;
 
 /// What the transaction of the step sees of a version.
 #[derive(Clone, Copy)]
-pub(crate) struct Look<'a> {
+pub(crate) struct Look {
     pub version: VersionId,
     pub is_seen: bool,
     /// The transaction on whose commit that depends.
-    pub if_commits: Option<&'a str>,
+    pub if_commits: Option<TxnId>,
 }
 
 /// What the transaction of the step sees, and the time at which it looks.
 #[derive(Drop)]
-pub(crate) struct Looks<'a> {
+pub(crate) struct Looks {
     pub time: Option<u64>,
-    pub list: Vec<Look<'a>>,
+    pub list: Vec<Look>,
 }
 
 /// Reads what the story says of a step: `at 3`, and a line for each version that it looks at, as `0 seen if a`.
-pub(crate) fn looks_of<'a>(alloc: Global, moment: &Moment<'a>) -> Result<Looks<'a>, NoMemory> {
+pub(crate) fn looks_of(alloc: Global, moment: &Moment<'_>) -> Result<Looks, NoMemory> {
     let mut looks = Looks {
         time: None,
         list: Vec::new(alloc),
@@ -36,18 +36,18 @@ pub(crate) fn looks_of<'a>(alloc: Global, moment: &Moment<'a>) -> Result<Looks<'
     for line in text_of(step.sees.as_slice()).lines() {
         if let Some(time) = line.strip_prefix("at ") {
             looks.time = number(time.as_bytes());
-        } else if let Some(look) = look_in(line) {
+        } else if let Some(look) = look_in(moment, line) {
             looks.list.push(look)?;
         }
     }
     Ok(looks)
 }
 
-fn look_in(line: &str) -> Option<Look<'_>> {
+fn look_in(moment: &Moment<'_>, line: &str) -> Option<Look> {
     let (index, how) = line.split_once(' ')?;
     let index = number(index.as_bytes())?;
     let if_commits = match how.split_once(" if ") {
-        Some((_, name)) => Some(name),
+        Some((_, name)) => moment.schedule.id_of(name.as_bytes()),
         None => None,
     };
     Some(Look {
@@ -78,11 +78,7 @@ pub(crate) struct Rows {
 
 /// The versions in the order of their keys: where they are too many, those that the step changed or looked at, and then the
 /// last ones.
-pub(crate) fn rows_of(
-    alloc: Global,
-    moment: &Moment<'_>,
-    looks: &Looks<'_>,
-) -> Result<Rows, NoMemory> {
+pub(crate) fn rows_of(alloc: Global, moment: &Moment<'_>, looks: &Looks) -> Result<Rows, NoMemory> {
     let count = moment.after.versions();
     let mut chosen = Vec::new(alloc);
     for index in 0..count {
@@ -107,12 +103,12 @@ pub(crate) fn rows_of(
     Ok(Rows { list, rest })
 }
 
-fn is_looked_at(looks: &Looks<'_>, version: VersionId) -> bool {
+fn is_looked_at(looks: &Looks, version: VersionId) -> bool {
     look_at(looks, version).is_some()
 }
 
 /// What is seen of a version.
-pub(crate) fn look_at<'a>(looks: &Looks<'a>, version: VersionId) -> Option<Look<'a>> {
+pub(crate) fn look_at(looks: &Looks, version: VersionId) -> Option<Look> {
     for look in looks.list.as_slice() {
         if look.version == version {
             return Some(*look);

@@ -1,7 +1,7 @@
 //! What lanes show of a run beside its steps: who waits from where to where, which steps only ask again, and arrows.
 use crate::moment::{Moment, text_of};
 use hek_page_command::StepText;
-use hek_rules::{Event, NoMemory, Reply, State, TxnId, number};
+use hek_rules::{NoMemory, Reply, State, TxnId, number};
 use hek_why::{Change, TxnChange};
 use std::alloc::Global;
 
@@ -79,22 +79,19 @@ fn note_step(
     place: usize,
     track: &mut Track,
 ) -> Result<(), NoMemory> {
-    let (Some((event, reply)), Some(step)) = (moment.done_at(place), moment.steps().get(place))
-    else {
+    let (Some(event), Some(reply)) = (moment.event_at(place), moment.reply_at(place)) else {
         return Ok(());
     };
+    let Some(step) = moment.steps().get(place) else {
+        return Ok(());
+    };
+    let actor = event.txn();
     let ended = txns_in(alloc, text_of(step.ends.as_slice()))?;
     for txn in ended.as_slice() {
         end_wait(track.waits.as_mut_slice(), *txn, place);
     }
-    note_arrows(
-        step,
-        place,
-        event.txn(),
-        ended.as_slice(),
-        &mut track.arrows,
-    )?;
-    note_ask(event, reply, step, place, track)
+    note_arrows(step, place, actor, ended.as_slice(), &mut track.arrows)?;
+    note_ask(event.txn(), reply, step, place, track)
 }
 
 /// The transactions with whose numbers lines begin.
@@ -129,14 +126,14 @@ pub(crate) fn is_open(waits: &[Wait], txn: TxnId) -> bool {
 
 /// Takes note of a reply that asks to wait.
 fn note_ask(
-    event: Event,
+    actor: Option<TxnId>,
     reply: &Reply,
     step: &StepText,
     place: usize,
     track: &mut Track,
 ) -> Result<(), NoMemory> {
     let is_ask = matches!(reply, Reply::Waiting(_) | Reply::WaitingCommits(_));
-    let Some(txn) = event.txn() else {
+    let Some(txn) = actor else {
         track.polls.push(false)?;
         return Ok(());
     };

@@ -6,8 +6,9 @@ use std::alloc::Global;
 
 /// The verdict, at the end of a run.
 pub(crate) fn verdict_said(alloc: Global, moment: &Moment<'_>) -> Result<String, NoMemory> {
-    let (Some(ending), mut said) = (moment.ending, String::new(alloc)) else {
-        return Ok(String::new(alloc));
+    let mut said = String::new(alloc);
+    let Some(ending) = moment.ending else {
+        return Ok(said);
     };
     match ending.promised {
         Verdict::Serial => said.push_str("As promised: yes. ")?,

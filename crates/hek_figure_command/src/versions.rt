@@ -55,7 +55,7 @@ fn fit_axis(
     canvas: &Canvas,
     moment: &Moment<'_>,
     rows: &Rows,
-    looks: &Looks<'_>,
+    looks: &Looks,
     wide: f64,
     axis: &mut Axis,
 ) -> Result<(), NoMemory> {
@@ -71,7 +71,7 @@ fn fit_axis(
         );
         locks = greater(locks, locks_wide(canvas, moment, row)?);
         if let Some(look) = look_at(looks, row.version) {
-            let said = sight_said(canvas, look)?;
+            let said = sight_said(canvas, moment, &look)?;
             right = greater(right, width_of(said.as_str(), SMALL));
         }
     }
@@ -111,10 +111,13 @@ fn pill_wide(name: &str) -> f64 {
 }
 
 /// What is said of a version at which the transaction looks.
-fn sight_said(canvas: &Canvas, look: Look<'_>) -> Result<String, NoMemory> {
+fn sight_said(canvas: &Canvas, moment: &Moment<'_>, look: &Look) -> Result<String, NoMemory> {
     let mark = if look.is_seen { '\u{2713}' } else { '\u{2013}' };
     let text = match look.if_commits {
-        Some(name) => format!(in canvas.alloc; "{mark} if {name} commits")?,
+        Some(txn) => {
+            let name = moment.name_of(txn);
+            format!(in canvas.alloc; "{mark} if {name} commits")?
+        }
         None if look.is_seen => format!(in canvas.alloc; "{mark} seen")?,
         None => format!(in canvas.alloc; "{mark} passed over")?,
     };
@@ -127,7 +130,7 @@ fn draw_rows(
     moment: &Moment<'_>,
     axis: &Axis,
     rows: &Rows,
-    looks: &Looks<'_>,
+    looks: &Looks,
     buckets: &[u64],
 ) -> Result<(), NoMemory> {
     let mut y = TOP;
@@ -151,7 +154,7 @@ fn draw_group(
     moment: &Moment<'_>,
     axis: &Axis,
     rows: &Rows,
-    looks: &Looks<'_>,
+    looks: &Looks,
     bucket: Option<u64>,
     y: f64,
 ) -> Result<f64, NoMemory> {
@@ -165,7 +168,8 @@ fn draw_group(
             canvas.line(plain("rule"), (0.0, y), (axis.wide, y))?;
         }
         draw_row(canvas, moment, axis, row, y, key != Some(row.key))?;
-        draw_right(canvas, axis, row, look_at(looks, row.version), y)?;
+        let look = look_at(looks, row.version);
+        draw_right(canvas, moment, axis, row, look, y)?;
         key = Some(row.key);
         y = y + ROW;
     }
@@ -274,9 +278,10 @@ fn draw_padlock(canvas: &mut Canvas, x: f64, middle: f64) -> Result<(), NoMemory
 /// Draws what is right of the axis: what the transaction sees of the version, and its End word.
 fn draw_right(
     canvas: &mut Canvas,
+    moment: &Moment<'_>,
     axis: &Axis,
     row: &Row,
-    look: Option<Look<'_>>,
+    look: Option<Look>,
     y: f64,
 ) -> Result<(), NoMemory> {
     let x = axis.right + 12.0;
@@ -285,7 +290,7 @@ fn draw_right(
     let Some(look) = look else {
         return canvas.text(plain("hex"), x, y + 25.0, word.as_str());
     };
-    let said = sight_said(canvas, look)?;
+    let said = sight_said(canvas, moment, &look)?;
     let class = if look.is_seen { "seen" } else { "soft" };
     canvas.text(Class(class, "small", ""), x, y + 16.0, said.as_str())?;
     canvas.text(plain("hex"), x, y + 33.0, word.as_str())

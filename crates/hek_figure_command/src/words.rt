@@ -1,5 +1,5 @@
 //! The lock words of a step: those that it changed, or those that it looked at.
-use crate::bits::{BitRow, Fields, draw_bits};
+use crate::bits::{BitRow, Fields, When, draw_bits};
 use crate::buckets::{draw_names, holders_of, is_bucket_moved, waiters_of};
 use crate::canvas::{Canvas, Class, TYPE, letters_in, plain};
 use crate::moment::{Moment, text_of};
@@ -173,28 +173,68 @@ fn draw_word(
     y: f64,
     wide: f64,
 ) -> Result<f64, NoMemory> {
-    let index = version.index();
-    let (which, old, new) = said_of(canvas.alloc, moment, word)?;
-    let text = if old.is_empty() {
-        format!(in canvas.alloc; "{which} of v{index}: {new}")?
-    } else {
-        format!(in canvas.alloc; "{which} of v{index}: {old} \u{2192} {new}")?
-    };
+    let text = caption_of(canvas.alloc, moment, version, &word)?;
     let letters = letters_in(wide - 8.0, TYPE);
     let y = draw_paragraph(canvas, plain(""), text.as_str(), (4.0, y), 18.0, letters)?;
-    let (old, new) = rows_of(word);
-    let hex = hex_of(canvas.alloc, old, new.bits)?;
-    let y = match old {
-        Some(old) => draw_bits(canvas, &[old, new], y, wide)?,
-        None => draw_bits(canvas, &[new], y, wide)?,
+    draw_bits_of(canvas, &word, y, wide)
+}
+
+/// Which word it is, and what it says, before the step and after it.
+fn caption_of(
+    alloc: Global,
+    moment: &Moment<'_>,
+    version: VersionId,
+    word: &Word,
+) -> Result<String, NoMemory> {
+    let index = version.index();
+    let which = match word {
+        Word::Begin(..) => "Begin",
+        Word::End(..) => "End",
     };
+    let old = old_said(alloc, moment, word)?;
+    let new = new_said(alloc, moment, word)?;
+    let text = if old.is_empty() {
+        format!(in alloc; "{which} of v{index}: {new}")?
+    } else {
+        format!(in alloc; "{which} of v{index}: {old} \u{2192} {new}")?
+    };
+    Ok(text)
+}
+
+/// What a word said before the step, if that changed it.
+fn old_said(alloc: Global, moment: &Moment<'_>, word: &Word) -> Result<String, NoMemory> {
+    match word {
+        Word::Begin(Some(old), _) => begin_said(alloc, moment, *old),
+        Word::End(Some(old), _) => end_said(alloc, moment, *old),
+        _ => Ok(String::new(alloc)),
+    }
+}
+
+/// What a word says.
+fn new_said(alloc: Global, moment: &Moment<'_>, word: &Word) -> Result<String, NoMemory> {
+    match word {
+        Word::Begin(_, new) => begin_said(alloc, moment, *new),
+        Word::End(_, new) => end_said(alloc, moment, *new),
+    }
+}
+
+/// Draws the bits of a word before and after the step, and the same in hexadecimal.
+fn draw_bits_of(canvas: &mut Canvas, word: &Word, y: f64, wide: f64) -> Result<f64, NoMemory> {
+    let mut rows = Vec::new(canvas.alloc);
+    if let Some(row) = old_row(word) {
+        rows.push(row)?;
+    }
+    rows.push(new_row(word))?;
+    let y = draw_bits(canvas, rows.as_slice(), y, wide)?;
+    let hex = hex_of(canvas.alloc, word)?;
     canvas.text(plain("hex"), 4.0, y + 12.0, hex.as_str())?;
     Ok(y + 24.0)
 }
 
 /// The word in hexadecimal, before and after.
-fn hex_of(alloc: Global, old: Option<BitRow<'_>>, new: u64) -> Result<String, NoMemory> {
-    let text = match old {
+fn hex_of(alloc: Global, word: &Word) -> Result<String, NoMemory> {
+    let new = new_row(word).bits;
+    let text = match old_row(word) {
         Some(row) => {
             let old = row.bits;
             format!(in alloc; "{old:016X} \u{2192} {new:016X}")?
@@ -204,62 +244,49 @@ fn hex_of(alloc: Global, old: Option<BitRow<'_>>, new: u64) -> Result<String, No
     Ok(text)
 }
 
-/// The rows of a word: as it was, if it changed, and as it is.
-fn rows_of(word: Word) -> (Option<BitRow<'static>>, BitRow<'static>) {
+/// The bits of a word before the step, if that changed it.
+fn old_row(word: &Word) -> Option<BitRow> {
     match word {
-        Word::Begin(None, new) => (None, begin_row("new", new)),
-        Word::End(None, new) => (None, end_row("", new)),
-        Word::Begin(Some(old), new) => (Some(begin_row("before", old)), begin_row("after", new)),
-        Word::End(Some(old), new) => (Some(end_row("before", old)), end_row("after", new)),
+        Word::Begin(Some(old), _) => Some(begin_row(When::Before, *old)),
+        Word::End(Some(old), _) => Some(end_row(When::Before, *old)),
+        _ => None,
     }
 }
 
-fn begin_row(label: &'static str, word: BeginWord) -> BitRow<'static> {
+/// The bits of a word.
+fn new_row(word: &Word) -> BitRow {
+    match word {
+        Word::Begin(None, new) => begin_row(When::New, *new),
+        Word::End(None, new) => end_row(When::Unchanged, *new),
+        Word::Begin(Some(_), new) => begin_row(When::After, *new),
+        Word::End(Some(_), new) => end_row(When::After, *new),
+    }
+}
+
+fn begin_row(when: When, word: BeginWord) -> BitRow {
     let fields = if word.txn().is_some() {
         Fields::Maker
     } else {
         Fields::Time
     };
     BitRow {
-        label,
+        when,
         bits: word.bits(),
         fields,
     }
 }
 
-fn end_row(label: &'static str, word: EndWord) -> BitRow<'static> {
+fn end_row(when: When, word: EndWord) -> BitRow {
     let fields = if word.time().is_some() {
         Fields::Time
     } else {
         Fields::Lock
     };
     BitRow {
-        label,
+        when,
         bits: word.bits(),
         fields,
     }
-}
-
-/// Which word it is, what it said before the step, if that changed, and what it says.
-fn said_of(
-    alloc: Global,
-    moment: &Moment<'_>,
-    word: Word,
-) -> Result<(&'static str, String, String), NoMemory> {
-    let none = String::new(alloc);
-    let said = match word {
-        Word::Begin(None, new) => ("Begin", none, begin_said(alloc, moment, new)?),
-        Word::End(None, new) => ("End", none, end_said(alloc, moment, new)?),
-        Word::Begin(Some(old), new) => {
-            let old = begin_said(alloc, moment, old)?;
-            ("Begin", old, begin_said(alloc, moment, new)?)
-        }
-        Word::End(Some(old), new) => {
-            let old = end_said(alloc, moment, old)?;
-            ("End", old, end_said(alloc, moment, new)?)
-        }
-    };
-    Ok(said)
 }
 
 /// What a Begin word says.
