@@ -83,6 +83,13 @@ const COUNTS: &[Count] = &[
         below: ": steps are counted from 1",
     },
     Count {
+        option: "permutation",
+        what: "a permutation, the first being 1",
+        least: 1,
+        most: u64::MAX,
+        below: ": permutations are counted from 1",
+    },
+    Count {
         option: "clock",
         what: "a time",
         least: 0,

@@ -1,4 +1,5 @@
 //! The words of the command line: the commands, their arguments and help.
+use crate::build::VERSION;
 use clap::{Arg, ArgAction, ArgMatches, Command, Error};
 use hek_diagnostics::nearest_word;
 use std::alloc::{AllocError, Global};
@@ -75,6 +76,13 @@ const EXPLAIN: ArgumentText = ArgumentText {
     form: Form::Choice(ALWAYS, &[ALWAYS, NEVER]),
 };
 
+/// `CommandWords` takes this out of a command line, wherever it stands, as `EXPLAIN`.
+const COLOR: ArgumentText = ArgumentText {
+    name: "color",
+    help: "colours replies by their kind, and faults: always, never, or at a terminal (auto)",
+    form: Form::Choice(ALWAYS, &[ALWAYS, NEVER, "auto"]),
+};
+
 const LEVEL: ArgumentText = ArgumentText {
     name: "level",
     help: "judges or runs all transactions as serializable, repeatable or snapshot",
@@ -142,6 +150,7 @@ prints
             help: "refuses more than N readers",
             form: Form::Number,
         },
+        JSON,
     ],
 };
 
@@ -196,6 +205,7 @@ it prints
         TEXT,
         IMAGE,
         EXPLAIN,
+        COLOR,
         ArgumentText {
             name: "state",
             help: "prints the state of the machine after the trace",
@@ -272,6 +282,7 @@ are answered with
         TEXT,
         IMAGE,
         EXPLAIN,
+        COLOR,
         WHY,
         CHANGES,
         ArgumentText {
@@ -371,6 +382,7 @@ are answered with
         TEXT,
         IMAGE,
         EXPLAIN,
+        COLOR,
         AUTO,
         LEVEL,
     ],
@@ -580,6 +592,11 @@ The page shows each step with its reply, and the versions, waits and lock words 
             help: "with --orders: writes nothing if there are more than N nodes (5000)",
             form: Form::Number,
         },
+        ArgumentText {
+            name: "json",
+            help: "writes the page's data alone, one object of JSON",
+            form: Form::Flag,
+        },
     ],
 };
 
@@ -670,6 +687,56 @@ The status is 0 if there is an order, 1 if there is none, 3 if that is not known
     ],
 };
 
+const IMPORT: CommandText = CommandText {
+    name: "import",
+    about: "Makes schedules of a spec of PostgreSQL's isolation tests",
+    example: r#"Rows of a table with a primary key of whole numbers become rows; select, insert, update and delete by the key become steps, and a select of a whole table a scan. Serializable stays so, repeatable read becomes snapshot, and read committed isn't there: --level says which level to take. What can't be translated is named, with status 4. Without --permutation the sessions follow one another: `hek permute` plays all their orders.
+
+Example:
+  hek import spec skew.spec
+Where skew.spec has the lines
+  setup { CREATE TABLE t (id int PRIMARY KEY, v int); INSERT INTO t VALUES (1, 10); }
+  session "a"
+  setup { BEGIN ISOLATION LEVEL SERIALIZABLE; }
+  step "read" { SELECT v FROM t WHERE id = 1; }
+  step "commit" { COMMIT; }
+it prints a schedule whose first lines are
+  # skew: one session after another; permutations of the spec: 0
+  buckets 1
+  row 1 10
+  txn a serializable
+  a begin
+  a read 1"#,
+    arguments: &[
+        ArgumentText {
+            name: "FORM",
+            help: "what FILE is",
+            form: Form::OneOf(&["spec"]),
+        },
+        ArgumentText {
+            name: "FILE",
+            help: "a spec, or - for standard input",
+            form: Form::Word,
+        },
+        EXPLAIN,
+        ArgumentText {
+            name: "permutation",
+            help: "makes the schedule of the Nth permutation, from 1",
+            form: Form::Number,
+        },
+        ArgumentText {
+            name: "level",
+            help: "takes all transactions as serializable, repeatable or snapshot",
+            form: Form::Value("L"),
+        },
+        ArgumentText {
+            name: "output",
+            help: "writes the schedule to a file; where OUT ends with /, a file for each permutation to this folder",
+            form: Form::Output,
+        },
+    ],
+};
+
 const COMPLETIONS: CommandText = CommandText {
     name: "completions",
     about: "Prints what a shell reads to complete the words of a command line",
@@ -695,16 +762,13 @@ shows the page in a pager.",
     arguments: &[],
 };
 
-/// What `hek --version` prints after the name.
-const VERSION: &str = "0.2.0";
-
 /// The commands in the order in which `hek --help` lists them: those for schedules, for engines, for words and images, for shells.
 /// They are in four tables, each of which has a function, since a proof takes a table as one term.
 const SCHEDULE_COMMANDS: &[CommandText] = &[RUN, DEBUG, PAGE, FIGURE];
 
 const ENGINE_COMMANDS: &[CommandText] = &[PERMUTE, CHECK, HISTORY, DRIVE, THREADS];
 
-const WORD_COMMANDS: &[CommandText] = &[WORD, RELEASE, ASM, DIS];
+const WORD_COMMANDS: &[CommandText] = &[WORD, RELEASE, ASM, DIS, IMPORT];
 
 const SHELL_COMMANDS: &[CommandText] = &[COMPLETIONS, MAN];
 
@@ -778,7 +842,7 @@ make the image of a schedule's text, and print it as text again
   hek check first.img trace.txt
 says whether a trace over it has what each level promises
 
-`--explain`, anywhere among the words, or HEK_EXPLAIN=always in the environment explains each fault, as at a terminal; `--explain=never` and HEK_EXPLAIN=never only name it.",
+`--explain`, anywhere among the words, or HEK_EXPLAIN=always in the environment explains each fault, as at a terminal; `--explain=never` and HEK_EXPLAIN=never only name it. `--color=always`, `--color=never` and NO_COLOR=1 in the environment say what is in colours, which by default is at a terminal.",
         )
         .subcommand_required(true)
         .subcommands(commands)

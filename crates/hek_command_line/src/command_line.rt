@@ -1,9 +1,11 @@
 //! The command line: its words, and what the program does for them.
 use crate::arguments::{RULES, meant_command, read_words};
+use crate::colour::{Paint, Painted};
 use crate::convert::{asm, dis, release, word};
 use crate::disk::{Disk, LateFile, open};
 use crate::explain::finish;
-use crate::explaining::{CommandWords, Explaining};
+use crate::explaining::{Colouring, CommandWords, Explaining, Wishes};
+use crate::import::import;
 use crate::kept::{Kept, KeptDisk, KeptReader};
 use crate::log::history;
 use crate::opening::without_mark;
@@ -11,10 +13,12 @@ use crate::options::{
     count_from, form_of, level_of, number_of, portion_of, printing_of, step_of, text,
 };
 use crate::output::NotedOutput;
+use crate::page_data::write_data;
 use crate::permute::{permute_alone, permute_jobs};
 use crate::refused::{OUTPUT, refuse_page, refuse_picture, refuse_same};
 use crate::schedule::{schedule_file, schedule_to_run};
 use crate::sources::SourceFiles;
+use crate::told;
 use crate::words::advise_sign;
 use clap::error::ErrorKind as ClapKind;
 use clap::{ArgMatches, Error};
@@ -53,13 +57,16 @@ pub fn program<
     W: Write + IsTerminal,
     E: Write + IsTerminal,
 >(rt: &R, system: &T, disk: &D, input: I, out: &mut W, faults: &mut E) -> u8 {
-    let explaining = Explaining::by_environment(rt);
+    let wishes = Wishes {
+        explaining: Explaining::by_environment(rt),
+        colouring: Colouring::by_environment(rt),
+    };
     match words_of(rt) {
         Ok(words) => answer_in_threads(
             system,
             rt.alloc(),
             words.as_slice(),
-            explaining,
+            wishes,
             disk,
             input,
             out,
@@ -95,34 +102,158 @@ pub fn answer_in_threads<
     system: &T,
     alloc: Global,
     words: &[S],
-    explaining: Explaining,
+    wishes: Wishes,
     disk: &D,
     input: I,
     out: &mut W,
     faults: &mut E,
 ) -> u8 {
-    let words = match CommandWords::of(alloc, words, explaining) {
+    let words = match CommandWords::of(alloc, words, wishes) {
         Ok(words) => words,
         Err(_) => return report(HekFault::NoMemory, faults),
     };
-    let explains = words.explaining.is_wanted(faults.is_terminal());
-    let words = words.words.as_slice();
-    let mut out = NotedOutput::new(out);
-    match read_words(alloc, words) {
+    let CommandWords { words, wishes } = words;
+    answer_words(
+        system,
+        alloc,
+        words.as_slice(),
+        wishes,
+        disk,
+        input,
+        out,
+        faults,
+    )
+}
+
+/// Answers the words of a command line without those that ask for explanations or colours.
+fn answer_words<
+    T: Threads + Wait + Sync,
+    D: Disk,
+    I: Read + IsTerminal + Drop,
+    W: Write + IsTerminal,
+    E: Write + IsTerminal,
+>(
+    system: &T,
+    alloc: Global,
+    words: &[&str],
+    wishes: Wishes,
+    disk: &D,
+    input: I,
+    out: &mut W,
+    faults: &mut E,
+) -> u8 {
+    let explains = wishes.explaining.is_wanted(faults.is_terminal());
+    let paint = fault_paint(wishes, faults);
+    let mut faults = Painted::new(alloc, faults, paint);
+    let status = match read_words(alloc, words) {
         Ok(matches) => {
-            let kept = Kept::new(alloc, &matches, explains);
-            let disk = KeptDisk::new(disk, &kept);
-            let mut input = Some(KeptReader::new(input, INPUT, &kept));
-            let ran = follow(
-                system, alloc, &matches, explains, &disk, &mut input, &mut out, faults,
+            let paint = reply_paint(wishes, &matches, out);
+            let mut out = Painted::new(alloc, out, paint);
+            let status = answer_matches(
+                system,
+                alloc,
+                &matches,
+                explains,
+                disk,
+                input,
+                &mut out,
+                &mut faults,
             );
-            finish(alloc, ran, &matches, &kept, &out, faults)
+            let _ = out.flush();
+            status
         }
         Err(error) => {
-            let ran = refused(alloc, &error, words, explains, &mut out, faults);
-            status_of(ran, &out, faults)
+            let mut out = NotedOutput::new(out);
+            let ran = refused(alloc, &error, words, explains, &mut out, &mut faults);
+            status_of(ran, &out, &mut faults)
         }
+    };
+    let _ = faults.flush();
+    status
+}
+
+/// What of standard error is in colours.
+fn fault_paint<E: IsTerminal>(wishes: Wishes, faults: &E) -> Paint {
+    if wishes.colouring.is_wanted(faults.is_terminal()) {
+        Paint::Faults
+    } else {
+        Paint::None
     }
+}
+
+/// What of standard output is in colours: the replies of a command that runs steps, in its text.
+fn reply_paint<W: IsTerminal>(wishes: Wishes, matches: &ArgMatches<'_>, out: &W) -> Paint {
+    let has_replies = match matches.subcommand() {
+        Some(("run" | "drive", found)) => !found.get_flag("json"),
+        Some(("debug", _)) => true,
+        _ => false,
+    };
+    if has_replies && wishes.colouring.is_wanted(out.is_terminal()) {
+        Paint::Replies
+    } else {
+        Paint::None
+    }
+}
+
+/// Answers the words that were read.
+fn answer_matches<
+    T: Threads + Wait + Sync,
+    D: Disk,
+    I: Read + IsTerminal + Drop,
+    W: Write + IsTerminal,
+    E: Write + IsTerminal,
+>(
+    system: &T,
+    alloc: Global,
+    matches: &ArgMatches<'_>,
+    explains: bool,
+    disk: &D,
+    input: I,
+    out: &mut W,
+    faults: &mut E,
+) -> u8 {
+    let mut kept_faults = told::Told::new(alloc, faults);
+    let mut out = NotedOutput::new(out);
+    let status = answer_kept(
+        system,
+        alloc,
+        matches,
+        explains,
+        disk,
+        input,
+        &mut out,
+        &mut kept_faults,
+    );
+    if told::wants_json(matches) {
+        told::put_fault(alloc, status, &kept_faults, &mut out);
+    }
+    status
+}
+
+/// Answers the words that were read, with the bytes kept that an explanation needs.
+fn answer_kept<
+    T: Threads + Wait + Sync,
+    D: Disk,
+    I: Read + IsTerminal + Drop,
+    W: Write + IsTerminal,
+    E: Write + IsTerminal,
+>(
+    system: &T,
+    alloc: Global,
+    matches: &ArgMatches<'_>,
+    explains: bool,
+    disk: &D,
+    input: I,
+    out: &mut NotedOutput<'_, W>,
+    faults: &mut E,
+) -> u8 {
+    let kept = Kept::new(alloc, matches, explains);
+    let disk = KeptDisk::new(disk, &kept);
+    let mut input = Some(KeptReader::new(input, INPUT, &kept));
+    let ran = follow(
+        system, alloc, matches, explains, &disk, &mut input, out, faults,
+    );
+    finish(alloc, ran, matches, &kept, out, faults)
 }
 
 /// Does what these words ask for.
@@ -231,6 +362,7 @@ fn run<'a, D: Disk, I: Read + IsTerminal + Drop, W: Write + IsTerminal, E: Write
         Some(("run", found)) => run_schedule(alloc, found, disk, input, out),
         Some(("debug", found)) => debug(alloc, found, explains, disk, input, out, faults),
         Some(("history", found)) => history(alloc, found, explains, disk, input, out, faults),
+        Some(("import", found)) => import(alloc, found, explains, disk, input, out, faults),
         Some(("completions", found)) => completions(alloc, found, out),
         Some(("man", _)) => print(manual_page(), out),
         Some((name, found)) => run_noting(alloc, name, found, explains, disk, input, out, faults),
@@ -445,7 +577,7 @@ fn page<'a, D: Disk, I: Read + Drop, W: Write + IsTerminal, E: Write>(
             let is_whole = matches!(ran, Ok(0));
             file.settle(is_whole, ran)
         }
-        None if refuse_page(out, faults) => Ok(2),
+        None if !found.get_flag("json") && refuse_page(out, faults) => Ok(2),
         _ => write_page(alloc, found, disk, input, out, faults),
     }
 }
@@ -503,8 +635,27 @@ fn title_of<'a>(found: &ArgMatches<'a>) -> Result<Heading<'a>, HekFault<'a>> {
     })
 }
 
-/// Writes the page that the words ask for.
+/// Writes the page that the words ask for, or its data alone.
 fn write_page<'a, D: Disk, I: Read + Drop, W: Write, E: Write>(
+    alloc: Global,
+    found: &ArgMatches<'a>,
+    disk: &D,
+    input: &mut Option<I>,
+    out: &mut W,
+    faults: &mut E,
+) -> Result<u8, HekFault<'a>> {
+    if !found.get_flag("json") {
+        return write_whole_page(alloc, found, disk, input, out, faults);
+    }
+    let mut page = Vec::new(alloc);
+    match write_whole_page(alloc, found, disk, input, &mut page, faults)? {
+        0 => write_data(page.as_slice(), out),
+        status => Ok(status),
+    }
+}
+
+/// Writes the page that the words ask for.
+fn write_whole_page<'a, D: Disk, I: Read + Drop, W: Write, E: Write>(
     alloc: Global,
     found: &ArgMatches<'a>,
     disk: &D,

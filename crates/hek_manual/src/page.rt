@@ -32,6 +32,9 @@ FILE is a schedule image, whatever it holds
 \fB\-\-explain\fR[=\fIHOW\fR]
 says of each fault what is wrong, what is wanted and what is meant, as at a terminal; =never only names it (always, never)
 .TP
+\fB\-\-color\fR[=\fIHOW\fR]
+colours replies by their kind, and faults: always, never, or at a terminal (auto) (always, never, auto)
+.TP
 \fB\-\-state\fR
 prints the state of the machine after the trace
 .TP
@@ -99,6 +102,9 @@ FILE is a schedule image, whatever it holds
 .TP
 \fB\-\-explain\fR[=\fIHOW\fR]
 says of each fault what is wrong, what is wanted and what is meant, as at a terminal; =never only names it (always, never)
+.TP
+\fB\-\-color\fR[=\fIHOW\fR]
+colours replies by their kind, and faults: always, never, or at a terminal (auto) (always, never, auto)
 .TP
 \fB\-\-auto\fR
 runs only the reads and writes of FILE, and begins and ends each transaction by itself
@@ -213,6 +219,9 @@ cuts the end of a transaction into one move (move), two (split), or a move for e
 .TP
 \fB\-\-limit\fR \fIN\fR
 with \-\-orders: writes nothing if there are more than N nodes (5000)
+.TP
+\fB\-\-json\fR
+writes the page's data alone, one object of JSON
 .PP
 Example:
 .RS 4
@@ -474,6 +483,9 @@ FILE is a schedule image, whatever it holds
 \fB\-\-explain\fR[=\fIHOW\fR]
 says of each fault what is wrong, what is wanted and what is meant, as at a terminal; =never only names it (always, never)
 .TP
+\fB\-\-color\fR[=\fIHOW\fR]
+colours replies by their kind, and faults: always, never, or at a terminal (auto) (always, never, auto)
+.TP
 \fB\-\-why\fR[=\fIHOW\fR]
 prints the reasons of each reply under its line; =rules also names the definition that decided each (reasons, rules)
 .TP
@@ -595,6 +607,9 @@ refuses transactions past N
 .TP
 \fB\-\-readers\fR \fIN\fR
 refuses more than N readers
+.TP
+\fB\-\-json\fR
+prints JSON, one object on each line
 .PP
 Example:
 .RS 4
@@ -682,6 +697,58 @@ Where first.img is the image of a schedule with one bucket and nothing else, it 
 buckets 1
 .fi
 .RE
+.SS import
+Makes schedules of a spec of PostgreSQL's isolation tests.
+.PP
+\fBhek import [OPTIONS] <FORM> <FILE>\fR
+.TP
+\fIFORM\fR
+what FILE is [possible values: spec]
+.TP
+\fIFILE\fR
+a spec, or \- for standard input
+.TP
+\fB\-\-explain\fR[=\fIHOW\fR]
+says of each fault what is wrong, what is wanted and what is meant, as at a terminal; =never only names it (always, never)
+.TP
+\fB\-\-permutation\fR \fIN\fR
+makes the schedule of the Nth permutation, from 1
+.TP
+\fB\-\-level\fR \fIL\fR
+takes all transactions as serializable, repeatable or snapshot
+.TP
+\fB\-o\fR, \fB\-\-output\fR \fIOUT\fR
+writes the schedule to a file; where OUT ends with /, a file for each permutation to this folder
+.PP
+Rows of a table with a primary key of whole numbers become rows; select, insert, update and delete by the key become steps, and a select of a whole table a scan. Serializable stays so, repeatable read becomes snapshot, and read committed isn't there: \-\-level says which level to take. What can't be translated is named, with status 4. Without \-\-permutation the sessions follow one another: \(gahek permute\(ga plays all their orders.
+.PP
+Example:
+.RS 4
+.nf
+hek import spec skew.spec
+.fi
+.RE
+Where skew.spec has the lines
+.RS 4
+.nf
+setup { CREATE TABLE t (id int PRIMARY KEY, v int); INSERT INTO t VALUES (1, 10); }
+session "a"
+setup { BEGIN ISOLATION LEVEL SERIALIZABLE; }
+step "read" { SELECT v FROM t WHERE id = 1; }
+step "commit" { COMMIT; }
+.fi
+.RE
+it prints a schedule whose first lines are
+.RS 4
+.nf
+# skew: one session after another; permutations of the spec: 0
+buckets 1
+row 1 10
+txn a serializable
+a begin
+a read 1
+.fi
+.RE
 .SS completions
 Prints what a shell reads to complete the words of a command line.
 .PP
@@ -724,7 +791,7 @@ a bad command line
 of history and permute \-\-find: it is not known, or there is nothing to judge
 .TP
 4
-of history, permute \-\-find and word \-\-changes: a fault
+of history, permute \-\-find and word \-\-changes: a fault; of import: a fault, or what can't be translated
 .SH EXAMPLES
 .RS 4
 .nf
@@ -753,5 +820,5 @@ hek check first.img trace.txt
 .RE
 says whether a trace over it has what each level promises
 .PP
-\(ga\-\-explain\(ga, anywhere among the words, or HEK_EXPLAIN=always in the environment explains each fault, as at a terminal; \(ga\-\-explain=never\(ga and HEK_EXPLAIN=never only name it.
+\(ga\-\-explain\(ga, anywhere among the words, or HEK_EXPLAIN=always in the environment explains each fault, as at a terminal; \(ga\-\-explain=never\(ga and HEK_EXPLAIN=never only name it. \(ga\-\-color=always\(ga, \(ga\-\-color=never\(ga and NO_COLOR=1 in the environment say what is in colours, which by default is at a terminal.
 "#;

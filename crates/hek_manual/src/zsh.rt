@@ -18,6 +18,7 @@ _hek() {
         'release:Gives up one read lock of an End word'
         'asm:Makes the image of a schedule text'
         'dis:Prints the canonical text of a schedule'
+        'import:Makes schedules of a spec of PostgreSQL'\''s isolation tests'
         'completions:Prints what a shell reads to complete the words of a command line'
         'man:Prints the manual page'
         'help:Print this message or the help of the given subcommand(s)'
@@ -36,6 +37,7 @@ _hek() {
                 '--text[FILE is a schedule text, whatever it holds]' \
                 '--image[FILE is a schedule image, whatever it holds]' \
                 '--explain=-[says of each fault what is wrong, what is wanted and what is meant, as at a terminal; =never only names it]::HOW:(always never)' \
+                '--color=-[colours replies by their kind, and faults\: always, never, or at a terminal (auto)]::HOW:(always never auto)' \
                 '--state[prints the state of the machine after the trace]' \
                 '--state-at[stops after N steps, and prints the state there]:N:' \
                 '--why=-[prints the reasons of each reply under its line; =rules also names the definition that decided each]::HOW:(reasons rules)' \
@@ -52,6 +54,7 @@ _hek() {
                 '--text[FILE is a schedule text, whatever it holds]' \
                 '--image[FILE is a schedule image, whatever it holds]' \
                 '--explain=-[says of each fault what is wrong, what is wanted and what is meant, as at a terminal; =never only names it]::HOW:(always never)' \
+                '--color=-[colours replies by their kind, and faults\: always, never, or at a terminal (auto)]::HOW:(always never auto)' \
                 '--auto[runs only the reads and writes of FILE, and begins and ends each transaction by itself]' \
                 '--level[judges or runs all transactions as serializable, repeatable or snapshot]:L:(serializable repeatable snapshot)' \
                 '(- *)'{-h,--help}'[Print help]' \
@@ -77,6 +80,7 @@ _hek() {
                 '--split[with --orders\: makes finish and precommit a separate move]' \
                 '--grain[cuts the end of a transaction into one move (move), two (split), or a move for each event (event)]:GRAIN:(move split event)' \
                 '--limit[with --orders\: writes nothing if there are more than N nodes (5000)]:N:' \
+                '--json[writes the page'\''s data alone, one object of JSON]' \
                 '(- *)'{-h,--help}'[Print help]' \
                 '1:FILE:_files'
             ;;
@@ -148,6 +152,7 @@ _hek() {
                 '--text[FILE is a schedule text, whatever it holds]' \
                 '--image[FILE is a schedule image, whatever it holds]' \
                 '--explain=-[says of each fault what is wrong, what is wanted and what is meant, as at a terminal; =never only names it]::HOW:(always never)' \
+                '--color=-[colours replies by their kind, and faults\: always, never, or at a terminal (auto)]::HOW:(always never auto)' \
                 '--why=-[prints the reasons of each reply under its line; =rules also names the definition that decided each]::HOW:(reasons rules)' \
                 '--changes[prints what each step changed under its line]' \
                 '--state[prints the state of the machine after each answer]' \
@@ -178,6 +183,7 @@ _hek() {
                 '--clock[refuses times from N on]:N:' \
                 '--txns[refuses transactions past N]:N:' \
                 '--readers[refuses more than N readers]:N:' \
+                '--json[prints JSON, one object on each line]' \
                 '(- *)'{-h,--help}'[Print help]' \
                 '*:WORD:'
             ;;
@@ -201,6 +207,16 @@ _hek() {
                 '--explain=-[says of each fault what is wrong, what is wanted and what is meant, as at a terminal; =never only names it]::HOW:(always never)' \
                 '(- *)'{-h,--help}'[Print help]' \
                 '1:FILE:_files'
+            ;;
+        import)
+            _arguments \
+                '--explain=-[says of each fault what is wrong, what is wanted and what is meant, as at a terminal; =never only names it]::HOW:(always never)' \
+                '--permutation[makes the schedule of the Nth permutation, from 1]:N:' \
+                '--level[takes all transactions as serializable, repeatable or snapshot]:L:(serializable repeatable snapshot)' \
+                {-o,--output}'[writes the schedule to a file; where OUT ends with /, a file for each permutation to this folder]:OUT:_files' \
+                '(- *)'{-h,--help}'[Print help]' \
+                '1:FORM:(spec)' \
+                '2:FILE:_files'
             ;;
         completions)
             _arguments \
