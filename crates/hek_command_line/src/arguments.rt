@@ -567,6 +567,46 @@ The page shows each step with its reply, and the versions, waits and lock words 
     ],
 };
 
+const FIGURE: CommandText = CommandText {
+    name: "figure",
+    about: "Writes a step of a schedule's run as one picture, for a slide",
+    example: r"Example:
+  hek figure first.hek --step 2 -o first.svg
+The picture is SVG with its style inside: lanes, what the step says, versions, waits and lock words, in the colours of `hek page`. With --part it shows one of these.",
+    arguments: &[
+        FILE,
+        TEXT,
+        IMAGE,
+        EXPLAIN,
+        LEVEL,
+        ArgumentText {
+            name: "auto",
+            help: "shows only the reads and writes of FILE, and begins and ends each transaction by itself",
+            form: Form::Flag,
+        },
+        ArgumentText {
+            name: "output",
+            help: "writes the picture to a file; - is standard output, also where that is a terminal",
+            form: Form::Output,
+        },
+        ArgumentText {
+            name: "step",
+            help: "shows what is so after N steps, by default after the last; 0 is before the first",
+            form: Form::Number,
+        },
+        ArgumentText {
+            name: "part",
+            help: "shows one part: lanes, versions, waits or words",
+            form: Form::Value("PART"),
+        },
+        ArgumentText {
+            name: "title",
+            help: "the picture's title, by default the name of FILE",
+            form: Form::Value("TEXT"),
+        },
+    ],
+};
+
 const HISTORY: CommandText = CommandText {
     name: "history",
     about: "Says whether a log of transactions has a serial order, and if not, why not",
@@ -644,7 +684,7 @@ const VERSION: &str = "0.2.0";
 
 /// The commands in the order in which `hek --help` lists them: those for schedules, for engines, for words and images, for shells.
 /// They are in four tables, each of which has a function, since a proof takes a table as one term.
-const SCHEDULE_COMMANDS: &[CommandText] = &[RUN, DEBUG, PAGE];
+const SCHEDULE_COMMANDS: &[CommandText] = &[RUN, DEBUG, PAGE, FIGURE];
 
 const ENGINE_COMMANDS: &[CommandText] = &[PERMUTE, CHECK, HISTORY, DRIVE, THREADS];
 

@@ -7,10 +7,12 @@ use crate::explaining::{CommandWords, Explaining};
 use crate::kept::{Kept, KeptDisk, KeptReader};
 use crate::log::history;
 use crate::opening::without_mark;
-use crate::options::{count_from, form_of, level_of, number_of, printing_of, step_of, text};
+use crate::options::{
+    count_from, form_of, level_of, number_of, portion_of, printing_of, step_of, text,
+};
 use crate::output::NotedOutput;
 use crate::permute::{permute_alone, permute_jobs};
-use crate::refused::{OUTPUT, refuse_page, refuse_same};
+use crate::refused::{OUTPUT, refuse_page, refuse_picture, refuse_same};
 use crate::schedule::{schedule_file, schedule_to_run};
 use crate::sources::SourceFiles;
 use crate::words::advise_sign;
@@ -20,6 +22,7 @@ use hek_check_command::{Asked, check_command, note_nothing, reported_command};
 use hek_debug_command::{
     CommandFile, Manner, debug_command, debug_session, explained_command, put_words,
 };
+use hek_figure_command::figure_command;
 use hek_history_command::run_log_command;
 use hek_manual::{Shell, manual_page};
 use hek_page_command::{
@@ -289,6 +292,7 @@ fn run_noting<
         "check" => check(alloc, found, disk, input, out, faults),
         "permute" => permute_alone(alloc, found, disk, input, out, faults),
         "page" => page(alloc, found, disk, input, out, faults),
+        "figure" => figure(alloc, found, disk, input, out, faults),
         "threads" => Err(HekFault::NoWorker),
         _ => Err(HekFault::BadArgument),
     }
@@ -444,6 +448,59 @@ fn page<'a, D: Disk, I: Read + Drop, W: Write + IsTerminal, E: Write>(
         None if refuse_page(out, faults) => Ok(2),
         _ => write_page(alloc, found, disk, input, out, faults),
     }
+}
+
+/// Answers `figure`: the picture goes to standard output, or with `-o` to a file.
+fn figure<'a, D: Disk, I: Read + Drop, W: Write + IsTerminal, E: Write>(
+    alloc: Global,
+    found: &ArgMatches<'a>,
+    disk: &D,
+    input: &mut Option<I>,
+    out: &mut W,
+    faults: &mut E,
+) -> Result<u8, HekFault<'a>> {
+    let name = text(found, "FILE")?;
+    match found.get_str("output") {
+        Some(picture) if picture != OUTPUT => {
+            if refuse_same(disk, name, picture, faults) {
+                return Ok(2);
+            }
+            let mut file = LateFile::new(disk, picture);
+            let ran = write_figure(alloc, found, disk, input, &mut file, faults);
+            let is_whole = matches!(ran, Ok(0));
+            file.settle(is_whole, ran)
+        }
+        None if refuse_picture(out, faults) => Ok(2),
+        _ => write_figure(alloc, found, disk, input, out, faults),
+    }
+}
+
+/// Writes the picture that the words ask for.
+fn write_figure<'a, D: Disk, I: Read + Drop, W: Write, E: Write>(
+    alloc: Global,
+    found: &ArgMatches<'a>,
+    disk: &D,
+    input: &mut Option<I>,
+    out: &mut W,
+    faults: &mut E,
+) -> Result<u8, HekFault<'a>> {
+    let step = number_of(found, "step")?;
+    let portion = portion_of(found)?;
+    let heading = title_of(found)?;
+    let file = schedule_file(alloc, found, disk, input)?;
+    let file = made_file(alloc, file, making_of(found)?)?;
+    figure_command(alloc, file, step, portion, heading, out, faults)
+}
+
+/// What the words say of a picture's title.
+fn title_of<'a>(found: &ArgMatches<'a>) -> Result<Heading<'a>, HekFault<'a>> {
+    Ok(Heading {
+        file: text(found, "FILE")?,
+        title: found.get_str("title"),
+        lesson: None,
+        previous: None,
+        next: None,
+    })
 }
 
 /// Writes the page that the words ask for.

@@ -221,6 +221,48 @@ hek page first.hek \-o first.html
 .fi
 .RE
 The page shows each step with its reply, and the versions, waits and lock words at each position. It needs no network and no other file. Comments of a schedule text are shown: those above its first line at the start, those above a step at that step. A line \(ga#? ..\(ga above a step is a question, which is asked where replies are guessed. A page has at most 2000 steps; of a longer schedule \-\-from and \-\-to say which.
+.SS figure
+Writes a step of a schedule's run as one picture, for a slide.
+.PP
+\fBhek figure [OPTIONS] <FILE>\fR
+.TP
+\fIFILE\fR
+a schedule: a text by its name (.hek) or its first word, otherwise an image; \- is standard input
+.TP
+\fB\-\-text\fR
+FILE is a schedule text, whatever it holds
+.TP
+\fB\-\-image\fR
+FILE is a schedule image, whatever it holds
+.TP
+\fB\-\-explain\fR[=\fIHOW\fR]
+says of each fault what is wrong, what is wanted and what is meant, as at a terminal; =never only names it (always, never)
+.TP
+\fB\-\-level\fR \fIL\fR
+judges or runs all transactions as serializable, repeatable or snapshot
+.TP
+\fB\-\-auto\fR
+shows only the reads and writes of FILE, and begins and ends each transaction by itself
+.TP
+\fB\-o\fR, \fB\-\-output\fR \fIOUT\fR
+writes the picture to a file; \- is standard output, also where that is a terminal
+.TP
+\fB\-\-step\fR \fIN\fR
+shows what is so after N steps, by default after the last; 0 is before the first
+.TP
+\fB\-\-part\fR \fIPART\fR
+shows one part: lanes, versions, waits or words
+.TP
+\fB\-\-title\fR \fITEXT\fR
+the picture's title, by default the name of FILE
+.PP
+Example:
+.RS 4
+.nf
+hek figure first.hek \-\-step 2 \-o first.svg
+.fi
+.RE
+The picture is SVG with its style inside: lanes, what the step says, versions, waits and lock words, in the colours of \(gahek page\(ga. With \-\-part it shows one of these.
 .SS permute
 Plays every order of a schedule's moves, and counts the outcomes.
 .PP

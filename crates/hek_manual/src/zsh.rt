@@ -8,6 +8,7 @@ _hek() {
         'run:Runs the steps of a schedule, and prints each with its reply'
         'debug:Runs a schedule step by step, to breakpoints and watches, and back'
         'page:Writes a schedule'\''s run as a page for a browser'
+        'figure:Writes a step of a schedule'\''s run as one picture, for a slide'
         'permute:Plays every order of a schedule'\''s moves, and counts the outcomes'
         'check:Says whether each transaction of a trace got what its level promises'
         'history:Says whether a log of transactions has a serial order, and if not, why not'
@@ -76,6 +77,20 @@ _hek() {
                 '--split[with --orders\: makes finish and precommit a separate move]' \
                 '--grain[cuts the end of a transaction into one move (move), two (split), or a move for each event (event)]:GRAIN:(move split event)' \
                 '--limit[with --orders\: writes nothing if there are more than N nodes (5000)]:N:' \
+                '(- *)'{-h,--help}'[Print help]' \
+                '1:FILE:_files'
+            ;;
+        figure)
+            _arguments \
+                '--text[FILE is a schedule text, whatever it holds]' \
+                '--image[FILE is a schedule image, whatever it holds]' \
+                '--explain=-[says of each fault what is wrong, what is wanted and what is meant, as at a terminal; =never only names it]::HOW:(always never)' \
+                '--level[judges or runs all transactions as serializable, repeatable or snapshot]:L:(serializable repeatable snapshot)' \
+                '--auto[shows only the reads and writes of FILE, and begins and ends each transaction by itself]' \
+                {-o,--output}'[writes the picture to a file; - is standard output, also where that is a terminal]:OUT:_files' \
+                '--step[shows what is so after N steps, by default after the last; 0 is before the first]:N:' \
+                '--part[shows one part\: lanes, versions, waits or words]:PART:' \
+                '--title[the picture'\''s title, by default the name of FILE]:TEXT:' \
                 '(- *)'{-h,--help}'[Print help]' \
                 '1:FILE:_files'
             ;;
