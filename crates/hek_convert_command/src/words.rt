@@ -83,16 +83,39 @@ impl Said {
 
 /// What a text says as a word of a machine with these bounds.
 fn said_of(word: &str, bounds: Bounds) -> Said {
-    let (begin, end) = match hex_number(word) {
-        Some(number) => (BeginWord::read(number), EndWord::read(number)),
-        None => (None, None),
-    };
+    let (begin, end) = words_in(word);
     Said {
         begin,
         end,
-        past_clock: bounds.is_past_clock(time_of(begin, end)),
-        past_txns: bounds.is_past_txns(txn_of(begin, end)),
-        past_readers: end.is_some_and(|end| bounds.is_past_readers(end.readers())),
+        past_clock: is_past_clock(word, bounds),
+        past_txns: is_past_txns(word, bounds),
+        past_readers: is_past_readers(word, bounds),
+    }
+}
+
+/// The Begin word and the End word that a word can be.
+fn words_in(word: &str) -> (Option<BeginWord>, Option<EndWord>) {
+    match hex_number(word) {
+        Some(number) => (BeginWord::read(number), EndWord::read(number)),
+        None => (None, None),
+    }
+}
+
+fn is_past_clock(word: &str, bounds: Bounds) -> bool {
+    let (begin, end) = words_in(word);
+    bounds.is_past_clock(time_of(begin, end))
+}
+
+fn is_past_txns(word: &str, bounds: Bounds) -> bool {
+    let (begin, end) = words_in(word);
+    bounds.is_past_txns(txn_of(begin, end))
+}
+
+fn is_past_readers(word: &str, bounds: Bounds) -> bool {
+    let (_begin, end) = words_in(word);
+    match end {
+        Some(end) => bounds.is_past_readers(end.readers()),
+        None => false,
     }
 }
 
@@ -105,6 +128,7 @@ fn put_line<'a, W: Write>(
     printing: Printing,
     out: &mut W,
 ) -> Result<bool, HekFault<'a>> {
+    let is_word = said_of(word, bounds).is_word();
     let said = said_of(word, bounds);
     match printing {
         Printing::Text => put_text(said, out)?,
@@ -114,7 +138,7 @@ fn put_line<'a, W: Write>(
             send_lines(&mut lines, out)?;
         }
     }
-    Ok(said.is_word())
+    Ok(is_word)
 }
 
 /// Writes the line of a word.

@@ -179,6 +179,23 @@ fn points_by(
     }
 }
 
+/// Points that a search for a stricter order finds, if they are an explanation of this order.
+fn stricter_points(
+    alloc: Global,
+    history: &History,
+    order: Order,
+    effort: usize,
+) -> Result<Option<Vec<Point>>, NoMemory> {
+    for stricter in [Order::Versions, Order::Times, Order::Real] {
+        if let Some(points) = points_by(alloc, history, stricter, effort)? {
+            if is_explanation(alloc, history, order, points.as_slice())? {
+                return Ok(Some(points));
+            }
+        }
+    }
+    Ok(None)
+}
+
 /// A verdict, or that there is an explanation, where a search for a stricter order finds one.
 fn judge_stricter(
     alloc: Global,
@@ -190,14 +207,10 @@ fn judge_stricter(
     requires right { IsVerdict history.now order verdict }
     ensures { IfOk result (λ verdict. IsVerdict history.now order verdict) }
 {
-    for stricter in [Order::Versions, Order::Times, Order::Real] {
-        if let Some(points) = points_by(alloc, history, stricter, effort)? {
-            if is_explanation(alloc, history, order, points.as_slice())? {
-                return Ok(Verdict::Serial(points));
-            }
-        }
+    match stricter_points(alloc, history, order, effort)? {
+        Some(points) => judge_points(alloc, history, order, points),
+        None => Ok(verdict),
     }
-    Ok(verdict)
 }
 
 /// Judges whether a history has an explanation of this order: first by the points by the times of the log, and then with up
