@@ -2,6 +2,7 @@
 use crate::build::VERSION;
 use clap::{Arg, ArgAction, ArgMatches, Command, Error};
 use hek_diagnostics::nearest_word;
+use hek_history_command::Extent;
 use std::alloc::{AllocError, Global};
 use std::convert::AsStr;
 
@@ -28,6 +29,8 @@ enum Form {
     MaybeWord,
     /// Words at their place, at least one.
     Words,
+    /// Words at their place, or none.
+    MaybeWords,
     /// One of these words at its place.
     OneOf(&'static [&'static str]),
     /// `--name`.
@@ -459,7 +462,7 @@ The verdict takes all transactions as serializable: `serial` by end time, `seria
         GRAIN,
         ArgumentText {
             name: "limit",
-            help: "counts nothing if there are more than N states (1000000); with --each, --part or --find, more than N orders (100000)",
+            help: "counts nothing if there are more than N states (1000000); with --each, --part or --find of a reply, more than N orders (100000)",
             form: Form::Number,
         },
         ArgumentText {
@@ -491,6 +494,21 @@ The verdict takes all transactions as serializable: `serial` by end time, `seria
             name: "find",
             help: "prints the shortest beginning of an order in which this comes: `a aborted deadlock`, `aborted`, `waiting`, `not serial`, `another order`",
             form: Form::Value("TEXT"),
+        },
+        ArgumentText {
+            name: "stats",
+            help: "says on standard error how many states the orders lead to",
+            form: Form::Flag,
+        },
+        ArgumentText {
+            name: "add",
+            help: "prints the sum of the tables FILE and TABLE.., which --part printed, as text or as JSON",
+            form: Form::Flag,
+        },
+        ArgumentText {
+            name: "TABLE",
+            help: "with --add: more tables",
+            form: Form::MaybeWords,
         },
         JSON,
     ],
@@ -654,8 +672,8 @@ The status is 0 if there is an order, 1 if there is none, 3 if that is not known
         },
         ArgumentText {
             name: "all",
-            help: "goes on after an anomaly, without the answers of its transactions",
-            form: Form::Flag,
+            help: "goes on after an anomaly, without the answers on which it rests, and counts them by name; =counts prints the counts alone",
+            form: Form::Choice("each", Extent::WORDS),
         },
         ArgumentText {
             name: "order-out",
@@ -867,6 +885,11 @@ fn rivals_of(command: &str, name: &str) -> &'static [&'static str] {
         ("page", "orders") => &["from", "to", "auto"],
         ("page", "levels") => &["from", "to", "auto", "level", "orders"],
         ("permute", "jobs") => &["each", "levels", "order", "find"],
+        ("permute", "stats") => &["each", "order", "find", "part"],
+        ("permute", "add") => &[
+            "text", "image", "auto", "level", "split", "grain", "limit", "part", "jobs", "each",
+            "order", "levels", "find", "stats", "json",
+        ],
         ("word", "clock" | "txns" | "readers") => &["changes"],
         (_, "image") => &["text"],
         _ => &[],
@@ -877,6 +900,7 @@ fn rivals_of(command: &str, name: &str) -> &'static [&'static str] {
 fn needs_of(command: &str, name: &str) -> &'static [&'static str] {
     match (command, name) {
         ("permute", "jobs") => &["part"],
+        ("permute", "TABLE") => &["add"],
         ("page", "split" | "grain" | "limit") => &["orders"],
         _ => &[],
     }
@@ -888,6 +912,7 @@ fn argument_of<'a>(alloc: Global, text: &ArgumentText) -> Arg<'a> {
         Form::Word => argument.required(true),
         Form::MaybeWord => argument,
         Form::Words => argument.required(true).num_args(1..),
+        Form::MaybeWords => argument.num_args(1..),
         Form::OneOf(words) => argument.required(true).value_parser(words),
         Form::Flag => argument.long(text.name).action(ArgAction::SetTrue),
         Form::Number => argument.long(text.name).value_name("N"),

@@ -249,6 +249,7 @@ fn put_played<'a, E: Write>(
         levels: false,
         find: None,
         progress: false,
+        stats: false,
         printing: Printing::Text,
     };
     let file: ScheduleFile<Cursor<Vec<u8>>> = ScheduleFile::Text(schedule);

@@ -1,23 +1,25 @@
 -- What of a history does not depend on the times and places in its replies.
-use Rattle.std.proofs.Common.{◌≡◌, ℕ, true, List, [], ◌∷◌, Some, None, refl, ap, sym, subst, ◌∙◌, inl, inr, map}
-use Rattle.std.proofs.lemmas.Bool.{cases_Bool}
+use Rattle.std.proofs.Common.{◌≡◌, ℕ, ◌+◌, true, List, [], ◌∷◌, Option, Some, None, refl, ap, sym, subst, ◌∙◌, map}
 use Rattle.std.proofs.lemmas.List.Elements.{All-cons, All-head, All-tail}
-use Rattle.std.specs.Prelude.{◌⊎◌, ◌==◌, ◌||◌, if◌then◌else◌}
+use Rattle.std.specs.Prelude.{◌==◌, ◌||◌, not, if◌then◌else◌, option_and_then, option_map}
 use Rattle.hek_rules.specs.declared.event.Event.{Event}
 use Rattle.hek_rules.specs.declared.event.Event.TheVariants as event
 use Rattle.hek_rules.specs.declared.reply.Reply.{Reply}
 use Rattle.hek_rules.specs.declared.reply.Reply.TheVariants.{Began, Found, Rows, Done, Ready, Precommitted, ReleasedRead, Committed, Failed, Left, Over, NoCycle, Aborted}
-use Rattle.hek_similar.specs.Alike.{bare_reply, bare_step}
+use Rattle.hek_similar.specs.Alike.{bare_reply}
 use Rattle.hek_worker.specs.declared.entry.Entry.{Entry}
 use Rattle.hek_worker.specs.declared.stage.Stage.{Stage}
 use Rattle.hek_worker.specs.declared.stage.Stage.TheVariants as stage
 use Rattle.hek_worker.specs.Grammar.{event_at, answers, worked, position_after}
-use Rattle.hek_worker.specs.History.{IsEntry, IsHistory, part_of}
+use Rattle.hek_worker.specs.History.{IsEntry, IsHistory}
 use Rattle.hek_permute.specs.declared.moves.Form.{Form}
 use Rattle.hek_permute.specs.declared.outcome.Ending.{Ending}
 use Rattle.hek_permute.specs.Moves.{Work}
 use Rattle.hek_permute.specs.Outcomes.{is_wait, ends_with, end_in, has_wait}
-use Rattle.hek_permute.specs.Plays.{Standing, went, after_reply, Makes, Walks}
+use Rattle.hek_permute.specs.declared.play.Place.{Place}
+use Rattle.hek_permute.specs.declared.play.Turn.{Turn}
+use Rattle.hek_permute.specs.declared.play.Turn.TheVariants.{Goes, Asks, Looks, Rests}
+use Rattle.hek_permute.specs.Plays.{Scene, Reaches, seat, due, went, answered, noted, come_to, after_own, after_by}
 use Rattle.hek_explore.specs.Twins.{bare_entry}
 
 -- ---- one reply
@@ -51,43 +53,50 @@ position-bare t work (stage.Stamping cut) n (Left v) = refl
 position-bare t work stage.Ending n Over = refl
 position-bare t work s n r = refl
 
-after-bare : (t : ℕ) (w : Work) (s d : Stage) (r : Reply) → after_reply t w s d (bare_reply r) ≡ after_reply t w s d r
-after-bare t w s d r =
-    ap (λ b. if b then Some (record { stage = s; waits = true }) else went (position_after t w.events d 0 (bare_reply r))) (wait-bare r)
-    ∙ ap (λ p. if is_wait r then Some (record { stage = s; waits = true }) else went p) (position-bare t w.events d 0 r)
+-- where a transaction is after a reply
+answered-bare : (form : Form) (i : ℕ) (w : Work) (p : Place) (r : Reply) → answered form i w p (bare_reply r) ≡ answered form i w p r
+answered-bare form i w p r =
+    ap (λ b. if b then Some (record p { waits = true }) else went p (position_after (i + 1) w.events (due form w p) 0 (bare_reply r))) (wait-bare r)
+    ∙ ap (λ o. if is_wait r then Some (record p { waits = true }) else went p o) (position-bare (i + 1) w.events (due form w p) 0 r)
 
--- ---- two lists of steps that are equal but for times and places
-step-same : (x y : Event × Reply) → bare_step x ≡ bare_step y → (x.0 ≡ y.0) × (bare_reply x.1 ≡ bare_reply y.1)
-step-same x y e = (ap (λ p. p.0) e, ap (λ p. p.1) e)
+own-by : (form : Form) (i : ℕ) (places : List Place) (turn : Turn) (o : Option (Work × Place)) (r : Reply)
+    → option_and_then (λ (x : Work × Place). option_map (come_to form i places turn x.0) (answered form i x.0 x.1 (bare_reply r))) o
+    ≡ option_and_then (λ (x : Work × Place). option_map (come_to form i places turn x.0) (answered form i x.0 x.1 r)) o
+own-by form i places turn None r = refl
+own-by form i places turn (Some x) r = ap (option_map (come_to form i places turn x.0)) (answered-bare form i x.0 x.1 r)
 
-reply-same : (t : ℕ) (w : Work) (s d : Stage) (r q : Reply) → bare_reply r ≡ bare_reply q → after_reply t w s d r ≡ after_reply t w s d q
-reply-same t w s d r q e = sym (after-bare t w s d r) ∙ ap (after_reply t w s d) e ∙ after-bare t w s d q
+own-bare : (form : Form) (works : List Work) (places : List Place) (i : ℕ) (turn : Turn) (r : Reply) → after_own form works places i turn (bare_reply r) ≡ after_own form works places i turn r
+own-bare form works places i turn r = own-by form i places turn (seat works places i) r
 
-makes-same : (form : Form) (t : ℕ) (w : Work) (n : ℕ) (s m : Standing) (x y : Event × Reply) → bare_step x ≡ bare_step y
-    → ((x.0 ≡ event.Detect) × (m ≡ s)) ⊎ Makes form t w n s x m → ((y.0 ≡ event.Detect) × (m ≡ s)) ⊎ Makes form t w n s y m
-makes-same form t w n s m x y e (inl h) = inl (sym (step-same x y e).0 ∙ h.0, h.1)
-makes-same form t w n s m x y e (inr h) = inr (h.0, h.1, h.2, sym (step-same x y e).0 ∙ h.3, sym (reply-same t w s.stage h.1 x.1 y.1 (step-same x y e).1) ∙ h.4)
+looked-bare : (form : Form) (works : List Work) (places : List Place) (r : Reply) → after_by form works places Looks (bare_reply r) ≡ after_by form works places Looks r
+looked-bare form works places (Began time) = refl
+looked-bare form works places r = refl
 
-pub walks-same : (form : Form) (t : ℕ) (w : Work) (n : ℕ) (s z : Standing) (xs ys : List (Event × Reply)) → map bare_step xs ≡ map bare_step ys
-    → Walks form t w n s xs z → Walks form t w n s ys z
-walks-same form t w n s z [] [] e h = h
-walks-same form t w n s z [] (y ∷ ys) e h = absurd (cc)
-walks-same form t w n s z (x ∷ xs) [] e h = absurd (cc)
-walks-same form t w n s z (x ∷ xs) (y ∷ ys) e h =
-    let head : bare_step x ≡ bare_step y = cc in
-    let tail : map bare_step xs ≡ map bare_step ys = cc in
-    (h.0, makes-same form t w n s h.0 x y head h.1, walks-same form t w n h.0 z xs ys tail h.2)
+by-bare : (form : Form) (works : List Work) (places : List Place) (turn : Turn) (r : Reply) → after_by form works places turn (bare_reply r) ≡ after_by form works places turn r
+by-bare form works places (Goes i) r = own-bare form works places i (Goes i) r
+by-bare form works places (Asks i but got_on) r =
+    own-bare form works places i (noted (Asks i but got_on) (bare_reply r)) r
+    ∙ ap (λ b. after_own form works places i (Asks i but (got_on || not b)) r) (wait-bare r)
+by-bare form works places Looks r = looked-bare form works places r
+by-bare form works places Rests r = refl
 
 -- ---- histories without times and places
-pub part-bare : (t : ℕ) (xs : List Entry) → part_of t (map bare_entry xs) ≡ map bare_step (part_of t xs)
-part-bare t [] = refl
-part-bare t (x ∷ xs) = elim (cases_Bool (x.worker == t)) [
-  | inl a ↦ rw a (ap (λ l. (x.event, bare_reply x.reply) ∷ l) (part-bare t xs))
-  | inr a ↦ rw a (part-bare t xs)
-]
-
-pub parts-same : (t : ℕ) (xs ys : List Entry) → map bare_entry xs ≡ map bare_entry ys → map bare_step (part_of t xs) ≡ map bare_step (part_of t ys)
-parts-same t xs ys e = sym (part-bare t xs) ∙ ap (part_of t) e ∙ part-bare t ys
+-- entries that are equal but for times and places lead the same way
+pub reach-same : (form : Form) (works : List Work) (t : ℕ) (s z : Scene) (xs ys : List Entry) → map bare_entry xs ≡ map bare_entry ys → Reaches form works t s xs z
+    → Reaches form works t s ys z
+reach-same form works t s z [] [] e h = h
+reach-same form works t s z [] (y ∷ ys) e h = absurd (cc)
+reach-same form works t s z (x ∷ xs) [] e h = absurd (cc)
+reach-same form works t s z (x ∷ xs) (y ∷ ys) e h =
+    let head : bare_entry x ≡ bare_entry y = cc in
+    let tail : map bare_entry xs ≡ map bare_entry ys = cc in
+    let made : ◌≡◌ {A = ℕ × Event} (x.worker, x.event) (y.worker, y.event) = ap (λ (q : Entry). (q.worker, q.event)) head in
+    let bare : bare_reply x.reply ≡ bare_reply y.reply = ap (λ (q : Entry). q.reply) head in (
+      h.0 ∙ ap (λ (q : ℕ × Event). Some q) made,
+      h.1,
+      sym (by-bare form works s.places s.turn y.reply) ∙ sym (ap (after_by form works s.places s.turn) bare) ∙ by-bare form works s.places s.turn x.reply ∙ h.2,
+      reach-same form works t h.1 z xs ys tail h.3,
+    )
 
 end-bare : (t : ℕ) (xs : List Entry) → end_in t (map bare_entry xs) ≡ end_in t xs
 end-bare t [] = refl

@@ -18,14 +18,14 @@ use Rattle.hek_permute.specs.Moves.{Work, AreMoves}
 use Rattle.hek_permute.specs.Numbers.{orders_of}
 use Rattle.hek_permute.specs.Orders.{IsAmong, IsBelow}
 use Rattle.hek_permute.specs.Outcomes.{IsOutcomeOf}
-use Rattle.hek_permute.specs.Places.{AllRest, HasMoved, first_place}
+use Rattle.hek_permute.specs.Plays.{HasMoved, first_place}
 use Rattle.hek_explore.specs.Counts.{AreLike, Group, HasLike, IsBefore, IsGrown, IsJoined, IsPut, IsReplayed, IsStart, IsTried, joined}
 use Rattle.hek_explore.specs.Deals.{DealsClasses, FitsClass, IsExtended, IsNextLayer, Measure, left_of, weigh}
 use Rattle.hek_explore.specs.Keys.{Shape, shape_of}
 use Rattle.hek_explore.specs.Steps.{EndsWith, HasKey, LeadsBy}
 use Rattle.hek_permute.proofs.Begun.{among_append}
 use Rattle.hek_explore.proofs.Counting.{deals-alike, deals-push, deals-set, HasExtended, extended-none, extended-skip, extended-more, IsDealt, IsPassed, passed-none, passed-more, passed-all}
-use Rattle.hek_explore.proofs.Steps.{come-first, first-key, last-key, leads}
+use Rattle.hek_explore.proofs.Steps.{first-key, last-key, leads}
 
 at-most : (a b : ℕ) → a ≤ (if nat_lt a b then b else a)
 at-most a b = elim (cases_Bool (nat_lt a b)) [
@@ -247,13 +247,13 @@ put-in (Err e) old items c place was now is like at made = tt
 
 -- a move of a class's first beginning leads from its key to another
 pub grown-leads : (p q r : Plan) (form : Form) (works : List Work) (g : Group) (t : ℕ) (places later : List Place) (h now : List Entry) (m : Engine) (key : Shape) → AreMoves p works
-    → IsReplayed p form works g q places h → r ≡ q → AllRest form works later now → HasMoved form works t places h later now → key ≡ shape_of r later now → Replays r m now
+    → IsReplayed p form works g q places h → r ≡ q → HasMoved form works t places h later now → key ≡ shape_of r later now → Replays r m now
     → LeadsBy p form works t g.key key (length now)
-grown-leads p q r form works g t places later h now m key are so same rest moved is replays =
+grown-leads p q r form works g t places later h now m key are so same moved is replays =
     let own : r ≡ p = same ∙ so.plan_is in
     let here : key ≡ shape_of p later now = is ∙ ap (λ (x : Plan). shape_of x later now) own in
     let one : LeadsBy p form works t (shape_of p places h) (shape_of p later now) (length now) =
-    leads p form works (reverse g.first) t places later h now m are so.come moved rest (subst (λ (x : Plan). Replays x m now) own replays) in
+    leads p form works (reverse g.first) t places later h now m are so.come moved (subst (λ (x : Plan). Replays x m now) own replays) in
     subst (λ (k : Shape). LeadsBy p form works t k key (length now)) so.key (subst (λ (k : Shape). LeadsBy p form works t (shape_of p places h) k (length now)) (sym here) one)
 
 -- the key of the play without moves
@@ -261,7 +261,7 @@ pub start-key : (p q : Plan) (form : Form) (works : List Work) (places : List Pl
     → places ≡ replicate (length works) first_place → h ≡ [] → key ≡ shape_of q places h → Replays q m h → HasKey p form works [] key 0
 start-key p q form works places h m key are own first none is replays =
     let one : HasKey p form works [] (shape_of p places h) 0 =
-    first-key p form works places h m are (come-first form works (length works) h places first refl none) (subst (λ (x : Plan). Replays x m h) own replays) none in
+    first-key p form works places h m are (first, none) (subst (λ (x : Plan). Replays x m h) own replays) none in
     subst (λ (k : Shape). HasKey p form works [] k 0) (sym (is ∙ ap (λ (x : Plan). shape_of x places h) own)) one
 
 -- the outcome of a class's orders

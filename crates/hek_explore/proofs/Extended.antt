@@ -1,11 +1,8 @@
 -- Plays extend alike.
-use Rattle.std.proofs.Common.{◌≡◌, ℕ, ◌+◌, ◌<◌, ◌≤◌, List, ◌∷◌, ◌++◌, length, refl, ap, sym, subst, ◌∙◌, map, arith, Bool, true, false}
+use Rattle.std.proofs.Common.{◌≡◌, ℕ, ◌+◌, ◌<◌, ◌≤◌, List, ◌∷◌, ◌++◌, length, refl, ap, sym, subst, ◌∙◌, map, arith}
 use Rattle.std.proofs.lemmas.List.{length-append, length-map}
 use Rattle.std.proofs.lemmas.List.Elements.{All-append}
 use Rattle.std.specs.List.{All}
-use Rattle.std.specs.Prelude.{◌==◌}
-use Rattle.hek_rules.specs.declared.event.Event.{Event}
-use Rattle.hek_rules.specs.declared.reply.Reply.{Reply}
 use Rattle.hek_rules.specs.Checks.{clock_end}
 use Rattle.hek_rules.specs.Plan.{Plan, IsPlan, levels_of}
 use Rattle.hek_rules.specs.Run.{run, transcript}
@@ -15,21 +12,20 @@ use Rattle.hek_laws.proofs.Runs.Reachable.{opening-reachable}
 use Rattle.hek_laws.proofs.Worlds.Fixed.{fixed-run}
 use Rattle.hek_machine.specs.Observed.{opening_of}
 use Rattle.hek_similar.specs.Alike.{Alike, bare_step}
+use Rattle.hek_similar.specs.Places.{ScansGroup}
 use Rattle.hek_similar.specs.Verdicts.{ToldAlike}
 use Rattle.hek_similar.proofs.Places.Alike.{alike-runs}
 use Rattle.hek_similar.proofs.Places.Told.{told-go_on_alike}
 use Rattle.hek_worker.specs.declared.entry.Entry.{Entry}
-use Rattle.hek_worker.specs.History.{IsEntry, IsHistory, history_events, replies_in, part_of}
+use Rattle.hek_worker.specs.History.{IsEntry, IsHistory, history_events, replies_in}
 use Rattle.hek_permute.specs.declared.moves.Form.{Form}
 use Rattle.hek_permute.specs.declared.play.Place.{Place}
 use Rattle.hek_permute.specs.Moves.{Work}
-use Rattle.hek_permute.specs.Places.{standing_of, HasMoved, AllRest, MovesAreCounted}
-use Rattle.hek_permute.specs.Plays.{at_start, Walks}
-use Rattle.hek_permute.specs.Tallies.{one_if}
-use Rattle.hek_permute.proofs.Plays.{walk_more, walk_on, part_append, counted_more, stands}
+use Rattle.hek_permute.specs.Plays.{HasMoved, SetsOff}
+use Rattle.hek_explore.specs.Groups.{group_in}
 use Rattle.hek_explore.specs.Twins.{world_after, steps_in, bare_entry, HasPlayed, AreTwins}
 use Rattle.hek_explore.specs.Laws.{PlaysExtendAlike}
-use Rattle.hek_explore.proofs.Bare.{walks-same, parts-same, ends-same, waits-same, formed-same}
+use Rattle.hek_explore.proofs.Bare.{reach-same, ends-same, waits-same, formed-same}
 use Rattle.hek_explore.proofs.Grown.{ends-grow, waits-grow, steps-append, events-append, All-right, run-on, steps-told, told-after, told-both, told, retold, retold-events, retold-length, retold-replies, retold-same, clock-run}
 
 -- ---- the world after a play
@@ -54,27 +50,6 @@ world-clock p h plan placed =
     let l : length (history_events h) ≡ length h = length-map h (λ (x : Entry). x.event) in
     omega arith
 
--- ---- the walks of a play that goes on
--- what was done with fewer moves can be done with one more
-more_moves : (form : Form) (t : ℕ) (w : Work) (n m : ℕ) (b : Bool) (xs : List (Event × Reply)) (p : Place) → m ≡ one_if b + n → Walks form t w n at_start xs (standing_of p)
-    → Walks form t w m at_start xs (standing_of p)
-more_moves form t w n m false xs p e walk =
-    let same : n ≡ m = omega (arith, e) in
-    subst (λ (j : ℕ). Walks form t w j at_start xs (standing_of p)) same walk
-more_moves form t w n m true xs p e walk =
-    let more : n + 1 ≡ m = omega (arith, e) in
-    subst (λ (j : ℕ). Walks form t w j at_start xs (standing_of p)) more (walk_more form t w n at_start (standing_of p) xs walk)
-
--- a walk goes on by entries that are equal but for times and places
-walk-twin : (form : Form) (t u : ℕ) (w : Work) (p q : Place) (k more anew : List Entry) → q.moves ≡ one_if (u == t) + p.moves → map bare_entry more ≡ map bare_entry anew
-    → Walks form t w p.moves at_start (part_of t k) (standing_of p) → Walks form t w q.moves (standing_of p) (part_of t more) (standing_of q)
-    → Walks form t w q.moves at_start (part_of t (k ++ anew)) (standing_of q)
-walk-twin form t u w p q k more anew count same before after =
-    subst (λ (xs : List (Event × Reply)). Walks form t w q.moves at_start xs (standing_of q)) (sym (part_append t k anew))
-    (walk_on form t w q.moves at_start (standing_of p) (standing_of q) (part_of t k) (part_of t anew)
-    (more_moves form t w p.moves q.moves (u == t) (part_of t k) p count before)
-    (walks-same form t w q.moves (standing_of p) (standing_of q) (part_of t more) (part_of t anew) (parts-same t more anew same) after))
-
 module _ (p : Plan) (form : Form) (works : List Work) (past others : List ℕ) (t : ℕ) (places later : List Place) (h now k : List Entry) (plan : IsPlan p)
     (first : HasPlayed p form works past places h) (moved : HasMoved form works t places h later now) (then : HasPlayed p form works (t ∷ past) later now)
     (other : HasPlayed p form works others places k) (twins : AreTwins p h k) (short : length k + length now < clock_end) where
@@ -87,6 +62,12 @@ module _ (p : Plan) (form : Form) (works : List Work) (past others : List ℕ) (
 
   placed-more : All (IsPlaced p.buckets) (history_events moved.more)
   placed-more = All-right (IsPlaced p.buckets) (history_events h) (history_events moved.more) (subst (All (IsPlaced p.buckets)) all-events then.placed)
+
+  scans-more : All (ScansGroup (group_in p) p.buckets) (history_events moved.more)
+  scans-more = All-right (ScansGroup (group_in p) p.buckets) (history_events h) (history_events moved.more) (subst (All (ScansGroup (group_in p) p.buckets)) all-events then.scans)
+
+  scans-now : All (ScansGroup (group_in p) (world_after p h).buckets) (history_events moved.more)
+  scans-now = subst (λ (n : ℕ). All (ScansGroup (group_in p) n) (history_events moved.more)) (sym (fixed-run (opening_of p 1) (history_events h)).buckets) scans-more
 
   formed-more : IsHistory (length p.txns) moved.more
   formed-more = All-right (IsEntry (length p.txns)) h moved.more (subst (IsHistory (length p.txns)) moved.grown then.formed)
@@ -111,10 +92,10 @@ module _ (p : Plan) (form : Form) (works : List Work) (past others : List ℕ) (
       omega (arith, l, b, long-now, short)
 
   answers : (map bare_step (transcript (world_after p h) (history_events moved.more)) ≡ map bare_step (transcript (world_after p k) (history_events moved.more)))
-      × Alike (run (world_after p h) (history_events moved.more)) (run (world_after p k) (history_events moved.more))
+      × Alike (group_in p) (run (world_after p h) (history_events moved.more)) (run (world_after p k) (history_events moved.more))
   answers =
-      alike-runs (world_after p h) (world_after p k) (history_events moved.more) twins.worlds (world-reachable p h plan first.placed) (world-reachable p k plan other.placed)
-      placed-now some-left left-anew
+      alike-runs (group_in p) (world_after p h) (world_after p k) (history_events moved.more) twins.worlds (world-reachable p h plan first.placed) (world-reachable p k plan other.placed)
+      placed-now scans-now some-left left-anew
 
   replies-more : replies_in moved.more ≡ told (world_after p h) (history_events moved.more)
   replies-more = told-after (opening_of p 1) h now moved.more moved.grown first.replies then.replies
@@ -134,21 +115,13 @@ module _ (p : Plan) (form : Form) (works : List Work) (past others : List ℕ) (
   told-anew =
       subst (λ l. ToldAlike l (steps_in (k ++ anew))) (sym (steps-append h moved.more ∙ ap (λ l. steps_in h ++ l) steps-more))
       (subst (ToldAlike (steps_in h ++ transcript (world_after p h) (history_events moved.more))) (sym (steps-append k anew ∙ ap (λ l. steps_in k ++ l) steps-anew))
-      (told-go_on_alike (world_after p h) (world_after p k) (steps_in h) (steps_in k) (history_events moved.more) twins.worlds (world-reachable p h plan first.placed)
-      (world-reachable p k plan other.placed) placed-now some-left left-anew twins.told))
+      (told-go_on_alike (group_in p) (world_after p h) (world_after p k) (steps_in h) (steps_in k) (history_events moved.more) twins.worlds (world-reachable p h plan first.placed)
+      (world-reachable p k plan other.placed) placed-now scans-now some-left left-anew twins.told))
 
-  rest-anew : AllRest form works later (k ++ anew)
-  rest-anew = record {
-    at = record {
-      long = then.rest.at.long;
-      walks = λ i w q gw gq. let m = moved.moves i q gq in
-          walk-twin form (i + 1) t w m.0 q k moved.more anew m.2 same-more (other.rest.at.walks i w m.0 gw m.1) (moved.walks i w m.0 q gw m.1 gq);
-    };
-    rest = then.rest.rest;
-  }
-
-  counted-anew : MovesAreCounted later (t ∷ others)
-  counted-anew = counted_more form works t places later h now others other.counted moved
+  sets-off-anew : SetsOff form works t places anew later
+  sets-off-anew =
+      let o : SetsOff form works t places moved.more later = moved.set_off in
+      (o.0, o.1, o.2, reach-same form works t o.0 o.1 moved.more anew same-more o.3, o.4, o.5)
 
   played-anew : HasPlayed p form works (t ∷ others) later (k ++ anew)
   played-anew = record {
@@ -156,10 +129,11 @@ module _ (p : Plan) (form : Form) (works : List Work) (past others : List ℕ) (
     placed = subst (All (IsPlaced p.buckets)) (sym (events-append k anew))
         (All-append (IsPlaced p.buckets) (history_events k) (history_events anew) other.placed
         (subst (All (IsPlaced p.buckets)) (sym (retold-events (world_after p k) moved.more)) placed-more));
+    scans = subst (All (ScansGroup (group_in p) p.buckets)) (sym (events-append k anew))
+        (All-append (ScansGroup (group_in p) p.buckets) (history_events k) (history_events anew) other.scans
+        (subst (All (ScansGroup (group_in p) p.buckets)) (sym (retold-events (world_after p k) moved.more)) scans-more));
     replies = told-both (opening_of p 1) k anew other.replies (retold-replies (world_after p k) moved.more);
-    play = (k, anew, other.play, refl, stands form works later (k ++ anew) (t ∷ others) rest-anew counted-anew);
-    rest = rest-anew;
-    counted = counted-anew;
+    play = (places, k, anew, other.play, sets-off-anew, refl);
   }
 
   world-now : world_after p now ≡ run (world_after p h) (history_events moved.more)
@@ -171,8 +145,8 @@ module _ (p : Plan) (form : Form) (works : List Work) (past others : List ℕ) (
 
   twins-anew : AreTwins p (h ++ moved.more) (k ++ anew)
   twins-anew = record {
-    worlds = subst (λ (w : World). Alike w (world_after p (k ++ anew))) (sym world-now ∙ ap (world_after p) moved.grown)
-        (subst (Alike (run (world_after p h) (history_events moved.more))) (sym world-anew) answers.1);
+    worlds = subst (λ (w : World). Alike (group_in p) w (world_after p (k ++ anew))) (sym world-now ∙ ap (world_after p) moved.grown)
+        (subst (Alike (group_in p) (run (world_after p h) (history_events moved.more))) (sym world-anew) answers.1);
     told = told-anew;
     ends = λ u. ends-grow u h moved.more k anew (twins.ends u) (ends-same u moved.more anew same-more);
     waited = waits-grow h moved.more k anew twins.waited (waits-same moved.more anew same-more);

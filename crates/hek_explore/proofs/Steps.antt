@@ -1,17 +1,16 @@
 -- How a move leads from one key to another.
-use Rattle.std.proofs.Common.{◌≡◌, ℕ, suc, zero, ◌+◌, ◌<◌, ◌≤◌, true, List, [], ◌∷◌, ◌++◌, Option, Some, None, length, refl, ap, sym, subst, ◌∙◌, map, arith, inl, inr, replicate}
-use Rattle.std.proofs.lemmas.Bool.{cases_Bool}
-use Rattle.std.proofs.lemmas.Bool.Decides.{nat_tests}
+use Rattle.std.proofs.Common.{◌≡◌, ℕ, suc, zero, ◌+◌, ◌≤◌, List, [], ◌∷◌, ◌++◌, Option, Some, None, length, refl, ap, sym, subst, ◌∙◌, arith}
 use Rattle.std.proofs.lemmas.List.{length-map, reverse-reverse}
-use Rattle.std.proofs.lemmas.List.Elements.{All-cons, All-head, All-nil, All-tail, All-filter}
+use Rattle.std.proofs.lemmas.List.Elements.{All-append, All-cons, All-head, All-nil, All-tail, All-filter}
 use Rattle.std.specs.List.{All}
-use Rattle.std.specs.Prelude.{◌==◌, slice_get}
+use Rattle.std.specs.Prelude.{option_map, slice_get}
 use Rattle.hek_rules.specs.declared.event.Event.{Event}
-use Rattle.hek_rules.specs.declared.reply.Reply.{Reply}
-use Rattle.hek_rules.specs.Plan.{Plan, IsPlan, IsDeclared}
+use Rattle.hek_rules.specs.declared.event.Event.TheVariants as event
+use Rattle.hek_rules.specs.Plan.{Plan, IsPlan}
 use Rattle.hek_rules.specs.Run.{next, run}
 use Rattle.hek_rules.specs.World.{World}
 use Rattle.hek_laws.specs.Runs.{IsPlaced}
+use Rattle.hek_similar.specs.Places.{ScansGroup}
 use Rattle.hek_machine.specs.declared.engine.Engine.{Engine}
 use Rattle.hek_machine.specs.Observed.{opening_of}
 use Rattle.hek_machine.proofs.PlacedSteps.{steps_placed}
@@ -19,101 +18,118 @@ use Rattle.hek_worker.specs.declared.entry.Entry.{Entry}
 use Rattle.hek_worker.specs.declared.stage.Stage.{Stage}
 use Rattle.hek_worker.specs.declared.stage.Stage.TheVariants.{Start, Working, Preparing, Looking, GivingUp, Releasing, Committing, Stamping, Ending, Ended}
 use Rattle.hek_worker.specs.Grammar.{event_at, or_finish, is_work}
-use Rattle.hek_worker.specs.History.{IsEntry, IsHistory, Replays, history_events, replies_in, part_of}
+use Rattle.hek_worker.specs.History.{IsEntry, IsHistory, Replays, history_events, replies_in}
 use Rattle.hek_permute.specs.declared.moves.Form.{Form}
 use Rattle.hek_permute.specs.declared.play.Place.{Place}
 use Rattle.hek_permute.specs.Found.{Found}
 use Rattle.hek_permute.specs.Moves.{Work, AreMoves}
 use Rattle.hek_permute.specs.Outcomes.{IsOutcomeOf}
-use Rattle.hek_permute.specs.Places.{AllRest, AreAt, HasMoved, first_place, standing_of}
-use Rattle.hek_permute.specs.Plays.{IsPlay, Standing, Walks, at_start}
-use Rattle.hek_permute.proofs.Plays.{IsSoFar, on_and_on, at_first}
+use Rattle.hek_permute.specs.declared.play.Turn.{Turn}
+use Rattle.hek_permute.specs.declared.play.Turn.TheVariants.{Goes, Asks, Looks, Rests}
+use Rattle.hek_permute.specs.Plays.{IsPlay, Plays, HasMoved, Scene, Reaches, both, seat, due, next_of, next_by}
+use Rattle.hek_permute.proofs.Plays.{plays_on}
+use Rattle.hek_explore.specs.Groups.{group_in}
 use Rattle.hek_explore.specs.Keys.{shape_of}
 use Rattle.hek_explore.specs.Twins.{HasPlayed, AreTwins}
-use Rattle.hek_explore.specs.Steps.{HasCome, HasKey, LeadsBy, EndsWith}
+use Rattle.hek_explore.specs.Steps.{HasKey, LeadsBy, EndsWith}
 use Rattle.hek_explore.specs.Laws.{HasTwin}
 use Rattle.hek_explore.proofs.Extended.{extends-alike}
+use Rattle.hek_explore.proofs.Scanned.{steps-scan}
 use Rattle.hek_explore.proofs.Grown.{events-append, replies-append, told, told-on}
 use Rattle.hek_explore.proofs.Keys.{keys-twins}
 use Rattle.hek_explore.proofs.Outcomes.{one-outcome}
 use Rattle.hek_explore.proofs.Shapes.{twins-shape}
 
--- ---- the events of a play scan buckets that exist
+-- ---- the events of a play scan buckets that exist, each of whose keys are of one group
+abbrev IsFit : (ℕ → ℕ) → ℕ → Event → Type 0
+IsFit g b e = IsPlaced b e × ScansGroup g b e
+
 all-got : {X : Type 0} (P : X → Type 0) (xs : List X) (i : ℕ) (x : X) → All P xs → slice_get xs i ≡ Some x → P x
 all-got P [] i x all e = absurd (cc)
 all-got P (y ∷ ys) zero x all e = let is : y ≡ x = cc in subst P is (All-head P y ys all)
 all-got P (y ∷ ys) (suc i) x all e = all-got P ys i x (All-tail P y ys all) e
 
-finish-placed : (b t : ℕ) (o : Option Event) → ((e : Event) → o ≡ Some e → IsPlaced b e) → IsPlaced b (or_finish t o)
-finish-placed b t None h = tt
-finish-placed b t (Some e) h = h e refl
+finish-fit : (g : ℕ → ℕ) (b t : ℕ) (o : Option Event) → ((e : Event) → o ≡ Some e → IsFit g b e) → IsFit g b (or_finish t o)
+finish-fit g b t None h = (tt, tt)
+finish-fit g b t (Some e) h = h e refl
 
-event-placed : (b t : ℕ) (work : List Event) (s : Stage) → All (IsPlaced b) work → IsPlaced b (event_at t work s)
-event-placed b t work Start all = tt
-event-placed b t work (Working n) all = finish-placed b t (slice_get work n) (λ e is. all-got (IsPlaced b) work n e all is)
-event-placed b t work Preparing all = tt
-event-placed b t work Looking all = tt
-event-placed b t work GivingUp all = tt
-event-placed b t work (Releasing cut) all = tt
-event-placed b t work Committing all = tt
-event-placed b t work (Stamping cut) all = tt
-event-placed b t work Ending all = tt
-event-placed b t work Ended all = tt
+event-fit : (g : ℕ → ℕ) (b t : ℕ) (work : List Event) (s : Stage) → All (IsFit g b) work → IsFit g b (event_at t work s)
+event-fit g b t work Start all = (tt, tt)
+event-fit g b t work (Working n) all = finish-fit g b t (slice_get work n) (λ e is. all-got (IsFit g b) work n e all is)
+event-fit g b t work Preparing all = (tt, tt)
+event-fit g b t work Looking all = (tt, tt)
+event-fit g b t work GivingUp all = (tt, tt)
+event-fit g b t work (Releasing cut) all = (tt, tt)
+event-fit g b t work Committing all = (tt, tt)
+event-fit g b t work (Stamping cut) all = (tt, tt)
+event-fit g b t work Ending all = (tt, tt)
+event-fit g b t work Ended all = (tt, tt)
 
-abbrev events_of : List (Event × Reply) → List Event
-events_of xs = map (λ (x : Event × Reply). x.0) xs
+-- so do the works of a schedule's transactions
+abbrev AreWorksFit : (ℕ → ℕ) → ℕ → List Work → Type 0
+AreWorksFit g b works = (i : ℕ) (w : Work) → slice_get works i ≡ Some w → All (IsFit g b) w.events
 
-walk-placed : (b : ℕ) (form : Form) (t : ℕ) (w : Work) (n : ℕ) (s z : Standing) (xs : List (Event × Reply)) → All (IsPlaced b) w.events → Walks form t w n s xs z → All (IsPlaced b) (events_of xs)
-walk-placed b form t w n s z [] all h = All-nil (IsPlaced b)
-walk-placed b form t w n s z (x ∷ xs) all h =
-    All-cons (IsPlaced b) x.0 (events_of xs)
-    (elim h.1 [
-      | inl d ↦ subst (IsPlaced b) (sym d.0) tt
-      | inr m ↦ subst (IsPlaced b) (sym m.3) (event-placed b t w.events m.1 all)
-    ])
-    (walk-placed b form t w n h.0 z xs all h.2)
+map-some : {X Y : Type 0} (f : X → Y) (o : Option X) (y : Y) → option_map f o ≡ Some y → (x : X) × (o ≡ Some x) × (f x ≡ y)
+map-some f None y e = absurd (cc)
+map-some f (Some x) y e = (x, refl, cc)
 
-part-head : (x : Entry) (xs : List Entry) → part_of x.worker (x ∷ xs) ≡ (x.event, x.reply) ∷ part_of x.worker xs
-part-head x xs = let h : (x.worker == x.worker) ≡ true = grind (arith, nat_tests) in rw h refl
+both-work : (v : Option Work) (q : Option Place) (x : Work × Place) → both v q ≡ Some x → v ≡ Some x.0
+both-work None q x e = absurd (cc)
+both-work (Some w) None x e = absurd (cc)
+both-work (Some w) (Some q) x e = let same : ◌≡◌ {A = Work × Place} (w, q) x = cc in ap (λ (z : Work × Place). Some z.0) same
 
-part-tail : (b t : ℕ) (x : Entry) (xs : List Entry) → All (IsPlaced b) (events_of (part_of t (x ∷ xs))) → All (IsPlaced b) (events_of (part_of t xs))
-part-tail b t x xs all = elim (cases_Bool (x.worker == t)) [
-  | inl h ↦ All-tail (IsPlaced b) x.event (events_of (part_of t xs)) (rw h at all)
-  | inr h ↦ rw h at all
-]
+own-fit : (g : ℕ → ℕ) (b : ℕ) (form : Form) (works : List Work) (places : List Place) (i : ℕ) (y : ℕ × Event) → AreWorksFit g b works
+    → option_map (next_of form i) (seat works places i) ≡ Some y → IsFit g b y.1
+own-fit g b form works places i y all e =
+    let s : (x : Work × Place) × (seat works places i ≡ Some x) × (next_of form i x ≡ y) = map-some (next_of form i) (seat works places i) y e in
+    let own : slice_get works i ≡ Some s.0.0 = both-work (slice_get works i) (slice_get places i) s.0 s.1 in
+    subst (λ (z : ℕ × Event). IsFit g b z.1) s.2 (event-fit g b (i + 1) s.0.0.events (due form s.0.0 s.0.1) (all i s.0.0 own))
 
-history-placed : (b n : ℕ) (xs : List Entry) → IsHistory n xs → ((t : ℕ) → IsDeclared n t → All (IsPlaced b) (events_of (part_of t xs))) → All (IsPlaced b) (history_events xs)
-history-placed b n [] formed parts = All-nil (IsPlaced b)
-history-placed b n (x ∷ xs) formed parts =
-    let head : IsEntry n x = All-head (IsEntry n) x xs formed in
-    let first : All (IsPlaced b) (x.event ∷ events_of (part_of x.worker xs)) = subst (λ l. All (IsPlaced b) (events_of l)) (part-head x xs) (parts x.worker head.0) in
-    All-cons (IsPlaced b) x.event (history_events xs) (All-head (IsPlaced b) x.event (events_of (part_of x.worker xs)) first)
-    (history-placed b n xs (All-tail (IsEntry n) x xs formed) (λ t d. part-tail b t x xs (parts t d)))
+next-fit : (g : ℕ → ℕ) (b : ℕ) (form : Form) (works : List Work) (t : ℕ) (places : List Place) (turn : Turn) (y : ℕ × Event) → AreWorksFit g b works
+    → next_by form works t places turn ≡ Some y → IsFit g b y.1
+next-fit g b form works t places (Goes i) y all e = own-fit g b form works places i y all e
+next-fit g b form works t places (Asks i but got_on) y all e = own-fit g b form works places i y all e
+next-fit g b form works t places Looks y all e = let same : ◌≡◌ {A = ℕ × Event} (t, event.Detect) y = cc in subst (λ (z : ℕ × Event). IsFit g b z.1) same (tt, tt)
+next-fit g b form works t places Rests y all e = absurd (cc)
 
-some-at : {X : Type 0} (xs : List X) (i : ℕ) → i < length xs → (x : X) × (slice_get xs i ≡ Some x)
-some-at [] i h = absurd (omega arith)
-some-at (x ∷ xs) zero h = (x, refl)
-some-at (x ∷ xs) (suc i) h = some-at xs i (omega arith)
+reach-fit : (g : ℕ → ℕ) (b : ℕ) (form : Form) (works : List Work) (t : ℕ) (s z : Scene) (xs : List Entry) → AreWorksFit g b works → Reaches form works t s xs z
+    → All (IsFit g b) (history_events xs)
+reach-fit g b form works t s z [] all h = All-nil (IsFit g b)
+reach-fit g b form works t s z (x ∷ xs) all h =
+    All-cons (IsFit g b) x.event (history_events xs) (next-fit g b form works t s.places s.turn (x.worker, x.event) all h.0)
+    (reach-fit g b form works t h.1 z xs all h.3)
 
-work-placed : (p : Plan) (works : List Work) (i : ℕ) (w : Work) → IsPlan p → AreMoves p works → slice_get works i ≡ Some w → All (IsPlaced p.buckets) w.events
-work-placed p works i w plan are g =
-    subst (λ (v : Work). All (IsPlaced p.buckets) v.events) (sym (are.each i w g))
-    (All-filter (is_work (i + 1)) (IsPlaced p.buckets) p.steps (steps_placed p p.steps plan refl))
+plays-fit : (g : ℕ → ℕ) (b : ℕ) (form : Form) (works : List Work) (past : List ℕ) (places : List Place) (h : List Entry) → AreWorksFit g b works → Plays form works past places h
+    → All (IsFit g b) (history_events h)
+plays-fit g b form works [] places h all so = subst (λ (l : List Entry). All (IsFit g b) (history_events l)) (sym so.1) (All-nil (IsFit g b))
+plays-fit g b form works (t ∷ past) places h all so =
+    let was : List Place = so.0 in let before : List Entry = so.1 in let more : List Entry = so.2 in
+    subst (λ (l : List Entry). All (IsFit g b) (history_events l)) (sym so.5)
+    (subst (All (IsFit g b)) (sym (events-append before more))
+    (All-append (IsFit g b) (history_events before) (history_events more) (plays-fit g b form works past was before all so.3)
+    (reach-fit g b form works t so.4.0 so.4.1 more all so.4.3)))
 
-play-placed : (p : Plan) (form : Form) (works : List Work) (places : List Place) (h : List Entry) → IsPlan p → AreMoves p works → IsHistory (length p.txns) h → AreAt form works places h
-    → All (IsPlaced p.buckets) (history_events h)
-play-placed p form works places h plan are formed at =
-    history-placed p.buckets (length p.txns) h formed (λ t d. at-txn t d)
-  where
-    at-place : (i : ℕ) → i < length p.txns → All (IsPlaced p.buckets) (events_of (part_of (i + 1) h))
-    at-place i low =
-        let w = some-at works i (omega (arith, low, are.count)) in
-        let q = some-at places i (omega (arith, low, are.count, at.long)) in
-        walk-placed p.buckets form (i + 1) w.0 q.0.moves at_start (standing_of q.0) (part_of (i + 1) h) (work-placed p works i w.0 plan are w.1) (at.walks i w.0 q.0 w.1 q.1)
+-- what holds of all, and another thing that does
+both-fit : {X : Type 0} (P Q : X → Type 0) (xs : List X) → All P xs → All Q xs → All (λ x. P x × Q x) xs
+both-fit P Q [] a b = All-nil (λ x. P x × Q x)
+both-fit P Q (x ∷ xs) a b = All-cons (λ x. P x × Q x) x xs (All-head P x xs a, All-head Q x xs b) (both-fit P Q xs (All-tail P x xs a) (All-tail Q x xs b))
 
-    at-txn : (t : ℕ) → IsDeclared (length p.txns) t → All (IsPlaced p.buckets) (events_of (part_of t h))
-    at-txn zero d = absurd (omega (arith, d.0))
-    at-txn (suc i) d = let n : i + 1 ≡ suc i = omega arith in subst (λ t. All (IsPlaced p.buckets) (events_of (part_of t h))) n (at-place i (omega (arith, d.1)))
+firsts-fit : {X : Type 0} (P Q : X → Type 0) (xs : List X) → All (λ x. P x × Q x) xs → All P xs
+firsts-fit P Q [] a = All-nil P
+firsts-fit P Q (x ∷ xs) a = All-cons P x xs (All-head (λ x. P x × Q x) x xs a).0 (firsts-fit P Q xs (All-tail (λ x. P x × Q x) x xs a))
+
+seconds-fit : {X : Type 0} (P Q : X → Type 0) (xs : List X) → All (λ x. P x × Q x) xs → All Q xs
+seconds-fit P Q [] a = All-nil Q
+seconds-fit P Q (x ∷ xs) a = All-cons Q x xs (All-head (λ x. P x × Q x) x xs a).1 (seconds-fit P Q xs (All-tail (λ x. P x × Q x) x xs a))
+
+work-fit : (p : Plan) (works : List Work) (i : ℕ) (w : Work) → IsPlan p → AreMoves p works → slice_get works i ≡ Some w → All (IsFit (group_in p) p.buckets) w.events
+work-fit p works i w plan are g =
+    subst (λ (v : Work). All (IsFit (group_in p) p.buckets) v.events) (sym (are.each i w g))
+    (All-filter (is_work (i + 1)) (IsFit (group_in p) p.buckets) p.steps (both-fit (IsPlaced p.buckets) (ScansGroup (group_in p) p.buckets) p.steps (steps_placed p p.steps plan refl) (steps-scan p)))
+
+play-fit : (p : Plan) (form : Form) (works : List Work) (past : List ℕ) (places : List Place) (h : List Entry) → IsPlan p → AreMoves p works
+    → Plays form works past places h → All (IsFit (group_in p) p.buckets) (history_events h)
+play-fit p form works past places h plan are so = plays-fit (group_in p) p.buckets form works past places h (λ i w g. work-fit p works i w plan are g) so
 
 -- ---- the beginning of a play
 All-left : {X : Type 0} (P : X → Type 0) (xs ys : List X) → All P (xs ++ ys) → All P xs
@@ -143,30 +159,18 @@ told-before w h more e =
     (sym (replies-append h more) ∙ e ∙ ap (told w) (events-append h more) ∙ told-on w (history_events h) (history_events more))
 
 played-by : (p : Plan) (form : Form) (works : List Work) (past : List ℕ) (places : List Place) (h : List Entry) → IsPlan p → AreMoves p works → IsHistory (length p.txns) h
-    → replies_in h ≡ told (opening_of p 1) (history_events h) → HasCome form works past places h → HasPlayed p form works past places h
+    → replies_in h ≡ told (opening_of p 1) (history_events h) → Plays form works past places h → HasPlayed p form works past places h
 played-by p form works past places h plan are formed replies come = record {
   formed = formed;
-  placed = play-placed p form works places h plan are formed come.rest.at;
+  placed = firsts-fit (IsPlaced p.buckets) (ScansGroup (group_in p) p.buckets) (history_events h) (play-fit p form works past places h plan are come);
+  scans = seconds-fit (IsPlaced p.buckets) (ScansGroup (group_in p) p.buckets) (history_events h) (play-fit p form works past places h plan are come);
   replies = replies;
-  play = come.play;
-  rest = come.rest;
-  counted = come.counted;
+  play = come;
 }
-
-pub come-on : (form : Form) (works : List Work) (t : ℕ) (past : List ℕ) (ps rs : List Place) (h now : List Entry) → HasCome form works past ps h → AllRest form works rs now
-    → HasMoved form works t ps h rs now → HasCome form works (t ∷ past) rs now
-come-on form works t past ps rs h now so all moved =
-    let next : IsSoFar form works (t ∷ past) rs now = on_and_on form works t past ps rs h now (record { rest = so.rest; counted = so.counted; play = so.play }) all moved in
-    record { rest = next.rest; counted = next.counted; play = next.play }
-
-pub come-first : (form : Form) (works : List Work) (n : ℕ) (h : List Entry) (places : List Place) → places ≡ replicate n first_place → n ≡ length works → h ≡ [] → HasCome form works [] places h
-come-first form works n h places is e none =
-    let first : IsSoFar form works [] places h = at_first form works n h places is e none in
-    record { rest = first.rest; counted = first.counted; play = first.play }
 
 -- ---- one move
 module _ (p : Plan) (form : Form) (works : List Work) (past : List ℕ) (t : ℕ) (places later : List Place) (h now : List Entry) (m : Engine) (are : AreMoves p works)
-    (so : HasCome form works past places h) (moved : HasMoved form works t places h later now) (all : AllRest form works later now) (replays : Replays p m now) where
+    (so : Plays form works past places h) (moved : HasMoved form works t places h later now) (replays : Replays p m now) where
   first-played : HasPlayed p form works past places h
   first-played =
       played-by p form works past places h replays.plan are
@@ -174,7 +178,7 @@ module _ (p : Plan) (form : Form) (works : List Work) (past : List ℕ) (t : ℕ
       (told-before (opening_of p 1) h moved.more (subst (λ l. replies_in l ≡ told (opening_of p 1) (history_events l)) moved.grown replays.ran.replies)) so
 
   next-played : HasPlayed p form works (t ∷ past) later now
-  next-played = played-by p form works (t ∷ past) later now replays.plan are replays.formed replays.ran.replies (come-on form works t past places later h now so all moved)
+  next-played = played-by p form works (t ∷ past) later now replays.plan are replays.formed replays.ran.replies (plays_on form works t past places later h now so moved)
 
   pub leads : LeadsBy p form works t (shape_of p places h) (shape_of p later now) (length now)
   leads others longest k short =
@@ -193,7 +197,7 @@ module _ (p : Plan) (form : Form) (works : List Work) (past : List ℕ) (t : ℕ
       }
 
 -- ---- the first key, and the last
-pub first-key : (p : Plan) (form : Form) (works : List Work) (places : List Place) (h : List Entry) (m : Engine) → AreMoves p works → HasCome form works [] places h → Replays p m h → h ≡ []
+pub first-key : (p : Plan) (form : Form) (works : List Work) (places : List Place) (h : List Entry) (m : Engine) → AreMoves p works → Plays form works [] places h → Replays p m h → h ≡ []
     → HasKey p form works [] (shape_of p places h) 0
 first-key p form works places h m are come replays none = record {
   history = h;
@@ -203,7 +207,7 @@ first-key p form works places h m are come replays none = record {
   short = omega (arith, ap (λ (l : List Entry). length l) none);
 }
 
-pub last-key : (p : Plan) (form : Form) (works : List Work) (past : List ℕ) (places : List Place) (h : List Entry) (m : Engine) (o : Found) → AreMoves p works → HasCome form works past places h
+pub last-key : (p : Plan) (form : Form) (works : List Work) (past : List ℕ) (places : List Place) (h : List Entry) (m : Engine) (o : Found) → AreMoves p works → Plays form works past places h
     → Replays p m h → IsOutcomeOf p h o → EndsWith p form works (shape_of p places h) o
 last-key p form works past places h m o are come replays outcome others longest k =
     let mine : HasPlayed p form works past places h = played-by p form works past places h replays.plan are replays.formed replays.ran.replies come in
@@ -213,6 +217,6 @@ last-key p form works past places h m o are come replays outcome others longest 
       history = k.history;
       formed = k.played.formed;
       replies = k.played.replies;
-      play = subst (λ (ts : List ℕ). IsPlay form works ts k.history) (sym (reverse-reverse others)) k.played.play;
+      play = subst (λ (ts : List ℕ). IsPlay form works ts k.history) (sym (reverse-reverse others)) (k.places, k.played.play);
       outcome = one-outcome p form works past others places h k.history o replays.plan mine other same.1 outcome;
     }

@@ -10,9 +10,10 @@ use Rattle.hek_permute.specs.Found.{Found, IsSame, Line}
 use Rattle.hek_permute.specs.Moves.{Work, AreMoves, counts_of}
 use Rattle.hek_permute.specs.Numbers.{all_orders, order_total}
 use Rattle.hek_permute.specs.Orders.{IsAmong, IsBelow}
+use Rattle.hek_permute.specs.Plays.{Plays}
 use Rattle.hek_permute.specs.Tallies.{IsPlayed, total}
 use Rattle.hek_explore.specs.Keys.{Shape, shape_of}
-use Rattle.hek_explore.specs.Steps.{HasCome, HasKey, LeadsBy}
+use Rattle.hek_explore.specs.Steps.{HasKey, LeadsBy}
 
 -- ---- what is counted
 
@@ -103,7 +104,7 @@ IsPut old new c = ((place : ℕ) × (like : HasLike old c place) × (now : Group
 -- the play of a class's first beginning, by which its beginnings are known
 pub record IsReplayed (p : Plan) (form : Form) (works : List Work) (g : Group) (plan : Plan) (places : List Place) (h : List Entry) : Type 0 where
   pub plan_is : plan ≡ p
-  pub come : HasCome form works (reverse g.first) places h
+  pub come : Plays form works (reverse g.first) places h
   pub key : shape_of p places h ≡ g.key
 
 -- one move fewer at the place

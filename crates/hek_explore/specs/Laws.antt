@@ -8,7 +8,7 @@ use Rattle.hek_permute.specs.declared.play.Place.{Place}
 use Rattle.hek_permute.specs.Moves.{Work}
 use Rattle.hek_permute.specs.Found.{Found}
 use Rattle.hek_permute.specs.Outcomes.{IsOutcomeOf}
-use Rattle.hek_permute.specs.Places.{HasMoved}
+use Rattle.hek_permute.specs.Plays.{HasMoved}
 use Rattle.hek_explore.specs.Keys.{shape_of}
 use Rattle.hek_explore.specs.Twins.{HasPlayed, AreTwins}
 

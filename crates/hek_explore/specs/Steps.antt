@@ -7,17 +7,9 @@ use Rattle.hek_permute.specs.declared.moves.Form.{Form}
 use Rattle.hek_permute.specs.declared.play.Place.{Place}
 use Rattle.hek_permute.specs.Found.{Found}
 use Rattle.hek_permute.specs.Moves.{Work}
-use Rattle.hek_permute.specs.Places.{AllRest, MovesAreCounted}
-use Rattle.hek_permute.specs.Plays.{IsPlay}
 use Rattle.hek_permute.specs.Tallies.{IsPlayed}
 use Rattle.hek_explore.specs.Keys.{Shape, shape_of}
 use Rattle.hek_explore.specs.Twins.{HasPlayed}
-
--- the history is a play of these moves, the last one first; it has led to these places, where no transaction goes further
-pub record HasCome (form : Form) (works : List Work) (past : List ℕ) (places : List Place) (h : List Entry) : Type 0 where
-  pub rest : AllRest form works places h
-  pub counted : MovesAreCounted places past
-  pub play : IsPlay form works past h
 
 -- a play of these moves has the key, and no more events than this
 pub record HasKey (p : Plan) (form : Form) (works : List Work) (past : List ℕ) (key : Shape) (longest : ℕ) : Type 0 where

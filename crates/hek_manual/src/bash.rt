@@ -6,7 +6,7 @@ _hek() {
     local word=${COMP_WORDS[COMP_CWORD]} before=${COMP_WORDS[COMP_CWORD - 1]} command=${COMP_WORDS[1]} words="" files=""
     COMPREPLY=()
     if [ "$COMP_CWORD" -eq 1 ]; then
-        words="run debug page figure permute check history drive threads word release asm dis import completions man help --help --version"
+        words="run debug page permute check history drive threads word release asm dis import completions man help --help --version"
         mapfile -t COMPREPLY < <(compgen -W "$words" -- "$word")
         return
     fi
@@ -17,7 +17,7 @@ _hek() {
         before="${COMP_WORDS[COMP_CWORD - 2]}="
     fi
     case "$command $before" in
-    "help help") words="run debug page figure permute check history drive threads word release asm dis import completions man" ;;
+    "help help") words="run debug page permute check history drive threads word release asm dis import completions man" ;;
     "import import") words="spec" ;;
     "completions completions") words="bash zsh fish words" ;;
     "run --explain=") words="always never" ;;
@@ -58,6 +58,7 @@ _hek() {
     "history --explain=") words="always never" ;;
     "history --level") words="serializable repeatable snapshot" ;;
     "history --order") words="any versions commit real" ;;
+    "history --all=") words="each counts" ;;
     "history --order-out") compopt -o default; return ;;
     "drive --explain=") words="always never" ;;
     "drive --color=") words="always never auto" ;;
@@ -86,7 +87,6 @@ _hek() {
     run) words="--text --image --explain --color --state --state-at --why --changes --history --auto --level --json --help" files=yes ;;
     debug) words="--text --image --explain --color --auto --level --help" files=yes ;;
     page) words="--text --image --explain --level --auto --output --from --to --title --lesson --previous --next --orders --levels --split --grain --limit --json --help" files=yes ;;
-    figure) words="--text --image --explain --level --auto --output --step --part --title --help" files=yes ;;
     permute) words="--text --image --explain --auto --level --split --grain --limit --part --jobs --each --order --levels --find --json --help" files=yes ;;
     check) words="--text --image --explain --auto --level --why --summary --all --json --help" files=yes ;;
     history) words="--explain --level --order --all --order-out --json --help" files=yes ;;

@@ -275,10 +275,13 @@ The picture is SVG with its style inside: lanes, what the step says, versions, w
 .SS permute
 Plays every order of a schedule's moves, and counts the outcomes.
 .PP
-\fBhek permute [OPTIONS] <FILE>\fR
+\fBhek permute [OPTIONS] <FILE> [TABLE]...\fR
 .TP
 \fIFILE\fR
 a schedule: a text by its name (.hek) or its first word, otherwise an image; \- is standard input
+.TP
+\fITABLE\fR
+with \-\-add: more tables
 .TP
 \fB\-\-text\fR
 FILE is a schedule text, whatever it holds
@@ -302,7 +305,7 @@ makes finish and precommit a separate move
 cuts the end of a transaction into one move (move), two (split), or a move for each event (event)
 .TP
 \fB\-\-limit\fR \fIN\fR
-counts nothing if there are more than N states (1000000); with \-\-each, \-\-part or \-\-find, more than N orders (100000)
+counts nothing if there are more than N states (1000000); with \-\-each, \-\-part or \-\-find of a reply, more than N orders (100000)
 .TP
 \fB\-\-part\fR \fIK/N\fR
 plays the Kth of N equal parts of the orders
@@ -321,6 +324,12 @@ prints the outcomes at each level, side by side
 .TP
 \fB\-\-find\fR \fITEXT\fR
 prints the shortest beginning of an order in which this comes: \(gaa aborted deadlock\(ga, \(gaaborted\(ga, \(gawaiting\(ga, \(ganot serial\(ga, \(gaanother order\(ga
+.TP
+\fB\-\-stats\fR
+says on standard error how many states the orders lead to
+.TP
+\fB\-\-add\fR
+prints the sum of the tables FILE and TABLE.., which \-\-part printed, as text or as JSON
 .TP
 \fB\-\-json\fR
 prints JSON, one object on each line
@@ -423,8 +432,8 @@ judges or runs all transactions as serializable, repeatable or snapshot
 \fB\-\-order\fR \fIKIND\fR
 asks for an order of a kind: any, versions, commit or real
 .TP
-\fB\-\-all\fR
-goes on after an anomaly, without the answers of its transactions
+\fB\-\-all\fR[=\fIHOW\fR]
+goes on after an anomaly, without the answers on which it rests, and counts them by name; =counts prints the counts alone (each, counts)
 .TP
 \fB\-\-order\-out\fR \fIOUT\fR
 writes the order that was found, a line for each transaction; \- is standard output, after the verdict

@@ -107,16 +107,19 @@ _hek() {
                 '--level[judges or runs all transactions as serializable, repeatable or snapshot]:L:(serializable repeatable snapshot)' \
                 '--split[makes finish and precommit a separate move]' \
                 '--grain[cuts the end of a transaction into one move (move), two (split), or a move for each event (event)]:GRAIN:(move split event)' \
-                '--limit[counts nothing if there are more than N states (1000000); with --each, --part or --find, more than N orders (100000)]:N:' \
+                '--limit[counts nothing if there are more than N states (1000000); with --each, --part or --find of a reply, more than N orders (100000)]:N:' \
                 '--part[plays the Kth of N equal parts of the orders]:K/N:' \
                 '--jobs[with --part\: plays the orders with N threads, 1 to 1000]:N:' \
                 '--each[prints a line for each order]' \
                 '--order[prints the events of one order as a schedule\: a name for each move]:NAMES:' \
                 '--levels[prints the outcomes at each level, side by side]' \
                 '--find[prints the shortest beginning of an order in which this comes\: `a aborted deadlock`, `aborted`, `waiting`, `not serial`, `another order`]:TEXT:' \
+                '--stats[says on standard error how many states the orders lead to]' \
+                '--add[prints the sum of the tables FILE and TABLE.., which --part printed, as text or as JSON]' \
                 '--json[prints JSON, one object on each line]' \
                 '(- *)'{-h,--help}'[Print help]' \
-                '1:FILE:_files'
+                '1:FILE:_files' \
+                '*:TABLE:'
             ;;
         check)
             _arguments \
@@ -138,7 +141,7 @@ _hek() {
                 '--explain=-[says of each fault what is wrong, what is wanted and what is meant, as at a terminal; =never only names it]::HOW:(always never)' \
                 '--level[judges or runs all transactions as serializable, repeatable or snapshot]:L:(serializable repeatable snapshot)' \
                 '--order[asks for an order of a kind\: any, versions, commit or real]:KIND:(any versions commit real)' \
-                '--all[goes on after an anomaly, without the answers of its transactions]' \
+                '--all=-[goes on after an anomaly, without the answers on which it rests, and counts them by name; =counts prints the counts alone]::HOW:(each counts)' \
                 '--order-out[writes the order that was found, a line for each transaction; - is standard output, after the verdict]:OUT:_files' \
                 '--json[writes the verdict as JSON, one object on each line]' \
                 '(- *)'{-h,--help}'[Print help]' \

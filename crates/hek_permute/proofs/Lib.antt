@@ -13,3 +13,6 @@ pub mod Searches
 pub mod Grown
 pub mod Sums
 pub mod Joins
+pub mod OneWay
+pub mod RunReplies
+pub mod OnePlay

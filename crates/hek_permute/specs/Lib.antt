@@ -6,8 +6,8 @@ pub mod Outcomes
 pub mod Plays
 pub mod Tallies
 pub mod Sums
-pub mod Places
 pub mod Numbers
 pub mod Wholes
 pub mod Searches
 pub mod Leveled
+pub mod OnePlay

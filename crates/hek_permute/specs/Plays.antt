@@ -1,27 +1,23 @@
--- The play of an order: which events its transactions make, and when.
-use Rattle.std.specs.Prelude.{ℕ, ◌≡◌, ◌+◌, ◌⊎◌, Bool, true, false, ◌&&◌, nat_lt, nat_le, if◌then◌else◌, IsTrue, Option, Some, None, List, [], ◌∷◌, ◌++◌, length, slice_get}
+-- The play of an order: who makes which event next, and what its reply changes.
+use Rattle.std.specs.Prelude.{ℕ, zero, suc, ◌≡◌, ◌+◌, Bool, true, false, not, ◌==◌, ◌&&◌, ◌||◌, nat_lt, nat_le, if◌then◌else◌, Option, Some, None, option_map, option_and_then, List, [], ◌∷◌, ◌++◌, length, replicate, slice_get, slice_set}
 use Rattle.hek_rules.specs.declared.event.Event.{Event}
 use Rattle.hek_rules.specs.declared.event.Event.TheVariants.{Detect}
 use Rattle.hek_rules.specs.declared.reply.Reply.{Reply}
+use Rattle.hek_rules.specs.declared.reply.Reply.TheVariants.{Victim}
 use Rattle.hek_worker.specs.declared.entry.Entry.{Entry}
 use Rattle.hek_worker.specs.declared.stage.Stage.{Stage}
 use Rattle.hek_worker.specs.declared.stage.Stage.TheVariants.{Start, Working, Preparing, GivingUp, Releasing, Ended}
 use Rattle.hek_worker.specs.declared.stage.Position.{Position}
 use Rattle.hek_worker.specs.Grammar.{event_at, position_after}
-use Rattle.hek_worker.specs.History.{part_of}
 use Rattle.hek_permute.specs.declared.moves.Form.{Form}
 use Rattle.hek_permute.specs.declared.moves.Form.TheVariants.{Whole, Split, Event as ByEvent}
+use Rattle.hek_permute.specs.declared.play.Place.{Place}
+use Rattle.hek_permute.specs.declared.play.Turn.{Turn}
+use Rattle.hek_permute.specs.declared.play.Turn.TheVariants.{Goes, Asks, Looks, Rests}
 use Rattle.hek_permute.specs.Moves.{Work, move_count}
-use Rattle.hek_permute.specs.Orders.{name_count}
 use Rattle.hek_permute.specs.Outcomes.{is_wait}
 
--- where a transaction is: what it does next, and whether it had to wait
-pub record Standing : Type 0 where
-  pub stage : Stage
-  pub waits : Bool
-
-abbrev pub at_start : Standing
-at_start = record { stage = Start; waits = false }
+-- ---- one transaction
 
 -- how many moves come before the first read or write
 abbrev pub before_work : Form → ℕ
@@ -50,54 +46,181 @@ turned Split w (Releasing false) = if w.fails then GivingUp else Releasing false
 turned ByEvent w (Releasing false) = if w.fails then GivingUp else Releasing false
 turned form w s = s
 
--- whether t fails while it waits: all its moves have come, the last of which is `fail`
-abbrev pub gives_up : Form → Work → ℕ → Standing → Bool
-gives_up form w n s = s.waits && w.fails && nat_le (move_count form w) n
+-- whether it fails while it waits: all its moves have come, the last of which is `fail`
+abbrev pub gives_up : Form → Work → Place → Bool
+gives_up form w p = p.waits && w.fails && nat_le (move_count form w) p.moves
 
--- the stage that decides the next event
-abbrev pub due : Form → Work → ℕ → Standing → Stage
-due form w n s = if gives_up form w n s then GivingUp else turned form w s.stage
+-- the stage that decides its next event
+abbrev pub due : Form → Work → Place → Stage
+due form w p = if gives_up form w p then GivingUp else turned form w p.stage
 
-abbrev pub went : Option Position → Option Standing
-went None = None
-went (Some p) = Some (record { stage = p.stage; waits = false })
+-- whether it goes no further: it waits and does not fail, or its next event belongs to a later move
+abbrev pub rests : Form → Work → Place → Bool
+rests form w p = (p.waits && not (gives_up form w p)) || not (may_go form w p.moves p.stage)
 
--- where a transaction at stage s is after the reply to the event that stage d decides: at the same stage if it must wait,
--- otherwise by the workers' grammar
-abbrev pub after_reply : ℕ → Work → Stage → Stage → Reply → Option Standing
-after_reply t w s d r = if is_wait r then Some (record { stage = s; waits = true }) else went (position_after t w.events d 0 r)
+-- the next event of the transaction at place i
+abbrev pub event_of : Form → ℕ → Work → Place → Event
+event_of form i w p = event_at (i + 1) w.events (due form w p)
 
--- with n moves of t come, stage d decides its next event: as its stage says, or it fails while it waits
-abbrev pub IsDue : Form → Work → ℕ → Standing → Stage → Type 0
-IsDue form w n s d = (d ≡ turned form w s.stage) ⊎ (IsTrue (gives_up form w n s) × (d ≡ GivingUp))
+abbrev pub went : Place → Option Position → Option Place
+went p None = None
+went p (Some q) = Some (record p { stage = q.stage; waits = false })
 
--- the next event of t, and its reply
-abbrev pub Makes : Form → ℕ → Work → ℕ → Standing → Event × Reply → Standing → Type 0
-Makes form t w n s x m =
-    IsTrue (may_go form w n s.stage) × (d : Stage) × IsDue form w n s d × (x.0 ≡ event_at t w.events d) × (after_reply t w s.stage d x.1 ≡ Some m)
+-- where it is after the reply: at the same stage if it must wait, otherwise by the workers' grammar
+abbrev pub answered : Form → ℕ → Work → Place → Reply → Option Place
+answered form i w p r = if is_wait r then Some (record p { waits = true }) else went p (position_after (i + 1) w.events (due form w p) 0 r)
 
--- with n of its moves come, these events and replies lead t from s to z; a search for a deadlock may come anywhere
-abbrev pub Walks : Form → ℕ → Work → ℕ → Standing → List (Event × Reply) → Standing → Type 0
-Walks form t w n s [] z = s ≡ z
-Walks form t w n s (x ∷ xs) z = (m : Standing) × (((x.0 ≡ Detect) × (m ≡ s)) ⊎ Makes form t w n s x m) × Walks form t w n m xs z
+-- ---- whose turn it is
 
--- t goes no further: it waits and does not fail, or its next event belongs to a later move
-abbrev pub IsAtRest : Form → Work → ℕ → Standing → Type 0
-IsAtRest form w n s = (IsTrue s.waits × (gives_up form w n s ≡ false)) ⊎ (may_go form w n s.stage ≡ false)
+abbrev pub is_running : Stage → Bool
+is_running Start = false
+is_running Ended = false
+is_running s = true
 
--- with n of its moves come, t has done this and goes no further
-pub record HasGoneOn (form : Form) (t : ℕ) (w : Work) (n : ℕ) (xs : List (Event × Reply)) : Type 0 where
-  pub standing : Standing
-  pub walk : Walks form t w n at_start xs standing
-  pub rest : IsAtRest form w n standing
+abbrev pub is_over : Stage → Bool
+is_over Ended = true
+is_over s = false
 
--- each transaction has gone on as far as it can with as many moves as it has among these names
-abbrev pub AllStand : Form → List Work → List ℕ → List Entry → Type 0
-AllStand form works names h =
-    (i : ℕ) (w : Work) → slice_get works i ≡ Some w → HasGoneOn form (i + 1) w (name_count (i + 1) names) (part_of (i + 1) h)
+abbrev pub some_wait : List Place → Bool
+some_wait [] = false
+some_wait (p ∷ ps) = p.waits || some_wait ps
 
--- the history is a play of these moves; the list has the last move first
+abbrev pub none_runs_on : List Place → Bool
+none_runs_on [] = true
+none_runs_on (p ∷ ps) = (p.waits || not (is_running p.stage)) && none_runs_on ps
+
+-- all transactions that have begun and not ended wait, and there are some
+abbrev pub all_wait : List Place → Bool
+all_wait places = some_wait places && none_runs_on places
+
+abbrev pub is_it : Option ℕ → ℕ → Bool
+is_it None i = false
+is_it (Some k) i = k == i
+
+abbrev pub is_past : Option ℕ → ℕ → Bool
+is_past None i = true
+is_past (Some k) i = nat_lt k i
+
+-- the first place past one of a transaction that waits, but one; these places begin at i
+abbrev pub first_asked : Option ℕ → Option ℕ → ℕ → List Place → Option ℕ
+first_asked but past i [] = None
+first_asked but past i (p ∷ ps) = if p.waits && is_past past i && not (is_it but i) then Some i else first_asked but past (i + 1) ps
+
+-- the turn in a round in which nobody has got on: the next one that waits, past a place; after the last one a search if
+-- all wait
+abbrev pub asks : Option ℕ → Option ℕ → List Place → Turn
+asks but past places = elim (first_asked but past 0 places) [ Some i ↦ Asks i but false | None ↦ if all_wait places then Looks else Rests ]
+
+-- the turn in a round in which one has got on: after the last one all that wait are asked once more
+abbrev pub asks_on : Option ℕ → Option ℕ → List Place → Turn
+asks_on but past places = elim (first_asked but past 0 places) [ Some i ↦ Asks i but true | None ↦ asks None None places ]
+
+-- one that was asked has got on if it need not wait
+abbrev pub noted : Turn → Reply → Turn
+noted (Asks i but got_on) r = Asks i but (got_on || not (is_wait r))
+noted turn r = turn
+
+-- the turn after that of one who goes no further: one who went on is followed by the others that wait
+abbrev pub passed : Turn → List Place → Turn
+passed (Goes i) places = asks (Some i) None places
+passed (Asks i but got_on) places = if got_on then asks_on but (Some i) places else asks but (Some i) places
+passed turn places = turn
+
+-- ---- the next event
+
+pub record Scene : Type 0 where
+  pub places : List Place
+  pub turn : Turn
+
+-- what the transaction at a place does, and where it is
+abbrev pub both : Option Work → Option Place → Option (Work × Place)
+both (Some w) (Some p) = Some (w, p)
+both w p = None
+
+abbrev pub seat : List Work → List Place → ℕ → Option (Work × Place)
+seat works places i = both (slice_get works i) (slice_get places i)
+
+abbrev pub next_of : Form → ℕ → Work × Place → ℕ × Event
+next_of form i x = (i + 1, event_of form i x.0 x.1)
+
+-- who makes which event next; a search is t's, whose move came last
+abbrev pub next_by : Form → List Work → ℕ → List Place → Turn → Option (ℕ × Event)
+next_by form works t places (Goes i) = option_map (next_of form i) (seat works places i)
+next_by form works t places (Asks i but got_on) = option_map (next_of form i) (seat works places i)
+next_by form works t places Looks = Some (t, Detect)
+next_by form works t places Rests = None
+
+abbrev pub next : Form → List Work → ℕ → Scene → Option (ℕ × Event)
+next form works t s = next_by form works t s.places s.turn
+
+-- the transaction at place i has come to p: it goes on, or the turn passes
+abbrev pub come_to : Form → ℕ → List Place → Turn → Work → Place → Scene
+come_to form i places turn w p =
+    record { places = slice_set places i p; turn = if rests form w p then passed turn (slice_set places i p) else turn }
+
+abbrev pub after_own : Form → List Work → List Place → ℕ → Turn → Reply → Option Scene
+after_own form works places i turn r =
+    option_and_then (λ (x : Work × Place). option_map (come_to form i places turn x.0) (answered form i x.0 x.1 r)) (seat works places i)
+
+-- the transaction at place i goes on if it may; then the others that wait are asked
+abbrev pub sent : Form → ℕ → List Place → Work × Place → Scene
+sent form i places x = record { places = places; turn = if may_go form x.0 x.1.moves x.1.stage then Goes i else asks (Some i) None places }
+
+abbrev pub sends : Form → List Work → List Place → ℕ → Option Scene
+sends form works places zero = None
+sends form works places (suc i) = option_map (sent form i places) (seat works places i)
+
+-- the scene after the reply to the next event; None if that cannot have this reply
+abbrev pub after_by : Form → List Work → List Place → Turn → Reply → Option Scene
+after_by form works places (Goes i) r = after_own form works places i (Goes i) r
+after_by form works places (Asks i but got_on) r = after_own form works places i (noted (Asks i but got_on) r) r
+after_by form works places Looks (Victim v cycle) = sends form works places v
+after_by form works places Looks r = Some (record { places = places; turn = Rests })
+after_by form works places Rests r = None
+
+abbrev pub after : Form → List Work → Scene → Reply → Option Scene
+after form works s r = after_by form works s.places s.turn r
+
+-- ---- plays
+
+-- one more move of t has come; one that has ended does nothing more
+abbrev pub counted : Place → Place
+counted p = record p { moves = p.moves + 1 }
+
+abbrev pub set_off : Form → ℕ → List Place → Work × Place → Scene
+set_off form i places x =
+    if is_over x.1.stage then record { places = slice_set places i (counted x.1); turn = Rests } else sent form i (slice_set places i (counted x.1)) (x.0, counted x.1)
+
+abbrev pub comes : Form → List Work → List Place → ℕ → Option Scene
+comes form works places zero = None
+comes form works places (suc i) = option_map (set_off form i places) (seat works places i)
+
+-- the next events, each with its reply, lead from a scene to another
+abbrev pub Reaches : Form → List Work → ℕ → Scene → List Entry → Scene → Type 0
+Reaches form works t s [] z = s ≡ z
+Reaches form works t s (x ∷ xs) z =
+    (next form works t s ≡ Some (x.worker, x.event)) × (m : Scene) × (after form works s x.reply ≡ Some m) × Reaches form works t m xs z
+
+-- a move of t sets off these events, until none comes next
+abbrev pub SetsOff : Form → List Work → ℕ → List Place → List Entry → List Place → Type 0
+SetsOff form works t places more later =
+    (s z : Scene) × (comes form works places t ≡ Some s) × Reaches form works t s more z × (next form works t z ≡ None) × (z.places ≡ later)
+
+-- a move of t, and what it set off, led from one history to another
+pub record HasMoved (form : Form) (works : List Work) (t : ℕ) (places : List Place) (old : List Entry) (later : List Place) (new : List Entry) : Type 0 where
+  pub more : List Entry
+  pub set_off : SetsOff form works t places more later
+  pub grown : new ≡ old ++ more
+
+-- a transaction's place before its first event and before any move
+abbrev pub first_place : Place
+first_place = record { stage = Start; moves = 0; waits = false }
+
+-- the history is the play of these moves, the last one first, and leads to these places
+abbrev pub Plays : Form → List Work → List ℕ → List Place → List Entry → Type 0
+Plays form works [] places h = (places ≡ replicate (length works) first_place) × (h ≡ [])
+Plays form works (t ∷ past) places h =
+    (was : List Place) × (before more : List Entry) × Plays form works past was before × SetsOff form works t was more places × (h ≡ before ++ more)
+
 abbrev pub IsPlay : Form → List Work → List ℕ → List Entry → Type 0
-IsPlay form works [] h = h ≡ []
-IsPlay form works (t ∷ past) h =
-    (before more : List Entry) × IsPlay form works past before × (h ≡ before ++ more) × AllStand form works (t ∷ past) h
+IsPlay form works past h = (places : List Place) × Plays form works past places h

@@ -1,8 +1,7 @@
 //! One order of moves, played on a new machine.
-ghost use Rattle.std.specs.Prelude.{◌≡◌, ◌↔◌, ◌+◌, ◌<◌, IfOk, IsTrue, OnOk, false, length, nat_lt, reverse};
+ghost use Rattle.std.specs.Prelude.{◌≡◌, ◌+◌, IfOk, OnOk, [], length, nat_lt, replicate, reverse};
 ghost use Rattle.hek_worker.specs.History.{Replays};
-ghost use Rattle.hek_permute.specs.Plays.{IsPlay, before_precommit, before_work, gives_up, may_go, turned};
-ghost use Rattle.hek_permute.specs.Places.{AllRest, HasCome, IsMoveCounted, IsLater, IsMade, RestBut, due_at, standing_of};
+ghost use Rattle.hek_permute.specs.Plays.{HasMoved, IsPlay, after_by, all_wait, answered, asks, asks_on, before_precommit, before_work, comes, due, first_asked, first_place, gives_up, is_it, is_over, is_running, may_go, next_by, noted, passed, rests, sends, turned};
 
 use crate::fault::OrderFault;
 use crate::moves::{Form, Moves, move_count};
@@ -27,12 +26,21 @@ pub struct Place {
     pub waits: bool,
 }
 
-impl Place {
-    /// Whether the transaction has begun and not ended.
-    fn is_running(&self) -> bool {
-        self.stage != Stage::Start && self.stage != Stage::Ended
-    }
+/// Whose turn it is to make an event. Transactions are given by their places, from 0.
+#[derive(Clone, Copy, Debug, PartialEq, Eq)]
+pub enum Turn {
+    /// This transaction goes on; then the others that wait are asked again.
+    Goes(usize),
+    /// This one waits and is asked again, then those after it that wait, but one; and whether one of those that were
+    /// asked has got on.
+    Asks(usize, Option<usize>, bool),
+    /// A search for a deadlock.
+    Looks,
+    /// Nobody's: the next move may come.
+    Rests,
+}
 
+impl Place {
     /// Whether the transaction's next event belongs to a move that has come. What an aborted transaction gives back
     /// belongs to any move.
     fn may_go(&self, of_one: &Moves, form: Form) -> bool
@@ -50,21 +58,22 @@ impl Place {
 
     /// Whether the transaction fails while it waits: all its moves have come, the last of which is `fail`.
     fn gives_up(&self, of_one: &Moves, form: Form) -> bool
-        ensures { result ≡ gives_up form of_one.now self.now.moves (standing_of self.now) }
+        ensures { result ≡ gives_up form of_one.now self.now }
     {
         self.waits && of_one.fails() && self.moves >= move_count(of_one, form)
     }
 
-    /// Whether the transaction waits and does not fail.
+    /// Whether the transaction goes no further: it waits and does not fail, or its next event belongs to a later move.
     fn rests(&self, of_one: &Moves, form: Form) -> bool
-        ensures { IsTrue result ↔ (IsTrue self.now.waits × (gives_up form of_one.now self.now.moves (standing_of self.now) ≡ false)) }
+        ensures { result ≡ rests form of_one.now self.now }
     {
-        self.waits && !self.gives_up(of_one, form)
+        let patient = self.waits && !self.gives_up(of_one, form);
+        patient || !self.may_go(of_one, form)
     }
 
     /// The stage that decides the transaction's next event.
     fn due(&self, of_one: &Moves, form: Form) -> Stage
-        ensures { result ≡ due_at form of_one.now self.now }
+        ensures { result ≡ due form of_one.now self.now }
     {
         if self.gives_up(of_one, form) {
             Stage::GivingUp
@@ -91,6 +100,45 @@ impl Place {
                 if fails { Stage::GivingUp } else { stage }
             }
             _ => stage,
+        }
+    }
+
+    /// The stage that decides the transaction's next event, as a position without turns.
+    fn position(&self, of_one: &Moves, form: Form) -> Position
+        ensures { result ≡ record { stage = due form of_one.now self.now; turns = 0 } }
+    {
+        Position {
+            stage: self.due(of_one, form),
+            turns: 0,
+        }
+    }
+
+    /// Where the transaction is after the reply to its next event; None if that cannot have this reply.
+    fn answered(
+        &self,
+        of_one: &Moves,
+        form: Form,
+        place: usize,
+        txn: TxnId,
+        reply: &Reply,
+    ) -> Option<Place>
+        requires { txn ≡ place + 1 }
+        ensures { result ≡ answered form place of_one.now self.now reply.now }
+    {
+        if is_wait(reply) {
+            return Some(Place {
+                stage: self.stage,
+                moves: self.moves,
+                waits: true,
+            });
+        }
+        match self.position(of_one, form).after(txn, of_one.work(), reply) {
+            Some(next) => Some(Place {
+                stage: next.stage,
+                moves: self.moves,
+                waits: false,
+            }),
+            None => None,
         }
     }
 }
@@ -126,7 +174,7 @@ fn before_precommit(form: Form) -> usize
 }
 
 /// Plays an order of moves on a machine that is loaded with the schedule's rows and transactions. A transaction that
-/// waits is tried again after each move of another, in the order of the declarations, as long as one of them gets on;
+/// waits is asked again after each move of another, in the order of the declarations, as long as one of them gets on;
 /// if its last move is `fail`, it fails when that comes, though it waits. When all transactions that have begun and not
 /// ended wait, there is a `detect`. An aborted transaction gives everything back at once, and its remaining moves do
 /// nothing.
@@ -172,9 +220,7 @@ fn move_in(
     places: &mut Vec<Place>,
     mover: TxnId,
 ) -> Result<(), OrderFault>
-    requires { AllRest form moves.now places.old.items book.old.history }
     ensures plan { book.new.plan ≡ book.old.plan }
-    ensures rest { OnOk result (AllRest form moves.now places.new.items book.new.history) }
     ensures moved { OnOk result (HasMoved form moves.now mover places.old.items book.old.history places.new.items book.new.history) }
 {
     make_move(book, moves, form, places.as_mut_slice(), mover)
@@ -195,15 +241,22 @@ pub fn first_places(alloc: Global, moves: &[Moves]) -> Result<Vec<Place>, NoMemo
     Ok(places)
 }
 
-ghost use Rattle.std.specs.Prelude.{[], replicate};
-ghost use Rattle.hek_permute.specs.Places.{first_place};
-
 /// The place of a transaction in lists of all transactions.
 fn place_of(txn: TxnId) -> Result<usize, OrderFault>
     ensures { IfOk result (λ place. txn ≡ place + 1) }
 {
     match txn.number().checked_sub(1) {
         Some(place) => Ok(place as usize),
+        None => Err(OrderFault::Mismatch),
+    }
+}
+
+/// The transaction at a place.
+fn txn_at(place: usize) -> Result<TxnId, OrderFault>
+    ensures { IfOk result (λ txn. txn ≡ place + 1) }
+{
+    match (place as u64).checked_add(1) {
+        Some(number) => Ok(TxnId::new(number)),
         None => Err(OrderFault::Mismatch),
     }
 }
@@ -217,220 +270,268 @@ pub fn make_move(
     places: &mut [Place],
     mover: TxnId,
 ) -> Result<(), OrderFault>
-    requires { AllRest form moves.now places.old book.old.history }
     ensures plan { book.new.plan ≡ book.old.plan }
-    ensures rest { OnOk result (AllRest form moves.now places.new book.new.history) }
     ensures moved { OnOk result (HasMoved form moves.now mover places.old book.old.history places.new book.new.history) }
 {
-    let runs = count_move(places, mover)?;
-    let _got_on = go_on(book, moves, form, places, mover)?;
-    if runs {
-        settle(book, moves, form, places, mover)
-    } else {
-        Ok(())
+    let mut turn = come(moves, form, places, mover)?;
+    for _ in 0..u64::MAX {
+        match next_event(moves, form, places, mover, turn)? {
+            None => return Ok(()),
+            Some((worker, event)) => {
+                let (_, reply) = book.attempt(worker, event)?;
+                turn = take_reply(moves, form, places, turn, &reply)?;
+            }
+        }
     }
+    Err(OrderFault::Mismatch)
 }
 
-ghost use Rattle.hek_permute.specs.Places.{HasMoved};
-
-/// Counts one more move of a transaction. Answers whether the transaction isn't over.
-fn count_move(places: &mut [Place], mover: TxnId) -> Result<bool, OrderFault>
-    ensures { OnOk result (IsMoveCounted mover places.old places.new) }
+/// One more move of a transaction has come. Answers whose turn it is.
+fn come(moves: &[Moves], form: Form, places: &mut [Place], mover: TxnId) -> Result<Turn, OrderFault>
+    ensures { IfOk result (λ turn. comes form moves.now places.old mover ≡ Some (record { places = places.new; turn = turn })) }
 {
     let at = place_of(mover)?;
     let Some(place) = places.get(at) else {
         return Err(OrderFault::Mismatch);
     };
-    let Some(moves) = place.moves.checked_add(1) else {
+    let Some(count) = place.moves.checked_add(1) else {
         return Err(OrderFault::TooMany);
     };
-    let runs = place.stage != Stage::Ended;
     let counted = Place {
         stage: place.stage,
-        moves,
+        moves: count,
         waits: place.waits,
     };
     places[at] = counted;
-    Ok(runs)
+    if is_over(counted.stage) {
+        if moves.len() <= at {
+            return Err(OrderFault::Mismatch);
+        }
+        return Ok(Turn::Rests);
+    }
+    send(moves, form, places, at)
 }
 
-/// Makes the events of a transaction as far as its moves have come, or until it must wait. Answers whether one of them
-/// did not have to wait.
-fn go_on(
-    book: &mut Book<'_>,
-    moves: &[Moves],
-    form: Form,
-    places: &mut [Place],
-    txn: TxnId,
-) -> Result<bool, OrderFault>
-    requires { RestBut form moves.now txn places.old book.old.history }
-    ensures plan { book.new.plan ≡ book.old.plan }
-    ensures rest { OnOk result (AllRest form moves.now places.new book.new.history) }
-    ensures later { OnOk result (IsLater form moves.now places.old book.old.history places.new book.new.history) }
+ghost use Rattle.std.specs.Prelude.{Some};
+
+/// The turn of the transaction at a place, if it may go on; otherwise that of the others that wait.
+fn send(moves: &[Moves], form: Form, places: &[Place], at: usize) -> Result<Turn, OrderFault>
+    ensures { IfOk result (λ turn. sends form moves.now places.now (at + 1) ≡ Some (record { places = places.now; turn = turn })) }
 {
-    let at = place_of(txn)?;
     let (Some(of_one), Some(place)) = (moves.get(at), places.get(at)) else {
         return Err(OrderFault::Mismatch);
     };
-    let (place, got_on) = go_from(book, of_one, form, txn, *place)?;
-    places[at] = place;
-    Ok(got_on)
-}
-
-/// The place to which a transaction comes from this one, and whether it made an event that did not have to wait.
-fn go_from(
-    book: &mut Book<'_>,
-    of_one: &Moves,
-    form: Form,
-    txn: TxnId,
-    from: Place,
-) -> Result<(Place, bool), OrderFault>
-    ensures plan { book.new.plan ≡ book.old.plan }
-    ensures come { IfOk result (λ r. HasCome form txn of_one.now from r.0 book.old.history book.new.history) }
-{
-    let mut place = from;
-    let mut got_on = false;
-    for _ in 0..u64::MAX {
-        if !place.may_go(of_one, form) {
-            return Ok((place, got_on));
-        }
-        place = one_event(book, of_one, form, txn, &place)?;
-        if place.rests(of_one, form) {
-            return Ok((place, got_on));
-        }
-        got_on = got_on || !place.waits;
-    }
-    Err(OrderFault::Mismatch)
-}
-
-/// Makes the next event of a transaction, and answers its place then.
-fn one_event(
-    book: &mut Book<'_>,
-    of_one: &Moves,
-    form: Form,
-    txn: TxnId,
-    place: &Place,
-) -> Result<Place, OrderFault>
-    ensures plan { book.new.plan ≡ book.old.plan }
-    ensures made { IfOk result (λ q. IsMade form txn of_one.now place.now q book.old.history book.new.history) }
-{
-    let at = Position {
-        stage: place.due(of_one, form),
-        turns: 0,
-    };
-    let (_, reply) = book.attempt(txn, at.event(txn, of_one.work()))?;
-    let waits = is_wait(&reply);
-    if waits {
-        return Ok(Place {
-            stage: place.stage,
-            moves: place.moves,
-            waits,
-        });
-    }
-    match at.after(txn, of_one.work(), &reply) {
-        Some(next) => Ok(Place {
-            stage: next.stage,
-            moves: place.moves,
-            waits,
-        }),
-        None => Err(OrderFault::Mismatch),
+    if place.may_go(of_one, form) {
+        Ok(Turn::Goes(at))
+    } else {
+        Ok(asks(places, Some(at), None))
     }
 }
 
-/// After a move: tries each waiting transaction again, and looks for a deadlock when all wait, until none gets on.
-#[tactic(auto, using(crate::proofs::Plays::later_on))]
-fn settle(
-    book: &mut Book<'_>,
+/// Who makes which event next; None if it is nobody's turn.
+fn next_event(
     moves: &[Moves],
     form: Form,
-    places: &mut [Place],
+    places: &[Place],
     mover: TxnId,
-) -> Result<(), OrderFault>
-    requires { AllRest form moves.now places.old book.old.history }
-    ensures plan { book.new.plan ≡ book.old.plan }
-    ensures rest { OnOk result (AllRest form moves.now places.new book.new.history) }
-    ensures later { OnOk result (IsLater form moves.now places.old book.old.history places.new book.new.history) }
+    turn: Turn,
+) -> Result<Option<(TxnId, Event)>, OrderFault>
+    ensures { IfOk result (λ found. found ≡ next_by form moves.now mover places.now turn) }
 {
-    let mut asked = Some(mover);
-    for _ in 0..u64::MAX {
-        let got_on = ask_again(book, moves, form, places, asked)?;
-        asked = None;
-        if !got_on && !break_deadlock(book, moves, form, places, mover)? {
-            return Ok(());
+    match turn {
+        Turn::Goes(at) | Turn::Asks(at, _, _) => {
+            let (Some(of_one), Some(place)) = (moves.get(at), places.get(at)) else {
+                return Err(OrderFault::Mismatch);
+            };
+            let txn = txn_at(at)?;
+            Ok(Some((txn, place.position(of_one, form).event(txn, of_one.work()))))
         }
+        Turn::Looks => Ok(Some((mover, Event::Detect))),
+        Turn::Rests => Ok(None),
     }
-    Err(OrderFault::Mismatch)
 }
 
-/// Tries each waiting transaction again, except the one that was just tried. Answers whether one of them got on.
-#[tactic(auto, using(crate::proofs::Plays::later_on))]
-fn ask_again(
-    book: &mut Book<'_>,
+/// Takes the reply to the next event. Answers whose turn it is then.
+fn take_reply(
     moves: &[Moves],
     form: Form,
     places: &mut [Place],
-    asked: Option<TxnId>,
-) -> Result<bool, OrderFault>
-    requires { AllRest form moves.now places.old book.old.history }
-    ensures plan { book.new.plan ≡ book.old.plan }
-    ensures rest { OnOk result (AllRest form moves.now places.new book.new.history) }
-    ensures later { OnOk result (IsLater form moves.now places.old book.old.history places.new book.new.history) }
+    turn: Turn,
+    reply: &Reply,
+) -> Result<Turn, OrderFault>
+    ensures { IfOk result (λ next. after_by form moves.now places.old turn reply.now ≡ Some (record { places = places.new; turn = next })) }
 {
-    let mut got_on = false;
-    for place in 0..places.len() {
-        let txn = TxnId::new(place as u64 + 1);
-        if waits_at(places, place) && asked != Some(txn) {
-            let moved = go_on(book, moves, form, places, txn)?;
-            got_on = got_on || moved;
+    match turn {
+        Turn::Goes(at) => take_own(moves, form, places, at, turn, reply),
+        Turn::Asks(at, but, got_on) => {
+            let noted = Turn::Asks(at, but, got_on || !is_wait(reply));
+            take_own(moves, form, places, at, noted, reply)
         }
+        Turn::Looks => match reply {
+            Reply::Victim(victim, _) => {
+                let at = place_of(*victim)?;
+                send(moves, form, places, at)
+            }
+            _ => Ok(Turn::Rests),
+        },
+        Turn::Rests => Err(OrderFault::Mismatch),
     }
-    Ok(got_on)
 }
 
-fn waits_at(places: &[Place], place: usize) -> bool {
-    match places.get(place) {
-        Some(place) => place.is_running() && place.waits,
+/// Takes the reply to the event of the transaction at a place, whose turn it is. Answers whose turn it is then.
+fn take_own(
+    moves: &[Moves],
+    form: Form,
+    places: &mut [Place],
+    at: usize,
+    turn: Turn,
+    reply: &Reply,
+) -> Result<Turn, OrderFault>
+    ensures { IfOk result (λ next. after_own form moves.now places.old at turn reply.now ≡ Some (record { places = places.new; turn = next })) }
+{
+    let (Some(of_one), Some(place)) = (moves.get(at), places.get(at)) else {
+        return Err(OrderFault::Mismatch);
+    };
+    let txn = txn_at(at)?;
+    let Some(later) = place.answered(of_one, form, at, txn, reply) else {
+        return Err(OrderFault::Mismatch);
+    };
+    places[at] = later;
+    if later.rests(of_one, form) {
+        Ok(passed(turn, places))
+    } else {
+        Ok(turn)
+    }
+}
+
+ghost use Rattle.hek_permute.specs.Plays.{after_own};
+
+/// The turn after that of one who goes no further.
+fn passed(turn: Turn, places: &[Place]) -> Turn
+    ensures { result ≡ passed turn places.now }
+{
+    match turn {
+        Turn::Goes(at) => asks(places, Some(at), None),
+        Turn::Asks(at, but, got_on) => {
+            if got_on {
+                asks_on(places, but, Some(at))
+            } else {
+                asks(places, but, Some(at))
+            }
+        }
+        Turn::Looks | Turn::Rests => turn,
+    }
+}
+
+/// The turn in a round in which nobody has got on.
+fn asks(places: &[Place], but: Option<usize>, past: Option<usize>) -> Turn
+    ensures { result ≡ asks but past places.now }
+{
+    match first_asked(places, but, past) {
+        Some(at) => Turn::Asks(at, but, false),
+        None => {
+            if all_wait(places) {
+                Turn::Looks
+            } else {
+                Turn::Rests
+            }
+        }
+    }
+}
+
+/// The turn in a round in which one has got on: after the last one all that wait are asked once more.
+fn asks_on(places: &[Place], but: Option<usize>, past: Option<usize>) -> Turn
+    ensures { result ≡ asks_on but past places.now }
+{
+    match first_asked(places, but, past) {
+        Some(at) => Turn::Asks(at, but, true),
+        None => asks(places, None, None),
+    }
+}
+
+/// The first place past one of a transaction that waits, but one.
+fn first_asked(places: &[Place], but: Option<usize>, past: Option<usize>) -> Option<usize>
+    ensures { result ≡ first_asked but past 0 places.now }
+{
+    let mut rest = places;
+    let mut at = 0;
+    while let Some((place, later)) = rest.split_first() {
+        if place.waits && is_past(past, at) && !is_it(but, at) {
+            return Some(at);
+        }
+        rest = later;
+        at += 1;
+    }
+    None
+}
+
+fn is_past(past: Option<usize>, at: usize) -> bool
+    ensures { result ≡ is_past past at }
+{
+    match past {
+        Some(one) => one < at,
+        None => true,
+    }
+}
+
+fn is_it(but: Option<usize>, at: usize) -> bool
+    ensures { result ≡ is_it but at }
+{
+    match but {
+        Some(one) => one == at,
         None => false,
     }
 }
 
-/// Looks for a deadlock if all transactions that have begun and not ended wait. Answers whether there was a victim,
-/// which has then given everything back.
-fn break_deadlock(
-    book: &mut Book<'_>,
-    moves: &[Moves],
-    form: Form,
-    places: &mut [Place],
-    mover: TxnId,
-) -> Result<bool, OrderFault>
-    requires { AllRest form moves.now places.old book.old.history }
-    ensures plan { book.new.plan ≡ book.old.plan }
-    ensures rest { OnOk result (AllRest form moves.now places.new book.new.history) }
-    ensures later { OnOk result (IsLater form moves.now places.old book.old.history places.new book.new.history) }
+/// Whether some transactions have begun and not ended, and all of these wait.
+fn all_wait(places: &[Place]) -> bool
+    ensures { result ≡ all_wait places.now }
 {
-    if !all_wait(places) {
-        return Ok(false);
-    }
-    let (_, reply) = book.attempt(mover, Event::Detect)?;
-    match reply {
-        Reply::Victim(victim, _) => {
-            let _got_on = go_on(book, moves, form, places, victim)?;
-            Ok(true)
+    some_wait(places) && none_runs_on(places)
+}
+
+fn some_wait(places: &[Place]) -> bool
+    ensures { result ≡ some_wait places.now }
+{
+    let mut rest = places;
+    while let Some((place, later)) = rest.split_first() {
+        if place.waits {
+            return true;
         }
-        _ => Ok(false),
+        rest = later;
+    }
+    false
+}
+
+fn none_runs_on(places: &[Place]) -> bool
+    ensures { result ≡ none_runs_on places.now }
+{
+    let mut rest = places;
+    while let Some((place, later)) = rest.split_first() {
+        if !place.waits && is_running(place.stage) {
+            return false;
+        }
+        rest = later;
+    }
+    true
+}
+
+ghost use Rattle.hek_permute.specs.Plays.{is_past, none_runs_on, some_wait};
+
+fn is_running(stage: Stage) -> bool
+    ensures { result ≡ is_running stage }
+{
+    match stage {
+        Stage::Start | Stage::Ended => false,
+        _ => true,
     }
 }
 
-/// Whether some transactions have begun and not ended, and all of these wait.
-fn all_wait(places: &[Place]) -> bool {
-    let mut some = false;
-    for place in places {
-        if place.is_running() {
-            if !place.waits {
-                return false;
-            }
-            some = true;
-        }
+fn is_over(stage: Stage) -> bool
+    ensures { result ≡ is_over stage }
+{
+    match stage {
+        Stage::Ended => true,
+        _ => false,
     }
-    some
 }

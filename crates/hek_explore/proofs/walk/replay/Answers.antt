@@ -2,7 +2,7 @@ use Rattle.std.proofs.Common.{rules, reverse, sym, ap, subst, ◌≡◌, ◌∙�
 use Rattle.hek_rules.specs.Plan.{Plan}
 use Rattle.hek_permute.specs.declared.play.Place.{Place}
 use Rattle.hek_explore.specs.Keys.{shape_of}
-use Rattle.hek_explore.specs.Steps.{HasCome}
+use Rattle.hek_permute.specs.Plays.{Plays}
 use Rattle.hek_explore.proofs.walk.replay.Goals as goal
 
 pub returns : goal.returns
@@ -10,7 +10,7 @@ returns c =
     let same : c.in_ok-key.key ≡ c.key-2.result.now = search rules in
     record {
       plan_is = c.in_ok-book.ensures.plan;
-      come = subst (λ (l : List ℕ). HasCome c.args.form c.args.moves.now (reverse l) c.in_ok-book.places.items c.in_ok-book.book.history) c.first.ensures
+      come = subst (λ (l : List ℕ). Plays c.args.form c.args.moves.now (reverse l) c.in_ok-book.places.items c.in_ok-book.book.history) c.first.ensures
           c.in_ok-book.ensures.come;
       key = ap (λ (p : Plan). shape_of p c.in_ok-book.places.items c.in_ok-book.book.history) (sym c.in_ok-book.ensures.plan)
           ∙ ap (λ (places : List Place). shape_of c.in_ok-book.book.plan places c.in_ok-book.book.history) (sym c.as_slice.ensures.value)
