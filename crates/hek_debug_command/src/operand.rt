@@ -53,17 +53,20 @@ const OPERANDS: &[(&str, &str, Operand)] = &[
 
 /// What is named after two words, if something is.
 fn operand_after(command: &str, second: &[u8]) -> Option<Operand> {
-    // `tbreak` and `until` take what `break` takes.
-    let command = match command {
-        "tbreak" | "until" => "break",
-        other => other,
-    };
     for row in OPERANDS {
-        if row.0 == command && second == row.1.as_bytes() {
+        if is_taken_as(command, row.0) && second == row.1.as_bytes() {
             return Some(row.2);
         }
     }
     None
+}
+
+/// Whether a command takes what another takes. `tbreak` and `until` take what `break` takes.
+fn is_taken_as(command: &str, other: &str) -> bool {
+    if command == "tbreak" || command == "until" {
+        return other == "break";
+    }
+    command == other
 }
 
 /// What is wrong after two words that name something; None if they don't.
