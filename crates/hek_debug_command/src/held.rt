@@ -40,6 +40,12 @@ pub(crate) const GONE: Held = Held {
     is_temporary: false,
 };
 
+/// Appends a breakpoint or watch.
+pub(crate) fn push_held(all: &mut Vec<Held>, held: Held) -> Result<(), NoMemory> {
+    all.push(held)?;
+    Ok(())
+}
+
 /// How many breakpoints and watches were not taken away.
 pub(crate) fn count_held(held: &[Held]) -> u64 {
     let mut count = 0u64;

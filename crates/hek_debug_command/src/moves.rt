@@ -5,7 +5,7 @@ use crate::breakpoint::{Breakpoint, Seen};
 use crate::debug::do_one;
 use crate::held::{
     GONE, Held, HeldStop, MARK, NEVER, count_held, first_own, has_own, is_run_here, is_temporary,
-    least, met,
+    least, met, push_held,
 };
 use crate::stop_text::{put_told, put_told_as};
 use hek_debug::{Command, Debugger, Mark, Reason, Stop};
@@ -307,11 +307,6 @@ impl Moves {
         put_told(&self.debugger, &Stop { at, last, reason }, &mut lines)?;
         send(&mut lines, out)
     }
-}
-
-fn push_held(all: &mut Vec<Held>, held: Held) -> Result<(), NoMemory> {
-    all.push(held)?;
-    Ok(())
 }
 
 /// Does a command, and gives where the debugger is then.
