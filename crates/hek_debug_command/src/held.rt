@@ -42,7 +42,8 @@ pub(crate) const GONE: Held = Held {
 
 /// Appends a breakpoint or watch.
 pub(crate) fn push_held(all: &mut Vec<Held>, held: Held) -> Result<(), NoMemory> {
-    all.push(held)?;
+    all.reserve(1)?;
+    all.push_reserved(held);
     Ok(())
 }
 
