@@ -1,5 +1,5 @@
 //! The breakpoints and watches of a session, by their indexes.
-use crate::breakpoint::{Breakpoint, Seen};
+use crate::breakpoint::{OwnBreakpoint, Seen};
 use hek_debug::Mark;
 use hek_machine::Machine;
 use hek_rules::NoMemory;
@@ -20,7 +20,7 @@ pub(crate) enum HeldStop {
     /// It is the debugger's mark.
     Mark,
     /// A breakpoint that only the session has.
-    Session(Breakpoint),
+    Session(OwnBreakpoint),
     /// It was taken away.
     Gone,
 }
@@ -42,8 +42,7 @@ pub(crate) const GONE: Held = Held {
 
 /// Appends a breakpoint or watch.
 pub(crate) fn push_held(all: &mut Vec<Held>, held: Held) -> Result<(), NoMemory> {
-    all.reserve(1)?;
-    all.push_reserved(held);
+    all.push(held)?;
     Ok(())
 }
 

@@ -71,7 +71,7 @@ impl Moves {
     ) -> Result<(), HekFault<'a>> {
         let (mark, stop) = match breakpoint {
             Breakpoint::Mark(mark) => (mark, HeldStop::Mark),
-            other => (NEVER, HeldStop::Session(other)),
+            Breakpoint::Own(own) => (NEVER, HeldStop::Session(own)),
         };
         let held = Held { stop, is_temporary };
         self.set(alloc, mark, held, out)

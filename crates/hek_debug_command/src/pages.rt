@@ -1,5 +1,5 @@
 //! Answers to the questions of a session.
-use crate::breakpoint::Breakpoint;
+use crate::breakpoint::OwnBreakpoint;
 use crate::condition::Condition;
 use crate::held::{Held, HeldStop, count_held};
 use crate::help::{HELP, help_on};
@@ -135,13 +135,12 @@ fn put_held(
 /// What only a session has after `break`.
 fn put_breakpoint(
     schedule: &Schedule,
-    breakpoint: Breakpoint,
+    breakpoint: OwnBreakpoint,
     lines: &mut Vec<u8>,
 ) -> Result<(), NoMemory> {
     match breakpoint {
-        Breakpoint::Mark(_) => Ok(()),
-        Breakpoint::Reply(kind) => put_reply_kind(kind, lines),
-        Breakpoint::If(condition) => put_condition(schedule, condition, lines),
+        OwnBreakpoint::Reply(kind) => put_reply_kind(kind, lines),
+        OwnBreakpoint::If(condition) => put_condition(schedule, condition, lines),
     }
 }
 
