@@ -8,37 +8,25 @@ use std::alloc::Global;
 /// A breakpoint or watch of a session. The debugger has a mark for each index: `NEVER` for those that only the session
 /// knows.
 #[derive(Clone, Copy)]
-pub(crate) struct Held {
-    pub(crate) stop: HeldStop,
-    /// Whether it goes away once a run stops at it.
-    pub(crate) is_temporary: bool,
-}
-
-/// What the session knows of a breakpoint or watch.
-#[derive(Clone, Copy)]
-pub(crate) enum HeldStop {
+pub(crate) enum Held {
     /// It is the debugger's mark.
-    Mark,
+    Mark(Stay),
     /// A breakpoint that only the session has.
-    Session(OwnBreakpoint),
+    Session(OwnBreakpoint, Stay),
     /// It was taken away.
     Gone,
 }
 
+/// How long a breakpoint or watch stays.
+#[derive(Clone, Copy, PartialEq, Eq)]
+pub(crate) enum Stay {
+    Kept,
+    /// It goes away once a run stops at it.
+    Temporary,
+}
+
 /// A mark at which no run stops: after a step the position is 1 or more.
 pub(crate) const NEVER: Mark = Mark::At(0);
-
-/// A mark of the debugger, which stays.
-pub(crate) const MARK: Held = Held {
-    stop: HeldStop::Mark,
-    is_temporary: false,
-};
-
-/// What an index is whose breakpoint or watch was taken away.
-pub(crate) const GONE: Held = Held {
-    stop: HeldStop::Gone,
-    is_temporary: false,
-};
 
 /// Appends a breakpoint or watch.
 pub(crate) fn push_held(all: &mut Vec<Held>, held: Held) -> Result<(), NoMemory> {
@@ -58,7 +46,7 @@ pub(crate) fn count_held(held: &[Held]) -> u64 {
 }
 
 fn is_gone(held: Held) -> bool {
-    matches!(held.stop, HeldStop::Gone)
+    matches!(held, Held::Gone)
 }
 
 /// Whether a breakpoint or watch has this index.
@@ -74,18 +62,25 @@ pub(crate) fn is_temporary(held: &[Held], index: u64) -> bool {
     if index == 0 || index > held.len() as u64 {
         return false;
     }
-    held[(index - 1) as usize].is_temporary
+    goes_away(held[(index - 1) as usize])
+}
+
+/// Whether a breakpoint goes away once a run stops at it.
+pub(crate) fn goes_away(held: Held) -> bool {
+    matches!(
+        held,
+        Held::Mark(Stay::Temporary) | Held::Session(_, Stay::Temporary)
+    )
 }
 
 /// Whether a breakpoint is one that only the session has.
 pub(crate) fn has_own(held: &[Held]) -> bool {
-    held.iter()
-        .any(|one| matches!(one.stop, HeldStop::Session(_)))
+    held.iter().any(|one| matches!(*one, Held::Session(_, _)))
 }
 
 /// Whether a run is more than the debugger's own: a breakpoint is one that only the session has, or goes away.
 pub(crate) fn is_run_here(held: &[Held]) -> bool {
-    has_own(held) || held.iter().any(|one| one.is_temporary)
+    has_own(held) || held.iter().any(|one| goes_away(*one))
 }
 
 /// Of each breakpoint, whether its condition is true, if it has one.
@@ -98,9 +93,9 @@ pub(crate) fn met(alloc: Global, held: &[Held], machine: &Machine) -> Result<Vec
 }
 
 fn is_met(held: Held, machine: &Machine) -> bool {
-    match held.stop {
-        HeldStop::Session(breakpoint) => breakpoint.is_met(machine),
-        HeldStop::Mark | HeldStop::Gone => false,
+    match held {
+        Held::Session(breakpoint, _) => breakpoint.is_met(machine),
+        Held::Mark(_) | Held::Gone => false,
     }
 }
 
@@ -117,9 +112,9 @@ pub(crate) fn first_own(held: &[Held], were_met: &[bool], seen: &Seen<'_>) -> Op
 }
 
 fn fits(held: Held, seen: &Seen<'_>, was_met: bool) -> bool {
-    match held.stop {
-        HeldStop::Session(breakpoint) => breakpoint.fits(seen, was_met),
-        HeldStop::Mark | HeldStop::Gone => false,
+    match held {
+        Held::Session(breakpoint, _) => breakpoint.fits(seen, was_met),
+        Held::Mark(_) | Held::Gone => false,
     }
 }
 

@@ -1,7 +1,7 @@
 //! Answers to the questions of a session.
 use crate::breakpoint::OwnBreakpoint;
 use crate::condition::Condition;
-use crate::held::{Held, HeldStop, count_held};
+use crate::held::{Held, count_held, goes_away};
 use crate::help::{HELP, help_on};
 use crate::listing::put_steps;
 use crate::question::Question;
@@ -108,20 +108,20 @@ fn put_held(
     held: Held,
     lines: &mut Vec<u8>,
 ) -> Result<(), NoMemory> {
-    let word = if held.is_temporary {
+    let word = if goes_away(held) {
         " tbreak "
     } else {
         " break "
     };
-    match held.stop {
-        HeldStop::Gone => Ok(()),
-        HeldStop::Session(breakpoint) => {
+    match held {
+        Held::Gone => Ok(()),
+        Held::Session(breakpoint, _) => {
             put_number(index, lines)?;
             put_text(word, lines)?;
             put_breakpoint(debugger.schedule(), breakpoint, lines)?;
             put_text("\n", lines)
         }
-        HeldStop::Mark => match debugger.mark(index) {
+        Held::Mark(_) => match debugger.mark(index) {
             None => Ok(()),
             Some(mark) => {
                 put_number(index, lines)?;
