@@ -10,12 +10,6 @@ use hek_rules::{Event, Reply};
 pub(crate) enum Breakpoint {
     /// Where this mark of the debugger does.
     Mark(Mark),
-    Own(OwnBreakpoint),
-}
-
-/// Where a breakpoint fits that only a session has.
-#[derive(Clone, Copy)]
-pub(crate) enum OwnBreakpoint {
     /// After a step with a reply of this kind.
     Reply(ReplyKind),
     /// After a step that makes this condition true.
@@ -52,8 +46,8 @@ impl Breakpoint {
     /// Whether its condition is true, if it has one.
     pub(crate) fn is_met(self, machine: &Machine) -> bool {
         match self {
-            Breakpoint::Own(own) => own.is_met(machine),
-            Breakpoint::Mark(_) => false,
+            Breakpoint::If(condition) => condition.is_met(machine),
+            Breakpoint::Mark(_) | Breakpoint::Reply(_) => false,
         }
     }
 
@@ -61,25 +55,8 @@ impl Breakpoint {
     pub(crate) fn fits(self, seen: &Seen<'_>, was_met: bool) -> bool {
         match self {
             Breakpoint::Mark(mark) => fits_mark(mark, seen),
-            Breakpoint::Own(own) => own.fits(seen, was_met),
-        }
-    }
-}
-
-impl OwnBreakpoint {
-    /// Whether its condition is true, if it has one.
-    pub(crate) fn is_met(self, machine: &Machine) -> bool {
-        match self {
-            OwnBreakpoint::If(condition) => condition.is_met(machine),
-            OwnBreakpoint::Reply(_) => false,
-        }
-    }
-
-    /// Whether it fits after a step, before which its condition was true or not.
-    pub(crate) fn fits(self, seen: &Seen<'_>, was_met: bool) -> bool {
-        match self {
-            OwnBreakpoint::Reply(kind) => kind.has(seen.reply),
-            OwnBreakpoint::If(condition) => !was_met && condition.is_met(seen.machine),
+            Breakpoint::Reply(kind) => kind.has(seen.reply),
+            Breakpoint::If(condition) => !was_met && condition.is_met(seen.machine),
         }
     }
 }

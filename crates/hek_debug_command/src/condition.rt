@@ -57,10 +57,10 @@ impl Comparison {
     }
 }
 
-/// A condition `waits NAME OP N`: that a transaction waits for so many others.
+/// A condition `waits NAME OP N`: that a transaction, which has this number, waits for so many others.
 #[derive(Clone, Copy)]
 pub(crate) struct Condition {
-    pub(crate) txn: TxnId,
+    number: u64,
     pub(crate) comparison: Comparison,
     pub(crate) bound: u64,
 }
@@ -79,15 +79,19 @@ impl Condition {
             return None;
         }
         Some(Condition {
-            txn: schedule.id_of(name)?,
+            number: schedule.id_of(name)?.number(),
             comparison: Comparison::named(comparison)?,
             bound: number(bound)?,
         })
     }
 
+    pub(crate) fn txn(self) -> TxnId {
+        TxnId::new(self.number)
+    }
+
     /// Whether the condition is true.
     pub(crate) fn is_met(self, machine: &Machine) -> bool {
-        match Mark::WatchWaits(self.txn).look(machine) {
+        match Mark::WatchWaits(self.txn()).look(machine) {
             Some(count) => self.comparison.is_met(count, self.bound),
             None => false,
         }

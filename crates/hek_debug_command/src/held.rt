@@ -1,5 +1,7 @@
 //! The breakpoints and watches of a session, by their indexes.
-use crate::breakpoint::{OwnBreakpoint, Seen};
+use crate::breakpoint::{Breakpoint, Seen};
+use crate::condition::Condition;
+use crate::reply_kind::ReplyKind;
 use hek_debug::Mark;
 use hek_machine::Machine;
 use hek_rules::NoMemory;
@@ -8,29 +10,44 @@ use std::alloc::Global;
 /// A breakpoint or watch of a session. The debugger has a mark for each index: `NEVER` for those that only the session
 /// knows.
 #[derive(Clone, Copy)]
-pub(crate) enum Held {
-    /// It is the debugger's mark.
-    Mark(Stay),
-    /// A breakpoint that only the session has.
-    Session(OwnBreakpoint, Stay),
-    /// It was taken away.
-    Gone,
+pub(crate) struct Held {
+    pub(crate) stop: HeldStop,
+    /// Whether it goes away once a run stops at it.
+    pub(crate) is_temporary: bool,
 }
 
-/// How long a breakpoint or watch stays.
-#[derive(Clone, Copy, PartialEq, Eq)]
-pub(crate) enum Stay {
-    Kept,
-    /// It goes away once a run stops at it.
-    Temporary,
+/// What the session knows of a breakpoint or watch.
+#[derive(Clone, Copy)]
+pub(crate) enum HeldStop {
+    /// It is the debugger's mark.
+    Mark,
+    /// A breakpoint on replies, which only the session has.
+    Reply(ReplyKind),
+    /// A breakpoint with a condition, which only the session has.
+    If(Condition),
+    /// It was taken away.
+    Gone,
 }
 
 /// A mark at which no run stops: after a step the position is 1 or more.
 pub(crate) const NEVER: Mark = Mark::At(0);
 
+/// A mark of the debugger, which stays.
+pub(crate) const MARK: Held = Held {
+    stop: HeldStop::Mark,
+    is_temporary: false,
+};
+
+/// What an index is whose breakpoint or watch was taken away.
+pub(crate) const GONE: Held = Held {
+    stop: HeldStop::Gone,
+    is_temporary: false,
+};
+
 /// Appends a breakpoint or watch.
 pub(crate) fn push_held(all: &mut Vec<Held>, held: Held) -> Result<(), NoMemory> {
-    all.push(held)?;
+    all.reserve(1)?;
+    all.push_reserved(held);
     Ok(())
 }
 
@@ -46,7 +63,7 @@ pub(crate) fn count_held(held: &[Held]) -> u64 {
 }
 
 fn is_gone(held: Held) -> bool {
-    matches!(held, Held::Gone)
+    matches!(held.stop, HeldStop::Gone)
 }
 
 /// Whether a breakpoint or watch has this index.
@@ -62,25 +79,17 @@ pub(crate) fn is_temporary(held: &[Held], index: u64) -> bool {
     if index == 0 || index > held.len() as u64 {
         return false;
     }
-    goes_away(held[(index - 1) as usize])
-}
-
-/// Whether a breakpoint goes away once a run stops at it.
-pub(crate) fn goes_away(held: Held) -> bool {
-    matches!(
-        held,
-        Held::Mark(Stay::Temporary) | Held::Session(_, Stay::Temporary)
-    )
+    held[(index - 1) as usize].is_temporary
 }
 
 /// Whether a breakpoint is one that only the session has.
 pub(crate) fn has_own(held: &[Held]) -> bool {
-    held.iter().any(|one| matches!(*one, Held::Session(_, _)))
+    held.iter().any(|one| matches!(one.stop, HeldStop::Reply(_) | HeldStop::If(_)))
 }
 
 /// Whether a run is more than the debugger's own: a breakpoint is one that only the session has, or goes away.
 pub(crate) fn is_run_here(held: &[Held]) -> bool {
-    has_own(held) || held.iter().any(|one| goes_away(*one))
+    has_own(held) || held.iter().any(|one| one.is_temporary)
 }
 
 /// Of each breakpoint, whether its condition is true, if it has one.
@@ -93,9 +102,9 @@ pub(crate) fn met(alloc: Global, held: &[Held], machine: &Machine) -> Result<Vec
 }
 
 fn is_met(held: Held, machine: &Machine) -> bool {
-    match held {
-        Held::Session(breakpoint, _) => breakpoint.is_met(machine),
-        Held::Mark(_) | Held::Gone => false,
+    match held.stop {
+        HeldStop::If(condition) => condition.is_met(machine),
+        HeldStop::Mark | HeldStop::Reply(_) | HeldStop::Gone => false,
     }
 }
 
@@ -112,9 +121,10 @@ pub(crate) fn first_own(held: &[Held], were_met: &[bool], seen: &Seen<'_>) -> Op
 }
 
 fn fits(held: Held, seen: &Seen<'_>, was_met: bool) -> bool {
-    match held {
-        Held::Session(breakpoint, _) => breakpoint.fits(seen, was_met),
-        Held::Mark(_) | Held::Gone => false,
+    match held.stop {
+        HeldStop::Reply(kind) => Breakpoint::Reply(kind).fits(seen, was_met),
+        HeldStop::If(condition) => Breakpoint::If(condition).fits(seen, was_met),
+        HeldStop::Mark | HeldStop::Gone => false,
     }
 }
 

@@ -4,8 +4,8 @@ ghost use Rattle.std.specs.Prelude.{◌≡◌, min, length, OnOk};
 use crate::breakpoint::{Breakpoint, Seen};
 use crate::debug::do_one;
 use crate::held::{
-    Held, NEVER, Stay, count_held, first_own, has_own, is_run_here, is_temporary, least, met,
-    push_held,
+    GONE, Held, HeldStop, MARK, NEVER, count_held, first_own, has_own, is_run_here, is_temporary,
+    least, met, push_held,
 };
 use crate::stop_text::{put_told, put_told_as};
 use hek_debug::{Command, Debugger, Mark, Reason, Stop};
@@ -44,7 +44,7 @@ impl Moves {
         out: &mut W,
     ) -> Result<(), HekFault<'a>> {
         match command {
-            Command::Set(mark) => self.set(alloc, mark, Held::Mark(Stay::Kept), out),
+            Command::Set(mark) => self.set(alloc, mark, MARK, out),
             Command::Clear => self.clear(alloc, out),
             Command::Run if is_run_here(self.held.as_slice()) => self.run(alloc, None, out),
             command => do_one(alloc, &mut self.debugger, command, out),
@@ -69,15 +69,12 @@ impl Moves {
         is_temporary: bool,
         out: &mut W,
     ) -> Result<(), HekFault<'a>> {
-        let stay = if is_temporary {
-            Stay::Temporary
-        } else {
-            Stay::Kept
+        let (mark, stop) = match breakpoint {
+            Breakpoint::Mark(mark) => (mark, HeldStop::Mark),
+            Breakpoint::Reply(kind) => (NEVER, HeldStop::Reply(kind)),
+            Breakpoint::If(condition) => (NEVER, HeldStop::If(condition)),
         };
-        let (mark, held) = match breakpoint {
-            Breakpoint::Mark(mark) => (mark, Held::Mark(stay)),
-            Breakpoint::Own(own) => (NEVER, Held::Session(own, stay)),
-        };
+        let held = Held { stop, is_temporary };
         self.set(alloc, mark, held, out)
     }
 
@@ -127,7 +124,7 @@ impl Moves {
     /// Takes a breakpoint or watch away, if there is one.
     fn take_away(&mut self, index: u64) {
         if index > 0 && index <= self.held.len() as u64 {
-            self.held[(index - 1) as usize] = Held::Gone;
+            self.held[(index - 1) as usize] = GONE;
             self.debugger.exchange(index, NEVER);
         }
     }

@@ -1,7 +1,6 @@
 //! Answers to the questions of a session.
-use crate::breakpoint::OwnBreakpoint;
 use crate::condition::Condition;
-use crate::held::{Held, count_held, goes_away};
+use crate::held::{Held, HeldStop, count_held};
 use crate::help::{HELP, help_on};
 use crate::listing::put_steps;
 use crate::question::Question;
@@ -108,20 +107,26 @@ fn put_held(
     held: Held,
     lines: &mut Vec<u8>,
 ) -> Result<(), NoMemory> {
-    let word = if goes_away(held) {
+    let word = if held.is_temporary {
         " tbreak "
     } else {
         " break "
     };
-    match held {
-        Held::Gone => Ok(()),
-        Held::Session(breakpoint, _) => {
+    match held.stop {
+        HeldStop::Gone => Ok(()),
+        HeldStop::Reply(kind) => {
             put_number(index, lines)?;
             put_text(word, lines)?;
-            put_breakpoint(debugger.schedule(), breakpoint, lines)?;
+            put_reply_kind(kind, lines)?;
             put_text("\n", lines)
         }
-        Held::Mark(_) => match debugger.mark(index) {
+        HeldStop::If(condition) => {
+            put_number(index, lines)?;
+            put_text(word, lines)?;
+            put_condition(debugger.schedule(), condition, lines)?;
+            put_text("\n", lines)
+        }
+        HeldStop::Mark => match debugger.mark(index) {
             None => Ok(()),
             Some(mark) => {
                 put_number(index, lines)?;
@@ -129,18 +134,6 @@ fn put_held(
                 put_text("\n", lines)
             }
         },
-    }
-}
-
-/// What only a session has after `break`.
-fn put_breakpoint(
-    schedule: &Schedule,
-    breakpoint: OwnBreakpoint,
-    lines: &mut Vec<u8>,
-) -> Result<(), NoMemory> {
-    match breakpoint {
-        OwnBreakpoint::Reply(kind) => put_reply_kind(kind, lines),
-        OwnBreakpoint::If(condition) => put_condition(schedule, condition, lines),
     }
 }
 
@@ -155,7 +148,7 @@ fn put_condition(
     condition: Condition,
     lines: &mut Vec<u8>,
 ) -> Result<(), NoMemory> {
-    put_of_txn(schedule, "if waits ", condition.txn, lines)?;
+    put_of_txn(schedule, "if waits ", condition.txn(), lines)?;
     put_named(" ", condition.comparison.word(), lines)?;
     put_numbered(" ", condition.bound, lines)
 }

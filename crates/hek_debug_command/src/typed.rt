@@ -1,5 +1,5 @@
 //! Lines of a session: short words, and commands that only a session has.
-use crate::breakpoint::{Breakpoint, OwnBreakpoint};
+use crate::breakpoint::Breakpoint;
 use crate::condition::Condition;
 use crate::name::{Meaning, Name, meant_by};
 use crate::question::{Question, read_question};
@@ -115,10 +115,10 @@ fn breakpoint_of(mark: Mark) -> Breakpoint {
 fn own_breakpoint(schedule: &Schedule, line: &[u8]) -> Option<Breakpoint> {
     let (word, rest) = next_word(line)?;
     if word == b"if".as_slice() {
-        return Some(Breakpoint::Own(OwnBreakpoint::If(Condition::read(schedule, rest)?)));
+        return Some(Breakpoint::If(Condition::read(schedule, rest)?));
     }
     if word == b"reply".as_slice() {
-        return Some(Breakpoint::Own(OwnBreakpoint::Reply(reply_kind(rest)?)));
+        return Some(Breakpoint::Reply(reply_kind(rest)?));
     }
     None
 }
