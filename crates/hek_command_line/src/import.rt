@@ -151,16 +151,12 @@ fn write_all<'a, D: Disk, E: Write>(
     faults: &mut E,
 ) -> Result<u8, HekFault<'a>> {
     for number in 1..count.saturating_add(1) {
-        let asked = numbered(asked, number);
-        let made = translate(alloc, tokens, asked.choice)?;
-        if has_mistakes(asked, &made, faults) {
+        if !is_translated(alloc, numbered(asked, number), tokens, faults)? {
             return Ok(AT_FAULT);
         }
     }
     for number in 1..count.saturating_add(1) {
-        let asked = numbered(asked, number);
-        let made = translate(alloc, tokens, asked.choice)?;
-        let status = write_into(alloc, asked, made, disk, faults)?;
+        let status = write_numbered(alloc, numbered(asked, number), tokens, disk, faults)?;
         if status != 0 {
             return Ok(status);
         }
@@ -168,11 +164,36 @@ fn write_all<'a, D: Disk, E: Write>(
     Ok(0)
 }
 
+/// Whether a permutation can be translated. What can't is named.
+fn is_translated<'a, E: Write>(
+    alloc: Global,
+    asked: Asked<'_>,
+    tokens: &[Token<'_>],
+    faults: &mut E,
+) -> Result<bool, HekFault<'a>> {
+    let made = translate(alloc, tokens, asked.choice)?;
+    Ok(!has_mistakes(asked, &made, faults))
+}
+
+/// Writes the schedule of a permutation to a file of the folder.
+fn write_numbered<'a, D: Disk, E: Write>(
+    alloc: Global,
+    asked: Asked<'a>,
+    tokens: &[Token<'_>],
+    disk: &D,
+    faults: &mut E,
+) -> Result<u8, HekFault<'a>> {
+    let made = translate(alloc, tokens, asked.choice)?;
+    write_into(alloc, asked, made, disk, faults)
+}
+
 /// The same for the permutation with this number.
 fn numbered(asked: Asked<'_>, number: u64) -> Asked<'_> {
-    let mut asked = asked;
-    asked.choice.permutation = Some(number);
-    asked
+    let choice = Choice {
+        permutation: Some(number),
+        level: asked.choice.level,
+    };
+    Asked { choice, ..asked }
 }
 
 /// The name of a spec without its folder and its ending; `spec` for standard input.
