@@ -8,7 +8,6 @@ mod chain;
 mod changes;
 mod dis;
 mod exchange;
-mod objects;
 mod release;
 mod words;
 

@@ -5,12 +5,10 @@
 pub(crate) enum Name {
     Step,
     Run,
-    Until,
     Back,
     Goto,
     Reverse,
     Break,
-    Tbreak,
     Watch,
     Delete,
     Clear,
@@ -19,7 +17,6 @@ pub(crate) enum Name {
     List,
     Why,
     Changes,
-    Source,
     Help,
     Quit,
 }
@@ -54,11 +51,6 @@ pub(crate) const NAMES: &[NameText] = &[
         place: Place::Files,
     },
     NameText {
-        name: Name::Until,
-        word: "until",
-        place: Place::Sessions,
-    },
-    NameText {
         name: Name::Back,
         word: "back",
         place: Place::Files,
@@ -77,11 +69,6 @@ pub(crate) const NAMES: &[NameText] = &[
         name: Name::Break,
         word: "break",
         place: Place::Files,
-    },
-    NameText {
-        name: Name::Tbreak,
-        word: "tbreak",
-        place: Place::Sessions,
     },
     NameText {
         name: Name::Watch,
@@ -122,11 +109,6 @@ pub(crate) const NAMES: &[NameText] = &[
         name: Name::Changes,
         word: "changes",
         place: Place::Questions,
-    },
-    NameText {
-        name: Name::Source,
-        word: "source",
-        place: Place::Sessions,
     },
     NameText {
         name: Name::Help,

@@ -131,7 +131,7 @@ fn add<'t>(
     Ok(())
 }
 
-pub(crate) fn diagnosed<'t>(
+fn diagnosed<'t>(
     known: &Known<'t>,
     name: &'t str,
     place: Place<'t>,

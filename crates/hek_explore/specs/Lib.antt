@@ -1,5 +1,4 @@
 pub mod Twins
-pub mod Groups
 pub mod Keys
 pub mod Numbers
 pub mod Steps

@@ -21,7 +21,6 @@ const LEVELS: Choice<'static> = Choice {
     levels: true,
     find: None,
     progress: false,
-    stats: false,
     printing: Printing::Text,
 };
 

@@ -2,7 +2,6 @@
 #![tactic(auto)]
 
 mod choice;
-mod counted;
 mod counts;
 mod explained;
 mod forgetting;
@@ -13,6 +12,6 @@ mod twins;
 mod verdict_json;
 mod verdict_text;
 
-pub use choice::{Choice, Extent};
+pub use choice::Choice;
 pub use history::history_command;
 pub use run_log::run_log_command;

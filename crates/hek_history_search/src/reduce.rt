@@ -136,8 +136,6 @@ impl Problem<'_> {
             let fault = OwnFault::Contradicted {
                 operation: by.operation,
                 key: self.keys.name(key),
-                left: left.value,
-                found: need,
             };
             self.blame(by.transaction, fault);
         }
@@ -159,9 +157,6 @@ impl Problem<'_> {
                 first: earlier.operation,
                 second: by.operation,
                 key: self.keys.name(key),
-                before: earlier.need,
-                after: need,
-                scanned: earlier.scanned || by.scanned,
             };
             self.blame(by.transaction, fault);
         }
