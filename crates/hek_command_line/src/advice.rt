@@ -187,12 +187,21 @@ pub fn advice_of<'a>(alloc: Global, command: &str, found: &ArgMatches<'a>) -> Op
     Some(Advice::new("order", value, wrong))
 }
 
+/// The part of a figure that a word may mean.
+fn nearest_portion(alloc: Global, value: &str) -> Option<&'static str> {
+    let mut words: Vec<&'static str> = Vec::new(alloc);
+    for word in PORTIONS {
+        words.push(*word).ok()?;
+    }
+    nearest_word(alloc, value, words.as_slice())
+}
+
 /// What is wrong with the part of a figure, if it is none.
 fn portion_advice(alloc: Global, value: &str) -> Option<Advice<'_>> {
     if Portion::named(value).is_some() {
         return None;
     }
-    let wrong = Wrong::NoPortion(nearest_word(alloc, value, PORTIONS));
+    let wrong = Wrong::NoPortion(nearest_portion(alloc, value));
     Some(Advice::new("part", value, wrong))
 }
 

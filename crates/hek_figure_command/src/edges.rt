@@ -1,7 +1,7 @@
 //! Who waits for whom, and who comes before whom: the lines of a graph.
 use crate::moment::Moment;
 use crate::track::{Wait, is_open, track_of};
-use hek_history_report::{Side, Together};
+use hek_history_report::{Before, Side, Together};
 use hek_rules::{NoMemory, Reply, State, TxnId, number};
 use std::alloc::Global;
 
@@ -141,26 +141,30 @@ fn is_weak(moment: &Moment<'_>, asked: &[Wait], from: TxnId, kind: EdgeKind) -> 
 pub(crate) fn befores_of(alloc: Global, together: &Together) -> Result<Vec<Edge>, NoMemory> {
     let mut edges = Vec::new(alloc);
     match together {
-        Together::InAnotherOrder(order) => {
-            let mut last = None;
-            for txn in order.as_slice() {
-                if let Some(first) = last {
-                    edges.push(before(first, *txn, String::new(alloc), false))?;
-                }
-                last = Some(*txn);
-            }
-        }
-        Together::NotSerial(_, befores) => {
-            for it in befores.as_slice() {
-                if let (Side::Txn(first), Side::Txn(second)) = (it.first, it.second) {
-                    let label = key_said(alloc, it.key)?;
-                    edges.push(before(first, second, label, true))?;
-                }
-            }
-        }
+        Together::InAnotherOrder(order) => add_in_turn(alloc, order.as_slice(), &mut edges)?,
+        Together::NotSerial(_, befores) => add_befores(alloc, befores.as_slice(), &mut edges)?,
         _ => {}
     }
     Ok(edges)
+}
+
+/// Adds an edge from each transaction to the one after it.
+fn add_in_turn(alloc: Global, order: &[TxnId], edges: &mut Vec<Edge>) -> Result<(), NoMemory> {
+    for (first, second) in order.iter().zip(order.iter().skip(1)) {
+        edges.push(before(*first, *second, String::new(alloc), false))?;
+    }
+    Ok(())
+}
+
+/// Adds an edge for each pair of transactions of which one comes before the other.
+fn add_befores(alloc: Global, befores: &[Before], edges: &mut Vec<Edge>) -> Result<(), NoMemory> {
+    for it in befores {
+        if let (Side::Txn(first), Side::Txn(second)) = (it.first, it.second) {
+            let label = key_said(alloc, it.key)?;
+            edges.push(before(first, second, label, true))?;
+        }
+    }
+    Ok(())
 }
 
 fn key_said(alloc: Global, key: Option<u64>) -> Result<String, NoMemory> {

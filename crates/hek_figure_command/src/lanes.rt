@@ -358,7 +358,7 @@ fn draw_card(
         return Ok(());
     };
     let top = y + if txn.is_none() { DETECT_TOP } else { CARD_TOP };
-    let here = if index + 1 == at.all.len() {
+    let here = if index.saturating_add(1) == at.all.len() {
         "here"
     } else {
         ""

@@ -13,8 +13,8 @@ const MOST_ROWS: usize = 20;
 pub(crate) struct Look {
     pub version: VersionId,
     pub is_seen: bool,
-    /// The transaction on whose commit that depends.
-    pub if_commits: Option<TxnId>,
+    /// The number of the transaction on whose commit that depends.
+    pub if_commits: Option<u64>,
 }
 
 /// What the transaction of the step sees, and the time at which it looks.
@@ -47,7 +47,7 @@ fn look_in(moment: &Moment<'_>, line: &str) -> Option<Look> {
     let (index, how) = line.split_once(' ')?;
     let index = number(index.as_bytes())?;
     let if_commits = match how.split_once(" if ") {
-        Some((_, name)) => moment.schedule.id_of(name.as_bytes()),
+        Some((_, name)) => number_of(moment, name),
         None => None,
     };
     Some(Look {
@@ -55,6 +55,12 @@ fn look_in(moment: &Moment<'_>, line: &str) -> Option<Look> {
         is_seen: how.starts_with("seen"),
         if_commits,
     })
+}
+
+/// The number of a transaction by its name.
+fn number_of(moment: &Moment<'_>, name: &str) -> Option<u64> {
+    let txn = moment.schedule.id_of(name.as_bytes())?;
+    Some(txn.number())
 }
 
 /// A version with its row and its words.
@@ -202,14 +208,26 @@ pub(crate) enum Stop {
 /// From when a version is valid: a maker that has committed gives its end time before the word is stamped.
 pub(crate) fn start_of(moment: &Moment<'_>, begin: BeginWord) -> Start {
     match begin.content() {
-        BeginRecord::At(time) if time.number() == Time::INFINITY => Start::Never,
-        BeginRecord::At(time) => Start::At(time.number()),
-        BeginRecord::By(txn) => match end_of(moment, txn) {
-            (State::Aborted(_), _) => Start::Never,
-            (State::Preparing, end) => Start::IfCommits(end, txn),
-            (State::Committed | State::Terminated, end) if end > 0 => Start::At(end),
-            _ => Start::Once(txn),
-        },
+        BeginRecord::At(time) => start_at(time.number()),
+        BeginRecord::By(txn) => start_by(moment, txn),
+    }
+}
+
+fn start_at(time: u64) -> Start {
+    if time == Time::INFINITY {
+        Start::Never
+    } else {
+        Start::At(time)
+    }
+}
+
+/// From when a version is valid that a transaction made.
+fn start_by(moment: &Moment<'_>, txn: TxnId) -> Start {
+    match end_of(moment, txn) {
+        (State::Aborted(_), _) => Start::Never,
+        (State::Preparing, end) => Start::IfCommits(end, txn),
+        (State::Committed | State::Terminated, end) if end > 0 => Start::At(end),
+        _ => Start::Once(txn),
     }
 }
 

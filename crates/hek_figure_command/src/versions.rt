@@ -5,7 +5,7 @@ use crate::buckets::{draw_bucket_head, shown_buckets};
 use crate::canvas::{Canvas, Class, Frame, SMALL, TYPE, colour_of, greater, plain, width_of};
 use crate::moment::Moment;
 use crate::rows::{Look, Looks, Row, Rows, look_at, looks_of, readers_of, rows_of};
-use hek_rules::NoMemory;
+use hek_rules::{NoMemory, TxnId};
 use std::num::nearest_usize_to_f64;
 
 /// How high a version and the head of a bucket are.
@@ -114,8 +114,8 @@ fn pill_wide(name: &str) -> f64 {
 fn sight_said(canvas: &Canvas, moment: &Moment<'_>, look: &Look) -> Result<String, NoMemory> {
     let mark = if look.is_seen { '\u{2713}' } else { '\u{2013}' };
     let text = match look.if_commits {
-        Some(txn) => {
-            let name = moment.name_of(txn);
+        Some(number) => {
+            let name = moment.name_of(TxnId::new(number));
             format!(in canvas.alloc; "{mark} if {name} commits")?
         }
         None if look.is_seen => format!(in canvas.alloc; "{mark} seen")?,

@@ -19,11 +19,35 @@ enum Word {
     End(Option<EndWord>, EndWord),
 }
 
-/// A word of a version; or a bucket that the step changed.
+/// A word of a version, by its place, with the bits before, if the step changed it, and now; or a bucket that the step changed.
 #[derive(Clone, Copy)]
 enum Shown {
-    Of(VersionId, Word),
+    Begin(u64, Option<u64>, u64),
+    End(u64, Option<u64>, u64),
     Bucket(u64),
+}
+
+/// The word that is shown, and its version.
+fn word_of(shown: Shown) -> Option<(VersionId, Word)> {
+    match shown {
+        Shown::Begin(version, before, now) => {
+            let word = Word::Begin(begin_of(before), BeginWord::read(now)?);
+            Some((VersionId::new(version), word))
+        }
+        Shown::End(version, before, now) => {
+            let word = Word::End(end_of(before), EndWord::read(now)?);
+            Some((VersionId::new(version), word))
+        }
+        Shown::Bucket(_) => None,
+    }
+}
+
+fn begin_of(bits: Option<u64>) -> Option<BeginWord> {
+    BeginWord::read(bits?)
+}
+
+fn end_of(bits: Option<u64>) -> Option<EndWord> {
+    EndWord::read(bits?)
 }
 
 /// What is shown, and what is said of it.
@@ -44,8 +68,8 @@ pub(crate) fn draw_words(
     let mut y = 26.0;
     for shown in choice.list.as_slice().iter().take(MOST_WORDS) {
         y = match shown {
-            Shown::Of(version, word) => draw_word(canvas, moment, *version, *word, y, wide)?,
             Shown::Bucket(bucket) => draw_bucket(canvas, moment, *bucket, y, wide)?,
+            other => draw_shown(canvas, moment, *other, y, wide)?,
         };
     }
     if choice.list.len() > MOST_WORDS {
@@ -94,18 +118,18 @@ fn add_changed(changes: &[Change], list: &mut Vec<Shown>) -> Result<(), NoMemory
                 version,
                 before,
                 after,
-            } => list.push(Shown::Of(*version, Word::Begin(Some(*before), *after)))?,
+            } => list.push(Shown::Begin(version.index(), Some(before.bits()), after.bits()))?,
             Change::End {
                 version,
                 before,
                 after,
-            } => list.push(Shown::Of(*version, Word::End(Some(*before), *after)))?,
+            } => list.push(Shown::End(version.index(), Some(before.bits()), after.bits()))?,
             _ => {}
         }
     }
     for change in changes {
         if let Change::NewVersion { version, begin, .. } = change {
-            list.push(Shown::Of(*version, Word::Begin(None, *begin)))?;
+            list.push(Shown::Begin(version.index(), None, begin.bits()))?;
         }
     }
     Ok(())
@@ -119,7 +143,7 @@ fn add_looked_at(moment: &Moment<'_>, list: &mut Vec<Shown>) -> Result<(), NoMem
     for line in text_of(step.why.as_slice()).lines() {
         if let (Some(version), true) = (version_in(line), line.contains('(')) {
             if let Some(word) = moment.after.end_word(version) {
-                list.push(Shown::Of(version, Word::End(None, word)))?;
+                list.push(Shown::End(version.index(), None, word.bits()))?;
             }
         }
     }
@@ -142,7 +166,7 @@ fn last_changed(alloc: Global, moment: &Moment<'_>) -> Result<Choice, NoMemory> 
     let mut list = Vec::new(alloc);
     let mut title = String::from_str(alloc, "No word changed")?;
     if let Some(word) = moment.after.end_word(VersionId::new(0)) {
-        list.push(Shown::Of(VersionId::new(0), Word::End(None, word)))?;
+        list.push(Shown::End(0, None, word.bits()))?;
     }
     for (place, step) in moment.steps().iter().enumerate() {
         for change in step.changes.as_slice() {
@@ -157,11 +181,25 @@ fn last_changed(alloc: Global, moment: &Moment<'_>) -> Result<Choice, NoMemory> 
                     "No word changed; the last one that did, at step {number}"
                 )?;
                 list.clear();
-                list.push(Shown::Of(*version, Word::End(Some(*before), *after)))?;
+                list.push(Shown::End(version.index(), Some(before.bits()), after.bits()))?;
             }
         }
     }
     Ok(Choice { title, list })
+}
+
+/// Draws the word that is shown.
+fn draw_shown(
+    canvas: &mut Canvas,
+    moment: &Moment<'_>,
+    shown: Shown,
+    y: f64,
+    wide: f64,
+) -> Result<f64, NoMemory> {
+    match word_of(shown) {
+        Some((version, word)) => draw_word(canvas, moment, version, word, y, wide),
+        None => Ok(y),
+    }
 }
 
 /// Draws a word: what it says, its bits before and after, and the same in hexadecimal.
@@ -300,15 +338,16 @@ pub(crate) fn begin_said(
             let name = moment.name_of(txn);
             format!(in alloc; "made by {name}")?
         }
-        BeginRecord::At(time) if time.number() == Time::INFINITY => {
-            String::from_str(alloc, "infinity: never")?
-        }
-        BeginRecord::At(time) => {
-            let ticks = time.number();
-            format!(in alloc; "time {ticks}")?
-        }
+        BeginRecord::At(time) => time_said(alloc, time.number())?,
     };
     Ok(text)
+}
+
+fn time_said(alloc: Global, ticks: u64) -> Result<String, NoMemory> {
+    if ticks == Time::INFINITY {
+        return Ok(String::from_str(alloc, "infinity: never")?);
+    }
+    Ok(format!(in alloc; "time {ticks}")?)
 }
 
 /// What an End word says.
