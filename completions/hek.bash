@@ -5,7 +5,7 @@ _hek() {
     local word=${COMP_WORDS[COMP_CWORD]} before=${COMP_WORDS[COMP_CWORD - 1]} command=${COMP_WORDS[1]} words="" files=""
     COMPREPLY=()
     if [ "$COMP_CWORD" -eq 1 ]; then
-        words="run debug page permute check history drive threads word release asm dis completions man help --help --version"
+        words="run debug page figure permute check history drive threads word release asm dis import completions man help --help --version"
         mapfile -t COMPREPLY < <(compgen -W "$words" -- "$word")
         return
     fi
@@ -16,13 +16,16 @@ _hek() {
         before="${COMP_WORDS[COMP_CWORD - 2]}="
     fi
     case "$command $before" in
-    "help help") words="run debug page permute check history drive threads word release asm dis completions man" ;;
-    "completions completions") words="bash zsh fish" ;;
+    "help help") words="run debug page figure permute check history drive threads word release asm dis import completions man" ;;
+    "import import") words="spec" ;;
+    "completions completions") words="bash zsh fish words" ;;
     "run --explain=") words="always never" ;;
+    "run --color=") words="always never auto" ;;
     "run --state-at") return ;;
     "run --why=") words="reasons rules" ;;
     "run --level") words="serializable repeatable snapshot" ;;
     "debug --explain=") words="always never" ;;
+    "debug --color=") words="always never auto" ;;
     "debug --level") words="serializable repeatable snapshot" ;;
     "page --explain=") words="always never" ;;
     "page --level") words="serializable repeatable snapshot" ;;
@@ -35,6 +38,12 @@ _hek() {
     "page --next") return ;;
     "page --grain") words="move split event" ;;
     "page --limit") return ;;
+    "figure --explain=") words="always never" ;;
+    "figure --level") words="serializable repeatable snapshot" ;;
+    "figure --output" | "figure -o") compopt -o default; return ;;
+    "figure --step") return ;;
+    "figure --part") return ;;
+    "figure --title") return ;;
     "permute --explain=") words="always never" ;;
     "permute --level") words="serializable repeatable snapshot" ;;
     "permute --grain") words="move split event" ;;
@@ -48,8 +57,10 @@ _hek() {
     "history --explain=") words="always never" ;;
     "history --level") words="serializable repeatable snapshot" ;;
     "history --order") words="any versions commit real" ;;
+    "history --all=") words="each counts" ;;
     "history --order-out") compopt -o default; return ;;
     "drive --explain=") words="always never" ;;
+    "drive --color=") words="always never auto" ;;
     "drive --why=") words="reasons rules" ;;
     "drive --level") words="serializable repeatable snapshot" ;;
     "threads --explain=") words="always never" ;;
@@ -62,24 +73,30 @@ _hek() {
     "word --readers") return ;;
     "asm --explain=") words="always never" ;;
     "dis --explain=") words="always never" ;;
+    "import --explain=") words="always never" ;;
+    "import --permutation") return ;;
+    "import --level") words="serializable repeatable snapshot" ;;
+    "import --output" | "import -o") compopt -o default; return ;;
     esac
     if [ -n "$words" ]; then
         mapfile -t COMPREPLY < <(compgen -W "$words" -- "$word")
         return
     fi
     case "$command" in
-    run) words="--text --image --explain --state --state-at --why --changes --history --auto --level --json --help" files=yes ;;
-    debug) words="--text --image --explain --auto --level --help" files=yes ;;
-    page) words="--text --image --explain --level --auto --output --from --to --title --lesson --previous --next --orders --levels --split --grain --limit --help" files=yes ;;
-    permute) words="--text --image --explain --auto --level --split --grain --limit --part --jobs --each --order --levels --find --json --help" files=yes ;;
+    run) words="--text --image --explain --color --state --state-at --why --changes --history --auto --level --json --help" files=yes ;;
+    debug) words="--text --image --explain --color --auto --level --help" files=yes ;;
+    page) words="--text --image --explain --level --auto --output --from --to --title --lesson --previous --next --orders --levels --split --grain --limit --json --help" files=yes ;;
+    figure) words="--text --image --explain --level --auto --output --step --part --title --help" files=yes ;;
+    permute) words="--text --image --explain --auto --level --split --grain --limit --part --jobs --each --order --levels --find --stats --add --json --help" files=yes ;;
     check) words="--text --image --explain --auto --level --why --summary --all --json --help" files=yes ;;
     history) words="--explain --level --order --all --order-out --json --help" files=yes ;;
-    drive) words="--text --image --explain --why --changes --state --ends --auto --level --json --help" files=yes ;;
+    drive) words="--text --image --explain --color --why --changes --state --ends --auto --level --json --help" files=yes ;;
     threads) words="--text --image --explain --turns --repeat --seed --auto --level --json --help" files=yes ;;
-    word) words="--changes --clock --txns --readers --help" ;;
+    word) words="--changes --clock --txns --readers --json --help" ;;
     release) words="--help" ;;
     asm) words="--explain --help" files=yes ;;
     dis) words="--text --image --explain --help" files=yes ;;
+    import) words="--explain --permutation --level --output --help" files=yes ;;
     completions) words="--help" ;;
     man) words="--help" ;;
     esac

@@ -182,7 +182,7 @@ def host_cases(text, image):
     """Command lines with their standard input."""
     return [(["run", "x.hek"], b""), (["run", "--text", "-"], text), (["asm", "x.hek", "x.img"], b""), (["dis", "x.img"], b""), (["asm", "-", "x.img"], text), (["dis", "x.img", "-"], b""),
             (["word", "-"], b"8040000000000002\nzz\n"), (["run", "none.hek"], b""), (["run", "folder"], b""), (["run", "shut"], b""), ([], b""),
-            (["--version"], b""), (["run", "--no"], b""), (["permute", "--levels", "x.hek"], b""), (["debug", "x.hek"], b"step 3\nshow txn a\n"),
+            (["run", "--no"], b""), (["permute", "--levels", "x.hek"], b""), (["debug", "x.hek"], b"step 3\nshow txn a\n"),
             (["drive", "x.hek"], b"a begin\na read 10\n"), (["page", "x.hek"], b"")]
 
 

@@ -1,6 +1,7 @@
 //! What is wrong with a bad argument and what is wanted in its place, for a reader at a terminal, or with `--explain`.
 use clap::ArgMatches;
 use hek_diagnostics::nearest_word;
+use hek_figure_command::Portion;
 use hek_permute::Form;
 use hek_permute_command::part_of;
 use hek_rules::{Level, number};
@@ -61,6 +62,13 @@ const COUNTS: &[Count] = &[
         below: "",
     },
     Count {
+        option: "step",
+        what: "a number of steps",
+        least: 0,
+        most: u64::MAX,
+        below: "",
+    },
+    Count {
         option: "from",
         what: "a step, the first being 1",
         least: 1,
@@ -73,6 +81,13 @@ const COUNTS: &[Count] = &[
         least: 1,
         most: u64::MAX,
         below: ": steps are counted from 1",
+    },
+    Count {
+        option: "permutation",
+        what: "a permutation, the first being 1",
+        least: 1,
+        most: u64::MAX,
+        below: ": permutations are counted from 1",
     },
     Count {
         option: "clock",
@@ -102,6 +117,9 @@ const LEVELS: &[&str] = &["serializable", "repeatable", "snapshot"];
 /// The orders that `hek history` can be asked for.
 const KINDS: &[&str] = &["any", "versions", "commit", "real"];
 
+/// The parts of a step that `hek figure` can be asked for.
+const PORTIONS: &[&str] = &["lanes", "versions", "waits", "words"];
+
 /// The forms of moves that `hek permute` can be asked for.
 const GRAINS: &[&str] = &["move", "split", "event"];
 
@@ -114,6 +132,8 @@ enum Wrong<'a> {
     /// No level has this name, but maybe one that is near.
     NoLevel(Option<&'a str>),
     NoPart,
+    /// No part of a figure has this name, but maybe one that is near.
+    NoPortion(Option<&'a str>),
     NoOrder,
     /// No order of a history has this name, but maybe one that is near.
     NoKind(Option<&'a str>),
@@ -145,6 +165,7 @@ pub fn advice_of<'a>(alloc: Global, command: &str, found: &ArgMatches<'a>) -> Op
         _ => {}
     }
     match found.get_str("part") {
+        Some(value) if command == "figure" => return portion_advice(alloc, value),
         Some(value) if part_of(value).is_none() => {
             return Some(Advice::new("part", value, Wrong::NoPart));
         }
@@ -164,6 +185,24 @@ pub fn advice_of<'a>(alloc: Global, command: &str, found: &ArgMatches<'a>) -> Op
         Wrong::NoOrder
     };
     Some(Advice::new("order", value, wrong))
+}
+
+/// The part of a figure that a word may mean.
+fn nearest_portion(alloc: Global, value: &str) -> Option<&'static str> {
+    let mut words: Vec<&'static str> = Vec::new(alloc);
+    for word in PORTIONS {
+        words.push(*word).ok()?;
+    }
+    nearest_word(alloc, value, words.as_slice())
+}
+
+/// What is wrong with the part of a figure, if it is none.
+fn portion_advice(alloc: Global, value: &str) -> Option<Advice<'_>> {
+    if Portion::named(value).is_some() {
+        return None;
+    }
+    let wrong = Wrong::NoPortion(nearest_portion(alloc, value));
+    Some(Advice::new("part", value, wrong))
 }
 
 /// What is wrong with the number of an option, if the command line has the option.
@@ -219,6 +258,7 @@ impl<'a> Advice<'a> {
             Wrong::TooLarge(_) => write!(f, "`{value}` is too large for `--{option}`"),
             Wrong::NoLevel(_) => write!(f, "no level is called `{value}`"),
             Wrong::NoPart => write!(f, "`{value}` is not a part"),
+            Wrong::NoPortion(_) => write!(f, "no part is called `{value}`"),
             Wrong::NoOrder => write!(f, "`{value}` is not an order of the moves"),
             Wrong::NoKind(_) => write!(f, "no order is called `{value}`"),
             Wrong::NoGrain(_) => write!(f, "no grain is called `{value}`"),
@@ -232,6 +272,7 @@ impl<'a> Advice<'a> {
             }
             Wrong::NoLevel(_) => f.write_str("serializable repeatable snapshot"),
             Wrong::NoPart => f.write_str("K/N, as in `1/3`, K from 1 to N"),
+            Wrong::NoPortion(_) => f.write_str("lanes versions waits words"),
             Wrong::NoOrder => f.write_str("the name of its transaction for each move"),
             Wrong::NoKind(_) => f.write_str("any versions commit real"),
             Wrong::NoGrain(_) => f.write_str("move split event"),
@@ -252,6 +293,7 @@ impl Display for Advice<'_> {
         match self.wrong {
             Wrong::NoLevel(Some(meant))
             | Wrong::NoKind(Some(meant))
+            | Wrong::NoPortion(Some(meant))
             | Wrong::NoGrain(Some(meant)) => { write!(f, "\n  | did you mean `{meant}`?\n") }
             _ => f.write_str("\n"),
         }

@@ -1,7 +1,8 @@
 //! The words of the command line: the commands, their arguments and help.
+use crate::build::VERSION;
 use clap::{Arg, ArgAction, ArgMatches, Command, Error};
 use hek_diagnostics::nearest_word;
-use hek_manual::Shell;
+use hek_history_command::Extent;
 use std::alloc::{AllocError, Global};
 use std::convert::AsStr;
 
@@ -28,6 +29,8 @@ enum Form {
     MaybeWord,
     /// Words at their place, at least one.
     Words,
+    /// Words at their place, or none.
+    MaybeWords,
     /// One of these words at its place.
     OneOf(&'static [&'static str]),
     /// `--name`.
@@ -72,6 +75,13 @@ const EXPLAIN: ArgumentText = ArgumentText {
     name: "explain",
     help: "says of each fault what is wrong, what is wanted and what is meant, as at a terminal; =never only names it",
     form: Form::Choice(ALWAYS, &[ALWAYS, NEVER]),
+};
+
+/// `CommandWords` takes this out of a command line, wherever it stands, as `EXPLAIN`.
+const COLOR: ArgumentText = ArgumentText {
+    name: "color",
+    help: "colours replies by their kind, and faults: always, never, or at a terminal (auto)",
+    form: Form::Choice(ALWAYS, &[ALWAYS, NEVER, "auto"]),
 };
 
 const LEVEL: ArgumentText = ArgumentText {
@@ -141,6 +151,7 @@ prints
             help: "refuses more than N readers",
             form: Form::Number,
         },
+        JSON,
     ],
 };
 
@@ -195,6 +206,7 @@ it prints
         TEXT,
         IMAGE,
         EXPLAIN,
+        COLOR,
         ArgumentText {
             name: "state",
             help: "prints the state of the machine after the trace",
@@ -271,6 +283,7 @@ are answered with
         TEXT,
         IMAGE,
         EXPLAIN,
+        COLOR,
         WHY,
         CHANGES,
         ArgumentText {
@@ -342,7 +355,7 @@ const DEBUG: CommandText = CommandText {
   watch end V        stops where the End word of version V changes
   watch waits NAME   stops where the number that a transaction waits for changes
   clear              forgets all breakpoints and watches
-Without COMMANDS they are read from standard input, and each is answered at once; there `help` lists them, with the commands and questions that only such a session has.
+Without COMMANDS, and with -, they are read from standard input, and each is answered at once; there `help` lists them, with the commands and questions that only such a session has. At a terminal `rlwrap -f <(hek completions words) hek debug FILE` adds arrow keys, a history and completion.
 
 Example:
   hek debug first.hek
@@ -364,12 +377,13 @@ are answered with
         FILE,
         ArgumentText {
             name: "COMMANDS",
-            help: "a text of commands, or - for standard input",
+            help: "a text of these commands; - is standard input, where they are those of a session",
             form: Form::MaybeWord,
         },
         TEXT,
         IMAGE,
         EXPLAIN,
+        COLOR,
         AUTO,
         LEVEL,
     ],
@@ -448,7 +462,7 @@ The verdict takes all transactions as serializable: `serial` by end time, `seria
         GRAIN,
         ArgumentText {
             name: "limit",
-            help: "counts nothing if there are more than N states (1000000); with --each, --part or --find, more than N orders (100000)",
+            help: "counts nothing if there are more than N states (1000000); with --each, --part or --find of a reply, more than N orders (100000)",
             form: Form::Number,
         },
         ArgumentText {
@@ -480,6 +494,21 @@ The verdict takes all transactions as serializable: `serial` by end time, `seria
             name: "find",
             help: "prints the shortest beginning of an order in which this comes: `a aborted deadlock`, `aborted`, `waiting`, `not serial`, `another order`",
             form: Form::Value("TEXT"),
+        },
+        ArgumentText {
+            name: "stats",
+            help: "says on standard error how many states the orders lead to",
+            form: Form::Flag,
+        },
+        ArgumentText {
+            name: "add",
+            help: "prints the sum of the tables FILE and TABLE.., which --part printed, as text or as JSON",
+            form: Form::Flag,
+        },
+        ArgumentText {
+            name: "TABLE",
+            help: "with --add: more tables",
+            form: Form::MaybeWords,
         },
         JSON,
     ],
@@ -564,6 +593,51 @@ The page shows each step with its reply, and the versions, waits and lock words 
             help: "with --orders: writes nothing if there are more than N nodes (5000)",
             form: Form::Number,
         },
+        ArgumentText {
+            name: "json",
+            help: "writes the page's data alone, one object of JSON",
+            form: Form::Flag,
+        },
+    ],
+};
+
+const FIGURE: CommandText = CommandText {
+    name: "figure",
+    about: "Writes a step of a schedule's run as one picture, for a slide",
+    example: r"Example:
+  hek figure first.hek --step 2 -o first.svg
+The picture is SVG with its style inside: lanes, what the step says, versions, waits and lock words, in the colours of `hek page`. With --part it shows one of these.",
+    arguments: &[
+        FILE,
+        TEXT,
+        IMAGE,
+        EXPLAIN,
+        LEVEL,
+        ArgumentText {
+            name: "auto",
+            help: "shows only the reads and writes of FILE, and begins and ends each transaction by itself",
+            form: Form::Flag,
+        },
+        ArgumentText {
+            name: "output",
+            help: "writes the picture to a file; - is standard output, also where that is a terminal",
+            form: Form::Output,
+        },
+        ArgumentText {
+            name: "step",
+            help: "shows what is so after N steps, by default after the last; 0 is before the first",
+            form: Form::Number,
+        },
+        ArgumentText {
+            name: "part",
+            help: "shows one part: lanes, versions, waits or words",
+            form: Form::Value("PART"),
+        },
+        ArgumentText {
+            name: "title",
+            help: "the picture's title, by default the name of FILE",
+            form: Form::Value("TEXT"),
+        },
     ],
 };
 
@@ -598,8 +672,8 @@ The status is 0 if there is an order, 1 if there is none, 3 if that is not known
         },
         ArgumentText {
             name: "all",
-            help: "goes on after an anomaly, without the answers of its transactions",
-            form: Form::Flag,
+            help: "goes on after an anomaly, without the answers on which it rests, and counts them by name; =counts prints the counts alone",
+            form: Form::Choice("each", Extent::WORDS),
         },
         ArgumentText {
             name: "order-out",
@@ -614,18 +688,71 @@ The status is 0 if there is an order, 1 if there is none, 3 if that is not known
     ],
 };
 
+const IMPORT: CommandText = CommandText {
+    name: "import",
+    about: "Makes schedules of a spec of PostgreSQL's isolation tests",
+    example: r#"Rows of a table with a primary key of whole numbers become rows; select, insert, update and delete by the key become steps, and a select of a whole table a scan. Serializable stays so, repeatable read becomes snapshot, and read committed isn't there: --level says which level to take. What can't be translated is named, with status 4. Without --permutation the sessions follow one another: `hek permute` plays all their orders.
+
+Example:
+  hek import spec skew.spec
+Where skew.spec has the lines
+  setup { CREATE TABLE t (id int PRIMARY KEY, v int); INSERT INTO t VALUES (1, 10); }
+  session "a"
+  setup { BEGIN ISOLATION LEVEL SERIALIZABLE; }
+  step "read" { SELECT v FROM t WHERE id = 1; }
+  step "commit" { COMMIT; }
+it prints a schedule whose first lines are
+  # skew: one session after another; permutations of the spec: 0
+  buckets 1
+  row 1 10
+  txn a serializable
+  a begin
+  a read 1"#,
+    arguments: &[
+        ArgumentText {
+            name: "FORM",
+            help: "what FILE is",
+            form: Form::OneOf(&["spec"]),
+        },
+        ArgumentText {
+            name: "FILE",
+            help: "a spec, or - for standard input",
+            form: Form::Word,
+        },
+        EXPLAIN,
+        ArgumentText {
+            name: "permutation",
+            help: "makes the schedule of the Nth permutation, from 1",
+            form: Form::Number,
+        },
+        ArgumentText {
+            name: "level",
+            help: "takes all transactions as serializable, repeatable or snapshot",
+            form: Form::Value("L"),
+        },
+        ArgumentText {
+            name: "output",
+            help: "writes the schedule to a file; where OUT ends with /, a file for each permutation to this folder",
+            form: Form::Output,
+        },
+    ],
+};
+
 const COMPLETIONS: CommandText = CommandText {
     name: "completions",
     about: "Prints what a shell reads to complete the words of a command line",
     example: r"Example:
   source <(hek completions bash)
-completes the commands, options and files of hek in this shell. For zsh, `hek completions zsh` goes into a file _hek in a folder of $fpath; for fish, `hek completions fish` into ~/.config/fish/completions/hek.fish.",
+completes the commands, options and files of hek in this shell. For zsh, `hek completions zsh` goes into a file _hek in a folder of $fpath; for fish, `hek completions fish` into ~/.config/fish/completions/hek.fish. `hek completions words` prints the words of a session of hek debug, a line each, for rlwrap -f.",
     arguments: &[ArgumentText {
         name: "SHELL",
-        help: "the shell",
-        form: Form::OneOf(Shell::NAMES),
+        help: "the shell; words for the words of a session of hek debug",
+        form: Form::OneOf(COMPLETED),
     }],
 };
+
+/// What is completed: the command line in a shell, and the words of a session.
+const COMPLETED: &[&str] = &["bash", "zsh", "fish", "words"];
 
 const MAN: CommandText = CommandText {
     name: "man",
@@ -636,16 +763,13 @@ shows the page in a pager.",
     arguments: &[],
 };
 
-/// What `hek --version` prints after the name.
-const VERSION: &str = "0.2.0";
-
 /// The commands in the order in which `hek --help` lists them: those for schedules, for engines, for words and images, for shells.
 /// They are in four tables, each of which has a function, since a proof takes a table as one term.
-const SCHEDULE_COMMANDS: &[CommandText] = &[RUN, DEBUG, PAGE];
+const SCHEDULE_COMMANDS: &[CommandText] = &[RUN, DEBUG, PAGE, FIGURE];
 
 const ENGINE_COMMANDS: &[CommandText] = &[PERMUTE, CHECK, HISTORY, DRIVE, THREADS];
 
-const WORD_COMMANDS: &[CommandText] = &[WORD, RELEASE, ASM, DIS];
+const WORD_COMMANDS: &[CommandText] = &[WORD, RELEASE, ASM, DIS, IMPORT];
 
 const SHELL_COMMANDS: &[CommandText] = &[COMPLETIONS, MAN];
 
@@ -719,7 +843,7 @@ make the image of a schedule's text, and print it as text again
   hek check first.img trace.txt
 says whether a trace over it has what each level promises
 
-`--explain`, anywhere among the words, or HEK_EXPLAIN=always in the environment explains each fault, as at a terminal; `--explain=never` and HEK_EXPLAIN=never only name it.",
+`--explain`, anywhere among the words, or HEK_EXPLAIN=always in the environment explains each fault, as at a terminal; `--explain=never` and HEK_EXPLAIN=never only name it. `--color=always`, `--color=never` and NO_COLOR=1 in the environment say what is in colours, which by default is at a terminal.",
         )
         .subcommand_required(true)
         .subcommands(commands)
@@ -761,6 +885,11 @@ fn rivals_of(command: &str, name: &str) -> &'static [&'static str] {
         ("page", "orders") => &["from", "to", "auto"],
         ("page", "levels") => &["from", "to", "auto", "level", "orders"],
         ("permute", "jobs") => &["each", "levels", "order", "find"],
+        ("permute", "stats") => &["each", "order", "find", "part"],
+        ("permute", "add") => &[
+            "text", "image", "auto", "level", "split", "grain", "limit", "part", "jobs", "each",
+            "order", "levels", "find", "stats", "json",
+        ],
         ("word", "clock" | "txns" | "readers") => &["changes"],
         (_, "image") => &["text"],
         _ => &[],
@@ -771,6 +900,7 @@ fn rivals_of(command: &str, name: &str) -> &'static [&'static str] {
 fn needs_of(command: &str, name: &str) -> &'static [&'static str] {
     match (command, name) {
         ("permute", "jobs") => &["part"],
+        ("permute", "TABLE") => &["add"],
         ("page", "split" | "grain" | "limit") => &["orders"],
         _ => &[],
     }
@@ -782,6 +912,7 @@ fn argument_of<'a>(alloc: Global, text: &ArgumentText) -> Arg<'a> {
         Form::Word => argument.required(true),
         Form::MaybeWord => argument,
         Form::Words => argument.required(true).num_args(1..),
+        Form::MaybeWords => argument.num_args(1..),
         Form::OneOf(words) => argument.required(true).value_parser(words),
         Form::Flag => argument.long(text.name).action(ArgAction::SetTrue),
         Form::Number => argument.long(text.name).value_name("N"),

@@ -1,29 +1,39 @@
 //! The command line: its words, and what the program does for them.
 use crate::arguments::{RULES, meant_command, read_words};
+use crate::colour::{Paint, Painted};
 use crate::convert::{asm, dis, release, word};
 use crate::disk::{Disk, LateFile, open};
 use crate::explain::finish;
-use crate::explaining::{CommandWords, Explaining};
+use crate::explaining::{Colouring, CommandWords, Explaining, Wishes};
+use crate::import::import;
 use crate::kept::{Kept, KeptDisk, KeptReader};
 use crate::log::history;
-use crate::options::{count_from, form_of, level_of, number_of, printing_of, step_of, text};
+use crate::opening::without_mark;
+use crate::options::{
+    count_from, form_of, level_of, number_of, portion_of, printing_of, step_of, text,
+};
 use crate::output::NotedOutput;
+use crate::page_data::write_data;
 use crate::permute::{permute_alone, permute_jobs};
-use crate::refused::{OUTPUT, refuse_page, refuse_same};
+use crate::refused::{OUTPUT, refuse_page, refuse_picture, refuse_same};
 use crate::schedule::{schedule_file, schedule_to_run};
-use crate::typed::TypedReader;
+use crate::sources::SourceFiles;
+use crate::told;
 use crate::words::advise_sign;
 use clap::error::ErrorKind as ClapKind;
 use clap::{ArgMatches, Error};
 use hek_check_command::{Asked, check_command, note_nothing, reported_command};
-use hek_debug_command::{CommandFile, Manner, debug_command, debug_session, explained_command};
+use hek_debug_command::{
+    CommandFile, Manner, debug_command, debug_session, explained_command, put_words,
+};
+use hek_figure_command::figure_command;
 use hek_history_command::run_log_command;
 use hek_manual::{Shell, manual_page};
 use hek_page_command::{
     Extent, Heading, MOST_NODES, Making, Part, explorer_command, levels_command, made_file,
     page_command,
 };
-use hek_report::{HekFault, INPUT, Printing, ScheduleFile, read_text, report};
+use hek_report::{HekFault, INPUT, Printing, ScheduleFile, read_text, report, send};
 use hek_rules::Level;
 use hek_run_command::{Driving, Steps, drive_command, run_command, state_command, steps_command};
 use hek_step_report::{Extras, Why};
@@ -47,13 +57,16 @@ pub fn program<
     W: Write + IsTerminal,
     E: Write + IsTerminal,
 >(rt: &R, system: &T, disk: &D, input: I, out: &mut W, faults: &mut E) -> u8 {
-    let explaining = Explaining::by_environment(rt);
+    let wishes = Wishes {
+        explaining: Explaining::by_environment(rt),
+        colouring: Colouring::by_environment(rt),
+    };
     match words_of(rt) {
         Ok(words) => answer_in_threads(
             system,
             rt.alloc(),
             words.as_slice(),
-            explaining,
+            wishes,
             disk,
             input,
             out,
@@ -89,34 +102,158 @@ pub fn answer_in_threads<
     system: &T,
     alloc: Global,
     words: &[S],
-    explaining: Explaining,
+    wishes: Wishes,
     disk: &D,
     input: I,
     out: &mut W,
     faults: &mut E,
 ) -> u8 {
-    let words = match CommandWords::of(alloc, words, explaining) {
+    let words = match CommandWords::of(alloc, words, wishes) {
         Ok(words) => words,
         Err(_) => return report(HekFault::NoMemory, faults),
     };
-    let explains = words.explaining.is_wanted(faults.is_terminal());
-    let words = words.words.as_slice();
-    let mut out = NotedOutput::new(out);
-    match read_words(alloc, words) {
+    let CommandWords { words, wishes } = words;
+    answer_words(
+        system,
+        alloc,
+        words.as_slice(),
+        wishes,
+        disk,
+        input,
+        out,
+        faults,
+    )
+}
+
+/// Answers the words of a command line without those that ask for explanations or colours.
+fn answer_words<
+    T: Threads + Wait + Sync,
+    D: Disk,
+    I: Read + IsTerminal + Drop,
+    W: Write + IsTerminal,
+    E: Write + IsTerminal,
+>(
+    system: &T,
+    alloc: Global,
+    words: &[&str],
+    wishes: Wishes,
+    disk: &D,
+    input: I,
+    out: &mut W,
+    faults: &mut E,
+) -> u8 {
+    let explains = wishes.explaining.is_wanted(faults.is_terminal());
+    let paint = fault_paint(wishes, faults);
+    let mut faults = Painted::new(alloc, faults, paint);
+    let status = match read_words(alloc, words) {
         Ok(matches) => {
-            let kept = Kept::new(alloc, &matches, explains);
-            let disk = KeptDisk::new(disk, &kept);
-            let mut input = Some(KeptReader::new(input, INPUT, &kept));
-            let ran = follow(
-                system, alloc, &matches, explains, &disk, &mut input, &mut out, faults,
+            let paint = reply_paint(wishes, &matches, out);
+            let mut out = Painted::new(alloc, out, paint);
+            let status = answer_matches(
+                system,
+                alloc,
+                &matches,
+                explains,
+                disk,
+                input,
+                &mut out,
+                &mut faults,
             );
-            finish(alloc, ran, &matches, &kept, &out, faults)
+            let _ = out.flush();
+            status
         }
         Err(error) => {
-            let ran = refused(alloc, &error, words, explains, &mut out, faults);
-            status_of(ran, &out, faults)
+            let mut out = NotedOutput::new(out);
+            let ran = refused(alloc, &error, words, explains, &mut out, &mut faults);
+            status_of(ran, &out, &mut faults)
         }
+    };
+    let _ = faults.flush();
+    status
+}
+
+/// What of standard error is in colours.
+fn fault_paint<E: IsTerminal>(wishes: Wishes, faults: &E) -> Paint {
+    if wishes.colouring.is_wanted(faults.is_terminal()) {
+        Paint::Faults
+    } else {
+        Paint::None
     }
+}
+
+/// What of standard output is in colours: the replies of a command that runs steps, in its text.
+fn reply_paint<W: IsTerminal>(wishes: Wishes, matches: &ArgMatches<'_>, out: &W) -> Paint {
+    let has_replies = match matches.subcommand() {
+        Some(("run" | "drive", found)) => !found.get_flag("json"),
+        Some(("debug", _)) => true,
+        _ => false,
+    };
+    if has_replies && wishes.colouring.is_wanted(out.is_terminal()) {
+        Paint::Replies
+    } else {
+        Paint::None
+    }
+}
+
+/// Answers the words that were read.
+fn answer_matches<
+    T: Threads + Wait + Sync,
+    D: Disk,
+    I: Read + IsTerminal + Drop,
+    W: Write + IsTerminal,
+    E: Write + IsTerminal,
+>(
+    system: &T,
+    alloc: Global,
+    matches: &ArgMatches<'_>,
+    explains: bool,
+    disk: &D,
+    input: I,
+    out: &mut W,
+    faults: &mut E,
+) -> u8 {
+    let mut kept_faults = told::Told::new(alloc, faults);
+    let mut out = NotedOutput::new(out);
+    let status = answer_kept(
+        system,
+        alloc,
+        matches,
+        explains,
+        disk,
+        input,
+        &mut out,
+        &mut kept_faults,
+    );
+    if told::wants_json(matches) {
+        told::put_fault(alloc, status, &kept_faults, &mut out);
+    }
+    status
+}
+
+/// Answers the words that were read, with the bytes kept that an explanation needs.
+fn answer_kept<
+    T: Threads + Wait + Sync,
+    D: Disk,
+    I: Read + IsTerminal + Drop,
+    W: Write + IsTerminal,
+    E: Write + IsTerminal,
+>(
+    system: &T,
+    alloc: Global,
+    matches: &ArgMatches<'_>,
+    explains: bool,
+    disk: &D,
+    input: I,
+    out: &mut NotedOutput<'_, W>,
+    faults: &mut E,
+) -> u8 {
+    let kept = Kept::new(alloc, matches, explains);
+    let disk = KeptDisk::new(disk, &kept);
+    let mut input = Some(KeptReader::new(input, INPUT, &kept));
+    let ran = follow(
+        system, alloc, matches, explains, &disk, &mut input, out, faults,
+    );
+    finish(alloc, ran, matches, &kept, out, faults)
 }
 
 /// Does what these words ask for.
@@ -225,19 +362,36 @@ fn run<'a, D: Disk, I: Read + IsTerminal + Drop, W: Write + IsTerminal, E: Write
         Some(("run", found)) => run_schedule(alloc, found, disk, input, out),
         Some(("debug", found)) => debug(alloc, found, explains, disk, input, out, faults),
         Some(("history", found)) => history(alloc, found, explains, disk, input, out, faults),
-        Some(("completions", found)) => completions(found, out),
+        Some(("import", found)) => import(alloc, found, explains, disk, input, out, faults),
+        Some(("completions", found)) => completions(alloc, found, out),
         Some(("man", _)) => print(manual_page(), out),
-        Some((name, found)) => run_noting(alloc, name, found, disk, input, out, faults),
+        Some((name, found)) => run_noting(alloc, name, found, explains, disk, input, out, faults),
         None => Err(HekFault::BadArgument),
     }
 }
 
-/// Prints the completions for the shell that the words name.
-fn completions<'a, W: Write>(found: &ArgMatches<'_>, out: &mut W) -> Result<u8, HekFault<'a>> {
-    match found.get_str("SHELL").and_then(Shell::named) {
-        Some(shell) => print(shell.completions(), out),
+/// Prints the completions for the shell that the words name, or the words of a session.
+fn completions<'a, W: Write>(
+    alloc: Global,
+    found: &ArgMatches<'_>,
+    out: &mut W,
+) -> Result<u8, HekFault<'a>> {
+    match found.get_str("SHELL") {
+        Some("words") => session_words(alloc, out),
+        Some(name) => match Shell::named(name) {
+            Some(shell) => print(shell.completions(), out),
+            None => Err(HekFault::BadArgument),
+        },
         None => Err(HekFault::BadArgument),
     }
+}
+
+/// Prints the words of a session of `debug`, one on each line.
+fn session_words<'a, W: Write>(alloc: Global, out: &mut W) -> Result<u8, HekFault<'a>> {
+    let mut words = Vec::new(alloc);
+    put_words(alloc, &mut words)?;
+    send(&mut words, out)?;
+    Ok(0)
 }
 
 /// Prints a text that the program has.
@@ -259,16 +413,18 @@ fn run_noting<
     alloc: Global,
     name: &str,
     found: &ArgMatches<'a>,
+    explains: bool,
     disk: &D,
     input: &mut Option<I>,
     out: &mut W,
     faults: &mut E,
 ) -> Result<u8, HekFault<'a>> {
     match name {
-        "drive" => drive(alloc, found, disk, input, out, faults),
+        "drive" => drive(alloc, found, explains, disk, input, out, faults),
         "check" => check(alloc, found, disk, input, out, faults),
         "permute" => permute_alone(alloc, found, disk, input, out, faults),
         "page" => page(alloc, found, disk, input, out, faults),
+        "figure" => figure(alloc, found, disk, input, out, faults),
         "threads" => Err(HekFault::NoWorker),
         _ => Err(HekFault::BadArgument),
     }
@@ -327,24 +483,26 @@ fn extras_of(found: &ArgMatches<'_>) -> Extras {
 fn drive<'a, D: Disk, I: Read + IsTerminal + Drop, W: Write, E: Write>(
     alloc: Global,
     found: &ArgMatches<'a>,
+    explains: bool,
     disk: &D,
     input: &mut Option<I>,
     out: &mut W,
     faults: &mut E,
 ) -> Result<u8, HekFault<'a>> {
     let printing = printing_of(found);
+    let is_typed = is_typed(input);
     let driving = Driving {
         extras: extras_of(found),
         state: found.get_flag("state"),
         ends: found.get_flag("ends"),
-        prompts: is_typed(input) && printing == Printing::Text,
+        prompts: is_typed && printing == Printing::Text,
+        is_typed,
+        explains,
         printing,
     };
-    let is_typed = is_typed(input);
     let file = schedule_to_run(alloc, found, disk, input)?;
     let events = open(disk, input, INPUT)?;
-    let events = TypedReader::new(events, is_typed, faults);
-    drive_command(alloc, file, events, driving, out)
+    drive_command(alloc, file, events, driving, out, faults)
 }
 
 /// Whether standard input is a terminal.
@@ -370,14 +528,15 @@ fn debug<'a, D: Disk, I: Read + IsTerminal + Drop, W: Write, E: Write>(
     };
     let file = schedule_to_run(alloc, found, disk, input)?;
     match found.get_str("COMMANDS") {
-        Some(name) => {
+        Some(name) if name != INPUT => {
             let commands = read_text(alloc, open(disk, input, name)?, name)?;
-            let text = commands.as_slice();
+            let text = without_mark(commands.as_slice());
             debug_file(alloc, file, CommandFile { name, text }, manner, out, faults)
         }
-        None => {
+        _ => {
             let typed = open(disk, input, INPUT)?;
-            debug_session(alloc, file, typed, manner, out, faults)
+            let sources = SourceFiles { disk };
+            debug_session(alloc, file, typed, &sources, manner, out, faults)
         }
     }
 }
@@ -418,13 +577,85 @@ fn page<'a, D: Disk, I: Read + Drop, W: Write + IsTerminal, E: Write>(
             let is_whole = matches!(ran, Ok(0));
             file.settle(is_whole, ran)
         }
-        None if refuse_page(out, faults) => Ok(2),
+        None if !found.get_flag("json") && refuse_page(out, faults) => Ok(2),
         _ => write_page(alloc, found, disk, input, out, faults),
     }
 }
 
-/// Writes the page that the words ask for.
+/// Answers `figure`: the picture goes to standard output, or with `-o` to a file.
+fn figure<'a, D: Disk, I: Read + Drop, W: Write + IsTerminal, E: Write>(
+    alloc: Global,
+    found: &ArgMatches<'a>,
+    disk: &D,
+    input: &mut Option<I>,
+    out: &mut W,
+    faults: &mut E,
+) -> Result<u8, HekFault<'a>> {
+    let name = text(found, "FILE")?;
+    match found.get_str("output") {
+        Some(picture) if picture != OUTPUT => {
+            if refuse_same(disk, name, picture, faults) {
+                return Ok(2);
+            }
+            let mut file = LateFile::new(disk, picture);
+            let ran = write_figure(alloc, found, disk, input, &mut file, faults);
+            let is_whole = matches!(ran, Ok(0));
+            file.settle(is_whole, ran)
+        }
+        None if refuse_picture(out, faults) => Ok(2),
+        _ => write_figure(alloc, found, disk, input, out, faults),
+    }
+}
+
+/// Writes the picture that the words ask for.
+fn write_figure<'a, D: Disk, I: Read + Drop, W: Write, E: Write>(
+    alloc: Global,
+    found: &ArgMatches<'a>,
+    disk: &D,
+    input: &mut Option<I>,
+    out: &mut W,
+    faults: &mut E,
+) -> Result<u8, HekFault<'a>> {
+    let step = number_of(found, "step")?;
+    let portion = portion_of(found)?;
+    let heading = title_of(found)?;
+    let file = schedule_file(alloc, found, disk, input)?;
+    let file = made_file(alloc, file, making_of(found)?)?;
+    figure_command(alloc, file, step, portion, heading, out, faults)
+}
+
+/// What the words say of a picture's title.
+fn title_of<'a>(found: &ArgMatches<'a>) -> Result<Heading<'a>, HekFault<'a>> {
+    Ok(Heading {
+        file: text(found, "FILE")?,
+        title: found.get_str("title"),
+        lesson: None,
+        previous: None,
+        next: None,
+    })
+}
+
+/// Writes the page that the words ask for, or its data alone.
 fn write_page<'a, D: Disk, I: Read + Drop, W: Write, E: Write>(
+    alloc: Global,
+    found: &ArgMatches<'a>,
+    disk: &D,
+    input: &mut Option<I>,
+    out: &mut W,
+    faults: &mut E,
+) -> Result<u8, HekFault<'a>> {
+    if !found.get_flag("json") {
+        return write_whole_page(alloc, found, disk, input, out, faults);
+    }
+    let mut page = Vec::new(alloc);
+    match write_whole_page(alloc, found, disk, input, &mut page, faults)? {
+        0 => write_data(page.as_slice(), out),
+        status => Ok(status),
+    }
+}
+
+/// Writes the page that the words ask for.
+fn write_whole_page<'a, D: Disk, I: Read + Drop, W: Write, E: Write>(
     alloc: Global,
     found: &ArgMatches<'a>,
     disk: &D,
@@ -483,7 +714,8 @@ fn check<'a, D: Disk, I: Read + Drop, W: Write, E: Write + IsTerminal>(
     let file = schedule_file(alloc, found, disk, input)?;
     let name = text(found, "TRACE")?;
     let trace = read_text(alloc, open(disk, input, name)?, name)?;
-    check_trace(alloc, found, level, file, trace.as_slice(), out, faults)
+    let trace = without_mark(trace.as_slice());
+    check_trace(alloc, found, level, file, trace, out, faults)
 }
 
 fn check_trace<'a, R: Read + Drop, W: Write, E: Write + IsTerminal>(

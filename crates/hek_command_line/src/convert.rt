@@ -1,6 +1,6 @@
 //! The words of `word`, `release`, `asm` and `dis`, and the files that they read and write.
 use crate::disk::{Disk, LateFile, open};
-use crate::options::{number_of, text, texts};
+use crate::options::{number_of, printing_of, text, texts};
 use crate::refused::{OUTPUT, refuse_bytes, refuse_same};
 use crate::schedule::{schedule_file, schedule_text};
 use clap::ArgMatches;
@@ -29,14 +29,14 @@ pub fn word<'a, D: Disk, I: Read + Drop, W: Write>(
     let words = texts(found, "WORD")?;
     let input = open(disk, input, INPUT)?;
     if found.get_flag("changes") {
-        return changes_command(alloc, words, input, out);
+        return changes_command(alloc, words, input, printing_of(found), out);
     }
     let bounds = Bounds {
         clock: number_of(found, "clock")?,
         txns: number_of(found, "txns")?,
         readers: number_of(found, "readers")?,
     };
-    word_command(alloc, words, bounds, input, out)
+    word_command(alloc, words, bounds, input, printing_of(found), out)
 }
 
 /// Answers `asm`. OUT keeps what it had unless the image is written whole.

@@ -3,7 +3,7 @@
 use crate::advice::advice_of;
 use crate::kept::Kept;
 use crate::notes::note;
-use crate::opening::BYTE_ORDER_MARK;
+use crate::opening::without_mark;
 use crate::output::NotedOutput;
 use crate::reasons::{why_not_read, why_not_written};
 use crate::sought::advise_sought;
@@ -66,7 +66,7 @@ fn explain<E: Write>(
         HekFault::Line { line, kind } => {
             let bytes = kept.file_bytes(alloc);
             let name = kept.file.unwrap_or("");
-            let text = schedule_bytes(bytes.as_slice());
+            let text = without_mark(bytes.as_slice());
             if let Ok(Some(found)) = explain_text(alloc, name, text, line, kind) {
                 let _ = write!(faults, "{found}");
             }
@@ -108,14 +108,6 @@ fn advise<E: Write>(alloc: Global, matches: &ArgMatches<'_>, kept: &Kept<'_>, fa
     advise_words(command, found, faults);
 }
 
-/// The bytes of a schedule text, without a byte order mark.
-fn schedule_bytes(bytes: &[u8]) -> &[u8] {
-    match bytes.strip_prefix(BYTE_ORDER_MARK) {
-        Some(text) => text,
-        None => bytes,
-    }
-}
-
 fn image<E: Write>(alloc: Global, fault: LoadFault, kept: &Kept<'_>, faults: &mut E) {
     let bytes = kept.file_bytes(alloc);
     let name = kept.file.unwrap_or("");
@@ -130,8 +122,7 @@ pub fn schedule_of(alloc: Global, bytes: Vec<u8>) -> Option<Schedule> {
         ScheduleFile::Image(Cursor::new(bytes))
     } else {
         let mut text = Vec::new(alloc);
-        text.extend_from_slice(schedule_bytes(bytes.as_slice()))
-            .ok()?;
+        text.extend_from_slice(without_mark(bytes.as_slice())).ok()?;
         ScheduleFile::Text(text)
     };
     schedule_in(alloc, file).ok()
@@ -143,7 +134,8 @@ fn trace<E: Write>(alloc: Global, line: u64, kept: &Kept<'_>, faults: &mut E) {
     };
     let bytes = kept.other_bytes(alloc);
     let name = kept.other.unwrap_or("");
-    if let Ok(Some(found)) = explain_trace(alloc, name, &schedule, bytes.as_slice(), line) {
+    let text = without_mark(bytes.as_slice());
+    if let Ok(Some(found)) = explain_trace(alloc, name, &schedule, text, line) {
         let _ = write!(faults, "{found}");
     }
 }
@@ -153,14 +145,14 @@ fn not_text<E: Write>(alloc: Global, kept: &Kept<'_>, faults: &mut E) {
     let other = kept.other_bytes(alloc);
     if let Some(name) = kept.other {
         if str::from_utf8(other.as_slice()).is_err() {
-            let found = explain_bytes(name, other.as_slice());
+            let found = explain_bytes(name, other.as_slice(), false);
             let _ = write!(faults, "{found}");
             return;
         }
     }
     let bytes = kept.file_bytes(alloc);
     if let Some(name) = kept.file {
-        let found = explain_bytes(name, bytes.as_slice());
+        let found = explain_bytes(name, bytes.as_slice(), true);
         let _ = write!(faults, "{found}");
     }
 }

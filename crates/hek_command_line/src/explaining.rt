@@ -1,4 +1,5 @@
-//! Whether faults are explained: by the words of the command line, by the environment, and by where standard error goes.
+//! Whether faults are explained, and what is in colours: by the words of the command line, by the environment, and by where the
+//! output goes.
 use std::alloc::{AllocError, Global};
 use std::convert::AsStr;
 use std::env;
@@ -6,6 +7,14 @@ use std::env::Env;
 
 /// The variable of the environment that says whether faults are explained.
 const VARIABLE: &str = "HEK_EXPLAIN";
+
+/// The variable of the environment that asks for no colours, whatever text it has.
+const NO_COLOURS: &str = "NO_COLOR";
+
+/// The variable of the environment that names the kind of terminal, and its word for one without colours.
+const TERMINAL: &str = "TERM";
+
+const DUMB: &str = "dumb";
 
 /// What ends the options of a command line.
 const END: &str = "--";
@@ -17,6 +26,54 @@ pub enum Explaining {
     Never,
     /// Where standard error is a terminal.
     AtTerminal,
+}
+
+/// When an output is in colours.
+#[derive(Clone, Copy, PartialEq, Eq)]
+pub enum Colouring {
+    Always,
+    Never,
+    /// Where the output is a terminal.
+    AtTerminal,
+}
+
+/// The words that say when an output is in colours.
+const COLOURINGS: [(&str, Colouring); 4] = [
+    ("--color", Colouring::Always),
+    ("--color=always", Colouring::Always),
+    ("--color=never", Colouring::Never),
+    ("--color=auto", Colouring::AtTerminal),
+];
+
+impl Colouring {
+    /// What the environment says: never where `NO_COLOR` is there and not empty, and where `TERM` is missing, empty or `dumb`;
+    /// otherwise at a terminal.
+    pub fn by_environment<R: Env + Alloc<A = Global>>(rt: &R) -> Colouring {
+        match env::var(rt, NO_COLOURS) {
+            Ok(word) if !word.as_str().is_empty() => return Colouring::Never,
+            _ => {}
+        }
+        match env::var(rt, TERMINAL) {
+            Ok(kind) if !kind.as_str().is_empty() && kind.as_str() != DUMB => Colouring::AtTerminal,
+            _ => Colouring::Never,
+        }
+    }
+
+    /// Whether an output is in colours that is a terminal or isn't.
+    pub fn is_wanted(self, is_terminal: bool) -> bool {
+        match self {
+            Colouring::Always => true,
+            Colouring::Never => false,
+            Colouring::AtTerminal => is_terminal,
+        }
+    }
+}
+
+/// What the environment and the words of a command line ask for, whatever the command.
+#[derive(Clone, Copy)]
+pub struct Wishes {
+    pub explaining: Explaining,
+    pub colouring: Colouring,
 }
 
 /// The words that say when faults are explained.
@@ -46,35 +103,50 @@ impl Explaining {
     }
 }
 
-/// The words of a command line, the program's name first, without those that say when faults are explained; and what the
-/// last of these says.
+/// The words of a command line, the program's name first, without those that say when faults are explained and what is in
+/// colours; and what the last of these say.
 #[derive(Drop)]
 pub struct CommandWords<'w> {
     pub words: Vec<&'w str>,
-    pub explaining: Explaining,
+    pub wishes: Wishes,
 }
 
 impl<'w> CommandWords<'w> {
-    /// Takes the words that say when faults are explained out of a command line, wherever they stand before `--`.
+    /// Takes the words that say when faults are explained and what is in colours out of a command line, wherever they stand
+    /// before `--`.
     pub fn of<S: AsStr>(
         alloc: Global,
         words: &'w [S],
-        explaining: Explaining,
+        wishes: Wishes,
     ) -> Result<CommandWords<'w>, AllocError> {
         let mut left = CommandWords {
             words: Vec::new(alloc),
-            explaining,
+            wishes,
         };
         let mut is_over = false;
         for word in words {
             let word = word.as_str();
             is_over = is_over || word == END;
-            match wish_of(word) {
-                Some(wish) if !is_over => left.explaining = wish,
-                _ => left.words.push(word)?,
+            if is_over || !left.wishes.take(word) {
+                left.words.push(word)?;
             }
         }
         Ok(left)
+    }
+}
+
+impl Wishes {
+    /// Takes what a word asks for; false if it asks for none of this.
+    fn take(&mut self, word: &str) -> bool {
+        if let Some(explaining) = wish_of(word) {
+            self.explaining = explaining;
+            return true;
+        }
+        if let Some(colouring) = colouring_of(word) {
+            self.colouring = colouring;
+            return true;
+        }
+        false
     }
 }
 
@@ -83,6 +155,16 @@ fn wish_of(word: &str) -> Option<Explaining> {
     for (name, wish) in WISHES {
         if name == word {
             return Some(wish);
+        }
+    }
+    None
+}
+
+/// When an output is in colours by a word, if it says so.
+fn colouring_of(word: &str) -> Option<Colouring> {
+    for (name, colouring) in COLOURINGS {
+        if name == word {
+            return Some(colouring);
         }
     }
     None

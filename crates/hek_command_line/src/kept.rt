@@ -13,7 +13,7 @@ use std::io::{ErrorKind, IsTerminal, Read, Write};
 pub struct Kept<'a> {
     /// Whether a fault is explained. Otherwise no bytes are kept.
     pub explains: bool,
-    /// Whether the command answers yes or no by its status.
+    /// Whether a fault of the command has the status 4.
     pub answers: bool,
     pub file: Option<&'a str>,
     pub other: Option<&'a str>,
@@ -21,6 +21,8 @@ pub struct Kept<'a> {
     other_bytes: RefCell<Vec<u8>>,
     /// A log is read line by line, so its bytes are not kept.
     is_log: bool,
+    /// Whether FILE is open, where TRACE or COMMANDS has the same name.
+    is_opened: Cell<bool>,
     failure: Failure,
 }
 
@@ -35,6 +37,7 @@ impl<'a> Kept<'a> {
             file_bytes: RefCell::new(Vec::new(alloc)),
             other_bytes: RefCell::new(Vec::new(alloc)),
             is_log: false,
+            is_opened: Cell::new(false),
             failure: Failure::new(),
         };
         if let Some((command, found)) = matches.subcommand() {
@@ -60,7 +63,7 @@ impl<'a> Kept<'a> {
         self.file == Some(INPUT) && self.other == Some(INPUT)
     }
 
-    /// The exit status after a fault: 4 in place of 1, where 1 is the answer "no".
+    /// The exit status after a fault: 4 in place of 1 for some commands.
     pub fn status_after(&self, status: u8) -> u8 {
         if self.answers && status == 1 {
             return AT_FAULT;
@@ -73,11 +76,12 @@ impl<'a> Kept<'a> {
         if !self.explains || self.is_log {
             return None;
         }
+        if self.file == Some(name) && !self.is_opened.get() {
+            self.is_opened.set(true);
+            return Some(&self.file_bytes);
+        }
         if self.other == Some(name) {
             return Some(&self.other_bytes);
-        }
-        if self.file == Some(name) {
-            return Some(&self.file_bytes);
         }
         None
     }
@@ -118,14 +122,14 @@ impl Failure {
     }
 }
 
-/// The exit status of a fault, where a command answers yes or no.
+/// The exit status of a fault, where 1 isn't.
 const AT_FAULT: u8 = 4;
 
-/// Whether a command answers yes or no by its status, 0 or 1. The statuses of the other commands are those of the formats
-/// that are fixed.
+/// Whether a fault of a command has the status 4, since it answers yes or no by 0 or 1, or reads what isn't Hek's. The statuses of
+/// the other commands are those of the formats that are fixed.
 fn is_question(command: &str, found: &ArgMatches<'_>) -> bool {
     match command {
-        "history" => true,
+        "history" | "import" => true,
         "permute" => found.get_str("find").is_some(),
         "word" => found.get_flag("changes"),
         _ => false,

@@ -3,27 +3,32 @@
 
 mod advice;
 mod arguments;
+mod build;
+mod colour;
 mod command_line;
 mod convert;
 mod disk;
 mod explain;
 mod explaining;
+mod import;
 mod kept;
 mod log;
 mod notes;
 mod opening;
 mod options;
 mod output;
+mod page_data;
 mod permute;
 mod reasons;
 mod refused;
 mod schedule;
 mod sought;
+mod sources;
 mod system_disk;
-mod typed;
+mod told;
 mod words;
 
 pub use command_line::{answer_in_threads, program};
 pub use disk::Disk;
-pub use explaining::Explaining;
+pub use explaining::{Colouring, Explaining, Wishes};
 pub use system_disk::SystemDisk;

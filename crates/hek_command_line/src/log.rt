@@ -4,7 +4,7 @@ use crate::options::printing_of;
 use crate::refused::{OUTPUT, refuse_same};
 use clap::ArgMatches;
 use hek_history::{Level, Order};
-use hek_history_command::{Choice, history_command};
+use hek_history_command::{Choice, Extent, history_command};
 use hek_report::{HekFault, send};
 use std::alloc::Global;
 use std::io::{Read, Write};
@@ -72,7 +72,7 @@ fn choice_of<'a>(found: &ArgMatches<'a>, explains: bool) -> Result<Choice, HekFa
     Ok(Choice {
         level: level_of(found)?,
         order: order_of(found)?,
-        all: found.get_flag("all"),
+        extent: Extent::named(found.get_str("all")),
         explains,
         printing: printing_of(found),
     })

@@ -1,8 +1,10 @@
 //! Notes on words that a command takes without a fault though they come to nothing.
 use crate::explain::schedule_of;
 use crate::kept::Kept;
+use crate::opening::without_mark;
 use clap::ArgMatches;
 use hek_check_command::note_together;
+use hek_report::INPUT;
 use hek_rules::{EventKind, Schedule, next_line, next_word, number};
 use std::alloc::Global;
 use std::io::Write;
@@ -31,7 +33,7 @@ fn note_check<E: Write>(alloc: Global, found: &ArgMatches<'_>, kept: &Kept<'_>, 
     }
     if let Some(schedule) = schedule_of(alloc, kept.file_bytes(alloc)) {
         let trace = kept.other_bytes(alloc);
-        note_together(alloc, &schedule, trace.as_slice(), faults);
+        note_together(alloc, &schedule, without_mark(trace.as_slice()), faults);
     }
 }
 
@@ -95,9 +97,9 @@ fn step_of(found: &ArgMatches<'_>, name: &str) -> Option<u64> {
     number(found.get_str(name)?.as_bytes())
 }
 
-/// The breakpoints of COMMANDS that are past the last step.
+/// The breakpoints of a file of commands that are past the last step. A session says so itself.
 fn note_breaks<E: Write>(alloc: Global, kept: &Kept<'_>, faults: &mut E) {
-    if kept.other.is_none() {
+    if kept.other.is_none() || kept.other == Some(INPUT) {
         return;
     }
     let Some(schedule) = schedule_of(alloc, kept.file_bytes(alloc)) else {
@@ -105,7 +107,7 @@ fn note_breaks<E: Write>(alloc: Global, kept: &Kept<'_>, faults: &mut E) {
     };
     let steps = schedule.steps().len() as u64;
     let commands = kept.other_bytes(alloc);
-    let mut rest = commands.as_slice();
+    let mut rest = without_mark(commands.as_slice());
     for line_number in 1..u64::MAX {
         let Some((line, after)) = next_line(rest) else {
             return;

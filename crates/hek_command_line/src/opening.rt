@@ -6,6 +6,14 @@ use std::io::{ErrorKind, Read};
 /// The byte order mark, with which an editor may begin a text.
 pub const BYTE_ORDER_MARK: &[u8] = b"\xEF\xBB\xBF";
 
+/// The bytes of a text, without a byte order mark before them.
+pub fn without_mark(bytes: &[u8]) -> &[u8] {
+    match bytes.strip_prefix(BYTE_ORDER_MARK) {
+        Some(text) => text,
+        None => bytes,
+    }
+}
+
 /// The words that begin the lines before the steps of a schedule text.
 const FIRST_WORDS: [&str; 3] = ["buckets", "row", "txn"];
 

@@ -1,10 +1,12 @@
 //! The words of `hek permute`.
-use crate::disk::Disk;
+use crate::disk::{Disk, open};
 use crate::options::{form_of, level_of, number_of, printing_of};
 use crate::schedule::schedule_file;
 use clap::ArgMatches;
-use hek_permute_command::{Choice, part_of, permute_command, permute_in_threads};
-use hek_report::HekFault;
+use hek_permute_command::{
+    Choice, TableFault, part_of, permute_command, permute_in_threads, sum_of_tables,
+};
+use hek_report::{HekFault, read_text, send};
 use std::alloc::Global;
 use std::io::{IsTerminal, Read, Write};
 use std::thread::Threads;
@@ -31,9 +33,91 @@ fn permute<'a, D: Disk, I: Read + Drop, W: Write, E: Write + IsTerminal>(
     out: &mut W,
     faults: &mut E,
 ) -> Result<u8, HekFault<'a>> {
+    if found.get_flag("add") {
+        return add(alloc, found, disk, input, out, faults);
+    }
     let choice = choice_of(found, faults.is_terminal())?;
     let file = schedule_file(alloc, found, disk, input)?;
     permute_command(alloc, file, choice, out, faults)
+}
+
+/// Prints the sum of the tables that the words name.
+fn add<'a, D: Disk, I: Read + Drop, W: Write, E: Write>(
+    alloc: Global,
+    found: &ArgMatches<'a>,
+    disk: &D,
+    input: &mut Option<I>,
+    out: &mut W,
+    faults: &mut E,
+) -> Result<u8, HekFault<'a>> {
+    let names = table_names(alloc, found)?;
+    let mut tables = Vec::new(alloc);
+    for name in names.as_slice() {
+        let table = table_of(alloc, disk, input, name)?;
+        if tables.push(table).is_err() {
+            return Err(HekFault::NoMemory);
+        }
+    }
+    put_sum(alloc, names.as_slice(), tables.as_slice(), out, faults)
+}
+
+/// The names of the tables.
+fn table_names<'a>(alloc: Global, found: &ArgMatches<'a>) -> Result<Vec<&'a str>, HekFault<'a>> {
+    let mut names = Vec::new(alloc);
+    let first = found.get_str("FILE").ok_or(HekFault::BadArgument)?;
+    if names.push(first).is_err() {
+        return Err(HekFault::NoMemory);
+    }
+    if let Some(more) = found.get_strs("TABLE") {
+        if names.extend_from_slice(more).is_err() {
+            return Err(HekFault::NoMemory);
+        }
+    }
+    Ok(names)
+}
+
+/// The text of a table.
+fn table_of<'a, D: Disk, I: Read + Drop>(
+    alloc: Global,
+    disk: &D,
+    input: &mut Option<I>,
+    name: &'a str,
+) -> Result<String, HekFault<'a>> {
+    let file = open(disk, input, name)?;
+    let bytes = read_text(alloc, file, name)?;
+    match String::from_utf8(bytes) {
+        Ok(text) => Ok(text),
+        Err(_) => Err(HekFault::NotText),
+    }
+}
+
+/// Prints the sum of tables, or which line of which table is none of a table's.
+fn put_sum<'a, W: Write, E: Write>(
+    alloc: Global,
+    names: &[&'a str],
+    tables: &[String],
+    out: &mut W,
+    faults: &mut E,
+) -> Result<u8, HekFault<'a>> {
+    match sum_of_tables(alloc, tables) {
+        Ok(mut lines) => {
+            send(&mut lines, out)?;
+            Ok(0)
+        }
+        Err(TableFault::NoMemory) => Err(HekFault::NoMemory),
+        Err(TableFault::TooMany) => {
+            let _ = writeln!(faults, "hek: permute: too many orders to count");
+            Ok(1)
+        }
+        Err(TableFault::Line(table, line)) => {
+            let name = names.get(table).copied().unwrap_or("");
+            let _ = writeln!(
+                faults,
+                "hek: permute: {name}: line {line} is not of a table like the others"
+            );
+            Ok(1)
+        }
+    }
 }
 
 fn choice_of<'a>(found: &ArgMatches<'a>, progress: bool) -> Result<Choice<'a>, HekFault<'a>> {
@@ -47,6 +131,7 @@ fn choice_of<'a>(found: &ArgMatches<'a>, progress: bool) -> Result<Choice<'a>, H
         levels: found.get_flag("levels"),
         find: found.get_str("find"),
         progress,
+        stats: found.get_flag("stats"),
         printing: printing_of(found),
     })
 }

@@ -15,6 +15,7 @@ pub fn advise_words<E: Write>(command: &str, found: &ArgMatches<'_>, faults: &mu
         for word in words {
             if *word != INPUT && hex_number(word).is_none() {
                 advise_word(word, faults);
+                advise_turned(word, found, faults);
                 return;
             }
         }
@@ -40,7 +41,8 @@ fn advise_word<E: Write>(word: &str, faults: &mut E) {
             " `{word}` is not a word: nothing is before the 16 digits"
         );
     } else if word.chars().all(|mark| mark.is_ascii_hexdigit()) {
-        let _ = writeln!(faults, " `{word}` has {digits} digits, and a word has 16");
+        let unit = if digits == 1 { "digit" } else { "digits" };
+        let _ = writeln!(faults, " `{word}` has {digits} {unit}, and a word has 16");
     } else {
         let _ = writeln!(
             faults,
@@ -48,6 +50,16 @@ fn advise_word<E: Write>(word: &str, faults: &mut E) {
         );
     }
     let _ = writeln!(faults, "  | wanted: a word: exactly 16 hexadecimal digits");
+}
+
+/// Says that a word and its waits are given the other way round, if they are.
+fn advise_turned<E: Write>(word: &str, found: &ArgMatches<'_>, faults: &mut E) {
+    let Some(waits) = found.get_str("WAITS") else {
+        return;
+    };
+    if number(word.as_bytes()).is_some() && hex_number(waits).is_some() {
+        let _ = writeln!(faults, "  | did you mean `hek release {waits} {word}`?");
+    }
 }
 
 /// Writes a line with a text, and carets under it.

@@ -1,9 +1,10 @@
 //! `word --changes`: which change leads from one word to the next.
 use crate::chain::Chain;
 use crate::exchange::{Exchange, Side, exchange_of};
+use crate::objects::put_bits;
 use crate::words::line_fault;
 use hek_changes::{BeginChange, EndChange, begin_change, end_change};
-use hek_report::{HekFault, INPUT, buffered};
+use hek_report::{HekFault, INPUT, Lines, Printing, buffered, send_lines};
 use hek_word::{BeginWord, EndWord};
 use std::alloc::Global;
 use std::fmt;
@@ -29,6 +30,41 @@ impl Answer {
     }
 }
 
+impl Answer {
+    /// Puts the object of the answer.
+    fn put_object(&self, lines: &mut Lines) {
+        lines.begin_line();
+        lines.put_text("kind", self.kind());
+        match self {
+            Answer::Broken(last) => put_bits("was", *last, lines),
+            Answer::Changes(begin, end) => {
+                put_change("begin", begin.as_ref(), lines);
+                put_change("end", end.as_ref(), lines);
+            }
+            Answer::NotAChange => {}
+        }
+        lines.end_line();
+    }
+
+    /// Which kind of answer this is.
+    fn kind(&self) -> &'static str {
+        match self {
+            Answer::NotAChange => "not a change",
+            Answer::Broken(_) => "broken",
+            Answer::Changes(None, None) => "none",
+            Answer::Changes(_, _) => "change",
+        }
+    }
+}
+
+/// Puts a change as the member of this name, or null.
+fn put_change<T: fmt::Display>(name: &str, change: Option<&T>, lines: &mut Lines) {
+    match change {
+        Some(change) => lines.put_shown(name, change),
+        None => lines.put_null(name),
+    }
+}
+
 /// Writes `end stamped`, `begin stamped; end stamped`, `none`, `broken: the word was 8000000000000002` or `not a change`.
 impl fmt::Display for Answer {
     fn fmt<W: fmt::Write>(&self, f: &mut fmt::Formatter<W>) -> fmt::Result {
@@ -50,6 +86,7 @@ pub fn changes_command<'a, I: Read + Drop, W: Write>(
     alloc: Global,
     words: &[&'a str],
     input: I,
+    printing: Printing,
     out: &mut W,
 ) -> Result<u8, HekFault<'a>> {
     if words.len() != 1 || words[0] != INPUT {
@@ -57,7 +94,7 @@ pub fn changes_command<'a, I: Read + Drop, W: Write>(
     }
     let mut lines = buffered(alloc, input)?;
     let mut chain = Chain::new(alloc);
-    answer_lines(alloc, &mut lines, &mut chain, out)
+    answer_lines(alloc, &mut lines, &mut chain, printing, out)
 }
 
 /// Writes what each line that isn't blank comes to. Answers the greatest status that one asks for.
@@ -65,6 +102,7 @@ fn answer_lines<'a, B: BufRead, W: Write>(
     alloc: Global,
     lines: &mut B,
     chain: &mut Chain,
+    printing: Printing,
     out: &mut W,
 ) -> Result<u8, HekFault<'a>> {
     let mut status = 0;
@@ -72,7 +110,7 @@ fn answer_lines<'a, B: BufRead, W: Write>(
         let line = line.map_err(|error| line_fault(error.kind()))?;
         let text = line.as_str().trim();
         if !text.is_empty() {
-            let asked = answer_line(text, chain, out)?;
+            let asked = answer_line(alloc, text, chain, printing, out)?;
             status = asked.max(status);
         }
     }
@@ -81,15 +119,22 @@ fn answer_lines<'a, B: BufRead, W: Write>(
 
 /// Writes what a line comes to. Answers the status that it asks for.
 fn answer_line<'a, W: Write>(
+    alloc: Global,
     line: &str,
     chain: &mut Chain,
+    printing: Printing,
     out: &mut W,
 ) -> Result<u8, HekFault<'a>> {
     let answer = answer_to(line, chain)?;
-    match writeln!(out, "{answer}") {
-        Ok(()) => Ok(answer.status()),
-        Err(_) => Err(HekFault::CannotWrite),
+    match printing {
+        Printing::Text => writeln!(out, "{answer}").map_err(|_| HekFault::CannotWrite)?,
+        Printing::Json => {
+            let mut lines = Lines::new(alloc);
+            answer.put_object(&mut lines);
+            send_lines(&mut lines, out)?;
+        }
     }
+    Ok(answer.status())
 }
 
 fn answer_to<'a>(line: &str, chain: &mut Chain) -> Result<Answer, HekFault<'a>> {

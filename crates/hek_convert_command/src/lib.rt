@@ -8,6 +8,7 @@ mod chain;
 mod changes;
 mod dis;
 mod exchange;
+mod objects;
 mod release;
 mod words;
 

@@ -70,11 +70,44 @@ fn explain_in_file<E: Write>(
     let Some(line) = line_at(commands.text, number) else {
         return;
     };
-    let Some(mistake) = mistake_of(schedule, line, Medium::File) else {
-        return;
-    };
+    if let Some(mistake) = mistake_of(schedule, line, Medium::File) {
+        explain_at(
+            alloc,
+            schedule,
+            commands.name,
+            number,
+            line,
+            mistake,
+            faults,
+        );
+    }
+}
+
+/// Says what is wrong with a line of a file that a session reads, after the place where it is.
+pub(crate) fn explain_sourced<E: Write>(
+    alloc: Global,
+    schedule: &Schedule,
+    name: &str,
+    number: u64,
+    line: &[u8],
+    faults: &mut E,
+) {
+    if let Some(mistake) = mistake_of(schedule, line, Medium::Session) {
+        explain_at(alloc, schedule, name, number, line, mistake, faults);
+    }
+}
+
+/// Writes the place of a mistake, and its lines.
+fn explain_at<E: Write>(
+    alloc: Global,
+    schedule: &Schedule,
+    name: &str,
+    number: u64,
+    line: &[u8],
+    mistake: Mistake<'_>,
+    faults: &mut E,
+) {
     let column = count_chars(line, mistake.word.start).saturating_add(1);
-    let name = commands.name;
     let _ = writeln!(faults, "  {name}:{number}:{column}");
     explain(alloc, schedule, line, mistake, faults);
 }

@@ -1,6 +1,9 @@
 //! What is wrong with a line that is not a command.
+use crate::elsewhere::said_of;
 use crate::name::{Meaning, Name, NameText, Place, meant_by, name_of};
-use crate::operand::{BREAKS, FILE_BREAKS, Operand, SHOWS, WATCHES, operand_mistake};
+use crate::operand::{
+    BREAKS, FILE_BREAKS, Operand, SHOWS, WATCHES, condition_mistake, operand_mistake,
+};
 use hek_diagnostics::Vocabulary;
 use hek_rules::{EventKind, Schedule, next_word, number};
 
@@ -156,13 +159,19 @@ fn no_name<'t>(schedule: &Schedule, word: Word<'t>, medium: Medium) -> Mistake<'
     if matches!(short, Meaning::Several) {
         return Mistake::new(word, "", "several commands begin with @", Wanted::Longer);
     }
-    if word.text == b"exit".as_slice() {
-        let form = "no command is called @: a session ends with `quit`";
-        return Mistake::new(word, "", form, commands).meaning(Meant::Form("quit"));
-    }
     if schedule.id_of(word.text).is_some() {
         let form = "no command is called @: steps are typed in `hek drive`";
         return Mistake::new(word, "", form, commands);
+    }
+    if medium == Medium::File {
+        return Mistake::new(word, "", unknown_in_file(word.text), commands).meaning(Meant::Nearest);
+    }
+    if let Some(other) = said_of(word.text) {
+        return Mistake::new(word, "", other.form, commands).meaning(other.meant);
+    }
+    if EventKind::named(word.text).is_some() {
+        let form = "no command is called @: `until event ~` goes to such a step";
+        return Mistake::new(word, "", form, commands).meaning(Meant::Form("until event ~"));
     }
     Mistake::new(word, "", unknown(word.text), commands).meaning(Meant::Nearest)
 }
@@ -175,6 +184,17 @@ fn short_in_file<'t>(word: Word<'t>, text: NameText) -> Mistake<'t> {
         return mistake.meaning(Meant::Form("%"));
     }
     mistake
+}
+
+/// What is said in a file of a first word that is no command's.
+fn unknown_in_file(word: &[u8]) -> &'static str {
+    if word == b"buckets".as_slice() {
+        return "this looks like a schedule, and commands are wanted here";
+    }
+    if is_digits(word) {
+        return "this looks like a trace, and commands are wanted here";
+    }
+    unknown(word)
 }
 
 fn unknown(word: &[u8]) -> &'static str {
@@ -197,9 +217,14 @@ fn after_name<'t>(
         Name::Step | Name::Back | Name::Goto | Name::Delete => {
             Some(on_number(line, word, name, command))
         }
-        Name::Break => Some(on_break(schedule, line, word, medium)),
+        Name::Break | Name::Tbreak | Name::Until => {
+            Some(on_break(schedule, line, word, command, medium))
+        }
         Name::Watch => Some(on_watch(schedule, line, word)),
         Name::Show => on_show(schedule, line),
+        Name::List => on_list(line),
+        Name::Help => on_help(line),
+        Name::Source => Some(on_source(line, word)),
         _ => on_alone(line, name, command),
     }
 }
@@ -263,41 +288,41 @@ pub(crate) fn is_digits(word: &[u8]) -> bool {
     word.iter().all(|byte| byte.is_ascii_digit())
 }
 
-/// What is wrong after `break`.
+/// What is wrong after `break`, `tbreak` and `until`.
 fn on_break<'t>(
     schedule: &Schedule,
     line: &'t [u8],
     word: Word<'t>,
+    command: &'static str,
     medium: Medium,
 ) -> Mistake<'t> {
     let (kinds, after, before) = match medium {
         Medium::Session => (
             BREAKS,
-            "`break` wants a number, `at`, `event`, `txn` or `reply` after it",
-            "`break` wants `at`, `event`, `txn` or `reply` before @",
+            "`%` wants a number, `at`, `event`, `txn`, `reply` or `if` after it",
+            "`%` wants `at`, `event`, `txn`, `reply` or `if` before @",
         ),
         Medium::File => (
             FILE_BREAKS,
-            "`break` wants `at`, `event` or `txn` after it",
-            "`break` wants `at`, `event` or `txn` before @",
+            "`%` wants `at`, `event` or `txn` after it",
+            "`%` wants `at`, `event` or `txn` before @",
         ),
     };
     let Some(second) = nth_word(line, 1) else {
-        return Mistake::new(word, "break", after, Wanted::Among(kinds));
+        return Mistake::new(word, command, after, Wanted::Among(kinds));
     };
-    if medium == Medium::File && second.text == b"reply".as_slice() {
-        let form = "only a session without a file of commands has `break reply`";
-        return Mistake::new(second, "break", form, Wanted::Among(kinds));
+    if let Some(mistake) = own_break_mistake(schedule, line, command, second, medium) {
+        return mistake;
     }
-    if let Some(mistake) = operand_mistake(schedule, line, "break", second) {
+    if let Some(mistake) = operand_mistake(schedule, line, command, second) {
         return mistake;
     }
     match nth_word(line, 2) {
         Some(more) if medium == Medium::Session && number(second.text).is_some() => {
-            let form = "`break` takes one number, and @ is one word too many";
-            Mistake::new(more, "break", form, Wanted::Form("`break N`"))
+            let form = "`%` takes one number, and @ is one word too many";
+            Mistake::new(more, command, form, Wanted::Form("`% N`"))
         }
-        _ => Mistake::new(second, "break", before, Wanted::Among(kinds)).meaning(meant_break(
+        _ => Mistake::new(second, command, before, Wanted::Among(kinds)).meaning(meant_break(
             schedule,
             second.text,
             medium,
@@ -305,19 +330,43 @@ fn on_break<'t>(
     }
 }
 
+/// What is wrong after `break` with words that only a session has there.
+fn own_break_mistake<'t>(
+    schedule: &Schedule,
+    line: &'t [u8],
+    command: &'static str,
+    second: Word<'t>,
+    medium: Medium,
+) -> Option<Mistake<'t>> {
+    let is_reply = second.text == b"reply".as_slice();
+    let is_if = second.text == b"if".as_slice();
+    if medium == Medium::Session {
+        return match is_if {
+            true => Some(condition_mistake(schedule, line, command, second)),
+            false => None,
+        };
+    }
+    let form = match (is_reply, is_if) {
+        (true, _) => "only a session without a file of commands has `% reply`",
+        (_, true) => "only a session without a file of commands has `% if`",
+        _ => return None,
+    };
+    Some(Mistake::new(second, command, form, Wanted::Among(FILE_BREAKS)))
+}
+
 /// The breakpoint that is meant by a word right after `break`.
 fn meant_break(schedule: &Schedule, word: &[u8], medium: Medium) -> Meant {
     if number(word).is_some() {
-        return Meant::Form("break at ~");
+        return Meant::Form("% at ~");
     }
     if EventKind::named(word).is_some() {
-        return Meant::Form("break event ~");
+        return Meant::Form("% event ~");
     }
     if schedule.id_of(word).is_some() {
-        return Meant::Form("break txn ~");
+        return Meant::Form("% txn ~");
     }
     if medium == Medium::Session && is_reply(schedule, word) {
-        return Meant::Form("break reply ~");
+        return Meant::Form("% reply ~");
     }
     Meant::Nearest
 }
@@ -346,9 +395,92 @@ fn on_show<'t>(schedule: &Schedule, line: &'t [u8]) -> Option<Mistake<'t>> {
     let second = nth_word(line, 1)?;
     match operand_mistake(schedule, line, "show", second) {
         Some(mistake) => Some(mistake),
+        None if is_shown_alone(second.text) => {
+            let more = nth_word(line, 2)?;
+            let form = "`show ^` takes nothing after it, and @ is one word too many";
+            let mistake = Mistake::new(more, "show", form, Wanted::Form("`show ^` alone"));
+            Some(mistake.after(second.text))
+        }
         None => {
             let form = "nothing is shown as @";
             Some(Mistake::new(second, "show", form, Wanted::Among(SHOWS)).meaning(Meant::Nearest))
+        }
+    }
+}
+
+/// Whether `show` takes nothing after this word.
+fn is_shown_alone(word: &[u8]) -> bool {
+    word == b"clock".as_slice() || word == b"waits".as_slice()
+}
+
+/// What is wrong after `list`.
+fn on_list<'t>(line: &'t [u8]) -> Option<Mistake<'t>> {
+    let wanted = Wanted::Form("`list`, `list N` or `list N M`, M not less than N");
+    let first = nth_word(line, 1)?;
+    if number(first.text).is_none() {
+        return Some(Mistake::new(first, "list", number_form(first.text), wanted));
+    }
+    let last = nth_word(line, 2)?;
+    if number(last.text).is_none() {
+        return Some(Mistake::new(last, "list", number_form(last.text), wanted));
+    }
+    match nth_word(line, 3) {
+        Some(more) => {
+            let form = "`list` takes two numbers, and @ is one word too many";
+            Some(Mistake::new(more, "list", form, wanted))
+        }
+        None => {
+            let form = "@ is less than the number before it";
+            Some(Mistake::new(last, "list", form, wanted))
+        }
+    }
+}
+
+/// What is wrong after `help`.
+fn on_help<'t>(line: &'t [u8]) -> Option<Mistake<'t>> {
+    let word = nth_word(line, 1)?;
+    if let Some(more) = nth_word(line, 2) {
+        let form = "`help` takes one command, and @ is one word too many";
+        return Some(Mistake::new(more, "help", form, Wanted::Form("`help COMMAND`")));
+    }
+    let commands = Wanted::Commands(Medium::Session);
+    match meant_by(word.text) {
+        Meaning::Several => {
+            Some(Mistake::new(
+                word,
+                "help",
+                "several commands begin with @",
+                Wanted::Longer,
+            ))
+        }
+        _ => match said_of(word.text) {
+            Some(other) => {
+                Some(Mistake::new(word, "help", other.form, commands).meaning(other.meant))
+            }
+            None => {
+                Some(Mistake::new(word, "help", unknown(word.text), commands).meaning(
+                    Meant::Nearest,
+                ))
+            }
+        },
+    }
+}
+
+/// What is wrong after `source`, or with the place of the line.
+fn on_source<'t>(line: &'t [u8], word: Word<'t>) -> Mistake<'t> {
+    let wanted = Wanted::Form("`source FILE`");
+    if nth_word(line, 1).is_none() {
+        let form = "`source` wants the name of a file after it";
+        return Mistake::new(word, "source", form, wanted);
+    }
+    match nth_word(line, 2) {
+        Some(more) => {
+            let form = "`source` takes one name, and @ is one word too many";
+            Mistake::new(more, "source", form, wanted)
+        }
+        None => {
+            let form = "a file whose lines @ answers has no `source` itself";
+            Mistake::new(word, "source", form, Wanted::Form("the lines of that file"))
         }
     }
 }

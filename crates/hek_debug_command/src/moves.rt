@@ -1,9 +1,12 @@
 //! What a session does with its debugger: the debugger's own commands, and those that only a session has.
 ghost use Rattle.std.specs.Prelude.{◌≡◌, min, length, OnOk};
 
+use crate::breakpoint::{Breakpoint, Seen};
 use crate::debug::do_one;
-use crate::held::{Held, NEVER, count_held, first_reply, has_replies, least};
-use crate::reply_kind::ReplyKind;
+use crate::held::{
+    GONE, Held, HeldStop, MARK, NEVER, count_held, first_own, has_own, is_run_here, is_temporary,
+    least, met, push_held,
+};
 use crate::stop_text::{put_told, put_told_as};
 use hek_debug::{Command, Debugger, Mark, Reason, Stop};
 use hek_report::{HekFault, send};
@@ -13,6 +16,17 @@ use std::io::Write;
 
 /// How many steps `reverse` looks at first. If no mark fits after one of them, it looks at those before, from the start.
 const NEAR: u64 = 10_000;
+
+/// Where a run of a session stops.
+#[derive(Clone, Copy)]
+enum Halt {
+    /// No step is left.
+    End,
+    /// The breakpoint or watch with this index fits.
+    Break(u64),
+    /// What the run was to reach fits.
+    Until,
+}
 
 /// A debugger, and what each of its marks is to the session.
 #[derive(Drop)]
@@ -30,9 +44,9 @@ impl Moves {
         out: &mut W,
     ) -> Result<(), HekFault<'a>> {
         match command {
-            Command::Set(mark) => self.set(alloc, mark, Held::Mark, out),
+            Command::Set(mark) => self.set(alloc, mark, MARK, out),
             Command::Clear => self.clear(alloc, out),
-            Command::Run if has_replies(self.held.as_slice()) => self.run(alloc, out),
+            Command::Run if is_run_here(self.held.as_slice()) => self.run(alloc, None, out),
             command => do_one(alloc, &mut self.debugger, command, out),
         }
     }
@@ -47,14 +61,31 @@ impl Moves {
         goto(alloc, &mut self.debugger, to, out)
     }
 
-    /// Sets a breakpoint on replies.
-    pub(crate) fn break_reply<'a, W: Write>(
+    /// Sets a breakpoint.
+    pub(crate) fn set_breakpoint<'a, W: Write>(
         &mut self,
         alloc: Global,
-        kind: ReplyKind,
+        breakpoint: Breakpoint,
+        is_temporary: bool,
         out: &mut W,
     ) -> Result<(), HekFault<'a>> {
-        self.set(alloc, NEVER, Held::OnReply(kind), out)
+        let (mark, stop) = match breakpoint {
+            Breakpoint::Mark(mark) => (mark, HeldStop::Mark),
+            Breakpoint::Reply(kind) => (NEVER, HeldStop::Reply(kind)),
+            Breakpoint::If(condition) => (NEVER, HeldStop::If(condition)),
+        };
+        let held = Held { stop, is_temporary };
+        self.set(alloc, mark, held, out)
+    }
+
+    /// Runs as `run` does, and to a step at which a breakpoint fits that isn't kept.
+    pub(crate) fn until<'a, W: Write>(
+        &mut self,
+        alloc: Global,
+        breakpoint: Breakpoint,
+        out: &mut W,
+    ) -> Result<(), HekFault<'a>> {
+        self.run(alloc, Some(breakpoint), out)
     }
 
     fn set<'a, W: Write>(
@@ -75,7 +106,7 @@ impl Moves {
         let count = count_held(self.held.as_slice());
         let stop = stop_after(&mut self.debugger, Command::Clear)?;
         self.held.clear();
-        self.tell(alloc, &stop, " cleared ", count, out)
+        self.tell(alloc, &stop, " cleared ", Some(count), out)
     }
 
     /// Takes one breakpoint or watch away. The others keep their indexes.
@@ -86,11 +117,23 @@ impl Moves {
         out: &mut W,
     ) -> Result<(), HekFault<'a>> {
         let stop = stop_after(&mut self.debugger, Command::Step(0))?;
+        self.take_away(index);
+        self.tell(alloc, &stop, " deleted ", Some(index), out)
+    }
+
+    /// Takes a breakpoint or watch away, if there is one.
+    fn take_away(&mut self, index: u64) {
         if index > 0 && index <= self.held.len() as u64 {
-            self.held[(index - 1) as usize] = Held::Gone;
+            self.held[(index - 1) as usize] = GONE;
             self.debugger.exchange(index, NEVER);
         }
-        self.tell(alloc, &stop, " deleted ", index, out)
+    }
+
+    /// Takes the breakpoint away at which a run has stopped, if it is a temporary one.
+    fn take_temporary(&mut self, index: u64) {
+        if is_temporary(self.held.as_slice(), index) {
+            self.take_away(index);
+        }
     }
 
     /// Writes where the debugger is, after a command that only a session has.
@@ -99,7 +142,7 @@ impl Moves {
         alloc: Global,
         stop: &Stop,
         word: &str,
-        number: u64,
+        number: Option<u64>,
         out: &mut W,
     ) -> Result<(), HekFault<'a>> {
         let mut lines = Vec::new(alloc);
@@ -107,42 +150,96 @@ impl Moves {
         send(&mut lines, out)
     }
 
-    /// Runs as `run` does, also to a breakpoint on replies.
-    fn run<'a, W: Write>(&mut self, alloc: Global, out: &mut W) -> Result<(), HekFault<'a>> {
-        let reason = match self.run_on()? {
-            Some(index) => Reason::Break(index),
-            None => Reason::End,
-        };
-        self.stop(alloc, Command::Step(0), reason, out)
-    }
-
-    /// Does steps until a breakpoint or a watch fits, and gives its index; None if no step is left.
-    fn run_on(&mut self) -> Result<Option<u64>, NoMemory> {
-        for _ in self.debugger.at()..self.count_steps() {
-            if let Some(index) = self.look_on()? {
-                return Ok(Some(index));
+    /// Runs as `run` does, also to the breakpoints that only the session has, and to one that isn't kept.
+    fn run<'a, W: Write>(
+        &mut self,
+        alloc: Global,
+        until: Option<Breakpoint>,
+        out: &mut W,
+    ) -> Result<(), HekFault<'a>> {
+        match self.run_on(alloc, until)? {
+            Halt::End => self.stop(alloc, Command::Step(0), Reason::End, out),
+            Halt::Break(index) => {
+                self.take_temporary(index);
+                self.stop(alloc, Command::Step(0), Reason::Break(index), out)
+            }
+            Halt::Until => {
+                let stop = stop_after(&mut self.debugger, Command::Step(0))?;
+                self.tell(alloc, &stop, " until", None, out)
             }
         }
-        Ok(None)
+    }
+
+    /// Does steps until a breakpoint or a watch fits, or no step is left.
+    fn run_on(&mut self, alloc: Global, until: Option<Breakpoint>) -> Result<Halt, NoMemory> {
+        for _ in self.debugger.at()..self.count_steps() {
+            let before = until;
+            let after = until;
+            let was_met = self.is_met(before);
+            if let Some(index) = self.look_on(alloc)? {
+                return Ok(Halt::Break(index));
+            }
+            if self.is_reached(after, was_met)? {
+                return Ok(Halt::Until);
+            }
+        }
+        Ok(Halt::End)
     }
 
     fn count_steps(&self) -> u64 {
         self.debugger.schedule().steps().len() as u64
     }
 
+    /// Whether the condition of a breakpoint is true, if it has one.
+    fn is_met(&self, breakpoint: Option<Breakpoint>) -> bool {
+        match breakpoint {
+            Some(breakpoint) => breakpoint.is_met(self.debugger.machine()),
+            None => false,
+        }
+    }
+
+    /// Whether a breakpoint fits after the last step, before which its condition was true or not.
+    fn is_reached(
+        &mut self,
+        breakpoint: Option<Breakpoint>,
+        was_met: bool,
+    ) -> Result<bool, NoMemory> {
+        let Some(breakpoint) = breakpoint else {
+            return Ok(false);
+        };
+        let stop = stop_after(&mut self.debugger, Command::Step(0))?;
+        let Some(reply) = &stop.last else {
+            return Ok(false);
+        };
+        match Seen::last_of(&self.debugger, reply) {
+            Some(seen) => Ok(breakpoint.fits(&seen, was_met)),
+            None => Ok(false),
+        }
+    }
+
     /// Does the next step, if one is left, and gives the least index of those that fit after it.
-    fn look_on(&mut self) -> Result<Option<u64>, NoMemory> {
+    fn look_on(&mut self, alloc: Global) -> Result<Option<u64>, NoMemory> {
         if self.debugger.at() >= self.debugger.schedule().steps().len() as u64 {
             return Ok(None);
         }
-        let mark = self.debugger.advance_and_look()?;
-        if !has_replies(self.held.as_slice()) {
-            return Ok(mark);
+        if !has_own(self.held.as_slice()) {
+            return self.debugger.advance_and_look();
         }
+        let were_met = met(alloc, self.held.as_slice(), self.debugger.machine())?;
+        let mark = self.debugger.advance_and_look()?;
+        let own = self.first_own(were_met.as_slice())?;
+        Ok(least(mark, own))
+    }
+
+    /// The index of the first breakpoint of the session's own that fits after the last step.
+    fn first_own(&mut self, were_met: &[bool]) -> Result<Option<u64>, NoMemory> {
         let stop = stop_after(&mut self.debugger, Command::Step(0))?;
-        match &stop.last {
-            None => Ok(mark),
-            Some(reply) => Ok(least(mark, first_reply(self.held.as_slice(), reply))),
+        let Some(reply) = &stop.last else {
+            return Ok(None);
+        };
+        match Seen::last_of(&self.debugger, reply) {
+            Some(seen) => Ok(first_own(self.held.as_slice(), were_met, &seen)),
+            None => Ok(None),
         }
     }
 
@@ -153,35 +250,45 @@ impl Moves {
         out: &mut W,
     ) -> Result<(), HekFault<'a>> {
         let at = self.debugger.at();
-        match self.last_fit_before(at)? {
+        match self.last_fit_before(alloc, at)? {
             None => self.stop(alloc, Command::Back(u64::MAX), Reason::Back, out),
             Some((place, index)) => {
                 let count = self.debugger.at().saturating_sub(place);
+                self.take_temporary(index);
                 self.stop(alloc, Command::Back(count), Reason::Break(index), out)
             }
         }
     }
 
     /// The last position before another at which a breakpoint or a watch fits, and the least index of those.
-    fn last_fit_before(&mut self, from: u64) -> Result<Option<(u64, u64)>, NoMemory> {
+    fn last_fit_before(
+        &mut self,
+        alloc: Global,
+        from: u64,
+    ) -> Result<Option<(u64, u64)>, NoMemory> {
         if count_held(self.held.as_slice()) == 0 {
             return Ok(None);
         }
         let near = from.saturating_sub(NEAR);
-        match self.last_fit(near, from)? {
-            None if near > 0 => self.last_fit(0, near.saturating_add(1)),
+        match self.last_fit(alloc, near, from)? {
+            None if near > 0 => self.last_fit(alloc, 0, near.saturating_add(1)),
             found => Ok(found),
         }
     }
 
     /// Goes back to `start`, and on to the step before position `end`: the last position between these at which a
     /// breakpoint or a watch fits, and the least index of those.
-    fn last_fit(&mut self, start: u64, end: u64) -> Result<Option<(u64, u64)>, NoMemory> {
+    fn last_fit(
+        &mut self,
+        alloc: Global,
+        start: u64,
+        end: u64,
+    ) -> Result<Option<(u64, u64)>, NoMemory> {
         let count = self.debugger.at().saturating_sub(start);
         let _at_start = stop_after(&mut self.debugger, Command::Back(count))?;
         let mut found = None;
         for place in start.saturating_add(1)..end {
-            if let Some(index) = self.look_on()? {
+            if let Some(index) = self.look_on(alloc)? {
                 found = Some((place, index));
             }
         }
@@ -201,11 +308,6 @@ impl Moves {
         put_told(&self.debugger, &Stop { at, last, reason }, &mut lines)?;
         send(&mut lines, out)
     }
-}
-
-fn push_held(all: &mut Vec<Held>, held: Held) -> Result<(), NoMemory> {
-    all.push(held)?;
-    Ok(())
 }
 
 /// Does a command, and gives where the debugger is then.

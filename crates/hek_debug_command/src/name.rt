@@ -5,10 +5,12 @@
 pub(crate) enum Name {
     Step,
     Run,
+    Until,
     Back,
     Goto,
     Reverse,
     Break,
+    Tbreak,
     Watch,
     Delete,
     Clear,
@@ -17,6 +19,7 @@ pub(crate) enum Name {
     List,
     Why,
     Changes,
+    Source,
     Help,
     Quit,
 }
@@ -51,6 +54,11 @@ pub(crate) const NAMES: &[NameText] = &[
         place: Place::Files,
     },
     NameText {
+        name: Name::Until,
+        word: "until",
+        place: Place::Sessions,
+    },
+    NameText {
         name: Name::Back,
         word: "back",
         place: Place::Files,
@@ -69,6 +77,11 @@ pub(crate) const NAMES: &[NameText] = &[
         name: Name::Break,
         word: "break",
         place: Place::Files,
+    },
+    NameText {
+        name: Name::Tbreak,
+        word: "tbreak",
+        place: Place::Sessions,
     },
     NameText {
         name: Name::Watch,
@@ -109,6 +122,11 @@ pub(crate) const NAMES: &[NameText] = &[
         name: Name::Changes,
         word: "changes",
         place: Place::Questions,
+    },
+    NameText {
+        name: Name::Source,
+        word: "source",
+        place: Place::Sessions,
     },
     NameText {
         name: Name::Help,

@@ -23,18 +23,20 @@ pub(crate) fn put_told(
     put_watches(debugger, lines)
 }
 
-/// The same as `put_told`, with another reason of the stop: a word of a session, and a number.
+/// The same as `put_told`, with another reason of the stop: a word of a session, and a number that may follow it.
 pub(crate) fn put_told_as(
     debugger: &Debugger,
     stop: &Stop,
     word: &str,
-    number: u64,
+    number: Option<u64>,
     lines: &mut Vec<u8>,
 ) -> Result<(), NoMemory> {
     put_text("at ", lines)?;
     put_number(stop.at, lines)?;
     put_text(word, lines)?;
-    put_number(number, lines)?;
+    if let Some(number) = number {
+        put_number(number, lines)?;
+    }
     put_answer(&stop.last, lines)?;
     put_text("\n", lines)?;
     put_watches(debugger, lines)

@@ -19,6 +19,8 @@ use std::{fmt, str};
 #[derive(Drop)]
 pub struct Diagnostic<'t> {
     name: &'t str,
+    /// The number of the line, as it is printed.
+    pub(crate) number: u64,
     pub place: Place<'t>,
     sentence: Sentence<'t>,
     wanted: Listed<'t>,
@@ -26,9 +28,9 @@ pub struct Diagnostic<'t> {
     instead: Sentence<'t>,
 }
 
-/// What is valid at a place.
+/// What is valid at a place: a form, or one of some words. It prints as one line, without its end.
 #[derive(Drop)]
-enum Listed<'t> {
+pub enum Listed<'t> {
     Form(Sentence<'t>),
     Words(Vec<&'t [u8]>),
 }
@@ -62,6 +64,7 @@ pub(crate) fn diagnose<'t>(
     let meant = meant(alloc, names, starts, finding.hint, place.found())?;
     Ok(Diagnostic {
         name,
+        number: place.number,
         place,
         sentence: finding.sentence,
         wanted,
@@ -136,7 +139,36 @@ fn near_bytes(alloc: Global, found: &[u8], words: &[&[u8]]) -> Result<Option<Str
 /// The most words that are listed.
 const LISTED: usize = 20;
 
-impl Diagnostic<'_> {
+impl<'t> Diagnostic<'t> {
+    /// The sentence that says what is wrong.
+    pub fn message(&self) -> Sentence<'t> {
+        self.sentence
+    }
+
+    /// What is wanted at the place, if that is known.
+    pub fn wanted(&self) -> Option<&Listed<'t>> {
+        match &self.wanted {
+            Listed::Form(form) if form.is_empty() => None,
+            wanted => Some(wanted),
+        }
+    }
+
+    /// What is meant by the characters at the place, if that is known.
+    pub fn meant(&self) -> Option<&str> {
+        match &self.meant {
+            Some(meant) => Some(meant.as_str()),
+            None => None,
+        }
+    }
+
+    /// What to do instead, if that is known.
+    pub fn instead(&self) -> Option<Sentence<'t>> {
+        if self.instead.is_empty() {
+            return None;
+        }
+        Some(self.instead)
+    }
+
     fn write_wanted<W: fmt::Write>(&self, f: &mut Formatter<W>) -> fmt::Result {
         match &self.wanted {
             Listed::Form(form) if form.is_empty() => Ok(()),
@@ -161,6 +193,21 @@ impl Diagnostic<'_> {
     }
 }
 
+impl Display for Listed<'_> {
+    fn fmt<W: fmt::Write>(&self, f: &mut Formatter<W>) -> fmt::Result {
+        match self {
+            Listed::Form(form) => write!(f, "{form}"),
+            Listed::Words(words) => match words.as_slice() {
+                [] => Ok(()),
+                [first, rest @ ..] => {
+                    f.write_str(str::from_utf8(first).unwrap_or("?"))?;
+                    write_words(f, rest)
+                }
+            },
+        }
+    }
+}
+
 /// Writes words, each after a space.
 fn write_words<W: fmt::Write>(f: &mut Formatter<W>, words: &[&[u8]]) -> fmt::Result {
     for (place, word) in words.iter().enumerate() {
@@ -176,7 +223,7 @@ fn write_words<W: fmt::Write>(f: &mut Formatter<W>, words: &[&[u8]]) -> fmt::Res
 impl Display for Diagnostic<'_> {
     fn fmt<W: fmt::Write>(&self, f: &mut Formatter<W>) -> fmt::Result {
         let name = self.name;
-        let number = self.place.number;
+        let number = self.number;
         let column = self.place.column();
         let sentence = self.sentence;
         let excerpt = self.place.excerpt();

@@ -3,12 +3,13 @@ use crate::choice::Choice;
 use crate::image_field::{
     Field, Kind, end_of_steps, field_at, header_number, number_in, row_with_key, txn_with_name,
 };
+use crate::looks::other_form;
 use crate::names::RESERVED;
 use crate::place::part;
 use crate::sentence::{Listed, Sentence};
-use crate::words::is_one_of;
+use crate::words::{Word, is_one_of};
 use hek_image::LoadFault;
-use hek_rules::{EventKind, Level};
+use hek_rules::{EventKind, Level, next_line, next_word};
 use std::fmt;
 use std::fmt::{Display, Formatter};
 
@@ -122,18 +123,56 @@ fn with_bucket(mut field: Field, image: &[u8]) -> Field {
 
 /// An image that doesn't begin as one.
 fn no_magic<'t>(image: &'t [u8]) -> Problem<'t> {
-    let wanted = "48 4B 53 43, which is HKSC";
     let front = part(image, 0, 64);
     if front.iter().all(|byte| is_text(*byte)) {
-        let form = "this looks like a schedule text, and `--image` wants an image";
-        let mut problem = Problem::new(form, wanted);
-        problem.instead = "leave out `--image`";
-        return problem;
+        return text_for_image(image);
     }
     Problem::new(
         "the first four bytes are not those of a schedule image",
-        wanted,
+        MAGIC,
     )
+}
+
+/// The bytes with which an image begins.
+const MAGIC: &str = "48 4B 53 43, which is HKSC";
+
+/// The words with which a schedule text begins, so that it is taken for one.
+const FIRST_WORDS: &[&str] = &["buckets", "row", "txn"];
+
+/// A text where an image is read: a schedule, of which `--image` says that it is an image, or another text.
+fn text_for_image<'t>(text: &'t [u8]) -> Problem<'t> {
+    let Some((first, line)) = first_line(text) else {
+        return Problem::new("the file has no word, as a schedule has", MAGIC);
+    };
+    if first.is_one_of(FIRST_WORDS) {
+        let form = "this looks like a schedule text, and `--image` wants an image";
+        let mut problem = Problem::new(form, MAGIC);
+        problem.instead = "leave out `--image`";
+        return problem;
+    }
+    let wanted = "an image, or a text whose first word is `buckets`";
+    match other_form(first, line) {
+        Some(form) => Problem::new(form, wanted),
+        None => {
+            let form = "this looks like a text that begins with @, and no schedule does";
+            let mut problem = Problem::new(form, wanted).word(first.text);
+            problem.instead = "`--text` says what is wrong with the text";
+            problem
+        }
+    }
+}
+
+/// The first word of a text, and its line.
+fn first_line(text: &[u8]) -> Option<(Word<'_>, &[u8])> {
+    let mut rest = text.strip_prefix(b"\xEF\xBB\xBF").unwrap_or(text);
+    for _ in 0..u64::MAX {
+        let (line, after) = next_line(rest)?;
+        if let Some((word, _)) = next_word(line) {
+            return Some((Word::new(word, 0), line));
+        }
+        rest = after;
+    }
+    None
 }
 
 /// Whether a text may have the byte.

@@ -1,6 +1,6 @@
 //! What the lines of a schedule text up to here have said.
 use crate::words::Word;
-use hek_rules::NoMemory;
+use hek_rules::{NoMemory, Schedule, TxnId};
 use std::alloc::Global;
 use std::collections::HashMap;
 
@@ -51,6 +51,19 @@ impl<'t> Known<'t> {
             list: Vec::new(alloc),
             keys: HashMap::new(alloc),
         }
+    }
+
+    /// What a schedule says, as if its first line had said it and its first step.
+    pub(crate) fn of(alloc: Global, schedule: &'t Schedule) -> Result<Known<'t>, NoMemory> {
+        let mut known = Known::new(alloc);
+        known.head = 1;
+        known.first_step = 1;
+        known.buckets = schedule.buckets();
+        for place in 0..schedule.txn_count() {
+            let name = schedule.name_of(TxnId::new(place as u64 + 1));
+            known.declare(name.as_bytes(), 1)?;
+        }
+        Ok(known)
     }
 
     /// The line that declares a name, if a line does.

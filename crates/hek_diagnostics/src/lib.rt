@@ -4,6 +4,7 @@
 
 mod choice;
 mod diagnostic;
+mod event;
 mod excerpt;
 mod finding;
 mod foreign;
@@ -20,17 +21,20 @@ mod reply;
 mod schedule;
 mod sentence;
 mod step;
+mod synonym;
 mod token;
 mod trace;
 mod vocabulary;
 mod words;
 
-pub use diagnostic::{Diagnostic, Diagnostics};
+pub use diagnostic::{Diagnostic, Diagnostics, Listed};
+pub use event::explain_event;
 pub use excerpt::Excerpt;
 pub use image::{ImageDiagnostic, explain_image};
 pub use looks::{OtherBytes, explain_bytes};
 pub use nearest::nearest_word;
 pub use place::Place;
 pub use schedule::explain_text;
+pub use sentence::Sentence;
 pub use trace::explain_trace;
 pub use vocabulary::Vocabulary;

@@ -9,7 +9,8 @@ use crate::nearest::nearest_word;
 use crate::numbers::{Role, has_byte, no_number};
 use crate::place::part;
 use crate::sentence::Listed;
-use crate::step::{judge_detect, judge_step};
+use crate::step::{judge_detect, judge_step, starts_as_comment};
+use crate::synonym::meaning_level;
 use crate::vocabulary::Vocabulary;
 use crate::words::{Word, read_words};
 use hek_rules::{EventKind, Level, MAX_BUCKETS, NoMemory, name_ok, number};
@@ -93,6 +94,8 @@ fn no_buckets<'t>(first: Word<'t>, line: &'t [u8]) -> Finding<'t> {
     }
     let form = if HEAD.has_but_for_capitals(first.text) {
         "the text begins with @: words are in lower case"
+    } else if starts_as_comment(first.text) {
+        "the text begins with @, and a comment begins with `#`"
     } else {
         "the text begins with @, and its first line gives the number of buckets"
     };
@@ -127,10 +130,21 @@ fn judge_body<'t>(
     if first.is("detect") {
         return Ok(judge_detect(known, first, rest, at));
     }
+    if starts_as_comment(first.text) {
+        return Ok(Some(foreign_comment(first)));
+    }
     if is_misspelled(known.alloc, known, first, rest) {
         return Ok(Some(misspelled(known, first, rest, at)));
     }
     Ok(judge_step(known, first, rest, line, at))
+}
+
+/// A line that is a comment of another language.
+pub(crate) fn foreign_comment(first: Word<'_>) -> Finding<'_> {
+    let form = "no line begins with @: a comment begins with `#`";
+    Finding::at(first, form)
+        .wanting_starts()
+        .hinting(Hint::None)
 }
 
 /// One more than the rows and the transactions that a schedule can have.
@@ -150,7 +164,11 @@ fn judge_row<'t>(
     let (key, value) = match rest {
         [key, value] => (*key, *value),
         [_, _, more, ..] => {
-            let form = "`row` takes a key and a value, and @ is one word too many";
+            let form = if starts_as_comment(more.text) {
+                "`row` takes a key and a value, and a comment begins with `#`"
+            } else {
+                "`row` takes a key and a value, and @ is one word too many"
+            };
             return Ok(Some(Finding::at(*more, form).wanting(ROW)));
         }
         _ => {
@@ -253,10 +271,7 @@ fn judge_txn<'t>(
     declare(known, rest, at)?;
     let (name, level) = match rest {
         [name, level] => (*name, *level),
-        [_, _, more, ..] => {
-            let form = "`txn` takes a name and a level, and @ is one word too many";
-            return Ok(Some(wanting_txn(Finding::at(*more, form))));
-        }
+        [_, level, more, ..] => return Ok(Some(more_than_level(*level, *more))),
         _ => {
             let form = "@ wants a name and a level after it";
             return Ok(Some(wanting_txn(Finding::at(first, form))));
@@ -274,6 +289,20 @@ fn judge_txn<'t>(
         known.first_txn = at;
     }
     Ok(judge_name_and_level(known, first, name, level, before))
+}
+
+/// What is wrong with a word after a level.
+fn more_than_level<'t>(level: Word<'t>, more: Word<'t>) -> Finding<'t> {
+    if starts_as_comment(more.text) {
+        let form = "`txn` takes a name and a level, and a comment begins with `#`";
+        return wanting_txn(Finding::at(more, form));
+    }
+    let form = "`txn` takes a name and a level, and @ is one word too many";
+    let finding = wanting_txn(Finding::at(more, form));
+    if Level::named(level.text).is_some() {
+        return finding;
+    }
+    meaning_level(finding, level.text, Hint::None)
 }
 
 /// Notes the name of a transaction.
@@ -320,16 +349,20 @@ fn no_level(level: Word<'_>) -> Finding<'_> {
     } else {
         "no level is called @"
     };
-    Finding::at(level, form)
-        .wanting_words(Vocabulary::Levels)
-        .hinting(Hint::Among(Vocabulary::Levels))
+    let finding = Finding::at(level, form).wanting_words(Vocabulary::Levels);
+    meaning_level(finding, level.text, Hint::Among(Vocabulary::Levels))
 }
 
 /// The words that a line may begin with besides a name.
 const STARTS: &[&str] = &["row", "txn", "detect"];
 
 /// Whether a line begins with a mistyped `row`, `txn` or `detect`, or with no known word and nothing after it.
-fn is_misspelled<'t>(alloc: Global, known: &Known<'t>, first: Word<'t>, rest: &[Word<'t>]) -> bool {
+pub(crate) fn is_misspelled<'t>(
+    alloc: Global,
+    known: &Known<'t>,
+    first: Word<'t>,
+    rest: &[Word<'t>],
+) -> bool {
     if known.has_name(first.text) {
         return false;
     }
@@ -347,7 +380,7 @@ fn meant_start(alloc: Global, first: Word<'_>) -> Option<&'static str> {
 }
 
 /// A line that begins with a mistyped word. One that means `txn` still declares its name.
-fn misspelled<'t>(
+pub(crate) fn misspelled<'t>(
     known: &mut Known<'t>,
     first: Word<'t>,
     rest: &[Word<'t>],

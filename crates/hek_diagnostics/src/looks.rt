@@ -15,6 +15,9 @@ const SQL: &[&str] = &[
 /// The words with which a debugger's command begins.
 const COMMANDS: &[&str] = &["step", "run", "back", "break", "watch", "clear"];
 
+/// What to do with an image where a text is wanted.
+const TEXT_OF_IMAGE: &str = "`hek dis` prints the text of an image, and an image needs no `--text`";
+
 /// What the first line with words of a schedule text looks like, if it looks like something else.
 pub(crate) fn other_input<'t>(first: Word<'t>, line: &'t [u8]) -> Option<Finding<'t>> {
     if first.text.starts_with(b"HKSC") {
@@ -25,10 +28,10 @@ pub(crate) fn other_input<'t>(first: Word<'t>, line: &'t [u8]) -> Option<Finding
                 "this looks like a schedule image, and a text is wanted here",
             )
             .wanting("a schedule text")
-            .with_instead("leave out `--text`"),
+            .with_instead(TEXT_OF_IMAGE),
         );
     }
-    let form = form_of(first, line)?;
+    let form = other_form(first, line)?;
     Some(
         Finding::at(first, form)
             .wanting("buckets")
@@ -36,7 +39,8 @@ pub(crate) fn other_input<'t>(first: Word<'t>, line: &'t [u8]) -> Option<Finding
     )
 }
 
-fn form_of(first: Word<'_>, line: &[u8]) -> Option<&'static str> {
+/// What is said of a first word and its line that look like something else than a schedule.
+pub(crate) fn other_form(first: Word<'_>, line: &[u8]) -> Option<&'static str> {
     if is_digits(first.text) && contains(line, b" -> ") {
         return Some("this looks like a trace, and a schedule is wanted here");
     }
@@ -72,6 +76,7 @@ pub(crate) fn contains(bytes: &[u8], wanted: &[u8]) -> bool {
 pub struct OtherBytes<'n> {
     name: &'n str,
     looks: Looks,
+    is_schedule: bool,
 }
 
 #[derive(Clone, Copy)]
@@ -81,8 +86,15 @@ enum Looks {
     Bytes,
 }
 
-/// What the bytes of the file of this name look like, which are not UTF-8.
-pub fn explain_bytes<'n>(name: &'n str, bytes: &[u8]) -> OtherBytes<'n> {
+impl Looks {
+    fn is_image(self) -> bool {
+        matches!(self, Looks::Image)
+    }
+}
+
+/// What the bytes of the file of this name look like, which are not UTF-8; `is_schedule` says that the file is to have a
+/// schedule.
+pub fn explain_bytes<'n>(name: &'n str, bytes: &[u8], is_schedule: bool) -> OtherBytes<'n> {
     let looks = if bytes.starts_with(b"HKSC") {
         Looks::Image
     } else if bytes.starts_with(b"\xFF\xFE") || bytes.starts_with(b"\xFE\xFF") {
@@ -90,7 +102,11 @@ pub fn explain_bytes<'n>(name: &'n str, bytes: &[u8]) -> OtherBytes<'n> {
     } else {
         Looks::Bytes
     };
-    OtherBytes { name, looks }
+    OtherBytes {
+        name,
+        looks,
+        is_schedule,
+    }
 }
 
 impl Display for OtherBytes<'_> {
@@ -99,12 +115,16 @@ impl Display for OtherBytes<'_> {
         writeln!(f, "  {name}")?;
         f.write_str(match self.looks {
             Looks::Image => {
-                "  | this looks like a schedule image, and a text is wanted here\n  | wanted: a text in UTF-8\n  | instead: leave out `--text`\n"
+                "  | this looks like a schedule image, and a text is wanted here\n  | wanted: a text in UTF-8\n"
             }
             Looks::WideText => {
                 "  | this looks like UTF-16, and a text in UTF-8 is wanted here\n  | wanted: a text in UTF-8\n"
             }
             Looks::Bytes => { "  | some of its bytes are not UTF-8\n  | wanted: a text in UTF-8\n" }
-        })
+        })?;
+        if self.is_schedule && self.looks.is_image() {
+            return writeln!(f, "  | instead: {TEXT_OF_IMAGE}");
+        }
+        Ok(())
     }
 }

@@ -131,7 +131,7 @@ fn add<'t>(
     Ok(())
 }
 
-fn diagnosed<'t>(
+pub(crate) fn diagnosed<'t>(
     known: &Known<'t>,
     name: &'t str,
     place: Place<'t>,

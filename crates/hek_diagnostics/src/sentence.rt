@@ -30,7 +30,7 @@ impl Display for Listed {
 /// A sentence. In its form `@` stands for a word between back-ticks, `~` for the same word without them, `&` for another
 /// word, `$`, `%` and `*` for numbers, and `^` for what the sentence lists; where it lists nothing, `^` is itself.
 #[derive(Clone, Copy)]
-pub(crate) struct Sentence<'t> {
+pub struct Sentence<'t> {
     form: &'static str,
     pub(crate) word: &'t [u8],
     pub(crate) other: &'t [u8],

@@ -4,6 +4,7 @@ use crate::known::Known;
 use crate::numbers::{Role, has_byte, no_number};
 use crate::place::part;
 use crate::sentence::Listed;
+use crate::synonym::meaning_event;
 use crate::vocabulary::Vocabulary;
 use crate::words::Word;
 use hek_rules::{EventKind, number};
@@ -106,9 +107,8 @@ pub(crate) fn unknown_event(event: Word<'_>, is_turned: bool) -> Finding<'_> {
     } else {
         "no event is called @"
     };
-    Finding::at(event, form)
-        .wanting_words(Vocabulary::Events)
-        .hinting(Hint::Among(Vocabulary::Events))
+    let finding = Finding::at(event, form).wanting_words(Vocabulary::Events);
+    meaning_event(finding, event.text, Hint::Among(Vocabulary::Events))
 }
 
 /// Whether an event comes first in a word, and a bracket after it.
@@ -149,8 +149,8 @@ fn judge_count<'t>(
     }
     let more = operands.get(count)?;
     let is_comment = starts_as_comment(part(line, more.start, line.len()));
-    let form = if is_comment && count == 0 {
-        "& takes nothing after it, and a comment begins with `#`"
+    let form = if is_comment {
+        with_comment(kind)
     } else {
         too_many(kind)
     };
@@ -158,8 +158,20 @@ fn judge_count<'t>(
     Some(wanting_form(finding, kind, buckets))
 }
 
+/// What is said of a comment of another language after an event. The event is `&`.
+fn with_comment(kind: EventKind) -> &'static str {
+    if kind.is_scan() {
+        return "& takes one bucket, and a comment begins with `#`";
+    }
+    match kind.operand_count() {
+        0 => "& takes nothing after it, and a comment begins with `#`",
+        1 => "& takes one key, and a comment begins with `#`",
+        _ => "& takes a key and a value, and a comment begins with `#`",
+    }
+}
+
 /// Whether the bytes begin as a comment of another language.
-fn starts_as_comment(bytes: &[u8]) -> bool {
+pub(crate) fn starts_as_comment(bytes: &[u8]) -> bool {
     bytes.starts_with(b"//") || bytes.starts_with(b"--") || bytes.starts_with(b";")
 }
 

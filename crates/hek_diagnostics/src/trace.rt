@@ -11,7 +11,7 @@ use crate::sentence::Sentence;
 use crate::step::{missing, too_many, unknown_event, wanting_form};
 use crate::token::{Tokens, trace_number};
 use crate::words::Word;
-use hek_rules::{EventKind, NoMemory, Schedule, TxnId, number};
+use hek_rules::{EventKind, NoMemory, Schedule, TxnId, next_line, next_word, number, same_bytes};
 use std::alloc::Global;
 
 /// The words with which lines of a state begin.
@@ -32,13 +32,41 @@ pub fn explain_trace<'t>(
         return Ok(None);
     };
     let names = names_of(alloc, schedule)?;
-    let finding = judge(schedule, place.line, line, is_cut(text, line));
+    let finding = match schedule_for_trace(text, place.line, line) {
+        Some(finding) => finding,
+        None => judge(schedule, place.line, line, is_cut(text, line)),
+    };
     let names = names.as_slice();
     let found = diagnose(alloc, name, names, names, place, finding)?;
     if found.place.number != line {
         return Ok(None);
     }
     Ok(Some(found))
+}
+
+/// A schedule with comments or empty lines before it, where a trace is read.
+fn schedule_for_trace<'t>(text: &[u8], line: &'t [u8], number: u64) -> Option<Finding<'t>> {
+    if number != 1 || next_word(line).is_some() || !is_schedule(text) {
+        return None;
+    }
+    let form = "this looks like a schedule, and a trace is wanted here";
+    let front = Word::new(part(line, 0, 1), 0);
+    Some(wanting_event(Finding::at(front, form), number))
+}
+
+/// Whether the first word of a text is `buckets`.
+fn is_schedule(text: &[u8]) -> bool {
+    let mut rest = text;
+    for _ in 0..u64::MAX {
+        let Some((line, after)) = next_line(rest) else {
+            return false;
+        };
+        if let Some((word, _)) = next_word(line) {
+            return same_bytes(word, b"buckets");
+        }
+        rest = after;
+    }
+    false
 }
 
 /// The names of a schedule's transactions.

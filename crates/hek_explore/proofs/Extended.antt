@@ -1,10 +1,8 @@
 -- Plays extend alike.
-use Rattle.std.proofs.Common.{◌≡◌, ℕ, ◌+◌, ◌<◌, ◌≤◌, List, ◌∷◌, ◌++◌, length, refl, ap, sym, subst, ◌∙◌, map, arith, Bool, true, false}
+use Rattle.std.proofs.Common.{◌≡◌, ℕ, ◌+◌, ◌<◌, ◌≤◌, List, ◌∷◌, ◌++◌, length, refl, ap, sym, subst, ◌∙◌, map, arith}
 use Rattle.std.proofs.lemmas.List.{length-append, length-map}
 use Rattle.std.proofs.lemmas.List.Elements.{All-append}
 use Rattle.std.specs.List.{All}
-use Rattle.hek_rules.specs.declared.event.Event.{Event}
-use Rattle.hek_rules.specs.declared.reply.Reply.{Reply}
 use Rattle.hek_rules.specs.Checks.{clock_end}
 use Rattle.hek_rules.specs.Plan.{Plan, IsPlan, levels_of}
 use Rattle.hek_rules.specs.Run.{run, transcript}
@@ -14,6 +12,7 @@ use Rattle.hek_laws.proofs.Runs.Reachable.{opening-reachable}
 use Rattle.hek_laws.proofs.Worlds.Fixed.{fixed-run}
 use Rattle.hek_machine.specs.Observed.{opening_of}
 use Rattle.hek_similar.specs.Alike.{Alike, bare_step}
+use Rattle.hek_similar.specs.Places.{ScansGroup}
 use Rattle.hek_similar.specs.Verdicts.{ToldAlike}
 use Rattle.hek_similar.proofs.Places.Alike.{alike-runs}
 use Rattle.hek_similar.proofs.Places.Told.{told-go_on_alike}
@@ -23,11 +22,11 @@ use Rattle.hek_permute.specs.declared.moves.Form.{Form}
 use Rattle.hek_permute.specs.declared.play.Place.{Place}
 use Rattle.hek_permute.specs.Moves.{Work}
 use Rattle.hek_permute.specs.Plays.{HasMoved, SetsOff}
+use Rattle.hek_explore.specs.Groups.{group_in}
 use Rattle.hek_explore.specs.Twins.{world_after, steps_in, bare_entry, HasPlayed, AreTwins}
 use Rattle.hek_explore.specs.Laws.{PlaysExtendAlike}
 use Rattle.hek_explore.proofs.Bare.{reach-same, ends-same, waits-same, formed-same}
-use Rattle.hek_permute.proofs.RunReplies.{events-append, told, told-after}
-use Rattle.hek_explore.proofs.Grown.{ends-grow, waits-grow, steps-append, All-right, run-on, steps-told, told-both, retold, retold-events, retold-length, retold-replies, retold-same, clock-run}
+use Rattle.hek_explore.proofs.Grown.{ends-grow, waits-grow, steps-append, events-append, All-right, run-on, steps-told, told-after, told-both, told, retold, retold-events, retold-length, retold-replies, retold-same, clock-run}
 
 -- ---- the world after a play
 pub world-reachable : (p : Plan) (h : List Entry) → IsPlan p → All (IsPlaced p.buckets) (history_events h) → IsReachable (world_after p h)
@@ -64,6 +63,12 @@ module _ (p : Plan) (form : Form) (works : List Work) (past others : List ℕ) (
   placed-more : All (IsPlaced p.buckets) (history_events moved.more)
   placed-more = All-right (IsPlaced p.buckets) (history_events h) (history_events moved.more) (subst (All (IsPlaced p.buckets)) all-events then.placed)
 
+  scans-more : All (ScansGroup (group_in p) p.buckets) (history_events moved.more)
+  scans-more = All-right (ScansGroup (group_in p) p.buckets) (history_events h) (history_events moved.more) (subst (All (ScansGroup (group_in p) p.buckets)) all-events then.scans)
+
+  scans-now : All (ScansGroup (group_in p) (world_after p h).buckets) (history_events moved.more)
+  scans-now = subst (λ (n : ℕ). All (ScansGroup (group_in p) n) (history_events moved.more)) (sym (fixed-run (opening_of p 1) (history_events h)).buckets) scans-more
+
   formed-more : IsHistory (length p.txns) moved.more
   formed-more = All-right (IsEntry (length p.txns)) h moved.more (subst (IsHistory (length p.txns)) moved.grown then.formed)
 
@@ -87,10 +92,10 @@ module _ (p : Plan) (form : Form) (works : List Work) (past others : List ℕ) (
       omega (arith, l, b, long-now, short)
 
   answers : (map bare_step (transcript (world_after p h) (history_events moved.more)) ≡ map bare_step (transcript (world_after p k) (history_events moved.more)))
-      × Alike (run (world_after p h) (history_events moved.more)) (run (world_after p k) (history_events moved.more))
+      × Alike (group_in p) (run (world_after p h) (history_events moved.more)) (run (world_after p k) (history_events moved.more))
   answers =
-      alike-runs (world_after p h) (world_after p k) (history_events moved.more) twins.worlds (world-reachable p h plan first.placed) (world-reachable p k plan other.placed)
-      placed-now some-left left-anew
+      alike-runs (group_in p) (world_after p h) (world_after p k) (history_events moved.more) twins.worlds (world-reachable p h plan first.placed) (world-reachable p k plan other.placed)
+      placed-now scans-now some-left left-anew
 
   replies-more : replies_in moved.more ≡ told (world_after p h) (history_events moved.more)
   replies-more = told-after (opening_of p 1) h now moved.more moved.grown first.replies then.replies
@@ -110,8 +115,8 @@ module _ (p : Plan) (form : Form) (works : List Work) (past others : List ℕ) (
   told-anew =
       subst (λ l. ToldAlike l (steps_in (k ++ anew))) (sym (steps-append h moved.more ∙ ap (λ l. steps_in h ++ l) steps-more))
       (subst (ToldAlike (steps_in h ++ transcript (world_after p h) (history_events moved.more))) (sym (steps-append k anew ∙ ap (λ l. steps_in k ++ l) steps-anew))
-      (told-go_on_alike (world_after p h) (world_after p k) (steps_in h) (steps_in k) (history_events moved.more) twins.worlds (world-reachable p h plan first.placed)
-      (world-reachable p k plan other.placed) placed-now some-left left-anew twins.told))
+      (told-go_on_alike (group_in p) (world_after p h) (world_after p k) (steps_in h) (steps_in k) (history_events moved.more) twins.worlds (world-reachable p h plan first.placed)
+      (world-reachable p k plan other.placed) placed-now scans-now some-left left-anew twins.told))
 
   sets-off-anew : SetsOff form works t places anew later
   sets-off-anew =
@@ -124,6 +129,9 @@ module _ (p : Plan) (form : Form) (works : List Work) (past others : List ℕ) (
     placed = subst (All (IsPlaced p.buckets)) (sym (events-append k anew))
         (All-append (IsPlaced p.buckets) (history_events k) (history_events anew) other.placed
         (subst (All (IsPlaced p.buckets)) (sym (retold-events (world_after p k) moved.more)) placed-more));
+    scans = subst (All (ScansGroup (group_in p) p.buckets)) (sym (events-append k anew))
+        (All-append (ScansGroup (group_in p) p.buckets) (history_events k) (history_events anew) other.scans
+        (subst (All (ScansGroup (group_in p) p.buckets)) (sym (retold-events (world_after p k) moved.more)) scans-more));
     replies = told-both (opening_of p 1) k anew other.replies (retold-replies (world_after p k) moved.more);
     play = (places, k, anew, other.play, sets-off-anew, refl);
   }
@@ -137,8 +145,8 @@ module _ (p : Plan) (form : Form) (works : List Work) (past others : List ℕ) (
 
   twins-anew : AreTwins p (h ++ moved.more) (k ++ anew)
   twins-anew = record {
-    worlds = subst (λ (w : World). Alike w (world_after p (k ++ anew))) (sym world-now ∙ ap (world_after p) moved.grown)
-        (subst (Alike (run (world_after p h) (history_events moved.more))) (sym world-anew) answers.1);
+    worlds = subst (λ (w : World). Alike (group_in p) w (world_after p (k ++ anew))) (sym world-now ∙ ap (world_after p) moved.grown)
+        (subst (Alike (group_in p) (run (world_after p h) (history_events moved.more))) (sym world-anew) answers.1);
     told = told-anew;
     ends = λ u. ends-grow u h moved.more k anew (twins.ends u) (ends-same u moved.more anew same-more);
     waited = waits-grow h moved.more k anew twins.waited (waits-same moved.more anew same-more);

@@ -20,7 +20,7 @@ use Rattle.hek_laws.proofs.Runs.Reachable.{reachable-sound}
 use Rattle.hek_laws.proofs.Worlds.Fixed.{fixed-run}
 use Rattle.hek_machine.specs.Observed.{opening_of}
 use Rattle.hek_similar.specs.Alike.{Alike}
-use Rattle.hek_similar.specs.Canonical.{by_bucket}
+use Rattle.hek_similar.specs.Canonical.{by_group}
 use Rattle.hek_similar.specs.Forms.{After}
 use Rattle.hek_similar.specs.Holdings.{Regrouped, holding}
 use Rattle.hek_similar.specs.Similar.{Similar, LookAlike, timeless, timeless_creator, timeless_ender, timeless_version, timeless_txn, made_time, ended_time, looks_back}
@@ -29,7 +29,7 @@ use Rattle.hek_similar.proofs.Alike.{Past, sound-past}
 use Rattle.hek_similar.proofs.Forms.{answers-from, similar-itself}
 use Rattle.hek_similar.proofs.Holdings.Laws.{regrouped-itself}
 use Rattle.hek_similar.proofs.Places.Alike.{alike-both_ways, alike-in_turn}
-use Rattle.hek_similar.proofs.Places.Grouped.{by_bucket-renumbers}
+use Rattle.hek_similar.proofs.Places.Grouped.{by_group-renumbers}
 use Rattle.hek_similar.proofs.Places.Sound.{worlds-sound}
 use Rattle.hek_worker.specs.declared.entry.Entry.{Entry}
 use Rattle.hek_worker.specs.History.{IsEntry, IsHistory, is_that, history_events}
@@ -37,7 +37,8 @@ use Rattle.hek_permute.specs.declared.outcome.Ending.TheVariants as ending
 use Rattle.hek_permute.specs.declared.play.Place.{Place}
 use Rattle.hek_permute.specs.Outcomes.{end_in}
 use Rattle.hek_explore.specs.declared.key.VersionKey.{VersionKey}
-use Rattle.hek_explore.specs.Keys.{list_upto, timeless_end, until_time, version_key, after_time, TxnShape, txn_shape, Shape, shape_in, sorted_by_bucket}
+use Rattle.hek_explore.specs.Groups.{group_in}
+use Rattle.hek_explore.specs.Keys.{list_upto, timeless_end, until_time, version_key, after_time, TxnShape, txn_shape, Shape, shape_in, sorted_by}
 use Rattle.hek_explore.specs.Twins.{world_after, steps_in}
 use Rattle.hek_explore.specs.Laws.{EqualKeysMakeTwins}
 use Rattle.hek_explore.proofs.Extended.{world-reachable}
@@ -308,31 +309,33 @@ world-count : (p : Plan) (h : List Entry) → length (world_after p h).txns ≡ 
 world-count p h =
     (fixed-run (opening_of p 1) (history_events h)).count ∙ length-map (levels_of p) (λ (l : Level). new_txn l) ∙ length-map p.txns (λ (t : List ℕ × Level). t.1)
 
--- ---- worlds with their versions by bucket
-pub sorted-sound : (w : World) → Sound w → Sound (sorted_by_bucket w)
-sorted-sound w s = worlds-sound (by_bucket w) w (by_bucket-renumbers w) s
+-- ---- worlds with their versions by group
+pub sorted-sound : (g : ℕ → ℕ) (w : World) → Sound w → Sound (sorted_by g w)
+sorted-sound g w s = worlds-sound (by_group g w) w (by_group-renumbers g w) s
 
-alike-sorted : (w : World) → Alike w (sorted_by_bucket w)
-alike-sorted w = record {
-  renumbering = by_bucket w;
-  renumbers = by_bucket-renumbers w;
-  between = sorted_by_bucket w;
-  regrouped = regrouped-itself (sorted_by_bucket w);
-  similar = similar-itself (sorted_by_bucket w);
+alike-sorted : (g : ℕ → ℕ) (w : World) → Alike g w (sorted_by g w)
+alike-sorted g w = record {
+  renumbering = by_group g w;
+  groups = refl;
+  renumbers = by_group-renumbers g w;
+  between = sorted_by g w;
+  regrouped = regrouped-itself (sorted_by g w);
+  similar = similar-itself (sorted_by g w);
 }
 
-keys-alike : (w x : World) → Sound w → Sound x → (P Q : List Place) (h k : List Entry) → w.buckets ≡ x.buckets → shape_in (sorted_by_bucket w) P h ≡ shape_in (sorted_by_bucket x) Q k
-    → Alike w x
-keys-alike w x sw sx P Q h k same e =
-    alike-in_turn w (sorted_by_bucket x) x
+keys-alike : (g : ℕ → ℕ) (w x : World) → Sound w → Sound x → (P Q : List Place) (h k : List Entry) → w.buckets ≡ x.buckets → shape_in (sorted_by g w) P h ≡ shape_in (sorted_by g x) Q k
+    → Alike g w x
+keys-alike g w x sw sx P Q h k same e =
+    alike-in_turn g w (sorted_by g x) x
     (record {
-      renumbering = by_bucket w;
-      renumbers = by_bucket-renumbers w;
-      between = holding (sorted_by_bucket w) (sorted_by_bucket x);
-      regrouped = grouped (sorted_by_bucket w) (sorted_by_bucket x) (sorted-sound w sw) (sorted-sound x sx) P Q h k e;
-      similar = keys-similar (sorted_by_bucket w) (sorted_by_bucket x) (sorted-sound w sw) (sorted-sound x sx) P Q h k e same;
+      renumbering = by_group g w;
+      groups = refl;
+      renumbers = by_group-renumbers g w;
+      between = holding (sorted_by g w) (sorted_by g x);
+      regrouped = grouped (sorted_by g w) (sorted_by g x) (sorted-sound g w sw) (sorted-sound g x sx) P Q h k e;
+      similar = keys-similar (sorted_by g w) (sorted_by g x) (sorted-sound g w sw) (sorted-sound g x sx) P Q h k e same;
     })
-    (alike-both_ways x (sorted_by_bucket x) (alike-sorted x))
+    (alike-both_ways g x (sorted_by g x) (alike-sorted g x))
 
 pub keys-twins : EqualKeysMakeTwins
 keys-twins p form works past others places seats h k plan first other e =
@@ -342,14 +345,14 @@ keys-twins p form works past others places seats h k plan first other e =
     let count : length (world_after p h).txns ≡ length p.txns = world-count p h in (
       ap (λ (z : Shape). z.places) e,
       record {
-        worlds = keys-alike (world_after p h) (world_after p k) sw sx places seats h k buckets e;
+        worlds = keys-alike (group_in p) (world_after p h) (world_after p k) sw sx places seats h k buckets e;
         told = record {
           drawn = ap (λ (z : Shape). z.drawn) e;
-          parts = each-declared (sorted_by_bucket (world_after p h)) (sorted_by_bucket (world_after p k)) (sorted-sound (world_after p h) sw) (sorted-sound (world_after p k) sx) places seats h k e (λ t. judged_part t (steps_in h) ≡ judged_part t (steps_in k))
+          parts = each-declared (sorted_by (group_in p) (world_after p h)) (sorted_by (group_in p) (world_after p k)) (sorted-sound (group_in p) (world_after p h) sw) (sorted-sound (group_in p) (world_after p k) sx) places seats h k e (λ t. judged_part t (steps_in h) ≡ judged_part t (steps_in k))
               (λ t same. ap (λ (z : TxnShape). z.part) same)
               (λ t not. none-judged (length p.txns) t h (subst (λ n. IsDeclared n t → ⊥) count not) first.formed ∙ sym (none-judged (length p.txns) t k (subst (λ n. IsDeclared n t → ⊥) count not) other.formed));
         };
-        ends = each-declared (sorted_by_bucket (world_after p h)) (sorted_by_bucket (world_after p k)) (sorted-sound (world_after p h) sw) (sorted-sound (world_after p k) sx) places seats h k e (λ t. end_in t h ≡ end_in t k)
+        ends = each-declared (sorted_by (group_in p) (world_after p h)) (sorted_by (group_in p) (world_after p k)) (sorted-sound (group_in p) (world_after p h) sw) (sorted-sound (group_in p) (world_after p k) sx) places seats h k e (λ t. end_in t h ≡ end_in t k)
             (λ t same. ap (λ (z : TxnShape). z.ending) same)
             (λ t not. none-ends (length p.txns) t h (subst (λ n. IsDeclared n t → ⊥) count not) first.formed ∙ sym (none-ends (length p.txns) t k (subst (λ n. IsDeclared n t → ⊥) count not) other.formed));
         waited = ap (λ (z : Shape). z.waited) e;

@@ -6,7 +6,9 @@ pub mod Ordered
 pub mod Outcomes
 pub mod Ranks
 pub mod Taken
+pub mod Scanned
 pub mod Keys
+pub mod Shown
 pub mod Sorted
 pub mod Shapes
 pub mod Steps

@@ -1,16 +1,15 @@
 -- Two runs that are judged alike have the same serial orders.
-use Rattle.std.proofs.Common.{◌≡◌, ℕ, zero, suc, Bool, true, false, List, [], ◌∷◌, Option, Some, None, refl, ◌∙◌, ap, sym, subst, ⊎_elim}
-use Rattle.std.proofs.lemmas.Bool.{cond_both, or_cases, or_left, or_right, eq-eqb, eqb-true}
-use Rattle.std.specs.Prelude.{◌==◌, ◌↔◌, filter, map, slice_get, if◌then◌else◌, take}
+use Rattle.std.proofs.Common.{◌≡◌, ℕ, Bool, true, false, List, [], ◌∷◌, Option, Some, None, refl, ◌∙◌, ap, sym, subst, ⊎_elim}
+use Rattle.std.proofs.lemmas.Bool.{cond_both, or_cases, or_left, or_right, eq-eqb}
+use Rattle.std.specs.Prelude.{◌==◌, ◌↔◌, filter, slice_get, if◌then◌else◌, take}
 use Rattle.hek_rules.specs.declared.event.Event.{Event}
 use Rattle.hek_rules.specs.declared.event.Level.TheVariants.{Serializable}
 use Rattle.hek_rules.specs.declared.reply.Reply.{Reply}
-use Rattle.hek_rules.specs.declared.serial.Verdict.TheVariants.{Serial}
 use Rattle.hek_rules.specs.declared.serial.Write.{Write}
-use Rattle.hek_rules.specs.Faults.{put_all, IsVerdict}
+use Rattle.hek_rules.specs.Faults.{put_all}
 use Rattle.hek_rules.specs.Listing.{is_among}
 use Rattle.hek_rules.specs.Recorded.{Recorded}
-use Rattle.hek_rules.specs.Serial.{lay_all, writes_of, serial_order, committed_in, AreRight}
+use Rattle.hek_rules.specs.Serial.{lay_all, writes_of, committed_in, AreRight}
 use Rattle.hek_laws.proofs.Futures.Invariant.{order_in}
 use Rattle.hek_serial.specs.Replay.{IsPlain, IsPlainEntry}
 use Rattle.hek_serial.specs.SerialOrders.{by_end, comes_next, without, have_common, IsSerialFrom, IsSerialOrder, IsSerialByEnd, IsSerializability}
@@ -18,7 +17,7 @@ use Rattle.hek_serial.specs.declared.serializability.Serializability.{Serializab
 use Rattle.hek_serial.specs.declared.serializability.Serializability.TheVariants.{ByEndTime, InAnotherOrder, NotSerial}
 use Rattle.hek_serial.proofs.SerialOrders.{next-among}
 use Rattle.hek_similar.specs.Verdicts.{ended_in, judged_part, RecordsRun, JudgedAlike}
-use Rattle.hek_similar.proofs.Ended.{names, drawn-names, filter-among}
+use Rattle.hek_similar.proofs.Ended.{names, drawn-names}
 use Rattle.hek_similar.proofs.Judging.{writes-part, right-part}
 use Rattle.hek_similar.proofs.Verdicts.{Orderly, orderly, alike-back, one-verdict}
 

@@ -74,7 +74,7 @@ one-outcome p form works past others places h k o plan first other twins out =
     (told-judged (steps_in h) (steps_in k) twins.told) o.verdict in
     record {
       ends = out.ends ∙ ends-all (length p.txns) h k twins.ends;
-      rows = out.rows ∙ alike-rows _ _ twins.worlds;
+      rows = out.rows ∙ alike-rows _ _ _ twins.worlds;
       verdict = verdict.0 out.verdict;
       waited = out.waited ∙ twins.waited;
     }

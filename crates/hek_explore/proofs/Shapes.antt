@@ -30,7 +30,8 @@ use Rattle.hek_permute.specs.declared.play.Place.{Place}
 use Rattle.hek_permute.specs.Moves.{Work}
 use Rattle.hek_permute.specs.Outcomes.{end_in, has_wait}
 use Rattle.hek_explore.specs.declared.key.VersionKey.{VersionKey}
-use Rattle.hek_explore.specs.Keys.{list_upto, timeless_end, until_time, version_key, after_time, look_of, TxnShape, txn_shape, Shape, shape_in, shape_of, sorted_by_bucket}
+use Rattle.hek_explore.specs.Groups.{group_in}
+use Rattle.hek_explore.specs.Keys.{list_upto, timeless_end, until_time, version_key, after_time, look_of, TxnShape, txn_shape, Shape, shape_in, shape_of, sorted_by}
 use Rattle.hek_explore.specs.Twins.{world_after, steps_in, HasPlayed, AreTwins}
 use Rattle.hek_explore.proofs.Extended.{world-reachable}
 use Rattle.hek_explore.proofs.Keys.{ended-until, sorted-sound}
@@ -156,17 +157,17 @@ module _ (w m x : World) (sw : Sound w) (sx : Sound x) (regrouped : Regrouped w 
 pub twins-shape : (p : Plan) (form : Form) (works : List Work) (past others : List ℕ) (places : List Place) (h k : List Entry) → IsPlan p → HasPlayed p form works past places h
     → HasPlayed p form works others places k → AreTwins p h k → shape_of p places h ≡ shape_of p places k
 twins-shape p form works past others places h k plan first other twins =
-    let w : World = sorted_by_bucket (world_after p h) in
-    let x : World = sorted_by_bucket (world_after p k) in
+    let w : World = sorted_by (group_in p) (world_after p h) in
+    let x : World = sorted_by (group_in p) (world_after p k) in
     let here : Sound (world_after p h) = reachable-sound (world_after p h) (world-reachable p h plan first.placed) in
     let there : Sound (world_after p k) = reachable-sound (world_after p k) (world-reachable p k plan other.placed) in
-    let sw : Sound w = sorted-sound (world_after p h) here in
-    let sx : Sound x = sorted-sound (world_after p k) there in
-    let gw : Regrouped w (canonical (world_after p h)) = regrouped-by_txn w sw in
-    let gx : Regrouped x (canonical (world_after p k)) = regrouped-by_txn x sx in
-    let cw : Sound (canonical (world_after p h)) = sound-regrouped w (canonical (world_after p h)) gw sw in
-    let cx : Sound (canonical (world_after p k)) = sound-regrouped x (canonical (world_after p k)) gx sx in
-    same-in w (canonical (world_after p h)) (canonical (world_after p k)) sw cx gw
-    (form-similar (canonical (world_after p h)) (canonical (world_after p k)) cw cx ((canonical-forms-decide (world_after p h) (world_after p k) here there).1 twins.worlds))
+    let sw : Sound w = sorted-sound (group_in p) (world_after p h) here in
+    let sx : Sound x = sorted-sound (group_in p) (world_after p k) there in
+    let gw : Regrouped w (canonical (group_in p) (world_after p h)) = regrouped-by_txn w sw in
+    let gx : Regrouped x (canonical (group_in p) (world_after p k)) = regrouped-by_txn x sx in
+    let cw : Sound (canonical (group_in p) (world_after p h)) = sound-regrouped w (canonical (group_in p) (world_after p h)) gw sw in
+    let cx : Sound (canonical (group_in p) (world_after p k)) = sound-regrouped x (canonical (group_in p) (world_after p k)) gx sx in
+    same-in w (canonical (group_in p) (world_after p h)) (canonical (group_in p) (world_after p k)) sw cx gw
+    (form-similar (canonical (group_in p) (world_after p h)) (canonical (group_in p) (world_after p k)) cw cx ((canonical-forms-decide (group_in p) (world_after p h) (world_after p k) here there).1 twins.worlds))
     places h k twins.told.parts twins.ends twins.told.drawn twins.waited
-    ∙ sym (same-in x (canonical (world_after p k)) (canonical (world_after p k)) sx cx gx (similar-itself (canonical (world_after p k))) places k k (λ t. refl) (λ t. refl) refl refl)
+    ∙ sym (same-in x (canonical (group_in p) (world_after p k)) (canonical (group_in p) (world_after p k)) sx cx gx (similar-itself (canonical (group_in p) (world_after p k))) places k k (λ t. refl) (λ t. refl) refl refl)

@@ -1,16 +1,16 @@
 -- How a move leads from one key to another.
-use Rattle.std.proofs.Common.{◌≡◌, ℕ, suc, zero, ◌+◌, ◌<◌, ◌≤◌, true, List, [], ◌∷◌, ◌++◌, Option, Some, None, length, refl, ap, sym, subst, ◌∙◌, map, arith, inl, inr, replicate}
-use Rattle.std.proofs.lemmas.Bool.{cases_Bool}
-use Rattle.std.proofs.lemmas.Bool.Decides.{nat_tests}
-use Rattle.std.proofs.lemmas.List.{reverse-reverse}
+use Rattle.std.proofs.Common.{◌≡◌, ℕ, suc, zero, ◌+◌, ◌≤◌, List, [], ◌∷◌, ◌++◌, Option, Some, None, length, refl, ap, sym, subst, ◌∙◌, arith}
+use Rattle.std.proofs.lemmas.List.{length-map, reverse-reverse}
 use Rattle.std.proofs.lemmas.List.Elements.{All-append, All-cons, All-head, All-nil, All-tail, All-filter}
 use Rattle.std.specs.List.{All}
 use Rattle.std.specs.Prelude.{option_map, slice_get}
 use Rattle.hek_rules.specs.declared.event.Event.{Event}
 use Rattle.hek_rules.specs.declared.event.Event.TheVariants as event
-use Rattle.hek_rules.specs.declared.reply.Reply.{Reply}
-use Rattle.hek_rules.specs.Plan.{Plan, IsPlan, IsDeclared}
+use Rattle.hek_rules.specs.Plan.{Plan, IsPlan}
+use Rattle.hek_rules.specs.Run.{next, run}
+use Rattle.hek_rules.specs.World.{World}
 use Rattle.hek_laws.specs.Runs.{IsPlaced}
+use Rattle.hek_similar.specs.Places.{ScansGroup}
 use Rattle.hek_machine.specs.declared.engine.Engine.{Engine}
 use Rattle.hek_machine.specs.Observed.{opening_of}
 use Rattle.hek_machine.proofs.PlacedSteps.{steps_placed}
@@ -18,7 +18,7 @@ use Rattle.hek_worker.specs.declared.entry.Entry.{Entry}
 use Rattle.hek_worker.specs.declared.stage.Stage.{Stage}
 use Rattle.hek_worker.specs.declared.stage.Stage.TheVariants.{Start, Working, Preparing, Looking, GivingUp, Releasing, Committing, Stamping, Ending, Ended}
 use Rattle.hek_worker.specs.Grammar.{event_at, or_finish, is_work}
-use Rattle.hek_worker.specs.History.{IsEntry, IsHistory, Replays, history_events, replies_in, part_of}
+use Rattle.hek_worker.specs.History.{IsEntry, IsHistory, Replays, history_events, replies_in}
 use Rattle.hek_permute.specs.declared.moves.Form.{Form}
 use Rattle.hek_permute.specs.declared.play.Place.{Place}
 use Rattle.hek_permute.specs.Found.{Found}
@@ -28,41 +28,46 @@ use Rattle.hek_permute.specs.declared.play.Turn.{Turn}
 use Rattle.hek_permute.specs.declared.play.Turn.TheVariants.{Goes, Asks, Looks, Rests}
 use Rattle.hek_permute.specs.Plays.{IsPlay, Plays, HasMoved, Scene, Reaches, both, seat, due, next_of, next_by}
 use Rattle.hek_permute.proofs.Plays.{plays_on}
-use Rattle.hek_permute.proofs.RunReplies.{events-append, told, told-before}
+use Rattle.hek_explore.specs.Groups.{group_in}
 use Rattle.hek_explore.specs.Keys.{shape_of}
 use Rattle.hek_explore.specs.Twins.{HasPlayed, AreTwins}
 use Rattle.hek_explore.specs.Steps.{HasKey, LeadsBy, EndsWith}
 use Rattle.hek_explore.specs.Laws.{HasTwin}
 use Rattle.hek_explore.proofs.Extended.{extends-alike}
+use Rattle.hek_explore.proofs.Scanned.{steps-scan}
+use Rattle.hek_explore.proofs.Grown.{events-append, replies-append, told, told-on}
 use Rattle.hek_explore.proofs.Keys.{keys-twins}
 use Rattle.hek_explore.proofs.Outcomes.{one-outcome}
 use Rattle.hek_explore.proofs.Shapes.{twins-shape}
 
--- ---- the events of a play scan buckets that exist
+-- ---- the events of a play scan buckets that exist, each of whose keys are of one group
+abbrev IsFit : (ℕ → ℕ) → ℕ → Event → Type 0
+IsFit g b e = IsPlaced b e × ScansGroup g b e
+
 all-got : {X : Type 0} (P : X → Type 0) (xs : List X) (i : ℕ) (x : X) → All P xs → slice_get xs i ≡ Some x → P x
 all-got P [] i x all e = absurd (cc)
 all-got P (y ∷ ys) zero x all e = let is : y ≡ x = cc in subst P is (All-head P y ys all)
 all-got P (y ∷ ys) (suc i) x all e = all-got P ys i x (All-tail P y ys all) e
 
-finish-placed : (b t : ℕ) (o : Option Event) → ((e : Event) → o ≡ Some e → IsPlaced b e) → IsPlaced b (or_finish t o)
-finish-placed b t None h = tt
-finish-placed b t (Some e) h = h e refl
+finish-fit : (g : ℕ → ℕ) (b t : ℕ) (o : Option Event) → ((e : Event) → o ≡ Some e → IsFit g b e) → IsFit g b (or_finish t o)
+finish-fit g b t None h = (tt, tt)
+finish-fit g b t (Some e) h = h e refl
 
-event-placed : (b t : ℕ) (work : List Event) (s : Stage) → All (IsPlaced b) work → IsPlaced b (event_at t work s)
-event-placed b t work Start all = tt
-event-placed b t work (Working n) all = finish-placed b t (slice_get work n) (λ e is. all-got (IsPlaced b) work n e all is)
-event-placed b t work Preparing all = tt
-event-placed b t work Looking all = tt
-event-placed b t work GivingUp all = tt
-event-placed b t work (Releasing cut) all = tt
-event-placed b t work Committing all = tt
-event-placed b t work (Stamping cut) all = tt
-event-placed b t work Ending all = tt
-event-placed b t work Ended all = tt
+event-fit : (g : ℕ → ℕ) (b t : ℕ) (work : List Event) (s : Stage) → All (IsFit g b) work → IsFit g b (event_at t work s)
+event-fit g b t work Start all = (tt, tt)
+event-fit g b t work (Working n) all = finish-fit g b t (slice_get work n) (λ e is. all-got (IsFit g b) work n e all is)
+event-fit g b t work Preparing all = (tt, tt)
+event-fit g b t work Looking all = (tt, tt)
+event-fit g b t work GivingUp all = (tt, tt)
+event-fit g b t work (Releasing cut) all = (tt, tt)
+event-fit g b t work Committing all = (tt, tt)
+event-fit g b t work (Stamping cut) all = (tt, tt)
+event-fit g b t work Ending all = (tt, tt)
+event-fit g b t work Ended all = (tt, tt)
 
--- the works of a schedule's transactions scan buckets that exist
-abbrev AreWorksPlaced : ℕ → List Work → Type 0
-AreWorksPlaced b works = (i : ℕ) (w : Work) → slice_get works i ≡ Some w → All (IsPlaced b) w.events
+-- so do the works of a schedule's transactions
+abbrev AreWorksFit : (ℕ → ℕ) → ℕ → List Work → Type 0
+AreWorksFit g b works = (i : ℕ) (w : Work) → slice_get works i ≡ Some w → All (IsFit g b) w.events
 
 map-some : {X Y : Type 0} (f : X → Y) (o : Option X) (y : Y) → option_map f o ≡ Some y → (x : X) × (o ≡ Some x) × (f x ≡ y)
 map-some f None y e = absurd (cc)
@@ -73,56 +78,92 @@ both-work None q x e = absurd (cc)
 both-work (Some w) None x e = absurd (cc)
 both-work (Some w) (Some q) x e = let same : ◌≡◌ {A = Work × Place} (w, q) x = cc in ap (λ (z : Work × Place). Some z.0) same
 
-own-placed : (b : ℕ) (form : Form) (works : List Work) (places : List Place) (i : ℕ) (y : ℕ × Event) → AreWorksPlaced b works
-    → option_map (next_of form i) (seat works places i) ≡ Some y → IsPlaced b y.1
-own-placed b form works places i y all e =
+own-fit : (g : ℕ → ℕ) (b : ℕ) (form : Form) (works : List Work) (places : List Place) (i : ℕ) (y : ℕ × Event) → AreWorksFit g b works
+    → option_map (next_of form i) (seat works places i) ≡ Some y → IsFit g b y.1
+own-fit g b form works places i y all e =
     let s : (x : Work × Place) × (seat works places i ≡ Some x) × (next_of form i x ≡ y) = map-some (next_of form i) (seat works places i) y e in
     let own : slice_get works i ≡ Some s.0.0 = both-work (slice_get works i) (slice_get places i) s.0 s.1 in
-    subst (λ (z : ℕ × Event). IsPlaced b z.1) s.2 (event-placed b (i + 1) s.0.0.events (due form s.0.0 s.0.1) (all i s.0.0 own))
+    subst (λ (z : ℕ × Event). IsFit g b z.1) s.2 (event-fit g b (i + 1) s.0.0.events (due form s.0.0 s.0.1) (all i s.0.0 own))
 
-next-placed : (b : ℕ) (form : Form) (works : List Work) (t : ℕ) (places : List Place) (turn : Turn) (y : ℕ × Event) → AreWorksPlaced b works
-    → next_by form works t places turn ≡ Some y → IsPlaced b y.1
-next-placed b form works t places (Goes i) y all e = own-placed b form works places i y all e
-next-placed b form works t places (Asks i but got_on) y all e = own-placed b form works places i y all e
-next-placed b form works t places Looks y all e = let same : ◌≡◌ {A = ℕ × Event} (t, event.Detect) y = cc in subst (λ (z : ℕ × Event). IsPlaced b z.1) same tt
-next-placed b form works t places Rests y all e = absurd (cc)
+next-fit : (g : ℕ → ℕ) (b : ℕ) (form : Form) (works : List Work) (t : ℕ) (places : List Place) (turn : Turn) (y : ℕ × Event) → AreWorksFit g b works
+    → next_by form works t places turn ≡ Some y → IsFit g b y.1
+next-fit g b form works t places (Goes i) y all e = own-fit g b form works places i y all e
+next-fit g b form works t places (Asks i but got_on) y all e = own-fit g b form works places i y all e
+next-fit g b form works t places Looks y all e = let same : ◌≡◌ {A = ℕ × Event} (t, event.Detect) y = cc in subst (λ (z : ℕ × Event). IsFit g b z.1) same (tt, tt)
+next-fit g b form works t places Rests y all e = absurd (cc)
 
-reach-placed : (b : ℕ) (form : Form) (works : List Work) (t : ℕ) (s z : Scene) (xs : List Entry) → AreWorksPlaced b works → Reaches form works t s xs z
-    → All (IsPlaced b) (history_events xs)
-reach-placed b form works t s z [] all h = All-nil (IsPlaced b)
-reach-placed b form works t s z (x ∷ xs) all h =
-    All-cons (IsPlaced b) x.event (history_events xs) (next-placed b form works t s.places s.turn (x.worker, x.event) all h.0)
-    (reach-placed b form works t h.1 z xs all h.3)
+reach-fit : (g : ℕ → ℕ) (b : ℕ) (form : Form) (works : List Work) (t : ℕ) (s z : Scene) (xs : List Entry) → AreWorksFit g b works → Reaches form works t s xs z
+    → All (IsFit g b) (history_events xs)
+reach-fit g b form works t s z [] all h = All-nil (IsFit g b)
+reach-fit g b form works t s z (x ∷ xs) all h =
+    All-cons (IsFit g b) x.event (history_events xs) (next-fit g b form works t s.places s.turn (x.worker, x.event) all h.0)
+    (reach-fit g b form works t h.1 z xs all h.3)
 
-plays-placed : (b : ℕ) (form : Form) (works : List Work) (past : List ℕ) (places : List Place) (h : List Entry) → AreWorksPlaced b works → Plays form works past places h
-    → All (IsPlaced b) (history_events h)
-plays-placed b form works [] places h all so = subst (λ (l : List Entry). All (IsPlaced b) (history_events l)) (sym so.1) (All-nil (IsPlaced b))
-plays-placed b form works (t ∷ past) places h all so =
+plays-fit : (g : ℕ → ℕ) (b : ℕ) (form : Form) (works : List Work) (past : List ℕ) (places : List Place) (h : List Entry) → AreWorksFit g b works → Plays form works past places h
+    → All (IsFit g b) (history_events h)
+plays-fit g b form works [] places h all so = subst (λ (l : List Entry). All (IsFit g b) (history_events l)) (sym so.1) (All-nil (IsFit g b))
+plays-fit g b form works (t ∷ past) places h all so =
     let was : List Place = so.0 in let before : List Entry = so.1 in let more : List Entry = so.2 in
-    subst (λ (l : List Entry). All (IsPlaced b) (history_events l)) (sym so.5)
-    (subst (All (IsPlaced b)) (sym (events-append before more))
-    (All-append (IsPlaced b) (history_events before) (history_events more) (plays-placed b form works past was before all so.3)
-    (reach-placed b form works t so.4.0 so.4.1 more all so.4.3)))
+    subst (λ (l : List Entry). All (IsFit g b) (history_events l)) (sym so.5)
+    (subst (All (IsFit g b)) (sym (events-append before more))
+    (All-append (IsFit g b) (history_events before) (history_events more) (plays-fit g b form works past was before all so.3)
+    (reach-fit g b form works t so.4.0 so.4.1 more all so.4.3)))
 
-work-placed : (p : Plan) (works : List Work) (i : ℕ) (w : Work) → IsPlan p → AreMoves p works → slice_get works i ≡ Some w → All (IsPlaced p.buckets) w.events
-work-placed p works i w plan are g =
-    subst (λ (v : Work). All (IsPlaced p.buckets) v.events) (sym (are.each i w g))
-    (All-filter (is_work (i + 1)) (IsPlaced p.buckets) p.steps (steps_placed p p.steps plan refl))
+-- what holds of all, and another thing that does
+both-fit : {X : Type 0} (P Q : X → Type 0) (xs : List X) → All P xs → All Q xs → All (λ x. P x × Q x) xs
+both-fit P Q [] a b = All-nil (λ x. P x × Q x)
+both-fit P Q (x ∷ xs) a b = All-cons (λ x. P x × Q x) x xs (All-head P x xs a, All-head Q x xs b) (both-fit P Q xs (All-tail P x xs a) (All-tail Q x xs b))
 
-play-placed : (p : Plan) (form : Form) (works : List Work) (past : List ℕ) (places : List Place) (h : List Entry) → IsPlan p → AreMoves p works
-    → Plays form works past places h → All (IsPlaced p.buckets) (history_events h)
-play-placed p form works past places h plan are so = plays-placed p.buckets form works past places h (λ i w g. work-placed p works i w plan are g) so
+firsts-fit : {X : Type 0} (P Q : X → Type 0) (xs : List X) → All (λ x. P x × Q x) xs → All P xs
+firsts-fit P Q [] a = All-nil P
+firsts-fit P Q (x ∷ xs) a = All-cons P x xs (All-head (λ x. P x × Q x) x xs a).0 (firsts-fit P Q xs (All-tail (λ x. P x × Q x) x xs a))
+
+seconds-fit : {X : Type 0} (P Q : X → Type 0) (xs : List X) → All (λ x. P x × Q x) xs → All Q xs
+seconds-fit P Q [] a = All-nil Q
+seconds-fit P Q (x ∷ xs) a = All-cons Q x xs (All-head (λ x. P x × Q x) x xs a).1 (seconds-fit P Q xs (All-tail (λ x. P x × Q x) x xs a))
+
+work-fit : (p : Plan) (works : List Work) (i : ℕ) (w : Work) → IsPlan p → AreMoves p works → slice_get works i ≡ Some w → All (IsFit (group_in p) p.buckets) w.events
+work-fit p works i w plan are g =
+    subst (λ (v : Work). All (IsFit (group_in p) p.buckets) v.events) (sym (are.each i w g))
+    (All-filter (is_work (i + 1)) (IsFit (group_in p) p.buckets) p.steps (both-fit (IsPlaced p.buckets) (ScansGroup (group_in p) p.buckets) p.steps (steps_placed p p.steps plan refl) (steps-scan p)))
+
+play-fit : (p : Plan) (form : Form) (works : List Work) (past : List ℕ) (places : List Place) (h : List Entry) → IsPlan p → AreMoves p works
+    → Plays form works past places h → All (IsFit (group_in p) p.buckets) (history_events h)
+play-fit p form works past places h plan are so = plays-fit (group_in p) p.buckets form works past places h (λ i w g. work-fit p works i w plan are g) so
 
 -- ---- the beginning of a play
 All-left : {X : Type 0} (P : X → Type 0) (xs ys : List X) → All P (xs ++ ys) → All P xs
 All-left P [] ys all = All-nil P
 All-left P (x ∷ xs) ys all = All-cons P x xs (All-head P x (xs ++ ys) all) (All-left P xs ys (All-tail P x (xs ++ ys) all))
 
+left-same : {X : Type 0} (xs ys us vs : List X) → length xs ≡ length us → xs ++ ys ≡ us ++ vs → xs ≡ us
+left-same [] ys [] vs l e = refl
+left-same [] ys (u ∷ us) vs l e = absurd (omega arith)
+left-same (x ∷ xs) ys [] vs l e = absurd (omega arith)
+left-same (x ∷ xs) ys (u ∷ us) vs l e =
+    let head : x ≡ u = cc in
+    let tail : xs ++ ys ≡ us ++ vs = cc in
+    let rest : xs ≡ us = left-same xs ys us vs (omega arith) tail in
+    cc
+
+told-length : (w : World) (es : List Event) → length (told w es) ≡ length es
+told-length w [] = refl
+told-length w (e ∷ es) = omega (arith, told-length (next w e) es)
+
+told-before : (w : World) (h more : List Entry) → replies_in (h ++ more) ≡ told w (history_events (h ++ more)) → replies_in h ≡ told w (history_events h)
+told-before w h more e =
+    let a : length (replies_in h) ≡ length h = length-map h (λ (x : Entry). x.reply) in
+    let b : length (told w (history_events h)) ≡ length (history_events h) = told-length w (history_events h) in
+    let c : length (history_events h) ≡ length h = length-map h (λ (x : Entry). x.event) in
+    left-same (replies_in h) (replies_in more) (told w (history_events h)) (told (run w (history_events h)) (history_events more)) (a ∙ sym c ∙ sym b)
+    (sym (replies-append h more) ∙ e ∙ ap (told w) (events-append h more) ∙ told-on w (history_events h) (history_events more))
+
 played-by : (p : Plan) (form : Form) (works : List Work) (past : List ℕ) (places : List Place) (h : List Entry) → IsPlan p → AreMoves p works → IsHistory (length p.txns) h
     → replies_in h ≡ told (opening_of p 1) (history_events h) → Plays form works past places h → HasPlayed p form works past places h
 played-by p form works past places h plan are formed replies come = record {
   formed = formed;
-  placed = play-placed p form works past places h plan are come;
+  placed = firsts-fit (IsPlaced p.buckets) (ScansGroup (group_in p) p.buckets) (history_events h) (play-fit p form works past places h plan are come);
+  scans = seconds-fit (IsPlaced p.buckets) (ScansGroup (group_in p) p.buckets) (history_events h) (play-fit p form works past places h plan are come);
   replies = replies;
   play = come;
 }

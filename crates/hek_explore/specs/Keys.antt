@@ -1,5 +1,5 @@
 -- The shape of a play, which its key has: what a program sees of its world, and what of its history decides the outcome. Times are left out
--- but for the order that a snapshot transaction may still ask for, and versions are numbered by bucket, in each bucket
+-- but for the order that a snapshot transaction may still ask for, and versions are numbered by group, in each group
 -- in order.
 use Rattle.std.specs.Prelude.{ℕ, zero, suc, ◌+◌, Bool, ◌&&◌, nat_lt, if◌then◌else◌, List, [], ◌∷◌, ◌++◌, Option, Some, None, length}
 use Rattle.hek_rules.specs.declared.event.Event.{Event}
@@ -13,7 +13,7 @@ use Rattle.hek_rules.specs.Plan.{Plan}
 use Rattle.hek_rules.specs.Shown.{begin_word, end_word, read_set, write_set, bucket_set, waiting_list, dependents_of}
 use Rattle.hek_rules.specs.Words.{infinity}
 use Rattle.hek_rules.specs.World.{World, txn_in, version_in, is_prepared}
-use Rattle.hek_similar.specs.Canonical.{by_bucket}
+use Rattle.hek_similar.specs.Canonical.{by_group}
 use Rattle.hek_similar.specs.Forms.{After}
 use Rattle.hek_similar.specs.Places.{renumbered}
 use Rattle.hek_similar.specs.Similar.{timeless_creator, made_time, looks_back}
@@ -23,6 +23,7 @@ use Rattle.hek_permute.specs.declared.outcome.Ending.{Ending}
 use Rattle.hek_permute.specs.declared.play.Place.{Place}
 use Rattle.hek_permute.specs.Outcomes.{end_in, has_wait}
 use Rattle.hek_explore.specs.declared.key.VersionKey.{VersionKey}
+use Rattle.hek_explore.specs.Groups.{group_in}
 use Rattle.hek_explore.specs.Twins.{world_after, steps_in}
 
 -- the values of f at the numbers below n
@@ -116,10 +117,10 @@ shape_in w places h =
       waited = has_wait h;
     }
 
--- the world with its versions by bucket, in each bucket in order
-abbrev pub sorted_by_bucket : World → World
-sorted_by_bucket w = renumbered (by_bucket w) w
+-- the world with its versions by group, in each group in order
+abbrev pub sorted_by : (ℕ → ℕ) → World → World
+sorted_by group w = renumbered (by_group group w) w
 
 -- the key of a play that has led to these places
 abbrev pub shape_of : Plan → List Place → List Entry → Shape
-shape_of p places h = shape_in (sorted_by_bucket (world_after p h)) places h
+shape_of p places h = shape_in (sorted_by (group_in p) (world_after p h)) places h

@@ -1,4 +1,5 @@
 pub mod Twins
+pub mod Groups
 pub mod Keys
 pub mod Numbers
 pub mod Steps

@@ -3,14 +3,17 @@
 #![tactic(auto)]
 
 mod class;
+mod groups;
 mod key;
 mod numbers;
 mod spot;
+mod survey;
 mod walk;
 
 ghost use Rattle.hek_explore.specs.Laws.{EqualKeysMakeTwins, PlaysExtendAlike, TwinsHaveEqualKeys, TwinsHaveOneOutcome};
 
 pub use key::{Key, Look, TxnKey, VersionKey};
+pub use survey::Survey;
 pub use walk::explore;
 
 /// Two plays are twins and have led to the same places. If one goes on by a move, so does the other, to the same

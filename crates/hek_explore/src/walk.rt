@@ -7,10 +7,12 @@ ghost use Rattle.hek_permute.specs.Moves.{AreMoves, counts_of};
 ghost use Rattle.hek_permute.specs.Plays.{HasMoved, Plays};
 
 use crate::class::{Class, Layer};
+use crate::groups::Grouped;
 use crate::key::Key;
+use crate::survey::Survey;
 use hek_permute::{
-    Form, Moves, OrderFault, Outcome, Pace, Place, Play, Tally, first_places, make_move,
-    move_count, moves_of, outcome_of,
+    Form, Moves, OrderFault, Outcome, Place, Play, Tally, first_places, make_move, move_count,
+    moves_of, outcome_of,
 };
 use hek_rules::{Schedule, TxnId};
 use hek_worker::Book;
@@ -21,35 +23,52 @@ const MOST_EVENTS: u64 = 1 << 60;
 
 /// The outcomes of all orders of a schedule's moves, and how many orders have each. Beginnings of orders whose plays go
 /// on alike are a class, and only the first beginning of each class is played; None if there are more classes than the
-/// limit. Rows come in the order of their first orders. `pace` counts a play for each move that is tried.
-pub fn explore<P: Pace>(
+/// limit. Rows come in the order of their first orders. `survey` is told how far it has come.
+pub fn explore<S: Survey>(
     alloc: Global,
     schedule: &Schedule,
     form: Form,
     limit: u64,
-    pace: &mut P,
+    survey: &mut S,
 ) -> Result<Option<Tally>, OrderFault>
     ensures { IfOk result (λ found. IfSome found (IsCensus schedule.now form)) }
 {
+    let grouped = Grouped::of(alloc, schedule)?;
     let moves = moves_of(alloc, schedule)?;
-    let left = counts_of(alloc, moves.as_slice(), form)?;
+    explore_moves(alloc, &grouped, moves.as_slice(), form, limit, survey)
+}
+
+/// `explore`, given the moves of all transactions.
+fn explore_moves<S: Survey>(
+    alloc: Global,
+    schedule: &Grouped<'_>,
+    moves: &[Moves],
+    form: Form,
+    limit: u64,
+    survey: &mut S,
+) -> Result<Option<Tally>, OrderFault>
+    requires { AreMoves schedule.now moves.now }
+    ensures { IfOk result (λ found. IfSome found (IsCensus schedule.now form)) }
+{
+    let left = counts_of(alloc, moves, form)?;
     let Some(most) = sum_of(left.as_slice()) else {
         return Err(OrderFault::TooMany);
     };
-    let mut layer = first_layer(alloc, schedule, moves.as_slice(), form, left)?;
+    let mut layer = first_layer(alloc, schedule, moves, form, left)?;
     let mut room = limit;
+    survey.begin(most);
     for _ in 0..most {
-        let Some(next) = next_layer(alloc, schedule, moves.as_slice(), form, &layer, room, pace)?
-        else {
+        let Some(next) = next_layer(alloc, schedule, moves, form, &layer, room, survey)? else {
             return Ok(None);
         };
         layer = next;
+        survey.end_layer(layer.classes().len());
         let Some(rest) = room.checked_sub(layer.classes().len() as u64) else {
             return Ok(None);
         };
         room = rest;
     }
-    Ok(Some(tally_of(alloc, schedule, moves.as_slice(), form, &layer)?))
+    Ok(Some(tally_of(alloc, schedule, moves, form, &layer)?))
 }
 
 /// How many moves each transaction has.
@@ -79,7 +98,7 @@ ghost use Rattle.std.specs.Prelude.{sum};
 /// The class of the beginning without moves.
 fn first_layer(
     alloc: Global,
-    schedule: &Schedule,
+    schedule: &Grouped<'_>,
     moves: &[Moves],
     form: Form,
     left: Vec<u64>,
@@ -94,7 +113,7 @@ fn first_layer(
 
 fn start(
     alloc: Global,
-    schedule: &Schedule,
+    schedule: &Grouped<'_>,
     moves: &[Moves],
     form: Form,
     left: Vec<u64>,
@@ -113,26 +132,26 @@ fn start(
 }
 
 /// The key of the play without moves.
-fn first_key(alloc: Global, schedule: &Schedule, moves: &[Moves]) -> Result<Key, OrderFault>
+fn first_key(alloc: Global, schedule: &Grouped<'_>, moves: &[Moves]) -> Result<Key, OrderFault>
     requires { AreMoves schedule.now moves.now }
     ensures { IfOk result (λ key. (form : Form) → HasKey schedule.now form moves.now [] key 0) }
 {
-    let book = Book::load(alloc, schedule)?;
+    let book = Book::load(alloc, schedule.schedule())?;
     let places = first_places(alloc, moves)?;
-    let key = Key::of(alloc, &book, places.as_slice())?;
+    let key = Key::of(alloc, schedule.groups(), &book, places.as_slice())?;
     let (_machine, _history) = book.into_parts();
     Ok(key)
 }
 
 /// The classes with one more move; None if there are more than there is room for.
-fn next_layer<P: Pace>(
+fn next_layer<S: Survey>(
     alloc: Global,
-    schedule: &Schedule,
+    schedule: &Grouped<'_>,
     moves: &[Moves],
     form: Form,
     layer: &Layer,
     room: u64,
-    pace: &mut P,
+    survey: &mut S,
 ) -> Result<Option<Layer>, OrderFault>
     requires { AreMoves schedule.now moves.now }
     ensures { IfOk result (λ found. IfSome found (IsNextLayer schedule.now form moves.now layer.now)) }
@@ -140,7 +159,7 @@ fn next_layer<P: Pace>(
     let mut next = Layer::new(alloc)?;
     let mut rest = layer.classes();
     while let Some((class, later)) = rest.split_first() {
-        extend(alloc, schedule, moves, form, class, &mut next, pace)?;
+        extend(alloc, schedule, moves, form, class, &mut next, survey)?;
         if next.classes().len() as u64 > room {
             return Ok(None);
         }
@@ -150,35 +169,35 @@ fn next_layer<P: Pace>(
 }
 
 /// Adds what the beginnings of a class become by one more move of each transaction that has moves left.
-fn extend<P: Pace>(
+fn extend<S: Survey>(
     alloc: Global,
-    schedule: &Schedule,
+    schedule: &Grouped<'_>,
     moves: &[Moves],
     form: Form,
     class: &Class,
     next: &mut Layer,
-    pace: &mut P,
+    survey: &mut S,
 ) -> Result<(), OrderFault>
     requires { AreMoves schedule.now moves.now }
     ensures { OnOk result (IsExtended schedule.now form moves.now class.now next.old next.new) }
 {
     let left = class.left();
     for place in 0..left.len() {
-        try_one(alloc, schedule, moves, form, class, place, next, pace)?;
+        try_one(alloc, schedule, moves, form, class, place, next, survey)?;
     }
     Ok(())
 }
 
 /// Adds what the beginnings of a class become by one more move of the transaction at a place, if it has moves left.
-fn try_one<P: Pace>(
+fn try_one<S: Survey>(
     alloc: Global,
-    schedule: &Schedule,
+    schedule: &Grouped<'_>,
     moves: &[Moves],
     form: Form,
     class: &Class,
     place: usize,
     next: &mut Layer,
-    pace: &mut P,
+    survey: &mut S,
 ) -> Result<(), OrderFault>
     requires are { AreMoves schedule.now moves.now }
     requires place_in { place < length class.now.left }
@@ -188,7 +207,7 @@ fn try_one<P: Pace>(
     if left[place] == 0 {
         return Ok(());
     }
-    pace.count_play();
+    survey.count_play();
     let grown = grow(alloc, schedule, moves, form, class, place)?;
     next.add(grown)
 }
@@ -196,7 +215,7 @@ fn try_one<P: Pace>(
 /// The class of the beginnings of this one with one more move of the transaction at a place.
 fn grow(
     alloc: Global,
-    schedule: &Schedule,
+    schedule: &Grouped<'_>,
     moves: &[Moves],
     form: Form,
     class: &Class,
@@ -239,7 +258,7 @@ fn one_fewer(alloc: Global, left: &[u64], place: usize) -> Result<Vec<u64>, Orde
 /// The key to which a move leads from the key of a class, and how many events the play has then.
 fn lead(
     alloc: Global,
-    schedule: &Schedule,
+    schedule: &Grouped<'_>,
     moves: &[Moves],
     form: Form,
     class: &Class,
@@ -250,7 +269,7 @@ fn lead(
 {
     let (mut book, mut places) = replay(alloc, schedule, moves, form, class)?;
     move_in(&mut book, moves, form, &mut places, mover)?;
-    let key = Key::of(alloc, &book, places.as_slice())?;
+    let key = Key::of(alloc, schedule.groups(), &book, places.as_slice())?;
     let (_machine, history) = book.into_parts();
     Ok((key, history.len()))
 }
@@ -271,7 +290,7 @@ ghost use Rattle.hek_rules.specs.Checks.{clock_end};
 /// The play of a class's first beginning: the book, and where each transaction is. It has the key of the class.
 fn replay<'a>(
     alloc: Global,
-    schedule: &'a Schedule,
+    schedule: &Grouped<'a>,
     moves: &[Moves],
     form: Form,
     class: &Class,
@@ -280,7 +299,7 @@ fn replay<'a>(
     ensures { IfOk result (λ r. IsReplayed schedule.now form moves.now class.now r.0.plan r.1.items r.0.history) }
 {
     let (book, places) = play_from(alloc, schedule, moves, form, class.first())?;
-    let key = Key::of(alloc, &book, places.as_slice())?;
+    let key = Key::of(alloc, schedule.groups(), &book, places.as_slice())?;
     if !key.same(class.key()) {
         return Err(OrderFault::Mismatch);
     }
@@ -290,7 +309,7 @@ fn replay<'a>(
 /// The play of these moves.
 fn play_from<'a>(
     alloc: Global,
-    schedule: &'a Schedule,
+    schedule: &Grouped<'a>,
     moves: &[Moves],
     form: Form,
     order: &[TxnId],
@@ -298,7 +317,7 @@ fn play_from<'a>(
     ensures plan { IfOk result (λ r. r.0.plan ≡ schedule.now) }
     ensures come { IfOk result (λ r. Plays form moves.now (reverse order.now) r.1.items r.0.history) }
 {
-    let mut book = Book::load(alloc, schedule)?;
+    let mut book = Book::load(alloc, schedule.schedule())?;
     let mut places = first_places(alloc, moves)?;
     for &mover in order {
         move_in(&mut book, moves, form, &mut places, mover)?;
@@ -323,7 +342,7 @@ fn move_in(
 /// The outcomes of the classes of whole orders, and how many orders have each.
 fn tally_of(
     alloc: Global,
-    schedule: &Schedule,
+    schedule: &Grouped<'_>,
     moves: &[Moves],
     form: Form,
     layer: &Layer,
@@ -345,7 +364,7 @@ fn tally_of(
 /// The outcome of a class's orders.
 fn outcome_in(
     alloc: Global,
-    schedule: &Schedule,
+    schedule: &Grouped<'_>,
     moves: &[Moves],
     form: Form,
     class: &Class,
@@ -355,5 +374,5 @@ fn outcome_in(
 {
     let (book, _places) = replay(alloc, schedule, moves, form, class)?;
     let (machine, history) = book.into_parts();
-    Ok(outcome_of(alloc, schedule, Play { machine, history })?)
+    Ok(outcome_of(alloc, schedule.schedule(), Play { machine, history })?)
 }

@@ -21,6 +21,7 @@ const LEVELS: Choice<'static> = Choice {
     levels: true,
     find: None,
     progress: false,
+    stats: false,
     printing: Printing::Text,
 };
 

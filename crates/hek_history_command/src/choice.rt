@@ -2,6 +2,31 @@
 use hek_history::{History, Level, Order, Status};
 use hek_report::Printing;
 
+/// Which anomalies are told.
+#[derive(Clone, Copy, PartialEq, Eq)]
+pub enum Extent {
+    /// The first one.
+    First,
+    /// All, and how many there are of each name.
+    All,
+    /// How many there are of each name.
+    Counts,
+}
+
+impl Extent {
+    /// What the words of `--all` ask for.
+    pub const WORDS: &'static [&'static str] = &["each", "counts"];
+
+    /// What a word of `--all` asks for.
+    pub fn named(word: Option<&str>) -> Extent {
+        match word {
+            None => Extent::First,
+            Some("counts") => Extent::Counts,
+            Some(_) => Extent::All,
+        }
+    }
+}
+
 /// What the words of the command line ask for.
 #[derive(Clone, Copy)]
 pub struct Choice {
@@ -9,8 +34,8 @@ pub struct Choice {
     pub level: Option<Level>,
     /// The order that is asked for, if not the one that the times of the log give.
     pub order: Option<Order>,
-    /// Whether to go on after an anomaly.
-    pub all: bool,
+    /// Which anomalies are told.
+    pub extent: Extent,
     /// Whether faults of the log are explained.
     pub explains: bool,
     pub printing: Printing,

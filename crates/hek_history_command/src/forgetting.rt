@@ -1,5 +1,5 @@
-//! Going on after an anomaly: the answers of its transactions are forgotten.
-use hek_history::{Level, Operation, Transaction};
+//! Going on after an anomaly: the answers on which it rests are forgotten.
+use hek_history::{Level, Operation, Scope, Transaction, covers, key_of};
 use hek_rules::NoMemory;
 use std::alloc::Global;
 use std::mem;
@@ -33,4 +33,110 @@ fn add_write(operations: &mut Vec<Operation>, operation: &Operation) -> Result<(
         _ => {}
     }
     Ok(())
+}
+
+/// Forgets what a transaction was answered at a key. Its writes stay, and its answers at other keys; of a scan of a bucket those at the
+/// other keys that it listed.
+pub(crate) fn forget_answer(
+    alloc: Global,
+    transaction: &mut Transaction,
+    key: u64,
+) -> Result<(), NoMemory> {
+    let mut operations = Vec::new(alloc);
+    for operation in transaction.operations.iter() {
+        add_other(alloc, &mut operations, operation, key)?;
+    }
+    let _old = mem::replace(&mut transaction.operations, operations);
+    Ok(())
+}
+
+/// Adds an operation without its answer at a key.
+fn add_other(
+    alloc: Global,
+    operations: &mut Vec<Operation>,
+    operation: &Operation,
+    key: u64,
+) -> Result<(), NoMemory> {
+    if let Operation::Scan(scope, pairs) = operation {
+        if covers(*scope, key) {
+            return add_parts(alloc, operations, *scope, pairs.as_slice(), key);
+        }
+        return add_scan(alloc, operations, *scope, pairs.as_slice());
+    }
+    if key_of(operation) == key {
+        return add_write(operations, operation);
+    }
+    add_same(operations, operation)
+}
+
+/// Adds an operation that is no scan as it is.
+fn add_same(operations: &mut Vec<Operation>, operation: &Operation) -> Result<(), NoMemory> {
+    match *operation {
+        Operation::Read(key, found) => operations.push(Operation::Read(key, found))?,
+        Operation::Put(key, value) => operations.push(Operation::Put(key, value))?,
+        Operation::Insert(key, value, done) => {
+            operations.push(Operation::Insert(key, value, done))?;
+        }
+        Operation::Update(key, value, done) => {
+            operations.push(Operation::Update(key, value, done))?;
+        }
+        Operation::Delete(key, done) => operations.push(Operation::Delete(key, done))?,
+        Operation::Scan(_, _) => {}
+    }
+    Ok(())
+}
+
+/// Adds a scan that found these pairs.
+fn add_scan(
+    alloc: Global,
+    operations: &mut Vec<Operation>,
+    scope: Scope,
+    pairs: &[(u64, u64)],
+) -> Result<(), NoMemory> {
+    let mut found = Vec::new(alloc);
+    found.extend_from_slice(pairs)?;
+    operations.push(Operation::Scan(scope, found))?;
+    Ok(())
+}
+
+/// Adds what a scan found beside a key: the ranges before it and after it, or reads of what a bucket has.
+fn add_parts(
+    alloc: Global,
+    operations: &mut Vec<Operation>,
+    scope: Scope,
+    pairs: &[(u64, u64)],
+    key: u64,
+) -> Result<(), NoMemory> {
+    match scope {
+        Scope::Range(from, to) => {
+            let before = pairs.partition_point(|pair| pair.0 < key);
+            let after = pairs.partition_point(|pair| pair.0 <= key);
+            let (low, _) = split(pairs, before);
+            let (_, high) = split(pairs, after);
+            add_scan(alloc, operations, Scope::Range(from, key), low)?;
+            add_scan(
+                alloc,
+                operations,
+                Scope::Range(key.saturating_add(1), to),
+                high,
+            )
+        }
+        Scope::Bucket(_, _) => {
+            for pair in pairs {
+                if pair.0 != key {
+                    operations.push(Operation::Read(pair.0, Some(pair.1)))?;
+                }
+            }
+            Ok(())
+        }
+    }
+}
+
+/// The parts of a list before a place and from it on.
+fn split(pairs: &[(u64, u64)], place: usize) -> (&[(u64, u64)], &[(u64, u64)]) {
+    if place <= pairs.len() {
+        pairs.split_at(place)
+    } else {
+        (pairs, &[])
+    }
 }

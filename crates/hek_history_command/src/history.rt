@@ -3,17 +3,20 @@ ghost use Rattle.std.specs.Prelude.{◌≡◌, IfOk};
 ghost use Rattle.hek_history_search.specs.Verdicts.{IsVerdict};
 ghost use Rattle.hek_history_command.specs.Answers.{IsStatus};
 
-use crate::choice::{Choice, is_judged, order_of, set_level, weaker_level};
+use crate::choice::{Choice, Extent, is_judged, order_of, set_level, weaker_level};
+use crate::counted::Tally;
 use crate::counts::counts_of;
 use crate::explained::Explained;
-use crate::forgetting::forget_answers;
+use crate::forgetting::{forget_answer, forget_answers};
 use crate::order_lines::write_order;
 use crate::twins::have_both;
 use crate::{verdict_json, verdict_text};
-use hek_history::{History, Level, Order, Point, Writer};
+use hek_history::{History, Level, Order, Point, Step, Writer};
 use hek_history_log::{Log, LogFault, read_log_watching};
 use hek_history_report::turn;
-use hek_history_search::{Cause, Progress, Verdict, judge};
+use hek_history_search::{
+    Answer, Cause, Progress, Verdict, anomalies_shown, cause_by_answers, judge,
+};
 use hek_report::{HekFault, Lines, Printing, buffered, send};
 use hek_rules::NoMemory;
 use std::alloc::Global;
@@ -33,7 +36,7 @@ struct Question {
     order: Order,
     /// The level of all transactions, if it is asked for and weaker than serializable.
     weaker: Option<Level>,
-    all: bool,
+    extent: Extent,
     printing: Printing,
 }
 
@@ -88,7 +91,7 @@ fn judge_log<'a, W: Write, O: Write>(
     let question = Question {
         order: order_of(choice, &log.history),
         weaker: weaker_level(choice),
-        all: choice.all,
+        extent: choice.extent,
         printing: choice.printing,
     };
     if !is_judged(&log.history) {
@@ -131,7 +134,9 @@ fn write_verdict<'a, W: Write, O: Write>(
         Verdict::Serial(points) => {
             write_serial(alloc, log, points.as_slice(), question, order_out, out)?;
         }
-        Verdict::NotSerial(_steps, cause) => write_causes(alloc, log, cause, question, out)?,
+        Verdict::NotSerial(steps, cause) => {
+            write_causes(alloc, log, steps.as_slice(), cause, question, out)?;
+        }
         Verdict::Unknown(progress) => write_unknown(alloc, progress, question, out)?,
     }
     Ok(status)
@@ -262,29 +267,140 @@ fn write_not_serial<'a, W: Write>(
     send(&mut lines, out)
 }
 
-/// Writes an anomaly, and with `all` those of what is left, each time without the answers of the last one's
-/// transactions.
+/// Writes an anomaly, or all, each without the answers on which those before it rest, and how many there are of each name.
 fn write_causes<'a, W: Write>(
     alloc: Global,
     log: &mut Log,
+    steps: &[Step],
     cause: Cause,
     question: Question,
     out: &mut W,
 ) -> Result<(), HekFault<'a>> {
-    let mut cause = cause;
-    for _ in 0..log.history.transactions.len() {
-        turn(&mut cause);
-        write_not_serial(alloc, log, &cause, question, out)?;
-        if !question.all || cause.cycle.is_empty() {
-            break;
-        }
-        forget_cause(alloc, log, &cause)?;
-        match judge(alloc, &log.history, question.order, EFFORT)? {
-            Verdict::NotSerial(_steps, next) => cause = next,
-            Verdict::Serial(_) | Verdict::Unknown(_) => break,
-        }
+    let is_all = question.extent != Extent::First;
+    let mut causes = told(alloc, &log.history, steps, cause, question.order, is_all)?;
+    let mut tally = Tally::new(alloc);
+    write_each(alloc, log, causes.as_mut_slice(), question, &mut tally, out)?;
+    if is_all {
+        write_others(alloc, log, question, &mut tally, out)?;
     }
     write_order_asked(alloc, question, out)
+}
+
+/// The anomalies that answers show; where there is none, what the steps show.
+fn told(
+    alloc: Global,
+    history: &History,
+    steps: &[Step],
+    cause: Cause,
+    order: Order,
+    is_all: bool,
+) -> Result<Vec<Cause>, NoMemory> {
+    let mut causes = anomalies_shown(alloc, history, order, is_all)?;
+    if causes.is_empty() {
+        causes.push(cause_by_answers(alloc, history, order, steps, cause)?)?;
+    }
+    Ok(causes)
+}
+
+/// Writes anomalies, unless only their numbers are wanted, counts them, and forgets the answers on which they rest.
+fn write_each<'a, W: Write>(
+    alloc: Global,
+    log: &mut Log,
+    causes: &mut [Cause],
+    question: Question,
+    tally: &mut Tally,
+    out: &mut W,
+) -> Result<(), HekFault<'a>> {
+    for cause in causes.iter_mut() {
+        write_one(alloc, log, cause, question, out)?;
+        tally.count(cause.anomaly)?;
+        forget_cause(alloc, log, cause)?;
+    }
+    Ok(())
+}
+
+fn write_one<'a, W: Write>(
+    alloc: Global,
+    log: &Log,
+    cause: &mut Cause,
+    question: Question,
+    out: &mut W,
+) -> Result<(), HekFault<'a>> {
+    if question.extent == Extent::Counts {
+        return Ok(());
+    }
+    if cause.reasons.is_empty() {
+        turn(cause);
+    }
+    write_not_serial(alloc, log, cause, question, out)
+}
+
+/// Judges the rest again and again, writes what keeps it from having an explanation, and at the end how many anomalies there are of
+/// each name.
+fn write_others<'a, W: Write>(
+    alloc: Global,
+    log: &mut Log,
+    question: Question,
+    tally: &mut Tally,
+    out: &mut W,
+) -> Result<(), HekFault<'a>> {
+    for _ in 0..usize::MAX {
+        match judge(alloc, &log.history, question.order, EFFORT)? {
+            Verdict::NotSerial(steps, cause) => {
+                write_other(alloc, log, steps.as_slice(), cause, question, tally, out)?;
+            }
+            Verdict::Serial(_) => return write_counts(alloc, tally, true, question, out),
+            Verdict::Unknown(_) => return write_counts(alloc, tally, false, question, out),
+        }
+    }
+    Ok(())
+}
+
+/// Writes what keeps the rest from having an explanation.
+fn write_other<'a, W: Write>(
+    alloc: Global,
+    log: &mut Log,
+    steps: &[Step],
+    cause: Cause,
+    question: Question,
+    tally: &mut Tally,
+    out: &mut W,
+) -> Result<(), HekFault<'a>> {
+    let mut told = cause_by_answers(alloc, &log.history, question.order, steps, cause)?;
+    write_one(alloc, log, &mut told, question, out)?;
+    tally.count(told.anomaly)?;
+    forget_cause(alloc, log, &told)?;
+    Ok(())
+}
+
+/// Writes how many anomalies there are of each name, and what is said of the rest.
+fn write_counts<'a, W: Write>(
+    alloc: Global,
+    tally: &mut Tally,
+    is_serial: bool,
+    question: Question,
+    out: &mut W,
+) -> Result<(), HekFault<'a>> {
+    tally.sort()?;
+    let mut lines = Vec::new(alloc);
+    match question.printing {
+        Printing::Text => {
+            let alone = question.extent == Extent::Counts;
+            verdict_text::put_counts(question.weaker, alone, tally, is_serial, &mut lines)?;
+        }
+        Printing::Json => {
+            let mut objects = Lines::after(alloc, &mut lines);
+            verdict_json::put_counts(
+                question.weaker,
+                question.order,
+                tally,
+                is_serial,
+                &mut objects,
+            );
+            objects.put_back(&mut lines)?;
+        }
+    }
+    send(&mut lines, out)
 }
 
 /// Writes of which orders a history is not serial.
@@ -300,13 +416,30 @@ fn write_order_asked<'a, W: Write>(
     send(&mut lines, out)
 }
 
-/// Forgets the answers of the transactions of a cycle.
+/// Forgets the answers on which an anomaly rests; where it rests on times alone, all answers and times of its transactions.
 fn forget_cause(alloc: Global, log: &mut Log, cause: &Cause) -> Result<(), NoMemory> {
-    for edge in cause.cycle.iter() {
-        forget_writer(alloc, log, edge.first)?;
-        forget_writer(alloc, log, edge.second)?;
+    for answer in cause.answers.iter() {
+        forget_one(alloc, log, *answer)?;
+    }
+    if cause.answers.is_empty() {
+        for edge in cause.cycle.iter() {
+            forget_writer(alloc, log, edge.first)?;
+            forget_writer(alloc, log, edge.second)?;
+        }
     }
     Ok(())
+}
+
+/// Forgets an answer.
+fn forget_one(alloc: Global, log: &mut Log, answer: Answer) -> Result<(), NoMemory> {
+    match (
+        log.history.transactions.get_mut(answer.transaction),
+        answer.key,
+    ) {
+        (Some(transaction), Some(key)) => forget_answer(alloc, transaction, key),
+        (Some(transaction), None) => forget_answers(alloc, transaction),
+        (None, _) => Ok(()),
+    }
 }
 
 fn forget_writer(alloc: Global, log: &mut Log, writer: Writer) -> Result<(), NoMemory> {

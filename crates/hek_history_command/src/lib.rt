@@ -2,6 +2,7 @@
 #![tactic(auto)]
 
 mod choice;
+mod counted;
 mod counts;
 mod explained;
 mod forgetting;
@@ -12,6 +13,6 @@ mod twins;
 mod verdict_json;
 mod verdict_text;
 
-pub use choice::Choice;
+pub use choice::{Choice, Extent};
 pub use history::history_command;
 pub use run_log::run_log_command;

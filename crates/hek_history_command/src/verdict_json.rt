@@ -1,4 +1,5 @@
 //! A verdict as JSON, one object on each line. The members of an object are in the order of their names.
+use crate::counted::Tally;
 use crate::counts::Counts;
 use hek_history::{Level, Order};
 use hek_history_log::Log;
@@ -41,16 +42,42 @@ pub(crate) fn put_not_serial(
     put_cycle(alloc, log, cause, out)?;
     put_level(weaker, out);
     out.put_text("order", order.word());
-    out.put_text(
-        "verdict",
-        if weaker.is_some() {
-            "fails"
-        } else {
-            "not serial"
-        },
-    );
+    out.put_text("verdict", failed_word(weaker));
     out.end_line();
     Ok(())
+}
+
+/// The object of how many anomalies there are of each name.
+pub(crate) fn put_counts(
+    weaker: Option<Level>,
+    order: Order,
+    tally: &Tally,
+    is_serial: bool,
+    out: &mut Lines,
+) {
+    out.begin_line();
+    tally.put_member(out);
+    put_level(weaker, out);
+    out.put_text("order", order.word());
+    out.put_text(
+        "rest",
+        match (is_serial, weaker) {
+            (true, None) => "serial",
+            (true, Some(_)) => "holds",
+            (false, _) => "unknown",
+        },
+    );
+    out.put_text("verdict", failed_word(weaker));
+    out.end_line();
+}
+
+/// The word of the verdict on a history that is not serial, or fails at a weaker level.
+fn failed_word(weaker: Option<Level>) -> &'static str {
+    if weaker.is_some() {
+        "fails"
+    } else {
+        "not serial"
+    }
 }
 
 /// The object of a history of which nothing is known.

@@ -1,4 +1,5 @@
 //! A verdict as text.
+use crate::counted::Tally;
 use crate::counts::Counts;
 use hek_history::{Level, Order};
 use hek_history_log::Log;
@@ -78,6 +79,32 @@ pub(crate) fn put_not_serial(
         put(writeln!(lines, "{line}"))?;
     }
     Ok(())
+}
+
+/// The line of how many anomalies there are of each name, which is the verdict if it stands alone, and of the rest.
+pub(crate) fn put_counts(
+    weaker: Option<Level>,
+    alone: bool,
+    tally: &Tally,
+    is_serial: bool,
+    lines: &mut Vec<u8>,
+) -> Result<(), NoMemory> {
+    match (alone, weaker) {
+        (false, _) => put(write!(lines, "in all: "))?,
+        (true, None) => put(write!(lines, "not serial: "))?,
+        (true, Some(level)) => put(write!(lines, "fails at {}: ", level.word()))?,
+    }
+    tally.put_words(lines)?;
+    put(writeln!(lines, "; the rest {}", rest_words(weaker, is_serial)))
+}
+
+/// What is said of the rest.
+fn rest_words(weaker: Option<Level>, is_serial: bool) -> &'static str {
+    match (is_serial, weaker) {
+        (true, None) => "is serial",
+        (true, Some(_)) => "holds",
+        (false, _) => "is unknown",
+    }
 }
 
 /// The line of a history of which nothing is known.

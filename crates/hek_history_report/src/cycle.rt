@@ -1,9 +1,9 @@
 //! A cycle as JSON. The members of an edge are in the order of their names.
-use crate::anomaly_words::{edge_words, kind_word};
+use crate::anomaly_words::{edge_words, evidence_word, kind_word};
 use crate::before::{Before, Side};
 use hek_history::{Need, Writer};
 use hek_history_log::{Label, Log};
-use hek_history_search::{Anomaly, Cause, CycleEdge};
+use hek_history_search::{Anomaly, Cause, CycleEdge, EdgeKind, Evidence, OwnFault};
 use hek_report::Lines;
 use hek_rules::{NoMemory, Schedule};
 use std::alloc::Global;
@@ -12,8 +12,38 @@ use std::alloc::Global;
 pub fn put_cycle(alloc: Global, log: &Log, cause: &Cause, out: &mut Lines) -> Result<(), NoMemory> {
     out.put_key("cycle");
     out.begin_array();
-    for edge in cause.cycle.iter() {
-        put_edge(alloc, log, cause.anomaly, *edge, out)?;
+    for (place, edge) in cause.cycle.iter().enumerate() {
+        out.begin_object();
+        put_reading(log, *edge, out);
+        put_reasons(alloc, log, cause, place, out)?;
+        put_rest(alloc, log, cause.anomaly, *edge, out)?;
+        out.end_object();
+    }
+    out.end_array();
+    Ok(())
+}
+
+/// Puts the member `reasons` of an edge that has some: those from which it follows, each with its depth.
+fn put_reasons(
+    alloc: Global,
+    log: &Log,
+    cause: &Cause,
+    place: usize,
+    out: &mut Lines,
+) -> Result<(), NoMemory> {
+    if !cause.reasons.iter().any(|reason| reason.place == place) {
+        return Ok(());
+    }
+    out.put_key("reasons");
+    out.begin_array();
+    for reason in cause.reasons.iter() {
+        if reason.place == place {
+            out.begin_object();
+            out.put_number("depth", reason.depth as u64);
+            put_reading(log, reason.edge, out);
+            put_rest(alloc, log, cause.anomaly, reason.edge, out)?;
+            out.end_object();
+        }
     }
     out.end_array();
     Ok(())
@@ -29,8 +59,8 @@ pub(crate) fn put_befores(schedule: &Schedule, befores: &[Before], out: &mut Lin
     out.end_array();
 }
 
-/// The object of an edge of a log.
-fn put_edge(
+/// The members of an edge after what was read, and its reasons.
+fn put_rest(
     alloc: Global,
     log: &Log,
     anomaly: Anomaly,
@@ -38,15 +68,13 @@ fn put_edge(
     out: &mut Lines,
 ) -> Result<(), NoMemory> {
     let words = edge_words(alloc, log, anomaly, edge)?;
-    out.begin_object();
-    put_reading(log, edge, out);
+    put_evidence(log, edge, out);
     put_writer("to", log, edge.second, out);
     out.put_text("words", words.as_str());
     match edge.written {
         Some(Some(value)) => put_label("written", Some(log.value(value)), out),
         Some(None) | None => put_label("written", None, out),
     }
-    out.end_object();
     Ok(())
 }
 
@@ -58,7 +86,49 @@ fn put_reading(log: &Log, edge: CycleEdge, out: &mut Lines) {
         None => put_label("key", None, out),
     }
     out.put_text("kind", kind_word(edge.kind));
-    match edge.read {
+    if let EdgeKind::Own(fault) = edge.kind {
+        put_operations(fault, out);
+    }
+    put_need(edge.read, log, out);
+}
+
+/// The member `operations` of a transaction's own answers: their numbers, from 1.
+fn put_operations(fault: OwnFault, out: &mut Lines) {
+    let (first, second) = fault.operations();
+    let second = second.saturating_add(1) as u64;
+    match first {
+        Some(first) => {
+            let first = first.saturating_add(1) as u64;
+            out.put_numbers("operations", &[first, second]);
+        }
+        None => out.put_numbers("operations", &[second]),
+    }
+}
+
+/// The members of an edge about what shows it: `reader` where a path does, `seen` where another answer does, `shown`, and `source`, who
+/// wrote what was read.
+fn put_evidence(log: &Log, edge: CycleEdge, out: &mut Lines) {
+    if let Evidence::Path(reader) = edge.evidence {
+        put_writer("reader", log, Writer::Transaction(reader), out);
+    }
+    if let Evidence::Seen(seen) = edge.evidence {
+        out.put_key("seen");
+        out.begin_object();
+        put_writer("by", log, Writer::Transaction(seen.reader), out);
+        put_label("key", Some(log.key(seen.key)), out);
+        put_need(Some(seen.read), log, out);
+        put_writer("source", log, seen.writer, out);
+        out.end_object();
+    }
+    out.put_text("shown", evidence_word(edge.evidence));
+    if let Some(source) = edge.source {
+        put_writer("source", log, source, out);
+    }
+}
+
+/// The member `read`: a value, or null.
+fn put_need(need: Option<Need>, log: &Log, out: &mut Lines) {
+    match need {
         Some(Need::Value(value)) => put_label("read", Some(log.value(value)), out),
         _ => put_label("read", None, out),
     }

@@ -9,7 +9,7 @@ mod printing;
 mod together;
 mod turned;
 
-pub use anomaly_words::{anomaly_name, cycle_lines};
+pub use anomaly_words::{anomaly_name, counted_name, cycle_lines};
 pub use before::{Before, Side};
 pub use cycle::put_cycle;
 pub use printing::{

@@ -1,11 +1,11 @@
-//! The name of what keeps a history from having an explanation.
+//! What keeps a history from having an explanation: its name, and the cycle that shows it.
 use crate::problem::OwnFault;
 use hek_history::{Need, Writer};
 
-/// What keeps a history from having an explanation.
-#[derive(Clone, Copy)]
+/// What keeps a history from having an explanation. The names are those of docs/FORMATS.md.
+#[derive(Clone, Copy, PartialEq, Eq)]
 pub enum Anomaly {
-    /// G0: two transactions wrote over each other.
+    /// G0: a cycle of writes over each other.
     DirtyWrite,
     /// G1a: a transaction read what one that aborted wrote.
     AbortedRead,
@@ -13,19 +13,29 @@ pub enum Anomaly {
     IntermediateRead,
     /// A transaction read what nobody wrote.
     UnwrittenRead,
+    /// A transaction read what only it wrote, and that later.
+    LaterWriteRead,
     /// G1c: transactions read from each other, or wrote over what the next one wrote.
     CircularInformationFlow,
-    /// Two transactions of one key, and neither saw what the other wrote.
+    /// Two transactions inserted one key, and both found it absent.
+    InsertThatExists,
+    /// Two transactions wrote one key, and one of them wrote over what the other had not seen.
     LostUpdate,
-    /// G-single: a transaction read one row from before another's commit, and one from after it.
+    /// G-single of two: a transaction read one row from before another's commit, and one from after it.
     ReadSkew,
-    /// G2-item: two transactions each read a row that the other wrote over.
+    /// G-single: a cycle with one read that another transaction wrote over.
+    SingleAntiDependency,
+    /// G2-item of two: two transactions each read a row that the other wrote over.
     WriteSkew,
+    /// G2-item of three: a transaction that only reads saw one of two others, and not the one before it.
+    ReadOnlyAnomaly,
     /// G2: a scan missed a row that another inserted.
     Phantom,
-    /// Two transactions saw two others commit in either order.
+    /// G-nonadjacent of four: two transactions that only read saw two others commit in either order.
     LongFork,
-    /// G2: a cycle of several rows that were read and written over.
+    /// G-nonadjacent: a cycle in which no two reads that were written over follow one another.
+    Nonadjacent,
+    /// G2-item: a cycle of rows that were read and written over.
     AntiDependencyCycle,
     /// A transaction read what was no longer so when it was invoked.
     StaleRead,
@@ -33,8 +43,14 @@ pub enum Anomaly {
     AgainstRealTime,
     /// The answers go against the times of the points.
     AgainstTimes,
-    /// A transaction's own answers contradict each other.
-    OwnAnswers(OwnFault),
+    /// A transaction found two values of a key that it had not written.
+    NonRepeatableRead,
+    /// A transaction found a key absent in a scan, and there at another time.
+    PhantomWithin,
+    /// A transaction found something else than what it had written.
+    OwnWriteLost,
+    /// A scan has a key twice, or one that it isn't of.
+    OwnAnswers,
     /// No source is left for what a transaction read: each is after it, or was overwritten before it.
     NoSource,
     /// Each order of some moments comes to a contradiction.
@@ -58,6 +74,34 @@ pub enum EdgeKind {
     RealTime,
     /// The contrary comes to a contradiction.
     Cases,
+    /// A transaction's own answers contradict each other: it is both ends.
+    Own(OwnFault),
+}
+
+/// An answer that shows who came before whom, beside the one that an edge is by.
+#[derive(Clone, Copy)]
+pub struct Sighting {
+    pub reader: usize,
+    pub key: u64,
+    pub read: Need,
+    pub writer: Writer,
+}
+
+/// What shows that an edge is so.
+#[derive(Clone, Copy)]
+pub enum Evidence {
+    /// The answer that the edge is by, or the times; for a read that was overwritten, the opening was read.
+    Answer,
+    /// The transaction that wrote over what was read had read the same.
+    SameVersion,
+    /// Another answer.
+    Seen(Sighting),
+    /// The end times of the writers.
+    EndTimes,
+    /// A path of other edges, which are the reasons of a cause, and what this transaction read.
+    Path(usize),
+    /// Steps of a certificate.
+    Steps,
 }
 
 /// An edge of a cycle: one transaction, or the opening, is before another. The key and the values are those of the kind.
@@ -71,6 +115,28 @@ pub struct CycleEdge {
     pub read: Option<Need>,
     /// What was written: by the second transaction where it wrote over what was read, and otherwise by the first.
     pub written: Option<Option<u64>>,
+    /// Whether it was read by a scan.
+    pub scanned: bool,
+    pub evidence: Evidence,
+    /// Who wrote what was read and then written over, where that is known.
+    pub source: Option<Writer>,
+}
+
+/// An edge from which others follow: those of a cause stand in the order in which they are told, and one that is deeper than the one
+/// before it is a reason of that.
+#[derive(Clone, Copy)]
+pub struct Reason {
+    /// The place in the cycle of the edge that it is a reason of.
+    pub place: usize,
+    pub depth: usize,
+    pub edge: CycleEdge,
+}
+
+/// What a transaction was answered at a key, or at all keys.
+#[derive(Clone, Copy)]
+pub struct Answer {
+    pub transaction: usize,
+    pub key: Option<u64>,
 }
 
 /// What keeps a history from having an explanation, with its cycle. Where a reading has no source there is none: then the first
@@ -80,90 +146,7 @@ pub struct CycleEdge {
 pub struct Cause {
     pub anomaly: Anomaly,
     pub cycle: Vec<CycleEdge>,
-}
-
-/// How many edges of a kind a cycle has, and of how many transactions and keys it is.
-#[derive(Clone, Copy)]
-pub(crate) struct Counts {
-    pub reads: usize,
-    pub overwritten: usize,
-    pub versions: usize,
-    pub winners: usize,
-    pub times: usize,
-    pub real: usize,
-    pub cases: usize,
-    /// Readings written over in which a scan shows that a key is absent.
-    pub missed: usize,
-    pub transactions: usize,
-    /// Whether all edges that have a key have the same.
-    pub of_one_key: bool,
-}
-
-/// The counts of no edge.
-pub(crate) const NO_COUNTS: Counts = Counts {
-    reads: 0,
-    overwritten: 0,
-    versions: 0,
-    winners: 0,
-    times: 0,
-    real: 0,
-    cases: 0,
-    missed: 0,
-    transactions: 0,
-    of_one_key: true,
-};
-
-impl Counts {
-    /// Counts an edge.
-    pub(crate) fn add(&mut self, kind: EdgeKind) {
-        let count = match kind {
-            EdgeKind::Read => &mut self.reads,
-            EdgeKind::Overwritten => &mut self.overwritten,
-            EdgeKind::Version => &mut self.versions,
-            EdgeKind::FirstCommitter => &mut self.winners,
-            EdgeKind::Time => &mut self.times,
-            EdgeKind::RealTime => &mut self.real,
-            EdgeKind::Cases => &mut self.cases,
-        };
-        *count = count.saturating_add(1);
-    }
-
-    /// The name of a cycle.
-    pub(crate) fn name(self) -> Anomaly {
-        if self.cases > 0 {
-            Anomaly::NoOrder
-        } else if self.real > 0 && self.overwritten > 0 {
-            Anomaly::StaleRead
-        } else if self.real > 0 {
-            Anomaly::AgainstRealTime
-        } else if self.times > 0 {
-            Anomaly::AgainstTimes
-        } else if self.overwritten > 0 {
-            self.name_of_reads()
-        } else if self.winners > 0 {
-            Anomaly::LostUpdate
-        } else if self.reads == 0 {
-            Anomaly::DirtyWrite
-        } else {
-            Anomaly::CircularInformationFlow
-        }
-    }
-
-    /// The name of a cycle in which something that was read is written over.
-    fn name_of_reads(self) -> Anomaly {
-        let is_fork = self.reads == 2 && self.versions == 0 && self.transactions == 4;
-        if self.missed > 0 {
-            Anomaly::Phantom
-        } else if self.transactions == 2 && self.of_one_key {
-            Anomaly::LostUpdate
-        } else if self.overwritten == 1 {
-            Anomaly::ReadSkew
-        } else if self.overwritten == 2 && is_fork {
-            Anomaly::LongFork
-        } else if self.overwritten == 2 && self.transactions == 2 {
-            Anomaly::WriteSkew
-        } else {
-            Anomaly::AntiDependencyCycle
-        }
-    }
+    pub reasons: Vec<Reason>,
+    /// The answers on which it rests, as far as they are known.
+    pub answers: Vec<Answer>,
 }

@@ -1,36 +1,12 @@
 //! The cause of a conflict: its name, and the cycle that shows it.
-use crate::anomalies::{Anomaly, Cause, Counts, CycleEdge, EdgeKind, NO_COUNTS};
+use crate::anomalies::{Anomaly, Cause, CycleEdge, EdgeKind, Evidence};
+use crate::evident::{name_of_fault, own_edge};
 use crate::facts::{Rule, Says};
 use crate::known::Known;
-use crate::lists::add;
-use crate::problem::Reading;
-use hek_history::{Change, Need, Operation, Order, Status, Writer, change_of, key_of};
+use crate::lists::{add, at};
+use crate::naming::name_of;
+use hek_history::{Need, Order, Writer};
 use hek_rules::NoMemory;
-
-/// What is counted while a cycle is gathered.
-#[derive(Clone, Copy)]
-struct Gathered {
-    counts: Counts,
-    /// The key of the last edge that has one.
-    key: Option<u64>,
-    /// From whom the way along the clock comes.
-    entered: Option<usize>,
-}
-
-/// Whether an operation writes a value at a key.
-fn writes_value(operation: &Operation, key: u64, wanted: u64) -> bool {
-    key_of(operation) == key && change_of(operation) == Change::Set(wanted)
-}
-
-/// Whether one of these operations writes a value at a key.
-fn write_value(operations: &[Operation], key: u64, wanted: u64) -> bool {
-    for operation in operations {
-        if writes_value(operation, key, wanted) {
-            return true;
-        }
-    }
-    false
-}
 
 /// A transaction as a writer, or the opening.
 fn writer_of(transaction: Option<usize>) -> Writer {
@@ -65,6 +41,9 @@ impl Known<'_> {
             key: None,
             read,
             written: None,
+            scanned: false,
+            evidence: Evidence::Steps,
+            source: None,
         };
         if let Some(key) = by {
             let writer = match kind {
@@ -120,25 +99,6 @@ impl Known<'_> {
         }
     }
 
-    /// Who wrote the value of a reading and left something else, or aborted: the transaction, with the anomaly.
-    fn hidden_writer(&self, reading: Reading) -> Option<(usize, Anomaly)> {
-        let Need::Value(wanted) = reading.need else {
-            return None;
-        };
-        let key = self.problem.keys.name(reading.key);
-        for (t, transaction) in self.problem.history.transactions.iter().enumerate() {
-            if write_value(transaction.operations.as_slice(), key, wanted) {
-                if transaction.status == Status::Aborted {
-                    return Some((t, Anomaly::AbortedRead));
-                }
-                if t != reading.reader {
-                    return Some((t, Anomaly::IntermediateRead));
-                }
-            }
-        }
-        None
-    }
-
     /// The edge by which a candidate is excluded, if another wrote the key between it and the reader.
     fn covered_edge(&self, fact: usize) -> Option<CycleEdge> {
         let Rule::NotCovered(count) = self.facts.get(fact).rule else {
@@ -174,22 +134,12 @@ impl Known<'_> {
         let mut writer = None;
         cause.anomaly = Anomaly::NoSource;
         if !self.is_excluded_from(conflict) {
-            cause.anomaly = Anomaly::UnwrittenRead;
-            if let Some((t, name)) = self.hidden_writer(reading) {
-                cause.anomaly = name;
-                writer = Some(t);
-            }
+            (cause.anomaly, writer) = self.problem.why_unwritten(reading);
         }
-        let read = CycleEdge {
-            key: Some(self.problem.keys.name(reading.key)),
-            ..self.edge(
-                EdgeKind::Read,
-                (writer, Some(reading.reader)),
-                None,
-                Some(reading.need),
-            )
-        };
-        add(&mut cause.cycle, read)?;
+        add(
+            &mut cause.cycle,
+            self.problem.edge_of_reading(reading, writer),
+        )?;
         for premise in self.facts.premises(conflict) {
             if let Some(covered) = self.covered_edge(*premise) {
                 add(&mut cause.cycle, covered)?;
@@ -203,6 +153,8 @@ impl Known<'_> {
         let mut cause = Cause {
             anomaly: Anomaly::NoOrder,
             cycle: Vec::new(self.alloc),
+            reasons: Vec::new(self.alloc),
+            answers: Vec::new(self.alloc),
         };
         self.explain(conflict, &mut cause)?;
         Ok(cause)
@@ -213,11 +165,11 @@ impl Known<'_> {
         match self.facts.get(conflict).rule {
             Rule::NoSource(reading) => self.explain_reading(conflict, reading, cause),
             Rule::OwnAnswers(t) => {
-                if let Some(fault) = self.problem.fault_of(t) {
-                    cause.anomaly = Anomaly::OwnAnswers(fault);
-                }
-                let edge = self.edge(EdgeKind::Cases, (Some(t), Some(t)), None, None);
-                add(&mut cause.cycle, edge)
+                let Some(fault) = self.problem.fault_of(t) else {
+                    return Ok(());
+                };
+                cause.anomaly = name_of_fault(fault);
+                add(&mut cause.cycle, own_edge(t, fault))
             }
             _ => self.explain_cycle(conflict, cause),
         }
@@ -225,64 +177,58 @@ impl Known<'_> {
 
     /// Names a cycle, and gathers its edges.
     fn explain_cycle(&self, conflict: usize, cause: &mut Cause) -> Result<(), NoMemory> {
-        let mut gathered = Gathered {
-            counts: NO_COUNTS,
-            key: None,
-            entered: None,
-        };
+        let mut entered = None;
         let start = self.facts.cycle_start(conflict);
         for turn in 0..self.facts.premises(conflict).len() {
             let fact = self.facts.premise(conflict, start.saturating_add(turn));
-            if let Some(edge) = self.edge_of(fact, &mut gathered) {
-                gathered.count(edge, cause.cycle.as_slice());
+            if let Some(edge) = self.edge_of(fact, &mut entered) {
                 add(&mut cause.cycle, edge)?;
             }
         }
-        cause.anomaly = gathered.counts.name();
+        cause.anomaly = name_of(self.problem, cause.cycle.as_slice());
         Ok(())
     }
 
-    /// The edge of a fact of a cycle, if it has one.
-    fn edge_of(&self, fact: usize, gathered: &mut Gathered) -> Option<CycleEdge> {
+    /// The edge of a fact of a cycle, if it has one. `entered` is from whom the way along the clock comes.
+    fn edge_of(&self, fact: usize, entered: &mut Option<usize>) -> Option<CycleEdge> {
         let rule = self.facts.get(fact).rule;
         let (from, to) = self.facts.ends(fact);
         let mut first = self.nodes.transaction(from);
         match rule {
-            Rule::Enter => gathered.entered = first,
-            Rule::Leave(_) => first = gathered.entered,
-            Rule::After(reading) => gathered.count_missed(self.problem.reading(reading)),
+            Rule::Enter => *entered = first,
+            Rule::Leave(_) => first = *entered,
             _ => {}
         }
         let kind = self.kind_of(rule)?;
         let second = self.nodes.transaction(to);
-        Some(self.edge(kind, (first, second), self.key_of(rule), self.read_by(rule)))
-    }
-}
-
-impl Gathered {
-    /// Counts a reading in which a scan shows that a key is absent.
-    fn count_missed(&mut self, reading: Reading) {
-        if let Need::Absent = reading.need {
-            if reading.scanned {
-                self.counts.missed = self.counts.missed.saturating_add(1);
-            }
-        }
+        let edge = self.edge(kind, (first, second), self.key_of(rule), self.read_by(rule));
+        Some(CycleEdge {
+            scanned: self.is_scanned(rule),
+            evidence: self.evidence_of(rule),
+            ..edge
+        })
     }
 
-    /// Counts an edge after the others of its cycle.
-    fn count(&mut self, edge: CycleEdge, others: &[CycleEdge]) {
-        self.counts.add(edge.kind);
-        if let Some(key) = edge.key {
-            if let Some(other) = self.key {
-                self.counts.of_one_key = self.counts.of_one_key && key == other;
-            }
-            self.key = edge.key;
+    /// Whether a fact is by a scan.
+    fn is_scanned(&self, rule: Rule) -> bool {
+        match rule {
+            Rule::Read(reading) | Rule::After(reading) => self.problem.reading(reading).scanned,
+            _ => false,
         }
-        for one in others {
-            if one.first == edge.first {
-                return;
+    }
+
+    /// What shows the edge of a fact.
+    fn evidence_of(&self, rule: Rule) -> Evidence {
+        match rule {
+            Rule::Read(reading) => {
+                if at(self.only.as_slice(), reading, None).is_some() {
+                    Evidence::Answer
+                } else {
+                    Evidence::Steps
+                }
             }
+            Rule::Leave(_) => Evidence::EndTimes,
+            _ => Evidence::Steps,
         }
-        self.counts.transactions = self.counts.transactions.saturating_add(1);
     }
 }

@@ -21,13 +21,18 @@ fn point_of(moment: Moment) -> Point {
 /// The step of a fault.
 fn step_of_fault(transaction: usize, fault: OwnFault, taken: Option<usize>) -> Step {
     match fault {
-        OwnFault::Contradicted { operation, key } => Step::Contradicted {
+        OwnFault::Contradicted { operation, key, .. } => Step::Contradicted {
             transaction,
             operation,
             key,
             taken,
         },
-        OwnFault::Disagree { first, second, key } => Step::Disagree {
+        OwnFault::Disagree {
+            first,
+            second,
+            key,
+            ..
+        } => Step::Disagree {
             transaction,
             first,
             second,

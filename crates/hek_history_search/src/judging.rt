@@ -148,8 +148,74 @@ fn judge_found(
     }
 }
 
+/// Whether some transaction has a time by which an order of this kind goes.
+fn has_time(history: &History, order: Order) -> bool {
+    for transaction in &history.transactions {
+        let is_given = match order {
+            Order::Any => false,
+            Order::Versions | Order::Times => transaction.end.is_some(),
+            Order::Real => transaction.answered.is_some(),
+        };
+        if is_given {
+            return true;
+        }
+    }
+    false
+}
+
+/// The points that a search for an order of this kind finds.
+fn points_by(
+    alloc: Global,
+    history: &History,
+    order: Order,
+    effort: usize,
+) -> Result<Option<Vec<Point>>, NoMemory> {
+    if !has_time(history, order) {
+        return Ok(None);
+    }
+    match search_further(alloc, history, order, effort)? {
+        Found::Points(points) => Ok(Some(points)),
+        Found::Steps(_, _) | Found::Unknown(_) => Ok(None),
+    }
+}
+
+/// Points that a search for a stricter order finds, if they are an explanation of this order.
+fn stricter_points(
+    alloc: Global,
+    history: &History,
+    order: Order,
+    effort: usize,
+) -> Result<Option<Vec<Point>>, NoMemory> {
+    for stricter in [Order::Versions, Order::Times, Order::Real] {
+        if let Some(points) = points_by(alloc, history, stricter, effort)? {
+            if is_explanation(alloc, history, order, points.as_slice())? {
+                return Ok(Some(points));
+            }
+        }
+    }
+    Ok(None)
+}
+
+/// A verdict, or that there is an explanation, where a search for a stricter order finds one.
+fn judge_stricter(
+    alloc: Global,
+    history: &History,
+    order: Order,
+    effort: usize,
+    verdict: Verdict,
+) -> Result<Verdict, NoMemory>
+    requires right { IsVerdict history.now order verdict }
+    ensures { IfOk result (λ verdict. IsVerdict history.now order verdict) }
+{
+    match stricter_points(alloc, history, order, effort)? {
+        Some(points) => judge_points(alloc, history, order, points),
+        None => Ok(verdict),
+    }
+}
+
 /// Judges whether a history has an explanation of this order: first by the points by the times of the log, and then with up
-/// to `effort` repairs of an order.
+/// to `effort` repairs of an order. Where any order will do and the search ends without an answer, orders by times are searched for,
+/// each with as many repairs.
 pub fn judge(
     alloc: Global,
     history: &History,
@@ -163,5 +229,9 @@ pub fn judge(
         return Ok(Verdict::Serial(points));
     }
     let found = search_further(alloc, history, order, effort)?;
-    judge_found(alloc, history, order, found)
+    let verdict = judge_found(alloc, history, order, found)?;
+    if order == Order::Any && matches!(verdict, Verdict::Unknown(_)) {
+        return judge_stricter(alloc, history, order, effort, verdict);
+    }
+    Ok(verdict)
 }

@@ -55,3 +55,21 @@ pub(crate) fn add_in<T: Copy>(
 pub(crate) fn place_from(rising: &[u64], least: u64) -> usize {
     rising.partition_point(|one| *one < least)
 }
+
+/// Reverses a list from a place on.
+pub(crate) fn reverse_from<T>(list: &mut Vec<T>, from: usize) {
+    if from <= list.len() {
+        let (_before, rest) = list.split_at_mut(from);
+        rest.reverse();
+    }
+}
+
+/// Turns a list from a place on, so that what stands so many places later begins it.
+pub(crate) fn turn_from<T>(list: &mut Vec<T>, from: usize, by: usize) {
+    if from <= list.len() {
+        let (_before, rest) = list.split_at_mut(from);
+        if by <= rest.len() {
+            rest.rotate_left(by);
+        }
+    }
+}

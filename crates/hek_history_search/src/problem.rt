@@ -14,7 +14,7 @@ pub(crate) struct Reading {
 }
 
 /// The reading past the end.
-const NO_READING: Reading = Reading {
+pub(crate) const NO_READING: Reading = Reading {
     reader: usize::MAX,
     key: usize::MAX,
     operation: 0,
@@ -56,16 +56,22 @@ pub(crate) struct AtKey {
 /// How a transaction's answers contradict each other, whatever the others did.
 #[derive(Clone, Copy)]
 pub enum OwnFault {
-    /// The operation contradicts what the transaction itself did to the key before.
+    /// The operation found something else than what the transaction itself had left at the key.
     Contradicted {
         operation: usize,
         key: u64,
+        left: Option<u64>,
+        found: Need,
     },
     /// The two operations tell of two values of the key, which the transaction didn't change between them.
     Disagree {
         first: usize,
         second: usize,
         key: u64,
+        before: Need,
+        after: Need,
+        /// Whether one of them is a scan.
+        scanned: bool,
     },
     /// The pairs of the scan are not by key.
     Unordered {
@@ -76,6 +82,28 @@ pub enum OwnFault {
         operation: usize,
         key: u64,
     },
+}
+
+impl OwnFault {
+    /// The key that it is of, if it is of one.
+    pub fn key(self) -> Option<u64> {
+        match self {
+            OwnFault::Contradicted { key, .. }
+            | OwnFault::Disagree { key, .. }
+            | OwnFault::Outside { key, .. } => Some(key),
+            OwnFault::Unordered { .. } => None,
+        }
+    }
+
+    /// The operations that show it: one, or two.
+    pub fn operations(self) -> (Option<usize>, usize) {
+        match self {
+            OwnFault::Contradicted { operation, .. }
+            | OwnFault::Outside { operation, .. }
+            | OwnFault::Unordered { operation } => (None, operation),
+            OwnFault::Disagree { first, second, .. } => (Some(first), second),
+        }
+    }
 }
 
 /// A history, reduced. Keys are named by their places in `keys`, transactions by their places in the history.

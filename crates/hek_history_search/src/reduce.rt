@@ -136,6 +136,8 @@ impl Problem<'_> {
             let fault = OwnFault::Contradicted {
                 operation: by.operation,
                 key: self.keys.name(key),
+                left: left.value,
+                found: need,
             };
             self.blame(by.transaction, fault);
         }
@@ -157,6 +159,9 @@ impl Problem<'_> {
                 first: earlier.operation,
                 second: by.operation,
                 key: self.keys.name(key),
+                before: earlier.need,
+                after: need,
+                scanned: earlier.scanned || by.scanned,
             };
             self.blame(by.transaction, fault);
         }

@@ -13,14 +13,14 @@ use std::alloc::Global;
 
 /// How many candidates a reading has, its own transaction left out.
 #[derive(Clone, Copy)]
-enum Choice {
+pub(crate) enum Choice {
     None,
     One(Source),
     Several,
 }
 
 /// The candidates of a reading, its own transaction left out.
-fn choice_of(problem: &Problem, place: usize) -> Choice {
+pub(crate) fn choice_of(problem: &Problem, place: usize) -> Choice {
     let reading = problem.reading(place);
     let candidates = problem.candidates(reading);
     let mut found = if candidates.opening {

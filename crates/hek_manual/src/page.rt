@@ -32,6 +32,9 @@ FILE is a schedule image, whatever it holds
 \fB\-\-explain\fR[=\fIHOW\fR]
 says of each fault what is wrong, what is wanted and what is meant, as at a terminal; =never only names it (always, never)
 .TP
+\fB\-\-color\fR[=\fIHOW\fR]
+colours replies by their kind, and faults: always, never, or at a terminal (auto) (always, never, auto)
+.TP
 \fB\-\-state\fR
 prints the state of the machine after the trace
 .TP
@@ -89,7 +92,7 @@ Runs a schedule step by step, to breakpoints and watches, and back.
 a schedule: a text by its name (.hek) or its first word, otherwise an image; \- is standard input
 .TP
 \fICOMMANDS\fR
-a text of commands, or \- for standard input
+a text of these commands; \- is standard input, where they are those of a session
 .TP
 \fB\-\-text\fR
 FILE is a schedule text, whatever it holds
@@ -99,6 +102,9 @@ FILE is a schedule image, whatever it holds
 .TP
 \fB\-\-explain\fR[=\fIHOW\fR]
 says of each fault what is wrong, what is wanted and what is meant, as at a terminal; =never only names it (always, never)
+.TP
+\fB\-\-color\fR[=\fIHOW\fR]
+colours replies by their kind, and faults: always, never, or at a terminal (auto) (always, never, auto)
 .TP
 \fB\-\-auto\fR
 runs only the reads and writes of FILE, and begins and ends each transaction by itself
@@ -121,7 +127,7 @@ watch waits NAME   stops where the number that a transaction waits for changes
 clear              forgets all breakpoints and watches
 .fi
 .RE
-Without COMMANDS they are read from standard input, and each is answered at once; there \(gahelp\(ga lists them, with the commands and questions that only such a session has.
+Without COMMANDS, and with \-, they are read from standard input, and each is answered at once; there \(gahelp\(ga lists them, with the commands and questions that only such a session has. At a terminal \(garlwrap \-f <(hek completions words) hek debug FILE\(ga adds arrow keys, a history and completion.
 .PP
 Example:
 .RS 4
@@ -213,6 +219,9 @@ cuts the end of a transaction into one move (move), two (split), or a move for e
 .TP
 \fB\-\-limit\fR \fIN\fR
 with \-\-orders: writes nothing if there are more than N nodes (5000)
+.TP
+\fB\-\-json\fR
+writes the page's data alone, one object of JSON
 .PP
 Example:
 .RS 4
@@ -221,13 +230,58 @@ hek page first.hek \-o first.html
 .fi
 .RE
 The page shows each step with its reply, and the versions, waits and lock words at each position. It needs no network and no other file. Comments of a schedule text are shown: those above its first line at the start, those above a step at that step. A line \(ga#? ..\(ga above a step is a question, which is asked where replies are guessed. A page has at most 2000 steps; of a longer schedule \-\-from and \-\-to say which.
-.SS permute
-Plays every order of a schedule's moves, and counts the outcomes.
+.SS figure
+Writes a step of a schedule's run as one picture, for a slide.
 .PP
-\fBhek permute [OPTIONS] <FILE>\fR
+\fBhek figure [OPTIONS] <FILE>\fR
 .TP
 \fIFILE\fR
 a schedule: a text by its name (.hek) or its first word, otherwise an image; \- is standard input
+.TP
+\fB\-\-text\fR
+FILE is a schedule text, whatever it holds
+.TP
+\fB\-\-image\fR
+FILE is a schedule image, whatever it holds
+.TP
+\fB\-\-explain\fR[=\fIHOW\fR]
+says of each fault what is wrong, what is wanted and what is meant, as at a terminal; =never only names it (always, never)
+.TP
+\fB\-\-level\fR \fIL\fR
+judges or runs all transactions as serializable, repeatable or snapshot
+.TP
+\fB\-\-auto\fR
+shows only the reads and writes of FILE, and begins and ends each transaction by itself
+.TP
+\fB\-o\fR, \fB\-\-output\fR \fIOUT\fR
+writes the picture to a file; \- is standard output, also where that is a terminal
+.TP
+\fB\-\-step\fR \fIN\fR
+shows what is so after N steps, by default after the last; 0 is before the first
+.TP
+\fB\-\-part\fR \fIPART\fR
+shows one part: lanes, versions, waits or words
+.TP
+\fB\-\-title\fR \fITEXT\fR
+the picture's title, by default the name of FILE
+.PP
+Example:
+.RS 4
+.nf
+hek figure first.hek \-\-step 2 \-o first.svg
+.fi
+.RE
+The picture is SVG with its style inside: lanes, what the step says, versions, waits and lock words, in the colours of \(gahek page\(ga. With \-\-part it shows one of these.
+.SS permute
+Plays every order of a schedule's moves, and counts the outcomes.
+.PP
+\fBhek permute [OPTIONS] <FILE> [TABLE]...\fR
+.TP
+\fIFILE\fR
+a schedule: a text by its name (.hek) or its first word, otherwise an image; \- is standard input
+.TP
+\fITABLE\fR
+with \-\-add: more tables
 .TP
 \fB\-\-text\fR
 FILE is a schedule text, whatever it holds
@@ -251,7 +305,7 @@ makes finish and precommit a separate move
 cuts the end of a transaction into one move (move), two (split), or a move for each event (event)
 .TP
 \fB\-\-limit\fR \fIN\fR
-counts nothing if there are more than N states (1000000); with \-\-each, \-\-part or \-\-find, more than N orders (100000)
+counts nothing if there are more than N states (1000000); with \-\-each, \-\-part or \-\-find of a reply, more than N orders (100000)
 .TP
 \fB\-\-part\fR \fIK/N\fR
 plays the Kth of N equal parts of the orders
@@ -270,6 +324,12 @@ prints the outcomes at each level, side by side
 .TP
 \fB\-\-find\fR \fITEXT\fR
 prints the shortest beginning of an order in which this comes: \(gaa aborted deadlock\(ga, \(gaaborted\(ga, \(gawaiting\(ga, \(ganot serial\(ga, \(gaanother order\(ga
+.TP
+\fB\-\-stats\fR
+says on standard error how many states the orders lead to
+.TP
+\fB\-\-add\fR
+prints the sum of the tables FILE and TABLE.., which \-\-part printed, as text or as JSON
 .TP
 \fB\-\-json\fR
 prints JSON, one object on each line
@@ -372,8 +432,8 @@ judges or runs all transactions as serializable, repeatable or snapshot
 \fB\-\-order\fR \fIKIND\fR
 asks for an order of a kind: any, versions, commit or real
 .TP
-\fB\-\-all\fR
-goes on after an anomaly, without the answers of its transactions
+\fB\-\-all\fR[=\fIHOW\fR]
+goes on after an anomaly, without the answers on which it rests, and counts them by name; =counts prints the counts alone (each, counts)
 .TP
 \fB\-\-order\-out\fR \fIOUT\fR
 writes the order that was found, a line for each transaction; \- is standard output, after the verdict
@@ -422,6 +482,9 @@ FILE is a schedule image, whatever it holds
 .TP
 \fB\-\-explain\fR[=\fIHOW\fR]
 says of each fault what is wrong, what is wanted and what is meant, as at a terminal; =never only names it (always, never)
+.TP
+\fB\-\-color\fR[=\fIHOW\fR]
+colours replies by their kind, and faults: always, never, or at a terminal (auto) (always, never, auto)
 .TP
 \fB\-\-why\fR[=\fIHOW\fR]
 prints the reasons of each reply under its line; =rules also names the definition that decided each (reasons, rules)
@@ -544,6 +607,9 @@ refuses transactions past N
 .TP
 \fB\-\-readers\fR \fIN\fR
 refuses more than N readers
+.TP
+\fB\-\-json\fR
+prints JSON, one object on each line
 .PP
 Example:
 .RS 4
@@ -631,13 +697,65 @@ Where first.img is the image of a schedule with one bucket and nothing else, it 
 buckets 1
 .fi
 .RE
+.SS import
+Makes schedules of a spec of PostgreSQL's isolation tests.
+.PP
+\fBhek import [OPTIONS] <FORM> <FILE>\fR
+.TP
+\fIFORM\fR
+what FILE is [possible values: spec]
+.TP
+\fIFILE\fR
+a spec, or \- for standard input
+.TP
+\fB\-\-explain\fR[=\fIHOW\fR]
+says of each fault what is wrong, what is wanted and what is meant, as at a terminal; =never only names it (always, never)
+.TP
+\fB\-\-permutation\fR \fIN\fR
+makes the schedule of the Nth permutation, from 1
+.TP
+\fB\-\-level\fR \fIL\fR
+takes all transactions as serializable, repeatable or snapshot
+.TP
+\fB\-o\fR, \fB\-\-output\fR \fIOUT\fR
+writes the schedule to a file; where OUT ends with /, a file for each permutation to this folder
+.PP
+Rows of a table with a primary key of whole numbers become rows; select, insert, update and delete by the key become steps, and a select of a whole table a scan. Serializable stays so, repeatable read becomes snapshot, and read committed isn't there: \-\-level says which level to take. What can't be translated is named, with status 4. Without \-\-permutation the sessions follow one another: \(gahek permute\(ga plays all their orders.
+.PP
+Example:
+.RS 4
+.nf
+hek import spec skew.spec
+.fi
+.RE
+Where skew.spec has the lines
+.RS 4
+.nf
+setup { CREATE TABLE t (id int PRIMARY KEY, v int); INSERT INTO t VALUES (1, 10); }
+session "a"
+setup { BEGIN ISOLATION LEVEL SERIALIZABLE; }
+step "read" { SELECT v FROM t WHERE id = 1; }
+step "commit" { COMMIT; }
+.fi
+.RE
+it prints a schedule whose first lines are
+.RS 4
+.nf
+# skew: one session after another; permutations of the spec: 0
+buckets 1
+row 1 10
+txn a serializable
+a begin
+a read 1
+.fi
+.RE
 .SS completions
 Prints what a shell reads to complete the words of a command line.
 .PP
 \fBhek completions <SHELL>\fR
 .TP
 \fISHELL\fR
-the shell [possible values: bash, zsh, fish]
+the shell; words for the words of a session of hek debug [possible values: bash, zsh, fish, words]
 .PP
 Example:
 .RS 4
@@ -645,7 +763,7 @@ Example:
 source <(hek completions bash)
 .fi
 .RE
-completes the commands, options and files of hek in this shell. For zsh, \(gahek completions zsh\(ga goes into a file _hek in a folder of $fpath; for fish, \(gahek completions fish\(ga into ~/.config/fish/completions/hek.fish.
+completes the commands, options and files of hek in this shell. For zsh, \(gahek completions zsh\(ga goes into a file _hek in a folder of $fpath; for fish, \(gahek completions fish\(ga into ~/.config/fish/completions/hek.fish. \(gahek completions words\(ga prints the words of a session of hek debug, a line each, for rlwrap \-f.
 .SS man
 Prints the manual page.
 .PP
@@ -673,7 +791,7 @@ a bad command line
 of history and permute \-\-find: it is not known, or there is nothing to judge
 .TP
 4
-of history, permute \-\-find and word \-\-changes: a fault
+of history, permute \-\-find and word \-\-changes: a fault; of import: a fault, or what can't be translated
 .SH EXAMPLES
 .RS 4
 .nf
@@ -702,5 +820,5 @@ hek check first.img trace.txt
 .RE
 says whether a trace over it has what each level promises
 .PP
-\(ga\-\-explain\(ga, anywhere among the words, or HEK_EXPLAIN=always in the environment explains each fault, as at a terminal; \(ga\-\-explain=never\(ga and HEK_EXPLAIN=never only name it.
+\(ga\-\-explain\(ga, anywhere among the words, or HEK_EXPLAIN=always in the environment explains each fault, as at a terminal; \(ga\-\-explain=never\(ga and HEK_EXPLAIN=never only name it. \(ga\-\-color=always\(ga, \(ga\-\-color=never\(ga and NO_COLOR=1 in the environment say what is in colours, which by default is at a terminal.
 "#;

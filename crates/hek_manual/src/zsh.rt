@@ -8,6 +8,7 @@ _hek() {
         'run:Runs the steps of a schedule, and prints each with its reply'
         'debug:Runs a schedule step by step, to breakpoints and watches, and back'
         'page:Writes a schedule'\''s run as a page for a browser'
+        'figure:Writes a step of a schedule'\''s run as one picture, for a slide'
         'permute:Plays every order of a schedule'\''s moves, and counts the outcomes'
         'check:Says whether each transaction of a trace got what its level promises'
         'history:Says whether a log of transactions has a serial order, and if not, why not'
@@ -17,6 +18,7 @@ _hek() {
         'release:Gives up one read lock of an End word'
         'asm:Makes the image of a schedule text'
         'dis:Prints the canonical text of a schedule'
+        'import:Makes schedules of a spec of PostgreSQL'\''s isolation tests'
         'completions:Prints what a shell reads to complete the words of a command line'
         'man:Prints the manual page'
         'help:Print this message or the help of the given subcommand(s)'
@@ -35,6 +37,7 @@ _hek() {
                 '--text[FILE is a schedule text, whatever it holds]' \
                 '--image[FILE is a schedule image, whatever it holds]' \
                 '--explain=-[says of each fault what is wrong, what is wanted and what is meant, as at a terminal; =never only names it]::HOW:(always never)' \
+                '--color=-[colours replies by their kind, and faults\: always, never, or at a terminal (auto)]::HOW:(always never auto)' \
                 '--state[prints the state of the machine after the trace]' \
                 '--state-at[stops after N steps, and prints the state there]:N:' \
                 '--why=-[prints the reasons of each reply under its line; =rules also names the definition that decided each]::HOW:(reasons rules)' \
@@ -51,6 +54,7 @@ _hek() {
                 '--text[FILE is a schedule text, whatever it holds]' \
                 '--image[FILE is a schedule image, whatever it holds]' \
                 '--explain=-[says of each fault what is wrong, what is wanted and what is meant, as at a terminal; =never only names it]::HOW:(always never)' \
+                '--color=-[colours replies by their kind, and faults\: always, never, or at a terminal (auto)]::HOW:(always never auto)' \
                 '--auto[runs only the reads and writes of FILE, and begins and ends each transaction by itself]' \
                 '--level[judges or runs all transactions as serializable, repeatable or snapshot]:L:(serializable repeatable snapshot)' \
                 '(- *)'{-h,--help}'[Print help]' \
@@ -76,6 +80,21 @@ _hek() {
                 '--split[with --orders\: makes finish and precommit a separate move]' \
                 '--grain[cuts the end of a transaction into one move (move), two (split), or a move for each event (event)]:GRAIN:(move split event)' \
                 '--limit[with --orders\: writes nothing if there are more than N nodes (5000)]:N:' \
+                '--json[writes the page'\''s data alone, one object of JSON]' \
+                '(- *)'{-h,--help}'[Print help]' \
+                '1:FILE:_files'
+            ;;
+        figure)
+            _arguments \
+                '--text[FILE is a schedule text, whatever it holds]' \
+                '--image[FILE is a schedule image, whatever it holds]' \
+                '--explain=-[says of each fault what is wrong, what is wanted and what is meant, as at a terminal; =never only names it]::HOW:(always never)' \
+                '--level[judges or runs all transactions as serializable, repeatable or snapshot]:L:(serializable repeatable snapshot)' \
+                '--auto[shows only the reads and writes of FILE, and begins and ends each transaction by itself]' \
+                {-o,--output}'[writes the picture to a file; - is standard output, also where that is a terminal]:OUT:_files' \
+                '--step[shows what is so after N steps, by default after the last; 0 is before the first]:N:' \
+                '--part[shows one part\: lanes, versions, waits or words]:PART:' \
+                '--title[the picture'\''s title, by default the name of FILE]:TEXT:' \
                 '(- *)'{-h,--help}'[Print help]' \
                 '1:FILE:_files'
             ;;
@@ -88,16 +107,19 @@ _hek() {
                 '--level[judges or runs all transactions as serializable, repeatable or snapshot]:L:(serializable repeatable snapshot)' \
                 '--split[makes finish and precommit a separate move]' \
                 '--grain[cuts the end of a transaction into one move (move), two (split), or a move for each event (event)]:GRAIN:(move split event)' \
-                '--limit[counts nothing if there are more than N states (1000000); with --each, --part or --find, more than N orders (100000)]:N:' \
+                '--limit[counts nothing if there are more than N states (1000000); with --each, --part or --find of a reply, more than N orders (100000)]:N:' \
                 '--part[plays the Kth of N equal parts of the orders]:K/N:' \
                 '--jobs[with --part\: plays the orders with N threads, 1 to 1000]:N:' \
                 '--each[prints a line for each order]' \
                 '--order[prints the events of one order as a schedule\: a name for each move]:NAMES:' \
                 '--levels[prints the outcomes at each level, side by side]' \
                 '--find[prints the shortest beginning of an order in which this comes\: `a aborted deadlock`, `aborted`, `waiting`, `not serial`, `another order`]:TEXT:' \
+                '--stats[says on standard error how many states the orders lead to]' \
+                '--add[prints the sum of the tables FILE and TABLE.., which --part printed, as text or as JSON]' \
                 '--json[prints JSON, one object on each line]' \
                 '(- *)'{-h,--help}'[Print help]' \
-                '1:FILE:_files'
+                '1:FILE:_files' \
+                '*:TABLE:'
             ;;
         check)
             _arguments \
@@ -119,7 +141,7 @@ _hek() {
                 '--explain=-[says of each fault what is wrong, what is wanted and what is meant, as at a terminal; =never only names it]::HOW:(always never)' \
                 '--level[judges or runs all transactions as serializable, repeatable or snapshot]:L:(serializable repeatable snapshot)' \
                 '--order[asks for an order of a kind\: any, versions, commit or real]:KIND:(any versions commit real)' \
-                '--all[goes on after an anomaly, without the answers of its transactions]' \
+                '--all=-[goes on after an anomaly, without the answers on which it rests, and counts them by name; =counts prints the counts alone]::HOW:(each counts)' \
                 '--order-out[writes the order that was found, a line for each transaction; - is standard output, after the verdict]:OUT:_files' \
                 '--json[writes the verdict as JSON, one object on each line]' \
                 '(- *)'{-h,--help}'[Print help]' \
@@ -130,6 +152,7 @@ _hek() {
                 '--text[FILE is a schedule text, whatever it holds]' \
                 '--image[FILE is a schedule image, whatever it holds]' \
                 '--explain=-[says of each fault what is wrong, what is wanted and what is meant, as at a terminal; =never only names it]::HOW:(always never)' \
+                '--color=-[colours replies by their kind, and faults\: always, never, or at a terminal (auto)]::HOW:(always never auto)' \
                 '--why=-[prints the reasons of each reply under its line; =rules also names the definition that decided each]::HOW:(reasons rules)' \
                 '--changes[prints what each step changed under its line]' \
                 '--state[prints the state of the machine after each answer]' \
@@ -160,6 +183,7 @@ _hek() {
                 '--clock[refuses times from N on]:N:' \
                 '--txns[refuses transactions past N]:N:' \
                 '--readers[refuses more than N readers]:N:' \
+                '--json[prints JSON, one object on each line]' \
                 '(- *)'{-h,--help}'[Print help]' \
                 '*:WORD:'
             ;;
@@ -184,10 +208,20 @@ _hek() {
                 '(- *)'{-h,--help}'[Print help]' \
                 '1:FILE:_files'
             ;;
+        import)
+            _arguments \
+                '--explain=-[says of each fault what is wrong, what is wanted and what is meant, as at a terminal; =never only names it]::HOW:(always never)' \
+                '--permutation[makes the schedule of the Nth permutation, from 1]:N:' \
+                '--level[takes all transactions as serializable, repeatable or snapshot]:L:(serializable repeatable snapshot)' \
+                {-o,--output}'[writes the schedule to a file; where OUT ends with /, a file for each permutation to this folder]:OUT:_files' \
+                '(- *)'{-h,--help}'[Print help]' \
+                '1:FORM:(spec)' \
+                '2:FILE:_files'
+            ;;
         completions)
             _arguments \
                 '(- *)'{-h,--help}'[Print help]' \
-                '1:SHELL:(bash zsh fish)'
+                '1:SHELL:(bash zsh fish words)'
             ;;
         man)
             _arguments \

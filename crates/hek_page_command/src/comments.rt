@@ -10,7 +10,7 @@ use std::str;
 
 /// The comments of a schedule text that are lines without words.
 #[derive(Drop)]
-pub(crate) struct Comments {
+pub struct Comments {
     /// Those above the first line with words, joined by spaces.
     pub about: String,
     /// The questions there, joined by spaces: what follows `#?`.
@@ -27,7 +27,7 @@ struct Note {
 }
 
 /// The comments of the schedule in a file. An image has none, nor has what isn't text.
-pub(crate) fn comments_in<'a, R: Read + Drop>(
+pub fn comments_in<'a, R: Read + Drop>(
     alloc: Global,
     file: &ScheduleFile<R>,
 ) -> Result<Comments, HekFault<'a>>
@@ -70,7 +70,7 @@ fn comments_of(alloc: Global, text: &str) -> Result<Comments, NoMemory> {
 
 impl Comments {
     /// The note of the step of a number, or an empty text.
-    pub(crate) fn note_of(&self, step: u64) -> &str {
+    pub fn note_of(&self, step: u64) -> &str {
         for note in &self.notes {
             if note.step == step {
                 return note.text.as_str();

@@ -18,7 +18,7 @@ pub struct Heading<'a> {
 
 impl Heading<'_> {
     /// The title as given, or made of the file's name.
-    pub(crate) fn title(&self, alloc: Global) -> Result<String, NoMemory> {
+    pub fn title(&self, alloc: Global) -> Result<String, NoMemory> {
         match self.title {
             Some(title) => Ok(String::from_str(alloc, title)?),
             None if self.file == "-" => Ok(String::from_str(alloc, "A schedule")?),

@@ -23,6 +23,7 @@ mod tree;
 mod tree_data;
 mod waits;
 
+pub use comments::{Comments, comments_in};
 pub use explorer::{Extent, MOST_NODES, explorer_command, levels_command};
 pub use heading::Heading;
 pub use made::{Making, made_file};

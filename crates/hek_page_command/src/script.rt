@@ -174,7 +174,7 @@ class Run {
       const kind = what === "commit" ? "commits" : "waits";
       const key = `${from} ${to} ${kind}`;
       if (!edges.has(key)) edges.set(key, { from, to, kind, by: [] });
-      edges.get(key).by.push(what === "version" ? `v${number}` : what === "bucket" ? `bucket ${number}` : what);
+      edges.get(key).by.push(what === "version" ? `v${number}` : what !== "bucket" ? what : number === undefined ? "listed" : `bucket ${number}`);
     }
     return [...edges.values()];
   }
@@ -1503,7 +1503,7 @@ function graphLayout(nodes, W, H) {
   const count = nodes.length;
   const k = H < 3.4 * rem() ? Math.max(H / (3.4 * rem()), 0.6) : count > 2 && H < 8 * rem() ? 0.9 : Math.max(1, Math.min(1.35, H / (8 * rem()), W / (27 * rem())));
   const u = rem() * k;
-  const r = (count > 6 ? 1.02 : 1.25) * u;
+  const r = count > 6 ? Math.min(1.02 * u, H / 8.4) : 1.25 * u;
   const isFlat = count > 2 && (H < (count > 4 ? 7.2 : 6.2) * u || W < 24 * rem());
   const isBelow = isFlat || (W < 26 * rem() && count <= 2);
   // in a very low panel the nodes have no room for words below them
@@ -1779,7 +1779,10 @@ function showWord() {
   const { list, html, isSingle } = made;
   const more = Math.max(rest, 0) + all.length - list.length;
   const note = list[0].old && !/^No/.test(title) ? "" : title.startsWith("No word changed; the last") ? title.replace(/.*, at/, "at") : list[0].isNew ? "new" : "unchanged";
-  const lead = isSingle ? `${captionOf(list[0])} <small>${note}</small>` : esc(title);
+  // a note that has no room beside the caption is left out
+  const caption = isSingle ? captionOf(list[0]) : "";
+  const hasRoom = widthOf(caption.replace(/<[^>]*>/g, ""), 1.05 * u, 700) + widthOf(note, 0.95 * u) + u <= W;
+  const lead = isSingle ? `${caption}${hasRoom ? ` <small>${note}</small>` : ""}` : esc(title);
   $("words-title").innerHTML = lead + (pinned ? ' <button type="button" data-do="unpin">unpin</button>' : more > 0 ? ` <small>${isSingle && note ? "\u00b7 " : ""}and ${more} more</small>` : "");
   put("word", html);
 }

@@ -7,7 +7,7 @@ use crate::sees::put_sees;
 use crate::waits::Waits;
 use hek_rules::{Event, NoMemory, Schedule, TxnId};
 use hek_step_report::reply_rule;
-use hek_step_report::text::put_reasons;
+use hek_step_report::text::{put_reasons, put_release};
 use hek_why::{Change, Dooms, Step, changes, reasons, wait_reasons};
 use std::alloc::Global;
 
@@ -107,6 +107,7 @@ fn put_why(
     text.sentence = rule.sentence;
     text.definition = rule.definition;
     text.comes = rule.comes;
+    put_release(schedule, step, false, &mut text.why)?;
     put_reasons(schedule, step.before, t, list.as_slice(), &mut text.why)?;
     put_new_waits(alloc, schedule, step, t, &mut text.why)
 }

@@ -1,4 +1,5 @@
 //! What the command line asks the command to do.
+use crate::find::is_verdict;
 use hek_permute::Form;
 use hek_report::Printing;
 use hek_rules::{Level, number};
@@ -23,6 +24,8 @@ pub struct Choice<'a> {
     pub find: Option<&'a str>,
     /// Whether standard error is a terminal, on which the number of orders that have been played is shown.
     pub progress: bool,
+    /// Whether to say how many states the orders lead to.
+    pub stats: bool,
     pub printing: Printing,
 }
 
@@ -33,10 +36,10 @@ const MOST_ORDERS: u64 = 100_000;
 const MOST_STATES: u64 = 1_000_000;
 
 impl Choice<'_> {
-    /// Whether each order is played by itself: to be written, to look for something, or since a part is asked for.
+    /// Whether each order is played by itself: to be written, to look for a reply, or since a part is asked for.
     pub(crate) fn plays_each(&self) -> bool {
         let (_, many) = self.part;
-        self.each || self.find.is_some() || many != 1
+        self.each || self.find.is_some_and(|text| !is_verdict(text)) || many != 1
     }
 
     /// The exit status where there are too many orders: what is looked for may come in one or in none.

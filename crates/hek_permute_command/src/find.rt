@@ -4,10 +4,10 @@ use crate::kinds::{Beginning as Kind, begins_replies, find_kind};
 use crate::one::{Played, fault_of, leveled};
 use crate::progress::Progress;
 use hek_asm::{TraceFault, read_trace};
+use hek_explore::explore;
 use hek_history_report::Together;
 use hek_permute::{
-    Form, Moves, OrderFault, Outcome, Play, Sought, Watch, find_order, first_order, moves_of,
-    play_all, play_order,
+    Form, Moves, OrderFault, Play, Sought, find_order, first_order, moves_of, play_order,
 };
 use hek_report::HekFault;
 use hek_rules::{Event, NoMemory, Reply, Schedule, TxnId};
@@ -117,71 +117,62 @@ fn detect_line(alloc: Global, text: &str) -> Result<String, NoMemory> {
     Ok(line)
 }
 
-/// The moves after which it came, if it comes.
-fn beginning_of<'a, E: Write>(
+/// The moves after which it came, if it comes; None if orders lead to more states than the limit.
+fn beginning_of<E: Write>(
     alloc: Global,
     schedule: &Schedule,
     form: Form,
     wanted: &Wanted,
+    limit: u64,
     progress: &mut Progress<'_, E>,
-) -> Result<Option<Beginning>, HekFault<'a>> {
-    let moves = moves_of(alloc, schedule)?;
-    let most = first_order(alloc, moves.as_slice(), form)?.len();
-    let found = match wanted {
-        Wanted::Reply(sought) => find_order(alloc, schedule, form, sought, progress),
-        Wanted::Kind(kind) => find_kind(alloc, schedule, form, kind, progress),
-        Wanted::Verdict(verdict) => first_with(alloc, schedule, form, *verdict, progress),
+) -> Result<Option<Search>, OrderFault> {
+    let moves = match wanted {
+        Wanted::Reply(sought) => find_order(alloc, schedule, form, sought, progress)?,
+        Wanted::Kind(kind) => find_kind(alloc, schedule, form, kind, progress)?,
+        Wanted::Verdict(verdict) => {
+            return first_with(alloc, schedule, form, *verdict, limit, progress);
+        }
     };
-    match found {
-        Ok(Some(moves)) => Ok(Some(Beginning { moves, most })),
-        Ok(None) => Ok(None),
-        Err(fault) => Err(fault_of(fault)),
-    }
+    Ok(Some(Search { moves }))
 }
 
-/// A watcher that keeps the first order with a verdict.
-#[derive(Drop)]
-struct FirstWith<'p, 'e, E: Write> {
-    alloc: Global,
-    verdict: Serializability,
-    progress: &'p mut Progress<'e, E>,
-    order: Option<Vec<TxnId>>,
+/// How many moves an order has.
+fn most_moves<'a>(alloc: Global, schedule: &Schedule, form: Form) -> Result<usize, HekFault<'a>> {
+    let moves = moves_of(alloc, schedule)?;
+    Ok(first_order(alloc, moves.as_slice(), form)?.len())
 }
 
-impl<E: Write> Watch for FirstWith<'_, '_, E> {
-    fn see(&mut self, order: &[TxnId], outcome: &Outcome) -> bool {
-        self.progress.count();
-        if outcome.verdict() != self.verdict {
-            return true;
-        }
-        if let Ok(order) = Vec::from_slice(self.alloc, order) {
-            self.order = Some(order);
-        }
-        false
-    }
-}
-
-/// The first order with a verdict.
+/// The first order with a verdict: a row of the tally of all orders has the first of its own, and the first row has the
+/// first of all. None if orders lead to more states than the limit.
 fn first_with<E: Write>(
     alloc: Global,
     schedule: &Schedule,
     form: Form,
     verdict: Serializability,
+    limit: u64,
     progress: &mut Progress<'_, E>,
-) -> Result<Option<Vec<TxnId>>, OrderFault> {
-    let mut watch = FirstWith {
-        alloc,
-        verdict,
-        progress,
-        order: None,
+) -> Result<Option<Search>, OrderFault> {
+    let Some(tally) = explore(alloc, schedule, form, limit, progress)? else {
+        return Ok(None);
     };
-    match play_all(alloc, schedule, form, 0, u64::MAX, &mut watch) {
-        Ok(_) => Ok(None),
-        Err(fault) => match watch.order {
-            Some(order) => Ok(Some(order)),
-            None => Err(fault),
-        },
+    for row in tally.rows() {
+        if row.outcome().verdict() == verdict {
+            let moves = Vec::from_slice(alloc, row.first())?;
+            return Ok(Some(Search { moves: Some(moves) }));
+        }
     }
+    Ok(Some(Search { moves: None }))
+}
+
+/// The moves after which it comes, if it comes in an order.
+#[derive(Drop)]
+struct Search {
+    moves: Option<Vec<TxnId>>,
+}
+
+/// Whether a text asks for a verdict, which is looked for by states.
+pub(crate) fn is_verdict(text: &str) -> bool {
+    verdict_named(text).is_some()
 }
 
 /// The moves that were found, and the schedule of their play up to the event that has the reply.
@@ -229,18 +220,37 @@ fn events_played<'a>(
     }
 }
 
-/// The shortest beginning of an order in which a reply or a verdict comes; None if it comes in no order.
+/// What a search came to.
+#[derive(Drop)]
+pub(crate) enum Answer {
+    Found(Found),
+    /// It comes in no order.
+    Nowhere,
+    /// Orders lead to more states than the limit.
+    TooMany,
+}
+
+/// The shortest beginning of an order in which a reply or a verdict comes. A verdict is looked for among at most `limit`
+/// states.
 pub(crate) fn found_in<'a, E: Write>(
     alloc: Global,
     schedule: &Schedule,
     form: Form,
     text: &str,
+    limit: u64,
     progress: &mut Progress<'_, E>,
-) -> Result<Option<Found>, HekFault<'a>> {
+) -> Result<Answer, HekFault<'a>> {
     let wanted = wanted_of(alloc, schedule, text)?;
-    match beginning_of(alloc, schedule, form, &wanted, progress)? {
-        Some(found) => Ok(Some(found_of(alloc, schedule, form, &wanted, found)?)),
-        None => Ok(None),
+    match beginning_of(alloc, schedule, form, &wanted, limit, progress) {
+        Ok(Some(Search { moves: Some(moves) })) => {
+            let most = most_moves(alloc, schedule, form)?;
+            let beginning = Beginning { moves, most };
+            let found = found_of(alloc, schedule, form, &wanted, beginning)?;
+            Ok(Answer::Found(found))
+        }
+        Ok(Some(Search { moves: None })) => Ok(Answer::Nowhere),
+        Ok(None) => Ok(Answer::TooMany),
+        Err(fault) => Err(fault_of(fault)),
     }
 }
 

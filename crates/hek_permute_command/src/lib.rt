@@ -1,6 +1,7 @@
 //! The command `permute`: every order of a schedule's moves, and the outcomes; and `run --auto`, one order.
 #![tactic(auto)]
 
+mod add;
 mod auto;
 mod choice;
 mod counts;
@@ -15,8 +16,10 @@ mod one;
 mod permute;
 mod printed;
 mod progress;
+mod rows;
 mod text;
 
+pub use add::{TableFault, sum_of_tables};
 pub use auto::auto_file;
 pub use choice::{Choice, part_of};
 pub use jobs::permute_in_threads;

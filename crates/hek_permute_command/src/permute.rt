@@ -1,10 +1,10 @@
 //! The command `permute`: plays the orders that are asked for, and writes their outcomes.
 use crate::choice::{Choice, Extent, range_of};
 use crate::each::write_each;
-use crate::find::found_in;
+use crate::find::{Answer, found_in};
 use crate::one::{fault_of, leveled, one_order};
 use crate::printed::{put_found, put_levels, put_none, put_played, put_tally};
-use crate::progress::Progress;
+use crate::progress::{Census, Progress};
 use hek_explore::explore;
 use hek_permute::{Form, OrderFault, Tally, moves_of, order_count, play_all};
 use hek_report::{HekFault, ScheduleFile, schedule_in, send};
@@ -43,22 +43,35 @@ fn permute<'a, W: Write, E: Write>(
     if let (true, Extent::Orders(from, to)) = (choice.each, extent) {
         return write_each(alloc, schedule, choice, (from, to), out);
     }
-    let mut progress = Progress::new(faults, choice.progress, most_plays(choice, extent));
+    let most = most_plays(choice, extent);
+    let mut progress = Progress::new(faults, choice.progress, choice.stats, most);
     let mut lines = Vec::new(alloc);
     let played = put_asked(alloc, schedule, choice, extent, &mut progress, &mut lines);
     progress.clear();
+    let census = progress.census();
     let status = played?;
     if status.is_none() {
-        put_too_many(choice, faults);
+        put_too_many(choice, census, faults);
     }
     send(&mut lines, out)?;
-    Ok(status.unwrap_or(1))
+    Ok(status.unwrap_or(choice.status_unplayed()))
 }
 
-/// Says that there are more states than the limit.
-fn put_too_many<E: Write>(choice: Choice<'_>, faults: &mut E) {
+/// Says that there are more states than the limit, and how far the orders were played.
+fn put_too_many<E: Write>(choice: Choice<'_>, census: Census, faults: &mut E) {
     let most = choice.most_states();
     let _ = writeln!(faults, "hek: permute: more than {most} states");
+    let Census {
+        moves,
+        played,
+        states,
+        last,
+        ..
+    } = census;
+    let _ = writeln!(
+        faults,
+        "  moves played in every order: {played} of {moves}; states so far: {states}, {last} of them after these moves; --limit N allows N states"
+    );
 }
 
 /// Plays orders, and appends what the choice asks for. Answers the exit status, or None if there are more states than the
@@ -75,14 +88,9 @@ fn put_asked<'a, E: Write>(
         return put_leveled(alloc, schedule, choice, extent, progress, lines);
     }
     let leveled = leveled(alloc, schedule, choice.level, schedule.steps())?;
-    match extent {
-        Extent::Orders(_, count) => match choice.find {
-            Some(wanted) => {
-                put_search(alloc, &leveled, choice, wanted, count, progress, lines).map(Some)
-            }
-            None => put_counts(alloc, &leveled, choice, extent, progress, lines),
-        },
-        Extent::States(_) => put_counts(alloc, &leveled, choice, extent, progress, lines),
+    match choice.find {
+        Some(wanted) => put_search(alloc, &leveled, choice, wanted, progress, lines),
+        None => put_counts(alloc, &leveled, choice, extent, progress, lines),
     }
 }
 
@@ -168,27 +176,35 @@ pub(crate) fn range<'a, E: Write>(
     Ok(Some((from, to)))
 }
 
-/// Appends the shortest beginning of an order in which a reply or a verdict comes, or that it comes in none of `count`
-/// orders. Answers the exit status: 1 for none.
+/// Appends the shortest beginning of an order in which a reply or a verdict comes, or that it comes in no order. Answers
+/// the exit status, 1 for none; or None if there are more states than the limit.
 fn put_search<'a, E: Write>(
     alloc: Global,
     schedule: &Schedule,
     choice: Choice<'_>,
     wanted: &str,
-    count: u64,
     progress: &mut Progress<'_, E>,
     lines: &mut Vec<u8>,
-) -> Result<u8, HekFault<'a>> {
-    match found_in(alloc, schedule, choice.form, wanted, progress)? {
-        Some(found) => {
+) -> Result<Option<u8>, HekFault<'a>> {
+    let limit = choice.most_states();
+    match found_in(alloc, schedule, choice.form, wanted, limit, progress)? {
+        Answer::Found(found) => {
             put_found(alloc, choice.printing, &found, lines)?;
-            Ok(0)
+            Ok(Some(0))
         }
-        None => {
+        Answer::Nowhere => {
+            let count = count_of(alloc, schedule, choice.form)?;
             put_none(alloc, choice.printing, count, lines)?;
-            Ok(1)
+            Ok(Some(1))
         }
+        Answer::TooMany => Ok(None),
     }
+}
+
+/// How many orders there are, which are fewer than 2^64.
+fn count_of<'a>(alloc: Global, schedule: &Schedule, form: Form) -> Result<u64, HekFault<'a>> {
+    let moves = moves_of(alloc, schedule)?;
+    order_count(moves.as_slice(), form).ok_or(HekFault::BadArgument)
 }
 
 /// The lines of a tally. Answers the exit status, or None if there are more states than the limit.
@@ -222,7 +238,10 @@ fn tally_of<'a, E: Write>(
         }
         Extent::States(most) => match explore(alloc, schedule, form, most, progress) {
             Ok(None) => Ok(None),
-            Ok(Some(tally)) => Ok(Some(sorted(Ok(tally))?)),
+            Ok(Some(tally)) => {
+                progress.tell();
+                Ok(Some(sorted(Ok(tally))?))
+            }
             Err(fault) => Err(fault_of(fault)),
         },
     }

@@ -7,11 +7,12 @@ ghost use Rattle.hek_run_command.specs.Driven.{answer_text, HasAnswers, IsAnswer
 use crate::driven_line::read_event;
 use crate::printed::{put_fault, put_state};
 use crate::telling::{Telling, tell_step};
+use hek_diagnostics::explain_event;
 use hek_machine::Machine;
 use hek_report::{
     HekFault, INPUT, Printing, ScheduleFile, buffered, read_fault, schedule_in, send,
 };
-use hek_rules::{Event, NoMemory, Schedule, next_line};
+use hek_rules::{Event, NoMemory, Schedule, next_line, next_word};
 use hek_step_report::Extras;
 use std::alloc::Global;
 use std::io::{BufRead, Read, Write};
@@ -27,37 +28,55 @@ pub struct Driving {
     pub ends: bool,
     /// Whether a prompt is before each line of the input, as at a terminal.
     pub prompts: bool,
+    /// Whether the lines are typed: `help` and `quit` are answered then.
+    pub is_typed: bool,
+    /// Whether what is wrong with a line at fault is said after its answer.
+    pub explains: bool,
     pub printing: Printing,
 }
+
+/// The bytes of a byte order mark, which may be before the first line.
+const BYTE_ORDER_MARK: &[u8] = b"\xEF\xBB\xBF";
 
 /// The prompt before each line that is typed.
 const PROMPT: &[u8] = b"hek> ";
 
+/// What `help` prints, where lines are typed.
+const HELP: &str = "\
+A line is an event: the name of a transaction, and
+  begin  read KEY  scan BUCKET  insert KEY VALUE  update KEY VALUE  delete KEY
+  finish  precommit  release  commit  fail  stamp  end
+or `detect` alone. `help` prints this, `quit` ends.
+";
+
 /// Reads events, one on each line, does each on the machine of the rows and transactions in a file, and answers it at
 /// once: with its line of the trace, and what is asked for with it. The answer to a line at fault is its number and
-/// its fault; such a line changes nothing. Answers the exit status: 1 if a line was at fault.
-pub fn drive_command<'a, R: Read + Drop, I: Read + Drop, W: Write>(
+/// its fault; such a line changes nothing, and `faults` says what is wrong with it where that is asked for. Answers the
+/// exit status: 1 if a line was at fault.
+pub fn drive_command<'a, R: Read + Drop, I: Read + Drop, W: Write, E: Write>(
     alloc: Global,
     file: ScheduleFile<R>,
     input: I,
     driving: Driving,
     out: &mut W,
+    faults: &mut E,
 ) -> Result<u8, HekFault<'a>>
     ensures status { IfOk result (λ status. status ≤ 1) }
     ensures written { OnOk result (driving.prompts ≡ false → HasAnswers driving.ends (W.contents out.old) (W.contents out.new)) }
 {
     let schedule = schedule_in(alloc, file)?;
     let mut input = buffered(alloc, input)?;
-    drive_schedule(alloc, &schedule, driving, &mut input, out)
+    drive_schedule(alloc, &schedule, driving, &mut input, out, faults)
 }
 
 /// Greets, and answers each line of the input, on the machine of a schedule's rows and transactions.
-fn drive_schedule<'a, B: BufRead, W: Write>(
+fn drive_schedule<'a, B: BufRead, W: Write, E: Write>(
     alloc: Global,
     schedule: &Schedule,
     driving: Driving,
     input: &mut B,
     out: &mut W,
+    faults: &mut E,
 ) -> Result<u8, HekFault<'a>>
     ensures status { IfOk result (λ status. status ≤ 1) }
     ensures written { OnOk result (driving.prompts ≡ false → HasAnswers driving.ends (W.contents out.old) (W.contents out.new)) }
@@ -65,7 +84,15 @@ fn drive_schedule<'a, B: BufRead, W: Write>(
     let mut machine = Machine::load(alloc, schedule)?;
     let mut telling = Telling::new(alloc, schedule, driving.extras, driving.printing);
     greet(driving.prompts, schedule, out)?;
-    drive(alloc, &mut telling, &mut machine, driving, input, out)
+    drive(
+        alloc,
+        &mut telling,
+        &mut machine,
+        driving,
+        input,
+        out,
+        faults,
+    )
 }
 
 /// At a terminal, says how many transactions there are, and what a line is.
@@ -86,13 +113,14 @@ fn greet<'a, W: Write>(prompts: bool, schedule: &Schedule, out: &mut W) -> Resul
 }
 
 #[tactic(auto, using(crate::proofs::DrivenLaws::none_yet, crate::proofs::DrivenLaws::silent, crate::proofs::DrivenLaws::one_more))]
-fn drive<'a, B: BufRead, W: Write>(
+fn drive<'a, B: BufRead, W: Write, E: Write>(
     alloc: Global,
     telling: &mut Telling<'_>,
     machine: &mut Machine,
     driving: Driving,
     input: &mut B,
     out: &mut W,
+    faults: &mut E,
 ) -> Result<u8, HekFault<'a>>
     ensures status { IfOk result (λ status. status ≤ 1) }
     ensures written { OnOk result (driving.prompts ≡ false → HasAnswers driving.ends (W.contents out.old) (W.contents out.new)) }
@@ -104,14 +132,66 @@ fn drive<'a, B: BufRead, W: Write>(
         if let Err(error) = input.read_until(b'\n', &mut line) {
             return Err(read_fault(error.kind(), INPUT));
         }
-        let Some((text, _)) = next_line(line.as_slice()) else {
+        let Some(text) = line_to_answer(driving, number, line.as_slice()) else {
             prompt(driving.prompts, b"\n", out)?;
             return Ok(status);
         };
         let is_fault = answer_line(alloc, telling, machine, driving, number, text, out)?;
         status = status_after(status, is_fault);
+        say_more(
+            alloc,
+            telling.schedule,
+            driving,
+            is_fault,
+            number,
+            text,
+            faults,
+        );
     }
     Ok(status)
+}
+
+/// The line that is to be answered, without a byte order mark before the first. None at the end of the input, and for
+/// `quit` where it is typed.
+fn line_to_answer(driving: Driving, number: u64, bytes: &[u8]) -> Option<&[u8]> {
+    let (line, _) = next_line(bytes)?;
+    if driving.is_typed && is_only(line, b"quit") {
+        return None;
+    }
+    if number > 1 {
+        return Some(line);
+    }
+    match line.strip_prefix(BYTE_ORDER_MARK) {
+        Some(rest) => Some(rest),
+        None => Some(line),
+    }
+}
+
+/// Whether a line has this word alone.
+fn is_only(line: &[u8], wanted: &[u8]) -> bool {
+    match next_word(line) {
+        Some((word, rest)) => word == wanted && next_word(rest).is_none(),
+        None => false,
+    }
+}
+
+/// After the answer to a line, says what is wrong with it, or what `help` asks for.
+fn say_more<E: Write>(
+    alloc: Global,
+    schedule: &Schedule,
+    driving: Driving,
+    is_fault: bool,
+    number: u64,
+    line: &[u8],
+    faults: &mut E,
+) {
+    if driving.is_typed && is_only(line, b"help") {
+        let _ = write!(faults, "{HELP}");
+    } else if is_fault && driving.explains {
+        if let Ok(Some(found)) = explain_event(alloc, INPUT, schedule, line, number) {
+            let _ = write!(faults, "{found}");
+        }
+    }
 }
 
 /// Does what a line asks for, and writes the answer. Answers whether the line is at fault.
@@ -176,11 +256,23 @@ fn answer_to(
         state: Vec::new(alloc),
         is_fault: false,
     };
+    if driving.is_typed && is_only(line, b"help") {
+        return Ok(answer);
+    }
     match read_event(telling.schedule, line) {
         Ok(None) => return Ok(answer),
         Ok(Some(event)) => tell_placed(alloc, telling, machine, &event, &mut answer.told)?,
         Err(kind) => {
-            put_fault(alloc, telling.printing, number, kind, &mut answer.told)?;
+            let printing = telling.printing;
+            put_fault(
+                alloc,
+                printing,
+                telling.schedule,
+                number,
+                line,
+                kind,
+                &mut answer.told,
+            )?;
             answer.is_fault = true;
         }
     }

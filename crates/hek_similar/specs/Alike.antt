@@ -1,5 +1,6 @@
 -- Alike worlds: equal but for the places of their versions, the order in which different transactions came by what they
 -- hold, and their times.
+use Rattle.std.specs.Prelude.{◌≡◌, ℕ}
 use Rattle.hek_rules.specs.declared.event.Event.{Event}
 use Rattle.hek_rules.specs.declared.reply.Reply.{Reply}
 use Rattle.hek_rules.specs.declared.reply.Reply.TheVariants as reply
@@ -8,9 +9,10 @@ use Rattle.hek_similar.specs.Similar.{Similar}
 use Rattle.hek_similar.specs.Places.{Renumbering, IsRenumbering, renumbered}
 use Rattle.hek_similar.specs.Holdings.{Regrouped}
 
--- one is similar to the other renumbered and regrouped
-pub record Alike (w x : World) : Type 0 where
+-- one is similar to the other renumbered, with the versions of each group in order, and regrouped
+pub record Alike (group : ℕ → ℕ) (w x : World) : Type 0 where
   pub renumbering : Renumbering
+  pub groups : renumbering.group ≡ group
   pub renumbers : IsRenumbering renumbering w
   pub between : World
   pub regrouped : Regrouped (renumbered renumbering w) between

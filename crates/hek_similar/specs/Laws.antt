@@ -1,6 +1,6 @@
 -- The laws of similar worlds, each in a sentence.
 use Rattle.std.specs.List.{All}
-use Rattle.std.specs.Prelude.{◌≡◌, ◌<◌, ◌≤◌, ◌+◌, ◌↔◌, ◌++◌, List, [], length, map}
+use Rattle.std.specs.Prelude.{ℕ, ◌≡◌, ◌<◌, ◌≤◌, ◌+◌, ◌↔◌, ◌++◌, List, [], length, map}
 use Rattle.hek_rules.specs.declared.event.Event.{Event}
 use Rattle.hek_rules.specs.declared.reply.Reply.{Reply}
 use Rattle.hek_rules.specs.declared.serial.Verdict.TheVariants.{Serial}
@@ -14,7 +14,7 @@ use Rattle.hek_laws.specs.Sound.{Sound}
 use Rattle.hek_laws.specs.Runs.{IsPlaced, IsReachable}
 use Rattle.hek_similar.specs.Similar.{Similar, timeless_reply, timeless_step}
 use Rattle.hek_similar.specs.Forms.{form}
-use Rattle.hek_similar.specs.Places.{Renumbering, IsRenumbering, renumbered, renumbered_reply, renumbered_step}
+use Rattle.hek_similar.specs.Places.{Renumbering, IsRenumbering, ScansGroup, renumbered, renumbered_reply, renumbered_step}
 use Rattle.hek_similar.specs.Holdings.{Regrouped}
 use Rattle.hek_similar.specs.Alike.{Alike, bare_reply, bare_step}
 use Rattle.hek_similar.specs.Canonical.{canonical_form}
@@ -63,11 +63,13 @@ FormsDecide = (w x : World) → Sound w → Sound x → (form w ≡ form x) ↔ 
 
 -- ---- renumbered worlds
 
--- each event has the same reply in a renumbered world, but for places, and leads to the next world renumbered
+-- each event has the same reply in a renumbered world, but for places, and leads to the next world renumbered, if the
+-- keys of a bucket that it scans are of one group
 abbrev pub RenumberedWorldsAnswerAlike : Type 0
 RenumberedWorldsAnswerAlike =
     (r : Renumbering) (w : World) (e : Event) →
     IsRenumbering r w →
+    ScansGroup r.group w.buckets e →
     (reply (renumbered r w) e ≡ renumbered_reply r (reply w e)) × (next (renumbered r w) e ≡ renumbered r (next w e)) × IsRenumbering r (next w e)
 
 -- so have events one after another
@@ -75,6 +77,7 @@ abbrev pub RenumberedRunsAnswerAlike : Type 0
 RenumberedRunsAnswerAlike =
     (r : Renumbering) (w : World) (events : List Event) →
     IsRenumbering r w →
+    All (ScansGroup r.group w.buckets) events →
     (transcript (renumbered r w) events ≡ map (renumbered_step r) (transcript w events)) × (run (renumbered r w) events ≡ renumbered r (run w events)) × IsRenumbering r (run w events)
 
 abbrev pub RenumberedWorldsHaveSameRows : Type 0
@@ -108,41 +111,43 @@ RegroupedWorldsAreSound = (w x : World) → Regrouped w x → Sound w → Sound 
 -- worlds
 abbrev pub AlikeWorldsAnswerAlike : Type 0
 AlikeWorldsAnswerAlike =
-    (w x : World) (e : Event) →
-    Alike w x →
+    (group : ℕ → ℕ) (w x : World) (e : Event) →
+    Alike group w x →
     Sound w →
     Sound x →
+    ScansGroup group w.buckets e →
     w.clock < clock_end →
     x.clock < clock_end →
-    (bare_reply (reply w e) ≡ bare_reply (reply x e)) × Alike (next w e) (next x e)
+    (bare_reply (reply w e) ≡ bare_reply (reply x e)) × Alike group (next w e) (next x e)
 
 -- so are events one after another, no more than either clock has left
 abbrev pub AlikeRunsAnswerAlike : Type 0
 AlikeRunsAnswerAlike =
-    (w x : World) (events : List Event) →
-    Alike w x →
+    (group : ℕ → ℕ) (w x : World) (events : List Event) →
+    Alike group w x →
     IsReachable w →
     IsReachable x →
     All (IsPlaced w.buckets) events →
+    All (ScansGroup group w.buckets) events →
     w.clock + length events ≤ clock_end →
     x.clock + length events ≤ clock_end →
-    (map bare_step (transcript w events) ≡ map bare_step (transcript x events)) × Alike (run w events) (run x events)
+    (map bare_step (transcript w events) ≡ map bare_step (transcript x events)) × Alike group (run w events) (run x events)
 
 abbrev pub AlikeWorldsHaveSameRows : Type 0
-AlikeWorldsHaveSameRows = (w x : World) → Alike w x → committed_rows w ≡ committed_rows x
+AlikeWorldsHaveSameRows = (group : ℕ → ℕ) (w x : World) → Alike group w x → committed_rows w ≡ committed_rows x
 
 abbrev pub AlikeToItself : Type 0
-AlikeToItself = (w : World) → Alike w w
+AlikeToItself = (group : ℕ → ℕ) (w : World) → Alike group w w
 
 abbrev pub AlikeBothWays : Type 0
-AlikeBothWays = (w x : World) → Alike w x → Alike x w
+AlikeBothWays = (group : ℕ → ℕ) (w x : World) → Alike group w x → Alike group x w
 
 abbrev pub AlikeInTurn : Type 0
-AlikeInTurn = (w x y : World) → Alike w x → Alike x y → Alike w y
+AlikeInTurn = (group : ℕ → ℕ) (w x y : World) → Alike group w x → Alike group x y → Alike group w y
 
 -- sound worlds are alike exactly if the forms of their canonical worlds are equal
 abbrev pub CanonicalFormsDecide : Type 0
-CanonicalFormsDecide = (w x : World) → Sound w → Sound x → (canonical_form w ≡ canonical_form x) ↔ Alike w x
+CanonicalFormsDecide = (group : ℕ → ℕ) (w x : World) → Sound w → Sound x → (canonical_form group w ≡ canonical_form group x) ↔ Alike group w x
 
 -- ---- verdicts
 
@@ -180,11 +185,12 @@ ToldAlikeGoOn =
 -- histories that are told alike and go on with the same events, from alike worlds, are told alike
 abbrev pub ToldAlikeGoOnInAlikeWorlds : Type 0
 ToldAlikeGoOnInAlikeWorlds =
-    (w x : World) (h g : List (Event × Reply)) (events : List Event) →
-    Alike w x →
+    (group : ℕ → ℕ) (w x : World) (h g : List (Event × Reply)) (events : List Event) →
+    Alike group w x →
     IsReachable w →
     IsReachable x →
     All (IsPlaced w.buckets) events →
+    All (ScansGroup group w.buckets) events →
     w.clock + length events ≤ clock_end →
     x.clock + length events ≤ clock_end →
     ToldAlike h g →

@@ -1,28 +1,35 @@
 -- Renumbered worlds: equal but for the places of their versions.
-use Rattle.std.specs.Prelude.{◌≡◌, ℕ, ◌<◌, ◌≤◌, List, map, length}
+use Rattle.std.specs.Prelude.{◌≡◌, ℕ, ◌<◌, ◌≤◌, ◌%◌, List, map, length}
 use Rattle.std.specs.List.{range_with_len}
 use Rattle.hek_rules.specs.declared.event.Event.{Event}
+use Rattle.hek_rules.specs.declared.event.Event.TheVariants.{Scan}
 use Rattle.hek_rules.specs.declared.event.WriteEntry.{WriteEntry}
 use Rattle.hek_rules.specs.declared.event.WriteEntry.TheVariants.{BeginOf, EndOf}
 use Rattle.hek_rules.specs.declared.reply.Reply.{Reply}
 use Rattle.hek_rules.specs.declared.reply.Reply.TheVariants as reply
-use Rattle.hek_rules.specs.World.{World, Version, version_in, bucket_of}
+use Rattle.hek_rules.specs.World.{World, Version, version_in}
 
--- the new place of each version, and the old place of each new one
+-- the new place of each version, the old place of each new one, and the group of each key
 pub record Renumbering : Type 0 where
   pub to : ℕ → ℕ
   pub from : ℕ → ℕ
+  pub group : ℕ → ℕ
 
--- the bucket of the version at a place
-abbrev pub bucket_at : World → ℕ → ℕ
-bucket_at w v = bucket_of w (version_in w.versions v).key
+-- the group of the version at a place
+abbrev pub group_at : (ℕ → ℕ) → World → ℕ → ℕ
+group_at group w v = group (version_in w.versions v).key
 
--- the versions trade places, and those of one bucket stay in order
+-- the keys of the bucket that an event scans, if it scans one, are of one group
+abbrev pub ScansGroup : (ℕ → ℕ) → ℕ → Event → Type 0
+ScansGroup group buckets (Scan t bucket) = (k l : ℕ) → k % buckets ≡ bucket → l % buckets ≡ bucket → group k ≡ group l
+ScansGroup group buckets e = Unit {0}
+
+-- the versions trade places, and those of one group stay in order
 pub record IsRenumbering (r : Renumbering) (w : World) : Type 0 where
   pub back : (v : ℕ) → r.from (r.to v) ≡ v
   pub forth : (v : ℕ) → r.to (r.from v) ≡ v
   pub past : (v : ℕ) → length w.versions ≤ v → r.to v ≡ v
-  pub rises : (u v : ℕ) → u < v → v < length w.versions → bucket_at w u ≡ bucket_at w v → r.to u < r.to v
+  pub rises : (u v : ℕ) → u < v → v < length w.versions → group_at r.group w u ≡ group_at r.group w v → r.to u < r.to v
 
 abbrev pub renumbered_versions : Renumbering → List Version → List Version
 renumbered_versions r vs = map (λ v. version_in vs (r.from v)) (range_with_len 0 (length vs))

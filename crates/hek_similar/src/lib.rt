@@ -5,7 +5,7 @@
 //! finds the same before its begin, and the same after it, in both (`specs/Similar`). Replies are alike if they are
 //! equal without their times, which only `Began` and `Precommitted` have.
 //!
-//! Worlds are alike if one is similar to the other with its versions in other places, those of a bucket in the same order
+//! Worlds are alike if one is similar to the other with its versions in other places, those of a group in the same order
 //! (`specs/Places`), and with what transactions hold in another order, that of each transaction in the same order
 //! (`specs/Holdings`). Their replies are equal without times and places.
 #![tactic(auto)]
@@ -43,7 +43,8 @@ pub fn forms_decide_similarity()
 {}
 
 /// Each event has the same reply in a renumbered world (`specs/Places`), but for the place that it names, and leads to the
-/// renumbered next world. This holds in all worlds, at full clocks too.
+/// renumbered next world, if the keys of a bucket that it scans are of one group. This holds in all worlds, at full
+/// clocks too.
 pub fn renumbered_worlds_answer_alike()
     ensures { RenumberedWorldsAnswerAlike }
 {}
@@ -86,7 +87,8 @@ pub fn regrouped_worlds_are_sound()
 {}
 
 /// Worlds are alike if one is similar to the other renumbered and regrouped (`specs/Alike`). Each event is answered alike
-/// in two sound alike worlds, but for times and places, and leads to alike worlds, if neither clock is full.
+/// in two sound alike worlds, but for times and places, and leads to alike worlds, if neither clock is full and the keys
+/// of a bucket that it scans are of one group.
 pub fn alike_worlds_answer_alike()
     ensures { AlikeWorldsAnswerAlike }
 {}
@@ -110,7 +112,7 @@ pub fn being_alike_is_an_equivalence()
 {}
 
 /// Sound worlds are alike exactly if the forms of their canonical worlds (`specs/Canonical`) are equal. The canonical
-/// world has its versions by bucket, in each bucket in order, and its locks, entries, waiters and dependents by
+/// world has its versions by group, in each group in order, and its locks, entries, waiters and dependents by
 /// transaction, of each transaction in order.
 pub fn canonical_forms_decide()
     ensures { CanonicalFormsDecide }

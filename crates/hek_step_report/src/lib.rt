@@ -4,6 +4,7 @@
 pub mod json;
 mod looks;
 mod phase;
+mod released;
 mod reply_rules;
 mod rule_choice;
 pub mod text;

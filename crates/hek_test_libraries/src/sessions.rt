@@ -1,8 +1,10 @@
 //! A debugger's session in which memory may be refused.
 use crate::asserts::{holds, is};
-use hek_debug_command::{Manner, debug_session};
+use hek_debug_command::{Manner, Sources, debug_session};
 use hek_report::{HekFault, ScheduleFile};
 use std::alloc::{AllocError, Global};
+use std::io;
+use std::io::ErrorKind;
 use std::process::Abort;
 use std::test::Fail;
 
@@ -21,6 +23,18 @@ a precommit
 a release
 ";
 
+/// No files.
+#[derive(Drop)]
+struct NoFiles;
+
+impl Sources for NoFiles {
+    type File = &'static [u8];
+
+    fn open(&self, _: &str) -> io::Result<&'static [u8]> {
+        Err(ErrorKind::NotFound.into())
+    }
+}
+
 /// As from a pipe.
 const PIPED: Manner = Manner {
     prompts: false,
@@ -37,7 +51,7 @@ fn held(
     let file = ScheduleFile::<&[u8]>::Text(Vec::from_slice(alloc, text.as_bytes())?);
     let (mut out, mut faults) = (Vec::new(alloc), Vec::new(alloc));
     let bytes = input.as_bytes();
-    let status = match debug_session(alloc, file, bytes, PIPED, &mut out, &mut faults) {
+    let status = match debug_session(alloc, file, bytes, &NoFiles, PIPED, &mut out, &mut faults) {
         Ok(status) => status,
         // `out` is a list, which can't be written where it can't grow.
         Err(fault) => {

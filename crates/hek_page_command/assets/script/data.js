@@ -172,7 +172,7 @@ class Run {
       const kind = what === "commit" ? "commits" : "waits";
       const key = `${from} ${to} ${kind}`;
       if (!edges.has(key)) edges.set(key, { from, to, kind, by: [] });
-      edges.get(key).by.push(what === "version" ? `v${number}` : what === "bucket" ? `bucket ${number}` : what);
+      edges.get(key).by.push(what === "version" ? `v${number}` : what !== "bucket" ? what : number === undefined ? "listed" : `bucket ${number}`);
     }
     return [...edges.values()];
   }

@@ -46,7 +46,7 @@ function graphLayout(nodes, W, H) {
   const count = nodes.length;
   const k = H < 3.4 * rem() ? Math.max(H / (3.4 * rem()), 0.6) : count > 2 && H < 8 * rem() ? 0.9 : Math.max(1, Math.min(1.35, H / (8 * rem()), W / (27 * rem())));
   const u = rem() * k;
-  const r = (count > 6 ? 1.02 : 1.25) * u;
+  const r = count > 6 ? Math.min(1.02 * u, H / 8.4) : 1.25 * u;
   const isFlat = count > 2 && (H < (count > 4 ? 7.2 : 6.2) * u || W < 24 * rem());
   const isBelow = isFlat || (W < 26 * rem() && count <= 2);
   // in a very low panel the nodes have no room for words below them

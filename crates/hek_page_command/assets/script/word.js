@@ -62,7 +62,10 @@ function showWord() {
   const { list, html, isSingle } = made;
   const more = Math.max(rest, 0) + all.length - list.length;
   const note = list[0].old && !/^No/.test(title) ? "" : title.startsWith("No word changed; the last") ? title.replace(/.*, at/, "at") : list[0].isNew ? "new" : "unchanged";
-  const lead = isSingle ? `${captionOf(list[0])} <small>${note}</small>` : esc(title);
+  // a note that has no room beside the caption is left out
+  const caption = isSingle ? captionOf(list[0]) : "";
+  const hasRoom = widthOf(caption.replace(/<[^>]*>/g, ""), 1.05 * u, 700) + widthOf(note, 0.95 * u) + u <= W;
+  const lead = isSingle ? `${caption}${hasRoom ? ` <small>${note}</small>` : ""}` : esc(title);
   $("words-title").innerHTML = lead + (pinned ? ' <button type="button" data-do="unpin">unpin</button>' : more > 0 ? ` <small>${isSingle && note ? "\u00b7 " : ""}and ${more} more</small>` : "");
   put("word", html);
 }

@@ -61,7 +61,7 @@ regrouped-in_turn w x y g h = record {
 
 -- ---- with renumberings
 pub regrouped-renumbering : (r : Renumbering) (w x : World) → Regrouped w x → IsRenumbering r w → IsRenumbering r x
-regrouped-renumbering r w x g i = still-renumbering r w x (sym g.buckets) (subst (Kept w.versions) g.versions (kept w.versions)) i
+regrouped-renumbering r w x g i = still-renumbering r w x (subst (Kept w.versions) g.versions (kept w.versions)) i
 
 pub renumbered-regrouped : (r : Renumbering) (w x : World) → Regrouped w x → Regrouped (renumbered r w) (renumbered r x)
 renumbered-regrouped r w x g = record {

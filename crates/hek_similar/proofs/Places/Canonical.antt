@@ -1,20 +1,20 @@
 -- Equal forms of canonical worlds decide whether worlds are alike.
 use Rattle.std.proofs.Common.{◌≡◌, ℕ, ◌+◌, ◌<◌, List, [], ◌∷◌, refl, ◌∙◌, ap, sym, subst, length, arith, ⊎_elim}
 use Rattle.std.proofs.lemmas.Bool.{cases_lt, cases_order, lt-ltb, le-ltb, eqb-true, cond-true, cond-false}
-use Rattle.std.specs.Prelude.{map, ◌%◌, ◌&&◌, ◌==◌, nat_lt, if◌then◌else◌}
+use Rattle.std.specs.Prelude.{map, ◌&&◌, ◌==◌, nat_lt, if◌then◌else◌}
 use Rattle.hek_rules.specs.declared.event.WriteEntry.{WriteEntry}
 use Rattle.hek_rules.specs.declared.event.WriteEntry.TheVariants.{BeginOf, EndOf}
-use Rattle.hek_rules.specs.World.{World, version_in, bucket_of}
+use Rattle.hek_rules.specs.World.{World, version_in}
 use Rattle.hek_laws.specs.Sound.{Sound}
 use Rattle.hek_similar.specs.Similar.{Similar, timeless_version}
-use Rattle.hek_similar.specs.Places.{Renumbering, IsRenumbering, renumbered, renumbered_versions, renumbered_lock, renumbered_entry, renumbered_write, bucket_at}
+use Rattle.hek_similar.specs.Places.{Renumbering, IsRenumbering, renumbered, renumbered_versions, renumbered_lock, renumbered_entry, renumbered_write, group_at}
 use Rattle.hek_similar.specs.Holdings.{Regrouped}
 use Rattle.hek_similar.specs.Alike.{Alike}
 use Rattle.hek_similar.proofs.Holdings.Judged.{holding-is}
 use Rattle.hek_similar.proofs.Holdings.Laws.{regrouped-both_ways, regrouped-renumbering, renumbered-regrouped}
 use Rattle.hek_similar.proofs.Holdings.Sound.{sound-regrouped}
 use Rattle.hek_similar.proofs.Holdings.Grouped.{regrouped-by_txn, same-by_txn, similar-by_txn}
-use Rattle.hek_similar.specs.Canonical.{count_lower, count_before, place_by_bucket, by_bucket, by_txn, canonical, canonical_form}
+use Rattle.hek_similar.specs.Canonical.{count_lower, count_before, place_by_group, by_group, by_txn, canonical, canonical_form}
 use Rattle.hek_similar.specs.Laws.{CanonicalFormsDecide}
 use Rattle.hek_similar.proofs.Lists.{same-version, same-length, places-same}
 use Rattle.hek_similar.proofs.Agree.{similar-alike}
@@ -26,30 +26,31 @@ use Rattle.hek_similar.proofs.Places.Effects.{same-rebuilt}
 use Rattle.hek_similar.proofs.Places.Inverse.{both, both-renumber, renumbered-twice}
 use Rattle.hek_similar.proofs.Places.Sound.{worlds-sound}
 use Rattle.hek_similar.proofs.Places.Alike.{alike-both_ways, alike-in_turn, renumbered-similar, similar-renumbering}
-use Rattle.hek_similar.proofs.Places.Grouped.{by_bucket-renumbers}
+use Rattle.hek_similar.proofs.Places.Grouped.{by_group-renumbers}
 
 -- ---- from forms
-placed-sound : (w : World) → Sound w → Sound (renumbered (by_bucket w) w)
-placed-sound w s = worlds-sound (by_bucket w) w (by_bucket-renumbers w) s
+placed-sound : (g : ℕ → ℕ) (w : World) → Sound w → Sound (renumbered (by_group g w) w)
+placed-sound g w s = worlds-sound (by_group g w) w (by_group-renumbers g w) s
 
 -- a world is alike to what is similar to its canonical one
-by-canonical : (w x : World) → Sound w → Similar (canonical w) x → Alike w x
-by-canonical w x s same = record {
-  renumbering = by_bucket w;
-  renumbers = by_bucket-renumbers w;
-  between = canonical w;
-  regrouped = regrouped-by_txn (renumbered (by_bucket w) w) (placed-sound w s);
+by-canonical : (g : ℕ → ℕ) (w x : World) → Sound w → Similar (canonical g w) x → Alike g w x
+by-canonical g w x s same = record {
+  renumbering = by_group g w;
+  groups = refl;
+  renumbers = by_group-renumbers g w;
+  between = canonical g w;
+  regrouped = regrouped-by_txn (renumbered (by_group g w) w) (placed-sound g w s);
   similar = same;
 }
 
-canonical-sound : (w : World) → Sound w → Sound (canonical w)
-canonical-sound w s = sound-regrouped (renumbered (by_bucket w) w) (canonical w) (regrouped-by_txn (renumbered (by_bucket w) w) (placed-sound w s)) (placed-sound w s)
+canonical-sound : (g : ℕ → ℕ) (w : World) → Sound w → Sound (canonical g w)
+canonical-sound g w s = sound-regrouped (renumbered (by_group g w) w) (canonical g w) (regrouped-by_txn (renumbered (by_group g w) w) (placed-sound g w s)) (placed-sound g w s)
 
-forms-alike : (w x : World) → Sound w → Sound x → canonical_form w ≡ canonical_form x → Alike w x
-forms-alike w x here there e =
-    alike-in_turn w (canonical x) x
-    (by-canonical w (canonical x) here (form-similar (canonical w) (canonical x) (canonical-sound w here) (canonical-sound x there) e))
-    (alike-both_ways x (canonical x) (by-canonical x (canonical x) there (similar-itself (canonical x))))
+forms-alike : (g : ℕ → ℕ) (w x : World) → Sound w → Sound x → canonical_form g w ≡ canonical_form g x → Alike g w x
+forms-alike g w x here there e =
+    alike-in_turn g w (canonical g x) x
+    (by-canonical g w (canonical g x) here (form-similar (canonical g w) (canonical g x) (canonical-sound g w here) (canonical-sound g x there) e))
+    (alike-both_ways g x (canonical g x) (by-canonical g x (canonical g x) there (similar-itself (canonical g x))))
 
 -- ---- to forms
 -- renumberings that give the same places give the same world
@@ -74,12 +75,12 @@ module _ (r : Renumbering) (w : World) (i : IsRenumbering r w) where
   abbrev y : World
   y = renumbered r w
 
-  lower-to : (bucket : ℕ) → count_lower y bucket ≡ count_lower w bucket
-  lower-to bucket =
-      places-count r (length w.versions) (trades r w i) w.versions refl (λ u x. nat_lt (bucket_of w x.key) bucket) (λ u x. nat_lt (bucket_of w x.key) bucket) (λ u l. refl)
+  lower-to : (c : ℕ) → count_lower r.group y c ≡ count_lower r.group w c
+  lower-to c =
+      places-count r (length w.versions) (trades r w i) w.versions refl (λ u x. nat_lt (r.group x.key) c) (λ u x. nat_lt (r.group x.key) c) (λ u l. refl)
 
-  -- the new places of two versions of a bucket are in the order of the old ones
-  order-to : (u v : ℕ) → u < length w.versions → v < length w.versions → bucket_at w u ≡ bucket_at w v → nat_lt (r.to u) (r.to v) ≡ nat_lt u v
+  -- the new places of two versions of a group are in the order of the old ones
+  order-to : (u v : ℕ) → u < length w.versions → v < length w.versions → group_at r.group w u ≡ group_at r.group w v → nat_lt (r.to u) (r.to v) ≡ nat_lt u v
   order-to u v l m e =
       ⊎_elim
       (λ q. ap (λ k. nat_lt (r.to k) (r.to v)) q ∙ le-ltb (r.to v) (r.to v) (omega arith) ∙ sym (le-ltb u v (omega (arith, q))))
@@ -89,64 +90,66 @@ module _ (r : Renumbering) (w : World) (i : IsRenumbering r w) where
       o)
       (cases_order u v)
 
-  before-to : (v : ℕ) → v < length w.versions → count_before y (bucket_at w v) (r.to v) ≡ count_before w (bucket_at w v) v
+  before-to : (v : ℕ) → v < length w.versions → count_before r.group y (group_at r.group w v) (r.to v) ≡ count_before r.group w (group_at r.group w v) v
   before-to v m =
       places-count r (length w.versions) (trades r w i) w.versions refl
-      (λ u x. bucket_of w x.key == bucket_at w v && nat_lt u v) (λ u x. bucket_of w x.key == bucket_at w v && nat_lt u (r.to v))
-      (λ u l. and-same (bucket_at w u == bucket_at w v) (nat_lt (r.to u) (r.to v)) (nat_lt u v) (λ e. order-to u v l m (eqb-true _ _ e)))
+      (λ u x. r.group x.key == group_at r.group w v && nat_lt u v) (λ u x. r.group x.key == group_at r.group w v && nat_lt u (r.to v))
+      (λ u l. and-same (group_at r.group w u == group_at r.group w v) (nat_lt (r.to u) (r.to v)) (nat_lt u v) (λ e. order-to u v l m (eqb-true _ _ e)))
 
-  place-to : (v : ℕ) → place_by_bucket y (r.to v) ≡ place_by_bucket w v
+  place-to : (v : ℕ) → place_by_group r.group y (r.to v) ≡ place_by_group r.group w v
   place-to v =
       let long : length y.versions ≡ length w.versions = length-renumbered r (length w.versions) (trades r w i) w.versions refl in
       ⊎_elim
       (λ l.
       let m : r.to v < length w.versions = to-within r (length w.versions) (trades r w i) v l in
-      cond-true (nat_lt (r.to v) (length y.versions)) (count_lower y (bucket_at y (r.to v)) + count_before y (bucket_at y (r.to v)) (r.to v)) (r.to v) (lt-ltb _ _ (omega (arith, m, long)))
-      ∙ ap (λ x. count_lower y (bucket_of w x.key) + count_before y (bucket_of w x.key) (r.to v)) (version-to r (length w.versions) (trades r w i) w.versions refl v)
-      ∙ ap (λ k. k + count_before y (bucket_at w v) (r.to v)) (lower-to (bucket_at w v))
-      ∙ ap (λ k. count_lower w (bucket_at w v) + k) (before-to v l)
-      ∙ sym (cond-true (nat_lt v (length w.versions)) (count_lower w (bucket_at w v) + count_before w (bucket_at w v) v) v (lt-ltb _ _ l)))
+      cond-true (nat_lt (r.to v) (length y.versions)) (count_lower r.group y (group_at r.group y (r.to v)) + count_before r.group y (group_at r.group y (r.to v)) (r.to v)) (r.to v) (lt-ltb _ _ (omega (arith, m, long)))
+      ∙ ap (λ x. count_lower r.group y (r.group x.key) + count_before r.group y (r.group x.key) (r.to v)) (version-to r (length w.versions) (trades r w i) w.versions refl v)
+      ∙ ap (λ k. k + count_before r.group y (group_at r.group w v) (r.to v)) (lower-to (group_at r.group w v))
+      ∙ ap (λ k. count_lower r.group w (group_at r.group w v) + k) (before-to v l)
+      ∙ sym (cond-true (nat_lt v (length w.versions)) (count_lower r.group w (group_at r.group w v) + count_before r.group w (group_at r.group w v) v) v (lt-ltb _ _ l)))
       (λ l.
       let e : r.to v ≡ v = i.past v l in
-      cond-false (nat_lt (r.to v) (length y.versions)) (count_lower y (bucket_at y (r.to v)) + count_before y (bucket_at y (r.to v)) (r.to v)) (r.to v) (le-ltb _ _ (omega (arith, l, e, long)))
+      cond-false (nat_lt (r.to v) (length y.versions)) (count_lower r.group y (group_at r.group y (r.to v)) + count_before r.group y (group_at r.group y (r.to v)) (r.to v)) (r.to v) (le-ltb _ _ (omega (arith, l, e, long)))
       ∙ e
-      ∙ sym (cond-false (nat_lt v (length w.versions)) (count_lower w (bucket_at w v) + count_before w (bucket_at w v) v) v (le-ltb _ _ l)))
+      ∙ sym (cond-false (nat_lt v (length w.versions)) (count_lower r.group w (group_at r.group w v) + count_before r.group w (group_at r.group w v) v) v (le-ltb _ _ l)))
       (cases_lt v (length w.versions))
 
 -- times don't enter the place
-similar-place : (w x : World) → Similar w x → (v : ℕ) → place_by_bucket w v ≡ place_by_bucket x v
-similar-place w x s v =
+similar-place : (g : ℕ → ℕ) (w x : World) → Similar w x → (v : ℕ) → place_by_group g w v ≡ place_by_group g x v
+similar-place g w x s v =
     let e : map timeless_version w.versions ≡ map timeless_version x.versions = (similar-alike w x s).versions in
-    let buckets : w.buckets ≡ x.buckets = ap (λ (y : World). y.buckets) s.same in
-    let at : bucket_at w v ≡ bucket_at x v = ap (λ y. bucket_of w y.key) (same-version w.versions x.versions e v) ∙ ap (λ b. (version_in x.versions v).key % b) buckets in
-    let lower : (c : ℕ) → count_lower w c ≡ count_lower x c
-    = λ c. ap length (places-same (λ u y. nat_lt (bucket_of w y.key) c) (λ u y. nat_lt (bucket_of x y.key) c) w.versions x.versions (λ u y. refl) (λ u y. refl) (λ u y. ap (λ b. nat_lt (y.key % b) c) buckets) e) in
-    let before : (c : ℕ) → count_before w c v ≡ count_before x c v
-    = λ c. ap length (places-same (λ u y. bucket_of w y.key == c && nat_lt u v) (λ u y. bucket_of x y.key == c && nat_lt u v) w.versions x.versions (λ u y. refl) (λ u y. refl) (λ u y. ap (λ b. y.key % b == c && nat_lt u v) buckets) e) in
-    ap (λ n. if nat_lt v n then count_lower w (bucket_at w v) + count_before w (bucket_at w v) v else v) (same-length timeless_version w.versions x.versions e)
-    ∙ ap (λ c. if nat_lt v (length x.versions) then count_lower w c + count_before w c v else v) at
-    ∙ ap (λ k. if nat_lt v (length x.versions) then k + count_before w (bucket_at x v) v else v) (lower (bucket_at x v))
-    ∙ ap (λ k. if nat_lt v (length x.versions) then count_lower x (bucket_at x v) + k else v) (before (bucket_at x v))
+    let at : group_at g w v ≡ group_at g x v = ap (λ y. g y.key) (same-version w.versions x.versions e v) in
+    let lower : (c : ℕ) → count_lower g w c ≡ count_lower g x c
+    = λ c. ap length (places-same (λ u y. nat_lt (g y.key) c) (λ u y. nat_lt (g y.key) c) w.versions x.versions (λ u y. refl) (λ u y. refl) (λ u y. refl) e) in
+    let before : (c : ℕ) → count_before g w c v ≡ count_before g x c v
+    = λ c. ap length (places-same (λ u y. g y.key == c && nat_lt u v) (λ u y. g y.key == c && nat_lt u v) w.versions x.versions (λ u y. refl) (λ u y. refl) (λ u y. refl) e) in
+    ap (λ n. if nat_lt v n then count_lower g w (group_at g w v) + count_before g w (group_at g w v) v else v) (same-length timeless_version w.versions x.versions e)
+    ∙ ap (λ c. if nat_lt v (length x.versions) then count_lower g w c + count_before g w c v else v) at
+    ∙ ap (λ k. if nat_lt v (length x.versions) then k + count_before g w (group_at g x v) v else v) (lower (group_at g x v))
+    ∙ ap (λ k. if nat_lt v (length x.versions) then count_lower g x (group_at g x v) + k else v) (before (group_at g x v))
 
 -- nor does who came first
-regrouped-place : (w x : World) → Regrouped w x → (v : ℕ) → place_by_bucket w v ≡ place_by_bucket x v
-regrouped-place w x g v = ap (λ y. place_by_bucket y v) (holding-is w x g)
+regrouped-place : (g : ℕ → ℕ) (w x : World) → Regrouped w x → (v : ℕ) → place_by_group g w v ≡ place_by_group g x v
+regrouped-place g w x a v = ap (λ y. place_by_group g y v) (holding-is w x a)
 
-alike-forms : (w x : World) → Alike w x → canonical_form w ≡ canonical_form x
-alike-forms w x a =
+alike-forms : (g : ℕ → ℕ) (w x : World) → Alike g w x → canonical_form g w ≡ canonical_form g x
+alike-forms g w x a =
     let r : Renumbering = a.renumbering in
     let y : World = renumbered r w in
     let m : World = a.between in
-    let c : Renumbering = by_bucket x in
-    let of_m : IsRenumbering c m = similar-renumbering c x m (similar-both_ways m x a.similar) (by_bucket-renumbers x) in
+    let c : Renumbering = by_group g x in
+    let one : c.group ≡ r.group = sym a.groups in
+    let of_m : IsRenumbering c m = similar-renumbering c x m (similar-both_ways m x a.similar) (by_group-renumbers g x) in
     let of_y : IsRenumbering c y = regrouped-renumbering c m y (regrouped-both_ways y m a.regrouped) of_m in
-    let placed : renumbered (by_bucket w) w ≡ renumbered c y
-    = renumbered-by (by_bucket w) (both r c) w (by_bucket-renumbers w) (both-renumber r c w a.renumbers of_y)
-    (λ v. sym (place-to r w a.renumbers v) ∙ regrouped-place y m a.regrouped (r.to v) ∙ similar-place m x a.similar (r.to v))
-    ∙ sym (renumbered-twice r c w a.renumbers of_y) in
-    let same : canonical w ≡ by_txn (renumbered c m) = ap by_txn placed ∙ same-by_txn (renumbered c y) (renumbered c m) (renumbered-regrouped c y m a.regrouped) in
-    same-form (canonical w) (canonical x)
-    (subst (λ z. Similar z (canonical x)) (sym same) (similar-by_txn (renumbered c m) (renumbered c x) (renumbered-similar c m x of_m a.similar)))
+    let kept : (v : ℕ) → place_by_group g y (r.to v) ≡ place_by_group g w v
+    = subst (λ f. (v : ℕ) → place_by_group f y (r.to v) ≡ place_by_group f w v) a.groups (place-to r w a.renumbers) in
+    let placed : renumbered (by_group g w) w ≡ renumbered c y
+    = renumbered-by (by_group g w) (both r c) w (by_group-renumbers g w) (both-renumber r c w one a.renumbers of_y)
+    (λ v. sym (kept v) ∙ regrouped-place g y m a.regrouped (r.to v) ∙ similar-place g m x a.similar (r.to v))
+    ∙ sym (renumbered-twice r c w one a.renumbers of_y) in
+    let same : canonical g w ≡ by_txn (renumbered c m) = ap by_txn placed ∙ same-by_txn (renumbered c y) (renumbered c m) (renumbered-regrouped c y m a.regrouped) in
+    same-form (canonical g w) (canonical g x)
+    (subst (λ z. Similar z (canonical g x)) (sym same) (similar-by_txn (renumbered c m) (renumbered c x) (renumbered-similar c m x of_m a.similar)))
 
 pub canonical-forms-decide : CanonicalFormsDecide
-canonical-forms-decide w x here there = (forms-alike w x here there, alike-forms w x)
+canonical-forms-decide g w x here there = (forms-alike g w x here there, alike-forms g w x)

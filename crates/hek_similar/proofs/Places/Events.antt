@@ -1,6 +1,6 @@
 -- Each event in a renumbered world.
 use Rattle.std.proofs.Common.{◌≡◌, ℕ, List, [], ◌∷◌, Some, None, Option, refl, ◌∙◌, ap, length}
-use Rattle.std.specs.Prelude.{map, ◌==◌, ◌||◌, not, if◌then◌else◌, slice_set}
+use Rattle.std.specs.Prelude.{map, ◌==◌, ◌%◌, ◌||◌, not, if◌then◌else◌, slice_set}
 use Rattle.hek_rules.specs.declared.event.Cause.TheVariants.{Conflict}
 use Rattle.hek_rules.specs.declared.event.Effect.{Effect}
 use Rattle.hek_rules.specs.declared.event.Event.{Event}
@@ -23,7 +23,7 @@ use Rattle.hek_rules.specs.Checks.{check_of}
 use Rattle.hek_rules.specs.Walk.{Judgement, Refuse, Allow, Purpose, ToRead, ToWrite, walk, apply_all, seen_of, last, of_key, of_bucket}
 use Rattle.hek_rules.specs.WaitGraph.{victim}
 use Rattle.hek_rules.specs.Table.{Outcome, outcome, outcome_of, checked, answered, rule, unchanged, aborted, found, after_read, pairs_of, after_scan, scan_rule, is_claim, is_claimed, after_insert, after_update, after_delete, precommit_rule, prepare, commit_rule, commit, writer_left, sealed, drop_read, release_read, release_waiter, release_bucket, release_first, release_rule, entries_of, without_entry, stamp_committed, given_back, stamp_aborted, stamp_rule, holds_nothing, detect_rule}
-use Rattle.hek_similar.specs.Places.{Renumbering, IsRenumbering, renumbered, renumbered_versions, renumbered_lock, renumbered_entry, renumbered_write, renumbered_reply}
+use Rattle.hek_similar.specs.Places.{Renumbering, IsRenumbering, ScansGroup, renumbered, renumbered_versions, renumbered_lock, renumbered_entry, renumbered_write, renumbered_reply}
 use Rattle.hek_similar.proofs.Places.Renumbered.{Trades, trades, readers-to, leave-to, seconds-to, entries-to, without-to}
 use Rattle.hek_similar.proofs.Places.Ordered.{key-order, bucket-order}
 use Rattle.hek_similar.proofs.Places.Judged.{through, effect-to, judgement-to, target-to, last-to, word, seen-to, walk-to}
@@ -110,9 +110,9 @@ module _ (r : Renumbering) (w : World) (i : IsRenumbering r w) where
       ∙ ap (f (target-to r (last (seen_of w t (of_key w key))))) (judged-to t aim key)
       ∙ h (last (seen_of w t (of_key w key))) (walk w t aim (bucket_of w key) (of_key w key))
 
-  scan-to : (t bucket : ℕ) → scan_rule x t bucket ≡ outcome-to r (scan_rule w t bucket)
-  scan-to t bucket =
-      ap (λ l. after_scan x t (seen_of x t l) (walk x t ToRead bucket l)) (bucket-order r w i bucket)
+  scan-to : (t bucket : ℕ) → ((k l : ℕ) → k % w.buckets ≡ bucket → l % w.buckets ≡ bucket → r.group k ≡ r.group l) → scan_rule x t bucket ≡ outcome-to r (scan_rule w t bucket)
+  scan-to t bucket g =
+      ap (λ l. after_scan x t (seen_of x t l) (walk x t ToRead bucket l)) (bucket-order r w i bucket g)
       ∙ ap (λ l. after_scan x t l (walk x t ToRead bucket (map r.to (of_bucket w bucket)))) (seen-to r w trade t (of_bucket w bucket))
       ∙ ap (after_scan x t (map r.to (seen_of w t (of_bucket w bucket)))) (walk-to r w trade t ToRead bucket (of_bucket w bucket))
       ∙ after_scan-to t (seen_of w t (of_bucket w bucket)) (walk w t ToRead bucket (of_bucket w bucket))
@@ -197,37 +197,37 @@ module _ (r : Renumbering) (w : World) (i : IsRenumbering r w) where
   detected None = refl
   detected (Some f) = refl
 
-  rule-to : (t : ℕ) (e : Event) → rule x t e ≡ outcome-to r (rule w t e)
-  rule-to t (event.Begin u) = refl
-  rule-to t (event.Read u key) = at-key t ToRead key (after_read x t) (after_read w t) (after_read-to t)
-  rule-to t (event.Scan u bucket) = scan-to t bucket
-  rule-to t (event.Insert u key value) = at-key t ToRead key (after_insert x t key value) (after_insert w t key value) (after_insert-to t key value)
-  rule-to t (event.Update u key value) = at-key t ToWrite key (after_update x t key value) (after_update w t key value) (after_update-to t key value)
-  rule-to t (event.Delete u key) = at-key t ToWrite key (after_delete x t) (after_delete w t) (after_delete-to t)
-  rule-to t (event.Finish u) = refl
-  rule-to t (event.Precommit u) = precommit-to t
-  rule-to t (event.Release u) = release-to t
-  rule-to t (event.Commit u) = commit-to t
-  rule-to t (event.Fail u) = refl
-  rule-to t (event.Stamp u) = stamp-to t
-  rule-to t (event.End u) = refl
-  rule-to t event.Detect = ap (detect_rule x) (victim-to r w trade) ∙ detected (victim w)
+  rule-to : (t : ℕ) (e : Event) → ScansGroup r.group w.buckets e → rule x t e ≡ outcome-to r (rule w t e)
+  rule-to t (event.Begin u) g = refl
+  rule-to t (event.Read u key) g = at-key t ToRead key (after_read x t) (after_read w t) (after_read-to t)
+  rule-to t (event.Scan u bucket) g = scan-to t bucket g
+  rule-to t (event.Insert u key value) g = at-key t ToRead key (after_insert x t key value) (after_insert w t key value) (after_insert-to t key value)
+  rule-to t (event.Update u key value) g = at-key t ToWrite key (after_update x t key value) (after_update w t key value) (after_update-to t key value)
+  rule-to t (event.Delete u key) g = at-key t ToWrite key (after_delete x t) (after_delete w t) (after_delete-to t)
+  rule-to t (event.Finish u) g = refl
+  rule-to t (event.Precommit u) g = precommit-to t
+  rule-to t (event.Release u) g = release-to t
+  rule-to t (event.Commit u) g = commit-to t
+  rule-to t (event.Fail u) g = refl
+  rule-to t (event.Stamp u) g = stamp-to t
+  rule-to t (event.End u) g = refl
+  rule-to t event.Detect g = ap (detect_rule x) (victim-to r w trade) ∙ detected (victim w)
 
-  answered-to : (t : ℕ) (e : Event) (k : Check) → answered x t e k ≡ outcome-to r (answered w t e k)
-  answered-to t e (Refused why) = refl
-  answered-to t e Doomed = refl
-  answered-to t e (StillAborted cause) = refl
-  answered-to t e Passed = rule-to t e
+  answered-to : (t : ℕ) (e : Event) (k : Check) → ScansGroup r.group w.buckets e → answered x t e k ≡ outcome-to r (answered w t e k)
+  answered-to t e (Refused why) g = refl
+  answered-to t e Doomed g = refl
+  answered-to t e (StillAborted cause) g = refl
+  answered-to t e Passed g = rule-to t e g
 
-  checked-to : (t : ℕ) (e : Event) → checked x t e ≡ outcome-to r (checked w t e)
-  checked-to t e =
+  checked-to : (t : ℕ) (e : Event) → ScansGroup r.group w.buckets e → checked x t e ≡ outcome-to r (checked w t e)
+  checked-to t e g =
       ap (λ b. if not (declared w.txns t) then unchanged x (reply.Refused refusal.UnknownTxn) else answered x t e (check_of (txn_in w.txns t) b w.clock e)) (idle-to r w t)
-      ∙ ap (λ o. if not (declared w.txns t) then unchanged x (reply.Refused refusal.UnknownTxn) else o) (answered-to t e (check_of (txn_in w.txns t) (holds_nothing w t) w.clock e))
+      ∙ ap (λ o. if not (declared w.txns t) then unchanged x (reply.Refused refusal.UnknownTxn) else o) (answered-to t e (check_of (txn_in w.txns t) (holds_nothing w t) w.clock e) g)
       ∙ through (outcome-to r) (not (declared w.txns t)) (unchanged w (reply.Refused refusal.UnknownTxn)) (answered w t e (check_of (txn_in w.txns t) (holds_nothing w t) w.clock e))
 
-  outcome_of-to : (e : Event) (o : Option ℕ) → outcome_of x e o ≡ outcome-to r (outcome_of w e o)
-  outcome_of-to e (Some t) = checked-to t e
-  outcome_of-to e None = rule-to 0 e
+  outcome_of-to : (e : Event) (o : Option ℕ) → ScansGroup r.group w.buckets e → outcome_of x e o ≡ outcome-to r (outcome_of w e o)
+  outcome_of-to e (Some t) g = checked-to t e g
+  outcome_of-to e None g = rule-to 0 e g
 
-  pub outcome-is : (e : Event) → outcome x e ≡ outcome-to r (outcome w e)
-  outcome-is e = outcome_of-to e (txn_of e)
+  pub outcome-is : (e : Event) → ScansGroup r.group w.buckets e → outcome x e ≡ outcome-to r (outcome w e)
+  outcome-is e g = outcome_of-to e (txn_of e) g

@@ -4,23 +4,23 @@ use Rattle.std.proofs.lemmas.Bool.{cases_order}
 use Rattle.std.specs.Prelude.{map}
 use Rattle.hek_rules.specs.declared.event.WriteEntry.{WriteEntry}
 use Rattle.hek_rules.specs.declared.event.WriteEntry.TheVariants.{BeginOf, EndOf}
-use Rattle.hek_rules.specs.World.{World, version_in, bucket_of}
-use Rattle.hek_similar.specs.Places.{Renumbering, IsRenumbering, renumbered, renumbered_versions, renumbered_lock, renumbered_entry, renumbered_write, bucket_at}
+use Rattle.hek_rules.specs.World.{World, version_in}
+use Rattle.hek_similar.specs.Places.{Renumbering, IsRenumbering, renumbered, renumbered_versions, renumbered_lock, renumbered_entry, renumbered_write, group_at}
 use Rattle.hek_similar.proofs.Places.Renumbered.{Trades, trades, from-apart, from-past, to-within, from-within, length-renumbered, version-from, version-to, is-renumbered}
 use Rattle.hek_similar.proofs.Places.Effects.{same-rebuilt}
 
 abbrev pub inverse : Renumbering → Renumbering
-inverse r = record { to = r.from; from = r.to }
+inverse r = record { to = r.from; from = r.to; group = r.group }
 
 -- r, and then s
 abbrev pub both : Renumbering → Renumbering → Renumbering
-both r s = record { to = λ v. s.to (r.to v); from = λ v. r.from (s.from v) }
+both r s = record { to = λ v. s.to (r.to v); from = λ v. r.from (s.from v); group = r.group }
 
-abbrev pub nothing : Renumbering
-nothing = record { to = λ v. v; from = λ v. v }
+abbrev pub nothing : (ℕ → ℕ) → Renumbering
+nothing group = record { to = λ v. v; from = λ v. v; group = group }
 
-pub is-nothing : (w : World) → IsRenumbering nothing w
-is-nothing w = record { back = λ v. refl; forth = λ v. refl; past = λ v l. refl; rises = λ u v l m e. l }
+pub is-nothing : (group : ℕ → ℕ) (w : World) → IsRenumbering (nothing group) w
+is-nothing group w = record { back = λ v. refl; forth = λ v. refl; past = λ v l. refl; rises = λ u v l m e. l }
 
 pub map-twice : {X Y Z : Type 0} (f : X → Y) (g : Y → Z) (h : X → Z) (xs : List X) → ((x : X) → g (f x) ≡ h x) → map g (map f xs) ≡ map h xs
 map-twice f g h [] e = refl
@@ -52,7 +52,7 @@ renumbered-same r w i stays =
     (map-same (renumbered_lock r) w.read_locks (λ p. ap {A = ℕ} {B = ℕ × ℕ} (λ v. (p.0, v)) (stays p.1)))
     (map-same (renumbered_write r) w.writes (λ p. ap {A = WriteEntry} {B = ℕ × WriteEntry} (λ e. (p.0, e)) (entry-same r stays p.1)))
 
-module _ (r s : Renumbering) (w : World) (i : IsRenumbering r w) (j : IsRenumbering s (renumbered r w)) where
+module _ (r s : Renumbering) (w : World) (same : s.group ≡ r.group) (i : IsRenumbering r w) (j : IsRenumbering s (renumbered r w)) where
   abbrev x : World
   x = renumbered r w
 
@@ -67,7 +67,8 @@ module _ (r s : Renumbering) (w : World) (i : IsRenumbering r w) (j : IsRenumber
     rises = λ u v l m e.
         let one : r.to u < r.to v = i.rises u v l m e in
         let there : r.to v < length w.versions = to-within r (length w.versions) (trades r w i) v m in
-        let at : (k : ℕ) → bucket_at x (r.to k) ≡ bucket_at w k = λ k. ap (λ y. bucket_of w y.key) (version-to r (length w.versions) (trades r w i) w.versions refl k) in
+        let at : (k : ℕ) → group_at s.group x (r.to k) ≡ group_at r.group w k
+        = λ k. ap (λ y. s.group y.key) (version-to r (length w.versions) (trades r w i) w.versions refl k) ∙ ap (λ (f : ℕ → ℕ). f (version_in w.versions k).key) same in
         j.rises (r.to u) (r.to v) one (omega (arith, there, long)) (at u ∙ e ∙ sym (at v));
   }
 
@@ -92,7 +93,7 @@ module _ (r : Renumbering) (w : World) (i : IsRenumbering r w) where
         past = λ v l. from-past r n t v (omega (arith, l, long));
         rises = λ u v l m e.
             let here : r.from u < n = from-within r n t u (omega (arith, l, m, long)) in
-            let at : (k : ℕ) → bucket_at (renumbered r w) k ≡ bucket_at w (r.from k) = λ k. ap (λ y. bucket_of w y.key) (version-from r n t w.versions refl k) in
+            let at : (k : ℕ) → group_at r.group (renumbered r w) k ≡ group_at r.group w (r.from k) = λ k. ap (λ y. r.group y.key) (version-from r n t w.versions refl k) in
             ⊎_elim (λ q. let f : u ≡ v = from-apart r n t u v q in absurd (omega (arith, l, f)))
             (λ o. ⊎_elim (λ q. q)
             (λ q. let back : r.to (r.from v) < r.to (r.from u) = i.rises (r.from v) (r.from u) q here (sym (at v) ∙ sym e ∙ at u) in
@@ -101,4 +102,4 @@ module _ (r : Renumbering) (w : World) (i : IsRenumbering r w) where
       }
 
   pub renumbered-back : renumbered (inverse r) (renumbered r w) ≡ w
-  renumbered-back = renumbered-twice r (inverse r) w i inverse-renumbers ∙ renumbered-same (both r (inverse r)) w (both-renumber r (inverse r) w i inverse-renumbers) i.back
+  renumbered-back = renumbered-twice r (inverse r) w refl i inverse-renumbers ∙ renumbered-same (both r (inverse r)) w (both-renumber r (inverse r) w refl i inverse-renumbers) i.back

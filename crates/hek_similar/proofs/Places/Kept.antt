@@ -2,7 +2,7 @@
 use Rattle.std.proofs.Common.{◌≡◌, ℕ, ◌<◌, ◌≤◌, List, [], ◌∷◌, ◌++◌, refl, ◌∙◌, ap, sym, length, arith, ⊎_elim}
 use Rattle.std.proofs.lemmas.Bool.{cases_lt, cases_eq, cond_both}
 use Rattle.std.proofs.lemmas.List.{length-set, length_push}
-use Rattle.std.specs.Prelude.{slice_set, ◌==◌, ◌%◌}
+use Rattle.std.specs.Prelude.{slice_set, ◌==◌}
 use Rattle.hek_rules.specs.declared.event.Effect.{Effect}
 use Rattle.hek_rules.specs.declared.event.Effect.TheVariants.{LockBucket, DependOn, MakeWait, ReadLock, WriteLock}
 use Rattle.hek_rules.specs.declared.event.Event.{Event}
@@ -14,8 +14,7 @@ use Rattle.hek_rules.specs.Walk.{apply, apply_all}
 use Rattle.hek_rules.specs.Table.{sealed}
 use Rattle.hek_rules.specs.Run.{next}
 use Rattle.hek_laws.proofs.Table.Changes.{each_outcome}
-use Rattle.hek_laws.proofs.Worlds.Fixed.{fixed-next}
-use Rattle.hek_similar.specs.Places.{Renumbering, IsRenumbering, bucket_at}
+use Rattle.hek_similar.specs.Places.{Renumbering, IsRenumbering, group_at}
 use Rattle.hek_similar.proofs.Places.Renumbered.{trades, to-within, version-set_same, version-set_other, version-add_before}
 
 -- us has all versions of vs at their places, with their keys
@@ -84,20 +83,20 @@ kept-next w e = each_outcome w (λ e o. Kept w.versions o.world.versions) (recor
   ends = λ t _ _. kept w.versions;
 }) e
 
--- a renumbering of a world is one of each world with as many buckets that keeps its versions
-pub still-renumbering : (r : Renumbering) (w y : World) → y.buckets ≡ w.buckets → Kept w.versions y.versions → IsRenumbering r w → IsRenumbering r y
-still-renumbering r w y buckets k i = record {
+-- a renumbering of a world is one of each world that keeps its versions
+pub still-renumbering : (r : Renumbering) (w y : World) → Kept w.versions y.versions → IsRenumbering r w → IsRenumbering r y
+still-renumbering r w y k i = record {
   back = i.back;
   forth = i.forth;
   past = λ v l. i.past v (let m = k.longer in omega (arith, l, m));
   rises = rises;
 }
   where
-    rises : (u v : ℕ) → u < v → v < length y.versions → bucket_at y u ≡ bucket_at y v → r.to u < r.to v
+    rises : (u v : ℕ) → u < v → v < length y.versions → group_at r.group y u ≡ group_at r.group y v → r.to u < r.to v
     rises u v l m same =
         ⊎_elim
         (λ old.
-        let at : (n : ℕ) → n < length w.versions → bucket_at y n ≡ bucket_at w n = λ n p. ap (λ b. (version_in y.versions n).key % b) buckets ∙ ap (λ key. key % w.buckets) (k.keys n p) in
+        let at : (n : ℕ) → n < length w.versions → group_at r.group y n ≡ group_at r.group w n = λ n p. ap r.group (k.keys n p) in
         i.rises u v l old (sym (at u (omega (arith, l, old))) ∙ same ∙ at v old))
         (λ new.
         let here : r.to v ≡ v = i.past v new in
@@ -108,4 +107,4 @@ still-renumbering r w y buckets k i = record {
         (cases_lt v (length w.versions))
 
 pub next-renumbering : (r : Renumbering) (w : World) (e : Event) → IsRenumbering r w → IsRenumbering r (next w e)
-next-renumbering r w e i = still-renumbering r w (next w e) (fixed-next w e).buckets (kept-next w e) i
+next-renumbering r w e i = still-renumbering r w (next w e) (kept-next w e) i

@@ -2,7 +2,7 @@
 use Rattle.std.proofs.Common.{◌≡◌, ℕ, ◌<◌, Bool, true, List, refl, ◌∙◌, ap, sym, subst, length, arith}
 use Rattle.std.proofs.lemmas.Bool.{eqb-true}
 use Rattle.std.proofs.lemmas.List.{length-map}
-use Rattle.std.specs.Prelude.{map, ◌==◌}
+use Rattle.std.specs.Prelude.{map, ◌==◌, ◌%◌}
 use Rattle.hek_rules.specs.World.{World, Version, version_in, places, bucket_of}
 use Rattle.hek_rules.specs.Walk.{of_key, of_bucket}
 use Rattle.hek_laws.specs.Lists.{In}
@@ -64,9 +64,9 @@ module _ (r : Renumbering) (w : World) (i : IsRenumbering r w) where
   pub key-order : (key : ℕ) → of_key (renumbered r w) key ≡ map r.to (of_key w key)
   key-order key =
       places-order r (length w.versions) (trades r w i) w.versions refl (λ v x. x.key == key) (λ v x. x.key == key) (λ v l. refl)
-      (λ u v l m y z. i.rises u v l m (ap (bucket_of w) (eqb-true _ _ y ∙ sym (eqb-true _ _ z))))
+      (λ u v l m y z. i.rises u v l m (ap r.group (eqb-true _ _ y ∙ sym (eqb-true _ _ z))))
 
-  pub bucket-order : (bucket : ℕ) → of_bucket (renumbered r w) bucket ≡ map r.to (of_bucket w bucket)
-  bucket-order bucket =
+  pub bucket-order : (bucket : ℕ) → ((k l : ℕ) → k % w.buckets ≡ bucket → l % w.buckets ≡ bucket → r.group k ≡ r.group l) → of_bucket (renumbered r w) bucket ≡ map r.to (of_bucket w bucket)
+  bucket-order bucket together =
       places-order r (length w.versions) (trades r w i) w.versions refl (λ v x. bucket_of w x.key == bucket) (λ v x. bucket_of w x.key == bucket) (λ v l. refl)
-      (λ u v l m y z. i.rises u v l m (eqb-true _ _ y ∙ sym (eqb-true _ _ z)))
+      (λ u v l m y z. i.rises u v l m (together _ _ (eqb-true _ _ y) (eqb-true _ _ z)))

@@ -1,17 +1,20 @@
 -- The laws of renumbered worlds: each event, runs, committed rows.
-use Rattle.std.proofs.Common.{◌≡◌, ℕ, suc, ◌+◌, ◌<◌, Bool, List, [], ◌∷◌, refl, ◌∙◌, ap, sym, length, arith, ⊎_elim}
+use Rattle.std.proofs.Common.{◌≡◌, ℕ, suc, ◌+◌, ◌<◌, Bool, List, [], ◌∷◌, refl, ◌∙◌, ap, sym, subst, length, arith, ⊎_elim}
 use Rattle.std.proofs.lemmas.Bool.{cases_Bool, cond-true, cond-false, eqb-true, and_parts}
+use Rattle.std.proofs.lemmas.List.Elements.{All-head, All-tail}
+use Rattle.std.specs.List.{All}
 use Rattle.std.specs.Prelude.{filter, ◌==◌, ◌&&◌, if◌then◌else◌, Some}
 use Rattle.hek_rules.specs.declared.reply.Reply.{Reply}
 use Rattle.hek_rules.specs.Listing.{put, value_of}
-use Rattle.hek_rules.specs.World.{World, Version, version_in, places, bucket_of}
+use Rattle.hek_rules.specs.World.{World, Version, version_in, places}
 use Rattle.hek_rules.specs.Run.{next, reply, run, transcript}
 use Rattle.hek_rules.specs.Shown.{was_made, lasts, committed_rows}
 use Rattle.hek_rules.specs.Table.{pairs_of}
 use Rattle.hek_laws.specs.Rows.{AreRising}
+use Rattle.hek_laws.proofs.Worlds.Fixed.{fixed-next}
 use Rattle.hek_laws.proofs.Lists.Overlay.{value_of-put}
 use Rattle.hek_laws.proofs.Lists.Rising.{same_rows, rising-put}
-use Rattle.hek_similar.specs.Places.{Renumbering, IsRenumbering, renumbered, renumbered_reply}
+use Rattle.hek_similar.specs.Places.{Renumbering, IsRenumbering, ScansGroup, renumbered, renumbered_reply}
 use Rattle.hek_similar.specs.Laws.{RenumberedWorldsAnswerAlike, RenumberedRunsAnswerAlike}
 use Rattle.hek_similar.proofs.Places.Renumbered.{trades}
 use Rattle.hek_similar.proofs.Places.Ordered.{places-order}
@@ -19,13 +22,14 @@ use Rattle.hek_similar.proofs.Places.Events.{outcome-is, pairs-to}
 use Rattle.hek_similar.proofs.Places.Kept.{next-renumbering}
 
 pub worlds-renumbered : RenumberedWorldsAnswerAlike
-worlds-renumbered r w e i = (ap (λ o. o.reply) (outcome-is r w i e), ap (λ o. o.world) (outcome-is r w i e), next-renumbering r w e i)
+worlds-renumbered r w e i g = (ap (λ o. o.reply) (outcome-is r w i e g), ap (λ o. o.world) (outcome-is r w i e g), next-renumbering r w e i)
 
 pub runs-renumbered : RenumberedRunsAnswerAlike
-runs-renumbered r w [] i = (refl, refl, i)
-runs-renumbered r w (e ∷ es) i =
-    let one = worlds-renumbered r w e i in
-    let more = runs-renumbered r (next w e) es one.2 in (
+runs-renumbered r w [] i g = (refl, refl, i)
+runs-renumbered r w (e ∷ es) i g =
+    let one = worlds-renumbered r w e i (All-head (ScansGroup r.group w.buckets) e es g) in
+    let rest : All (ScansGroup r.group (next w e).buckets) es = subst (λ n. All (ScansGroup r.group n) es) (sym (fixed-next w e).buckets) (All-tail (ScansGroup r.group w.buckets) e es g) in
+    let more = runs-renumbered r (next w e) es one.2 rest in (
       ap (λ (a : Reply). (e, a) ∷ transcript (next (renumbered r w) e) es) one.0
           ∙ ap (λ y. (e, renumbered_reply r (reply w e)) ∷ transcript y es) one.1
           ∙ ap (λ l. (e, renumbered_reply r (reply w e)) ∷ l) more.0,
@@ -95,7 +99,7 @@ module _ (r : Renumbering) (w : World) (i : IsRenumbering r w) where
       ∙ ap (λ l. value_of (pairs_of x.versions [] l) q)
       (key-placed q x.versions
       ∙ places-order r (length w.versions) (trades r w i) w.versions refl (of q) (of q) (λ v l. refl)
-      (λ u v l m y z. i.rises u v l m (ap (bucket_of w) (eqb-true _ _ (and_parts _ _ y).1 ∙ sym (eqb-true _ _ (and_parts _ _ z).1)))))
+      (λ u v l m y z. i.rises u v l m (ap r.group (eqb-true _ _ (and_parts _ _ y).1 ∙ sym (eqb-true _ _ (and_parts _ _ z).1)))))
       ∙ ap (λ ps. value_of ps q) (pairs-to r w i [] (places (of q) 0 w.versions))
       ∙ ap (λ l. value_of (pairs_of w.versions [] l) q) (sym (key-placed q w.versions))
       ∙ sym (pairs-key w.versions q [] [] (places committed 0 w.versions) refl))

@@ -24,7 +24,7 @@ use Rattle.hek_laws.specs.Runs.{IsPlaced, IsReachable}
 use Rattle.hek_laws.proofs.Worlds.Fixed.{fixed-next}
 use Rattle.hek_laws.proofs.Runs.Reachable.{reachable-sound, next-reachable}
 use Rattle.hek_similar.specs.Similar.{Similar, timeless_reply}
-use Rattle.hek_similar.specs.Places.{Renumbering, renumbered_reply}
+use Rattle.hek_similar.specs.Places.{Renumbering, ScansGroup, renumbered_reply}
 use Rattle.hek_similar.specs.Alike.{Alike, bare_reply}
 use Rattle.hek_similar.specs.Verdicts.{counts, judged_part, drawn_by, drawn_in, ToldAlike}
 use Rattle.hek_similar.specs.Laws.{ToldAlikeGoOnInAlikeWorlds}
@@ -123,33 +123,35 @@ same-part w x (event.Commit u) r same t ps qs = plain-part w x (event.Commit u) 
 same-part w x e r same t ps qs = idle-part w x e r same t ps qs (λ a. refl)
 
 -- ---- runs
-runs-told : (w x : World) (events : List Event) → Alike w x → IsReachable w → IsReachable x → All (IsPlaced w.buckets) events → w.clock + length events ≤ clock_end → x.clock + length events ≤ clock_end →
+runs-told : (group : ℕ → ℕ) (w x : World) (events : List Event) → Alike group w x → IsReachable w → IsReachable x → All (IsPlaced w.buckets) events → All (ScansGroup group w.buckets) events → w.clock + length events ≤ clock_end → x.clock + length events ≤ clock_end →
     ToldAlike (transcript w events) (transcript x events)
-runs-told w x [] a here there placed some left = record { drawn = refl; parts = λ t. refl }
-runs-told w x (e ∷ es) a here there placed some left =
+runs-told group w x [] a here there placed scans some left = record { drawn = refl; parts = λ t. refl }
+runs-told group w x (e ∷ es) a here there placed scans some left =
     let r : Renumbering = a.renumbering in
     let buckets : w.buckets ≡ x.buckets = a.regrouped.buckets ∙ ap (λ (y : World). y.buckets) a.similar.same in
     let first : IsPlaced w.buckets e = All-head (IsPlaced w.buckets) e es placed in
     let other : IsPlaced x.buckets e = subst (λ n. IsPlaced n e) buckets first in
     let rest : All (IsPlaced (next w e).buckets) es = subst (λ n. All (IsPlaced n) es) (sym (fixed-next w e).buckets) (All-tail (IsPlaced w.buckets) e es placed) in
+    let scan : ScansGroup group w.buckets e = All-head (ScansGroup group w.buckets) e es scans in
+    let scans_on : All (ScansGroup group (next w e).buckets) es = subst (λ n. All (ScansGroup group n) es) (sym (fixed-next w e).buckets) (All-tail (ScansGroup group w.buckets) e es scans) in
     let k : (next w e).clock ≤ w.clock + 1 = clock-next w e (reachable-sound w here).buckets first in
     let l : (next x e).clock ≤ x.clock + 1 = clock-next x e (reachable-sound x there).buckets other in
-    let one : (bare_reply (reply_to w e) ≡ bare_reply (reply_to x e)) × Alike (next w e) (next x e)
-    = alike-worlds w x e a (reachable-sound w here) (reachable-sound x there) (omega arith) (omega arith) in
+    let one : (bare_reply (reply_to w e) ≡ bare_reply (reply_to x e)) × Alike group (next w e) (next x e)
+    = alike-worlds group w x e a (reachable-sound w here) (reachable-sound x there) scan (omega arith) (omega arith) in
     let clock : w.clock ≡ a.between.clock = a.regrouped.clock in
     let moved : (timeless_reply (reply_to a.between e) ≡ timeless_reply (reply_to x e)) × Similar (next a.between e) (next x e)
-    = worlds-alike a.between x e a.similar (between-sound w x a (reachable-sound w here)) (reachable-sound x there) (omega arith) (omega arith) in
-    let same : timeless_reply (renumbered_reply r (reply_to w e)) ≡ timeless_reply (reply_to x e) = ap timeless_reply (between-answers w x a e) ∙ moved.0 in
+    = worlds-alike a.between x e a.similar (between-sound group w x a (reachable-sound w here)) (reachable-sound x there) (omega arith) (omega arith) in
+    let same : timeless_reply (renumbered_reply r (reply_to w e)) ≡ timeless_reply (reply_to x e) = ap timeless_reply (between-answers group w x a e scan) ∙ moved.0 in
     let more : ToldAlike (transcript (next w e) es) (transcript (next x e) es)
-    = runs-told (next w e) (next x e) es one.1 (next-reachable w e here first) (next-reachable x e there other) rest (omega arith) (omega arith) in
+    = runs-told group (next w e) (next x e) es one.1 (next-reachable w e here first) (next-reachable x e there other) rest scans_on (omega arith) (omega arith) in
     record {
       drawn = ap (λ ts. ts ++ drawn_in (transcript (next w e) es)) (same-draw w x e r same) ∙ ap (λ ts. drawn_by e (reply_to x e) ++ ts) more.drawn;
       parts = λ t. same-part w x e r same t (transcript (next w e) es) (transcript (next x e) es) (more.parts t);
     }
 
 pub told-go_on_alike : ToldAlikeGoOnInAlikeWorlds
-told-go_on_alike w x h g events a here there placed some left told =
-    let more : ToldAlike (transcript w events) (transcript x events) = runs-told w x events a here there placed some left in
+told-go_on_alike group w x h g events a here there placed scans some left told =
+    let more : ToldAlike (transcript w events) (transcript x events) = runs-told group w x events a here there placed scans some left in
     record {
       drawn = drawn-append h (transcript w events)
           ∙ ap (λ ts. ts ++ drawn_in (transcript w events)) told.drawn

@@ -3,6 +3,8 @@ use crate::json::party::put_party;
 use crate::json::word::{put_begin, put_begins, put_end, put_ends};
 use crate::looks::looks_at;
 use crate::phase::phase_text;
+use crate::released::{Release, release_in};
+use crate::rule_choice::reply_rule;
 use hek_machine::Machine;
 use hek_report::{Lines, StateText};
 use hek_rules::{
@@ -10,7 +12,7 @@ use hek_rules::{
 };
 use hek_why::{Met, Phase, Reason, Step};
 
-/// The reasons of a step, in their order; each, if `ruled` is set, with the name of the definition that decided it.
+/// The reasons of a step, in their order, of a release first what it gave back; each, if `ruled` is set, with the name of the definition that decided it.
 pub(crate) fn put_reasons(
     schedule: &Schedule,
     step: &Step<'_>,
@@ -20,6 +22,7 @@ pub(crate) fn put_reasons(
 ) {
     out.put_key("why");
     out.begin_array();
+    put_release(schedule, step, ruled, out);
     for reason in reasons {
         out.begin_object();
         out.put_text("kind", kind_of(reason));
@@ -30,6 +33,40 @@ pub(crate) fn put_reasons(
         out.end_object();
     }
     out.end_array();
+}
+
+/// What the release of a step gave back, if it is one that gave something back.
+fn put_release(schedule: &Schedule, step: &Step<'_>, ruled: bool, out: &mut Lines) {
+    let Some(release) = release_in(step) else {
+        return;
+    };
+    out.begin_object();
+    out.put_text("kind", "gave-back");
+    put_given(schedule, release, out);
+    if ruled {
+        out.put_text("rule", reply_rule(step, &[]).definition);
+    }
+    out.end_object();
+}
+
+fn put_given(schedule: &Schedule, release: Release, out: &mut Lines) {
+    match release {
+        Release::LastRead(version, writer, waits) => {
+            out.put_version(version);
+            out.put_name("waiter", schedule, writer);
+            out.put_number("waits", waits);
+        }
+        Release::Read(version, writer, readers) => {
+            out.put_version(version);
+            out.put_maybe_name("writer", schedule, writer);
+            out.put_number("readers", readers as u64);
+        }
+        Release::Bucket(bucket) => out.put_number("bucket", bucket),
+        Release::Waiter(waiter, waits) => {
+            out.put_name("waiter", schedule, waiter);
+            out.put_number("waits", waits);
+        }
+    }
 }
 
 /// The kind of a reason.

@@ -4,6 +4,7 @@ ghost use Rattle.hek_asm.specs.Trace.{NamesDeclared};
 
 use crate::text::changes::put_changes;
 use crate::text::reason::{put_reasons, put_ruled_reasons};
+use crate::text::released::put_release;
 use crate::told::{Told, Why};
 use hek_asm::put_line;
 use hek_rules::{NoMemory, Schedule, TxnId};
@@ -26,10 +27,13 @@ pub fn put_told(schedule: &Schedule, told: &Told<'_>, lines: &mut Vec<u8>) -> Re
     }
 }
 
-/// The reasons of the reply, as they are asked for.
+/// The reasons of the reply, as they are asked for: of a release first what it gave back.
 fn put_why(schedule: &Schedule, told: &Told<'_>, lines: &mut Vec<u8>) -> Result<(), NoMemory> {
     let step = told.step;
     let t = step.event.txn().unwrap_or(TxnId::new(0));
+    if let Some(why) = told.why {
+        put_release(schedule, step, why == Why::Rules, lines)?;
+    }
     match told.why {
         None => Ok(()),
         Some(Why::Reasons) => put_reasons(schedule, step.before, t, told.reasons, lines),

@@ -6,7 +6,7 @@ use Rattle.hek_explore.proofs.walk.play_from.Goals as goal
 
 pub loop-mover-init : goal.loop-mover-init
 loop-mover-init c = record {
-  plan = ap (λ (b : Kept). b.plan) c.in_ok-book.ensures;
+  plan = ap (λ (b : Kept). b.plan) c.in_ok-book.ensures ∙ c.schedule.ensures;
   come = (c.in_ok-places.ensures, ap (λ (b : Kept). b.history) c.in_ok-book.ensures);
 }
 

@@ -1,0 +1,65 @@
+//! How many anomalies there are of each name.
+use hek_history_report::{anomaly_name, counted_name};
+use hek_history_search::Anomaly;
+use hek_report::{Lines, put};
+use hek_rules::NoMemory;
+use std::alloc::Global;
+use std::io::Write;
+
+/// The anomalies that were told, each name with its number.
+#[derive(Drop)]
+pub(crate) struct Tally {
+    counted: Vec<(Anomaly, u64)>,
+}
+
+impl Tally {
+    pub(crate) fn new(alloc: Global) -> Tally {
+        Tally {
+            counted: Vec::new(alloc),
+        }
+    }
+
+    /// Counts an anomaly.
+    pub(crate) fn count(&mut self, anomaly: Anomaly) -> Result<(), NoMemory> {
+        for one in self.counted.iter_mut() {
+            if one.0 == anomaly {
+                one.1 = one.1.saturating_add(1);
+                return Ok(());
+            }
+        }
+        self.counted.push((anomaly, 1))?;
+        Ok(())
+    }
+
+    /// Puts the most frequent first.
+    pub(crate) fn sort(&mut self) -> Result<(), NoMemory> {
+        self.counted
+            .sort_by_key(|one| u64::MAX.saturating_sub(one.1))?;
+        Ok(())
+    }
+
+    /// Appends `12 lost updates, 3 write skews`.
+    pub(crate) fn put_words(&self, lines: &mut Vec<u8>) -> Result<(), NoMemory> {
+        for (place, one) in self.counted.iter().enumerate() {
+            let (anomaly, count) = *one;
+            let comma = if place == 0 { "" } else { ", " };
+            let name = counted_name(anomaly, count);
+            put(write!(lines, "{comma}{count} {name}"))?;
+        }
+        Ok(())
+    }
+
+    /// Puts the member `counts`: each name with its number.
+    pub(crate) fn put_member(&self, out: &mut Lines) {
+        out.put_key("counts");
+        out.begin_array();
+        for one in self.counted.iter() {
+            let (anomaly, count) = *one;
+            out.begin_object();
+            out.put_text("anomaly", anomaly_name(anomaly));
+            out.put_number("count", count);
+            out.end_object();
+        }
+        out.end_array();
+    }
+}

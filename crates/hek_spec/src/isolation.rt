@@ -1,0 +1,67 @@
+//! Levels of isolation, as SQL names them.
+use crate::cursor::Cursor;
+use crate::mistake::{Reason, Trouble};
+use hek_rules::Level;
+
+/// A level that a transaction asks for.
+#[derive(Clone, Copy)]
+pub(crate) enum Isolation {
+    Serializable,
+    /// PostgreSQL's is snapshot isolation.
+    RepeatableRead,
+    ReadCommitted,
+}
+
+impl Isolation {
+    /// The machine's level, if there is one.
+    pub(crate) fn level(self) -> Option<Level> {
+        match self {
+            Isolation::Serializable => Some(Level::Serializable),
+            Isolation::RepeatableRead => Some(Level::Snapshot),
+            Isolation::ReadCommitted => None,
+        }
+    }
+}
+
+/// Words after `begin` that say nothing of the level, and change no answer.
+const OTHER_MODES: [&[u8]; 5] = [b"read", b"write", b"only", b"not", b"deferrable"];
+
+/// The level in the modes of a transaction, up to the end of the statement.
+pub(crate) fn modes_of<'s>(cursor: &mut Cursor<'s>) -> Result<Option<Isolation>, Trouble<'s>> {
+    let mut level = None;
+    for _ in 0..cursor.rest().len() {
+        if cursor.take(b"isolation") {
+            cursor.want(b"level", Reason::NoLevel)?;
+            level = Some(level_at(cursor)?);
+        } else if !cursor.take_mark(b',') && !take_mode(cursor) {
+            break;
+        }
+    }
+    cursor.end(Reason::NoLevel)?;
+    Ok(level)
+}
+
+fn take_mode(cursor: &mut Cursor<'_>) -> bool {
+    for word in OTHER_MODES {
+        if cursor.take(word) {
+            return true;
+        }
+    }
+    false
+}
+
+/// The level that the next words name.
+fn level_at<'s>(cursor: &mut Cursor<'s>) -> Result<Isolation, Trouble<'s>> {
+    if cursor.take(b"serializable") {
+        return Ok(Isolation::Serializable);
+    }
+    if cursor.take(b"repeatable") {
+        cursor.want(b"read", Reason::NoLevel)?;
+        return Ok(Isolation::RepeatableRead);
+    }
+    cursor.want(b"read", Reason::NoLevel)?;
+    if cursor.take(b"committed") || cursor.take(b"uncommitted") {
+        return Ok(Isolation::ReadCommitted);
+    }
+    Err(cursor.wrong(Reason::NoLevel))
+}

@@ -1,0 +1,227 @@
+//! The tokens of a spec: words, names, texts, numbers and marks, line by line.
+use crate::mistake::{Mistake, Reason, Trouble};
+use hek_rules::{NoMemory, next_line};
+use std::alloc::Global;
+
+/// What a token is.
+#[derive(Clone, Copy)]
+pub enum Kind {
+    /// A word without quotes.
+    Word,
+    /// A name between `"`.
+    Name,
+    /// A text between `'`.
+    Text,
+    /// Digits, with a point or not.
+    Number,
+    /// Any other character.
+    Mark,
+}
+
+/// Bytes of a line, the first of which has the number 1.
+#[derive(Clone, Copy)]
+pub struct Place<'s> {
+    pub number: u64,
+    pub line: &'s [u8],
+    pub start: usize,
+    pub end: usize,
+}
+
+/// A token, without its quotes, and where it stands with them.
+#[derive(Clone, Copy)]
+pub struct Token<'s> {
+    pub(crate) kind: Kind,
+    pub(crate) text: &'s [u8],
+    pub(crate) place: Place<'s>,
+}
+
+impl Token<'_> {
+    /// Whether this is the word, in small or in capital letters.
+    pub(crate) fn is(&self, word: &[u8]) -> bool {
+        matches!(self.kind, Kind::Word) && self.text.eq_ignore_ascii_case(word)
+    }
+
+    /// Whether this is the mark.
+    pub(crate) fn is_mark(&self, mark: u8) -> bool {
+        matches!(self.kind, Kind::Mark) && self.text.first() == Some(&mark)
+    }
+
+    /// Whether this can name a table, a column or a step.
+    pub(crate) fn is_name(&self) -> bool {
+        matches!(self.kind, Kind::Word | Kind::Name)
+    }
+
+    pub(crate) fn is_number(&self) -> bool {
+        matches!(self.kind, Kind::Number)
+    }
+
+    /// Whether both name the same: letters without quotes are small or capital ones alike.
+    pub(crate) fn names(&self, other: &Token<'_>) -> bool {
+        match (self.kind, other.kind) {
+            (Kind::Name, Kind::Name) => self.text == other.text,
+            _ => self.text.eq_ignore_ascii_case(other.text),
+        }
+    }
+}
+
+/// The bytes from `start` up to `end`, as far as there are so many.
+pub(crate) fn part(bytes: &[u8], start: usize, end: usize) -> &[u8] {
+    let end = end.min(bytes.len());
+    let start = start.min(end);
+    &bytes[start..end]
+}
+
+/// All tokens of a text. Comments are left out: outside of braces from `#` on, inside from `--` on, up to the end of the line.
+pub fn read_tokens<'s>(alloc: Global, text: &'s [u8]) -> Result<Vec<Token<'s>>, Trouble<'s>> {
+    let mut tokens = Vec::new(alloc);
+    let mut rest = text;
+    let mut is_block = false;
+    for number in 1..u64::MAX {
+        let Some((line, after)) = next_line(rest) else {
+            break;
+        };
+        rest = after;
+        is_block = read_line(number, line, is_block, &mut tokens)?;
+    }
+    Ok(tokens)
+}
+
+/// Appends the tokens of a line, at whose begin a brace is open or not. Answers whether one is open at its end.
+fn read_line<'s>(
+    number: u64,
+    line: &'s [u8],
+    is_block: bool,
+    tokens: &mut Vec<Token<'s>>,
+) -> Result<bool, Trouble<'s>> {
+    let mut at = 0;
+    let mut is_block = is_block;
+    for _ in 0..line.len() {
+        let rest = part(line, at, line.len());
+        let blanks = blanks_len(rest);
+        let rest = part(rest, blanks, rest.len());
+        if rest.is_empty() || begins_comment(rest, is_block) {
+            break;
+        }
+        let start = at.saturating_add(blanks);
+        let found = token_at(number, line, start)?;
+        is_block = (is_block || found.is_mark(b'{')) && !found.is_mark(b'}');
+        at = found.place.end;
+        push(found, tokens)?;
+    }
+    Ok(is_block)
+}
+
+fn push<'s>(token: Token<'s>, tokens: &mut Vec<Token<'s>>) -> Result<(), NoMemory> {
+    tokens.push(token)?;
+    Ok(())
+}
+
+/// Whether a comment begins at the front.
+fn begins_comment(rest: &[u8], is_block: bool) -> bool {
+    if is_block {
+        rest.starts_with(b"--")
+    } else {
+        rest.starts_with(b"#")
+    }
+}
+
+/// How many blanks are at the front.
+fn blanks_len(bytes: &[u8]) -> usize {
+    count(bytes, Run::Blanks)
+}
+
+/// The token that begins at this byte of a line.
+fn token_at<'s>(number: u64, line: &'s [u8], start: usize) -> Result<Token<'s>, Trouble<'s>> {
+    let rest = part(line, start, line.len());
+    let first = rest.first().copied().unwrap_or(b' ');
+    let kind = kind_of(first);
+    let len = match kind {
+        Kind::Name | Kind::Text => quoted_len(rest, first),
+        Kind::Word => Some(count(rest, Run::Word)),
+        Kind::Number => Some(count(rest, Run::Number)),
+        Kind::Mark => Some(1),
+    };
+    let place = Place {
+        number,
+        line,
+        start,
+        end: start.saturating_add(len.unwrap_or(rest.len())),
+    };
+    if len.is_none() {
+        return Err(Trouble::Mistake(Mistake::at(place, Reason::Open)));
+    }
+    Ok(Token {
+        kind,
+        text: inside(kind, part(line, place.start, place.end)),
+        place,
+    })
+}
+
+/// What a token is that begins with this byte.
+fn kind_of(first: u8) -> Kind {
+    match first {
+        b'"' => Kind::Name,
+        b'\'' => Kind::Text,
+        b'0'..=b'9' => Kind::Number,
+        _ if is_word_byte(first) => Kind::Word,
+        _ => Kind::Mark,
+    }
+}
+
+fn is_word_byte(byte: u8) -> bool {
+    byte.is_ascii_alphanumeric() || byte == b'_' || byte >= 0x80
+}
+
+/// Bytes that stand together.
+#[derive(Clone, Copy)]
+enum Run {
+    Blanks,
+    Word,
+    Number,
+}
+
+impl Run {
+    /// Whether a byte is one of these.
+    fn has(self, byte: u8) -> bool {
+        match self {
+            Run::Blanks => byte.is_ascii_whitespace(),
+            Run::Word => is_word_byte(byte),
+            Run::Number => byte.is_ascii_digit() || byte == b'.',
+        }
+    }
+}
+
+/// How many bytes at the front stand together.
+fn count(bytes: &[u8], run: Run) -> usize {
+    for (place, byte) in bytes.iter().enumerate() {
+        if !run.has(*byte) {
+            return place;
+        }
+    }
+    bytes.len()
+}
+
+/// How many bytes the text in quotes at the front has, with its quotes; none if it doesn't end. Two quotes in it are one.
+fn quoted_len(bytes: &[u8], quote: u8) -> Option<usize> {
+    let mut quotes: usize = 0;
+    for (place, byte) in bytes.iter().enumerate() {
+        if *byte == quote {
+            quotes = quotes.saturating_add(1);
+        } else if quotes > 0 && quotes % 2 == 0 {
+            return Some(place);
+        }
+    }
+    if quotes > 0 && quotes % 2 == 0 {
+        Some(bytes.len())
+    } else {
+        None
+    }
+}
+
+/// A token without its quotes.
+fn inside(kind: Kind, bytes: &[u8]) -> &[u8] {
+    match kind {
+        Kind::Name | Kind::Text => part(bytes, 1, bytes.len().saturating_sub(1)),
+        Kind::Word | Kind::Number | Kind::Mark => bytes,
+    }
+}
