@@ -26,7 +26,8 @@ use Rattle.hek_explore.specs.Groups.{group_in}
 use Rattle.hek_explore.specs.Twins.{world_after, steps_in, bare_entry, HasPlayed, AreTwins}
 use Rattle.hek_explore.specs.Laws.{PlaysExtendAlike}
 use Rattle.hek_explore.proofs.Bare.{reach-same, ends-same, waits-same, formed-same}
-use Rattle.hek_explore.proofs.Grown.{ends-grow, waits-grow, steps-append, events-append, All-right, run-on, steps-told, told-after, told-both, told, retold, retold-events, retold-length, retold-replies, retold-same, clock-run}
+use Rattle.hek_permute.proofs.RunReplies.{events-append, told, told-after}
+use Rattle.hek_explore.proofs.Grown.{ends-grow, waits-grow, steps-append, All-right, run-on, steps-told, told-both, retold, retold-events, retold-length, retold-replies, retold-same, clock-run}
 
 -- ---- the world after a play
 pub world-reachable : (p : Plan) (h : List Entry) → IsPlan p → All (IsPlaced p.buckets) (history_events h) → IsReachable (world_after p h)

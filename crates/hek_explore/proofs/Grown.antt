@@ -1,7 +1,7 @@
 -- Histories that grow: the parts that decide an outcome, the events and replies of the rule table, and the clock.
 use Rattle.std.proofs.Common.{◌≡◌, ℕ, ◌+◌, ◌≤◌, Bool, true, false, List, [], ◌∷◌, ◌++◌, length, refl, ap, sym, subst, ◌∙◌, map, arith, inl, inr}
 use Rattle.std.proofs.lemmas.Bool.{cases_Bool}
-use Rattle.std.proofs.lemmas.List.{map-append, append_cancel_left}
+use Rattle.std.proofs.lemmas.List.{map-append}
 use Rattle.std.proofs.lemmas.List.Elements.{All-head, All-tail}
 use Rattle.std.specs.List.{All}
 use Rattle.std.specs.Prelude.{◌==◌, ◌||◌}
@@ -20,6 +20,7 @@ use Rattle.hek_worker.specs.History.{history_events, replies_in}
 use Rattle.hek_permute.specs.declared.outcome.Ending.{Ending}
 use Rattle.hek_permute.specs.declared.outcome.Ending.TheVariants as ending
 use Rattle.hek_permute.specs.Outcomes.{is_wait, ends_with, end_in, has_wait}
+use Rattle.hek_permute.proofs.RunReplies.{events-append, replies-append, told, told-on}
 use Rattle.hek_explore.specs.Twins.{steps_in, bare_entry}
 
 -- ---- one history after another
@@ -59,12 +60,6 @@ waits-grow xs ys us vs a b = wait-append xs ys ∙ ap (λ z. z || has_wait ys) a
 pub steps-append : (xs ys : List Entry) → steps_in (xs ++ ys) ≡ steps_in xs ++ steps_in ys
 steps-append xs ys = map-append (λ (x : Entry). (x.event, x.reply)) xs ys
 
-pub events-append : (xs ys : List Entry) → history_events (xs ++ ys) ≡ history_events xs ++ history_events ys
-events-append xs ys = map-append (λ (x : Entry). x.event) xs ys
-
-pub replies-append : (xs ys : List Entry) → replies_in (xs ++ ys) ≡ replies_in xs ++ replies_in ys
-replies-append xs ys = map-append (λ (x : Entry). x.reply) xs ys
-
 -- ---- all of a list's end
 pub All-right : {X : Type 0} (P : X → Type 0) (xs ys : List X) → All P (xs ++ ys) → All P ys
 All-right P [] ys h = h
@@ -75,14 +70,6 @@ pub run-on : (w : World) (es fs : List Event) → run w (es ++ fs) ≡ run (run 
 run-on w [] fs = refl
 run-on w (e ∷ es) fs = run-on (next w e) es fs
 
--- the replies of the rule table
-abbrev pub told : World → List Event → List Reply
-told w es = map (λ (x : Event × Reply). x.1) (transcript w es)
-
-pub told-on : (w : World) (es fs : List Event) → told w (es ++ fs) ≡ told w es ++ told (run w es) fs
-told-on w [] fs = refl
-told-on w (e ∷ es) fs = ap (λ l. reply_to w e ∷ l) (told-on (next w e) es fs)
-
 -- the events with these replies are the transcript
 pub steps-told : (w : World) (xs : List Entry) → replies_in xs ≡ told w (history_events xs) → steps_in xs ≡ transcript w (history_events xs)
 steps-told w [] e = refl
@@ -90,14 +77,6 @@ steps-told w (x ∷ xs) e =
     let here : x.reply ≡ reply_to w x.event = cc in
     let rest : replies_in xs ≡ told (next w x.event) (history_events xs) = cc in
     ap (λ (r : Reply). (x.event, r) ∷ steps_in xs) here ∙ ap (λ (l : List (Event × Reply)). (x.event, reply_to w x.event) ∷ l) (steps-told (next w x.event) xs rest)
-
--- the replies of a history's end are those after its beginning
-pub told-after : (w : World) (h now more : List Entry) → now ≡ h ++ more → replies_in h ≡ told w (history_events h) → replies_in now ≡ told w (history_events now)
-    → replies_in more ≡ told (run w (history_events h)) (history_events more)
-told-after w h now more is before all =
-    append_cancel_left (replies_in h) (replies_in more) (told (run w (history_events h)) (history_events more))
-    (sym (replies-append h more) ∙ ap replies_in (sym is) ∙ all ∙ ap (λ l. told w (history_events l)) is ∙ ap (told w) (events-append h more)
-    ∙ told-on w (history_events h) (history_events more) ∙ ap (λ l. l ++ told (run w (history_events h)) (history_events more)) (sym before))
 
 -- the replies of a history's end, put after its beginning
 pub told-both : (w : World) (h more : List Entry) → replies_in h ≡ told w (history_events h) → replies_in more ≡ told (run w (history_events h)) (history_events more)

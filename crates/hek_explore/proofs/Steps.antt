@@ -1,14 +1,12 @@
 -- How a move leads from one key to another.
 use Rattle.std.proofs.Common.{◌≡◌, ℕ, suc, zero, ◌+◌, ◌≤◌, List, [], ◌∷◌, ◌++◌, Option, Some, None, length, refl, ap, sym, subst, ◌∙◌, arith}
-use Rattle.std.proofs.lemmas.List.{length-map, reverse-reverse}
+use Rattle.std.proofs.lemmas.List.{reverse-reverse}
 use Rattle.std.proofs.lemmas.List.Elements.{All-append, All-cons, All-head, All-nil, All-tail, All-filter}
 use Rattle.std.specs.List.{All}
 use Rattle.std.specs.Prelude.{option_map, slice_get}
 use Rattle.hek_rules.specs.declared.event.Event.{Event}
 use Rattle.hek_rules.specs.declared.event.Event.TheVariants as event
 use Rattle.hek_rules.specs.Plan.{Plan, IsPlan}
-use Rattle.hek_rules.specs.Run.{next, run}
-use Rattle.hek_rules.specs.World.{World}
 use Rattle.hek_laws.specs.Runs.{IsPlaced}
 use Rattle.hek_similar.specs.Places.{ScansGroup}
 use Rattle.hek_machine.specs.declared.engine.Engine.{Engine}
@@ -28,6 +26,7 @@ use Rattle.hek_permute.specs.declared.play.Turn.{Turn}
 use Rattle.hek_permute.specs.declared.play.Turn.TheVariants.{Goes, Asks, Looks, Rests}
 use Rattle.hek_permute.specs.Plays.{IsPlay, Plays, HasMoved, Scene, Reaches, both, seat, due, next_of, next_by}
 use Rattle.hek_permute.proofs.Plays.{plays_on}
+use Rattle.hek_permute.proofs.RunReplies.{events-append, told, told-before}
 use Rattle.hek_explore.specs.Groups.{group_in}
 use Rattle.hek_explore.specs.Keys.{shape_of}
 use Rattle.hek_explore.specs.Twins.{HasPlayed, AreTwins}
@@ -35,7 +34,6 @@ use Rattle.hek_explore.specs.Steps.{HasKey, LeadsBy, EndsWith}
 use Rattle.hek_explore.specs.Laws.{HasTwin}
 use Rattle.hek_explore.proofs.Extended.{extends-alike}
 use Rattle.hek_explore.proofs.Scanned.{steps-scan}
-use Rattle.hek_explore.proofs.Grown.{events-append, replies-append, told, told-on}
 use Rattle.hek_explore.proofs.Keys.{keys-twins}
 use Rattle.hek_explore.proofs.Outcomes.{one-outcome}
 use Rattle.hek_explore.proofs.Shapes.{twins-shape}
@@ -135,28 +133,6 @@ play-fit p form works past places h plan are so = plays-fit (group_in p) p.bucke
 All-left : {X : Type 0} (P : X → Type 0) (xs ys : List X) → All P (xs ++ ys) → All P xs
 All-left P [] ys all = All-nil P
 All-left P (x ∷ xs) ys all = All-cons P x xs (All-head P x (xs ++ ys) all) (All-left P xs ys (All-tail P x (xs ++ ys) all))
-
-left-same : {X : Type 0} (xs ys us vs : List X) → length xs ≡ length us → xs ++ ys ≡ us ++ vs → xs ≡ us
-left-same [] ys [] vs l e = refl
-left-same [] ys (u ∷ us) vs l e = absurd (omega arith)
-left-same (x ∷ xs) ys [] vs l e = absurd (omega arith)
-left-same (x ∷ xs) ys (u ∷ us) vs l e =
-    let head : x ≡ u = cc in
-    let tail : xs ++ ys ≡ us ++ vs = cc in
-    let rest : xs ≡ us = left-same xs ys us vs (omega arith) tail in
-    cc
-
-told-length : (w : World) (es : List Event) → length (told w es) ≡ length es
-told-length w [] = refl
-told-length w (e ∷ es) = omega (arith, told-length (next w e) es)
-
-told-before : (w : World) (h more : List Entry) → replies_in (h ++ more) ≡ told w (history_events (h ++ more)) → replies_in h ≡ told w (history_events h)
-told-before w h more e =
-    let a : length (replies_in h) ≡ length h = length-map h (λ (x : Entry). x.reply) in
-    let b : length (told w (history_events h)) ≡ length (history_events h) = told-length w (history_events h) in
-    let c : length (history_events h) ≡ length h = length-map h (λ (x : Entry). x.event) in
-    left-same (replies_in h) (replies_in more) (told w (history_events h)) (told (run w (history_events h)) (history_events more)) (a ∙ sym c ∙ sym b)
-    (sym (replies-append h more) ∙ e ∙ ap (told w) (events-append h more) ∙ told-on w (history_events h) (history_events more))
 
 played-by : (p : Plan) (form : Form) (works : List Work) (past : List ℕ) (places : List Place) (h : List Entry) → IsPlan p → AreMoves p works → IsHistory (length p.txns) h
     → replies_in h ≡ told (opening_of p 1) (history_events h) → Plays form works past places h → HasPlayed p form works past places h
