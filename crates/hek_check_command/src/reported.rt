@@ -1,9 +1,9 @@
 //! The command `check` with more than its verdict: how much of a trace is judged, each of its faults, as text or as objects
 //! of JSON.
-ghost use Rattle.std.specs.Prelude.{◌≡◌, ◌++◌, MatchResult, IfErr, IfOk, OnOk};
+ghost use Rattle.std.specs.Prelude.{◌≡◌, ◌++◌, ◌∷◌, [], MatchResult, IfErr, IfOk, OnOk};
 ghost use Rattle.hek_report.specs.Files.{IsStop};
 ghost use Rattle.hek_check_command.specs.Checked.{CheckFails, judged_as, verdict_words};
-ghost use Rattle.hek_check_command.specs.Reported.{Begins, IsReportedOn, Reports, front_of};
+ghost use Rattle.hek_check_command.specs.Reported.{Begins, IsReportedOn, Reports, end_of_words, front_of};
 
 use crate::faults::{Fault, faults_of};
 use crate::judged::Judged;
@@ -55,7 +55,7 @@ pub fn reported_command<'a, R: Read + Drop, W: Write>(
     asked: Asked,
     out: &mut W,
 ) -> Result<u8, HekFault<'a>>
-    ensures { MatchResult result (Reports R.remaining file trace.now asked.level asked.printing (W.contents out.old) (W.contents out.new)) (CheckFails R.remaining file trace.now) }
+    ensures { MatchResult result (Reports R.remaining file trace.now asked.level asked.printing asked.summary (W.contents out.old) (W.contents out.new)) (CheckFails R.remaining file trace.now) }
 {
     let Ok(text) = str::from_utf8(trace) else {
         return Err(HekFault::NotText);
@@ -75,7 +75,7 @@ fn judge<'a, W: Write>(
     asked: Asked,
     out: &mut W,
 ) -> Result<u8, HekFault<'a>>
-    ensures ok { IfOk result (IsReportedOn (judged_as asked.level transcript.now) asked.printing (W.contents out.old) (W.contents out.new)) }
+    ensures ok { IfOk result (IsReportedOn (judged_as asked.level transcript.now) asked.printing asked.summary (W.contents out.old) (W.contents out.new)) }
     ensures err { IfErr result IsStop }
 {
     let verdict = verdict_of(alloc, transcript, asked.level)?;
@@ -93,11 +93,11 @@ fn write_judged<'a, W: Write>(
     verdict: Verdict,
     out: &mut W,
 ) -> Result<(), HekFault<'a>>
-    ensures ok { OnOk result (Begins (front_of asked.printing verdict) (W.contents out.old) (W.contents out.new)) }
+    ensures ok { OnOk result (Begins (front_of asked.printing asked.summary verdict) (W.contents out.old) (W.contents out.new)) }
     ensures err { IfErr result IsStop }
 {
     let mut lines = Vec::new(alloc);
-    put_front(asked.printing, verdict, &mut lines)?;
+    put_front(asked, verdict, &mut lines)?;
     let rest = rest_of(alloc, text, schedule, transcript, asked, verdict)?;
     append(rest.as_slice(), &mut lines)?;
     send(&mut lines, out)
@@ -111,14 +111,29 @@ fn append(rest: &[u8], lines: &mut Vec<u8>) -> Result<(), NoMemory>
     Ok(())
 }
 
-/// Appends what the output begins with: as text the words of the verdict.
-fn put_front(printing: Printing, verdict: Verdict, lines: &mut Vec<u8>) -> Result<(), NoMemory>
-    ensures { OnOk result (lines.new.items ≡ lines.old.items ++ front_of printing verdict) }
+/// Appends what the output begins with: as text the words of the verdict, and what ends them.
+fn put_front(asked: Asked, verdict: Verdict, lines: &mut Vec<u8>) -> Result<(), NoMemory>
+    ensures { OnOk result (lines.new.items ≡ lines.old.items ++ front_of asked.printing asked.summary verdict) }
 {
-    match printing {
-        Printing::Text => put_verdict_words(verdict, lines),
+    match asked.printing {
+        Printing::Text => put_words_and_end(asked.summary, verdict, lines),
         Printing::Json => Ok(()),
     }
+}
+
+fn put_words_and_end(summary: bool, verdict: Verdict, lines: &mut Vec<u8>) -> Result<(), NoMemory>
+    ensures { OnOk result (lines.new.items ≡ lines.old.items ++ (verdict_words verdict ++ end_of_words summary ∷ [])) }
+{
+    put_verdict_words(verdict, lines)?;
+    lines.push(end_of_words(summary))?;
+    Ok(())
+}
+
+/// What ends the words of a verdict: a colon before how much is judged, otherwise the end of the line.
+fn end_of_words(summary: bool) -> u8
+    ensures { result ≡ end_of_words summary }
+{
+    if summary { b':' } else { b'\n' }
 }
 
 fn put_verdict_words(verdict: Verdict, lines: &mut Vec<u8>) -> Result<(), NoMemory>
@@ -136,7 +151,7 @@ fn put_verdict_words(verdict: Verdict, lines: &mut Vec<u8>) -> Result<(), NoMemo
     }
 }
 
-/// The output behind its front: as text the rest of the verdict's line and the lines after it, as JSON all objects.
+/// The output behind its front: as text what follows the words of the verdict and their end, as JSON all objects.
 fn rest_of(
     alloc: Global,
     text: &str,

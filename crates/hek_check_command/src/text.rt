@@ -9,14 +9,16 @@ use hek_rules::NoMemory;
 use std::alloc::Global;
 use std::io::Write;
 
-/// Appends what follows the words of a verdict: the rest of its line, the serial reply of the first event at fault, and each
-/// event at fault.
+/// Appends what follows the words of a verdict and their end: how much is judged, the serial reply of the first event at
+/// fault, and each event at fault.
 pub(crate) fn put_rest(
     alloc: Global,
     reported: &Reported<'_>,
     lines: &mut Vec<u8>,
 ) -> Result<(), NoMemory> {
-    put_summary(reported, lines)?;
+    if reported.asked.summary {
+        put_summary(reported, lines)?;
+    }
     if reported.asked.why {
         put_reason(reported.faults, lines)?;
     }
@@ -26,12 +28,10 @@ pub(crate) fn put_rest(
     Ok(())
 }
 
-/// The end of the verdict's line: what is judged, if that is asked for.
+/// The end of the verdict's line: how much is judged, and whether the committed transactions can follow one another.
 fn put_summary(reported: &Reported<'_>, lines: &mut Vec<u8>) -> Result<(), NoMemory> {
-    if reported.asked.summary {
-        let judged = reported.judged;
-        put(write!(lines, ": {judged}"))?;
-    }
+    let judged = reported.judged;
+    put(write!(lines, " {judged}"))?;
     if let Some(together) = reported.together {
         put(write!(lines, "; one after another: "))?;
         put_phrase(reported.schedule, together, lines)?;
