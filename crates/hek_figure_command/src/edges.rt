@@ -159,12 +159,24 @@ fn add_in_turn(alloc: Global, order: &[TxnId], edges: &mut Vec<Edge>) -> Result<
 /// Adds an edge for each pair of transactions of which one comes before the other.
 fn add_befores(alloc: Global, befores: &[Before], edges: &mut Vec<Edge>) -> Result<(), NoMemory> {
     for it in befores {
-        if let (Side::Txn(first), Side::Txn(second)) = (it.first, it.second) {
-            let label = key_said(alloc, it.key)?;
-            edges.push(before(first, second, label, true))?;
-        }
+        let Some(first) = txn_on(it.first) else {
+            continue;
+        };
+        let Some(second) = txn_on(it.second) else {
+            continue;
+        };
+        let label = key_said(alloc, it.key)?;
+        edges.push(before(first, second, label, true))?;
     }
     Ok(())
+}
+
+/// The transaction on a side of an edge; none for the opening rows.
+fn txn_on(side: Side) -> Option<TxnId> {
+    match side {
+        Side::Txn(txn) => Some(txn),
+        Side::Opening => None,
+    }
 }
 
 fn key_said(alloc: Global, key: Option<u64>) -> Result<String, NoMemory> {
