@@ -763,18 +763,32 @@ shows the page in a pager.",
     arguments: &[],
 };
 
-/// The commands in the order in which `hek --help` lists them: those for schedules, for engines, for words and images, for shells.
-/// They are in four tables, each of which has a function, since a proof takes a table as one term.
-const SCHEDULE_COMMANDS: &[CommandText] = &[RUN, DEBUG, PAGE, FIGURE];
+/// The commands in the order in which `hek --help` lists them, in seven small tables, each of which has a function, since a proof
+/// takes a table as one term.
+const RUN_COMMANDS: &[CommandText] = &[RUN, DEBUG];
 
-const ENGINE_COMMANDS: &[CommandText] = &[PERMUTE, CHECK, HISTORY, DRIVE, THREADS];
+const PICTURE_COMMANDS: &[CommandText] = &[PAGE, FIGURE];
 
-const WORD_COMMANDS: &[CommandText] = &[WORD, RELEASE, ASM, DIS, IMPORT];
+const ORDER_COMMANDS: &[CommandText] = &[PERMUTE, CHECK];
+
+const ENGINE_COMMANDS: &[CommandText] = &[HISTORY, DRIVE, THREADS];
+
+const WORD_COMMANDS: &[CommandText] = &[WORD, RELEASE, ASM];
+
+const FILE_COMMANDS: &[CommandText] = &[DIS, IMPORT];
 
 const SHELL_COMMANDS: &[CommandText] = &[COMPLETIONS, MAN];
 
-fn schedule_commands() -> &'static [CommandText] {
-    SCHEDULE_COMMANDS
+fn run_commands() -> &'static [CommandText] {
+    RUN_COMMANDS
+}
+
+fn picture_commands() -> &'static [CommandText] {
+    PICTURE_COMMANDS
+}
+
+fn order_commands() -> &'static [CommandText] {
+    ORDER_COMMANDS
 }
 
 fn engine_commands() -> &'static [CommandText] {
@@ -785,16 +799,23 @@ fn word_commands() -> &'static [CommandText] {
     WORD_COMMANDS
 }
 
+fn file_commands() -> &'static [CommandText] {
+    FILE_COMMANDS
+}
+
 fn shell_commands() -> &'static [CommandText] {
     SHELL_COMMANDS
 }
 
-/// The four tables.
-fn tables() -> [&'static [CommandText]; 4] {
+/// The seven tables.
+fn tables() -> [&'static [CommandText]; 7] {
     [
-        schedule_commands(),
+        run_commands(),
+        picture_commands(),
+        order_commands(),
         engine_commands(),
         word_commands(),
+        file_commands(),
         shell_commands(),
     ]
 }

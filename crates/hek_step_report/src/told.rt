@@ -33,7 +33,7 @@ impl Extras {
 #[derive(Clone, Copy, Debug, PartialEq, Eq)]
 pub enum Why {
     Reasons,
-    /// Each reason with the name of the definition that decided it.
+    /// Each reason, and the reply, with the name of the definition that decided it.
     Rules,
 }
 

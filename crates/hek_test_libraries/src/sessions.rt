@@ -71,9 +71,9 @@ fn held(
 const ANSWERS: &[&str] = &[
     "at 9 end -> released read 0 writer 2\n",
     "at 9 end -> released read 0 writer 2\n",
-    "9 a release -> released read 0 writer 2\n  version 0 end 8040000000000002 -> C000000000000002\n",
+    "9 a release -> released read 0 writer 2\n  a was the last reader of version 0, which b writes; b waits for nobody any more\n  version 0 end 8040000000000002 -> C000000000000002\n",
     "9 a release -> released read 0 writer 2\n  version 0 end 8040000000000002 -> C000000000000002 lock readers 0 writer 2 no-more-reads set\n  txn 1 a reads 0 -> none\n  txn 2 b waits 1 -> 0\n",
-    "9 a release -> released read 0 writer 2\n  version 0 end 8040000000000002 -> C000000000000002\n",
+    "9 a release -> released read 0 writer 2\n  a was the last reader of version 0, which b writes; b waits for nobody any more\n  version 0 end 8040000000000002 -> C000000000000002\n",
 ];
 
 /// Whether a text has these bytes at a place.

@@ -2,12 +2,16 @@
 ghost use Rattle.std.specs.Prelude.{length};
 ghost use Rattle.hek_asm.specs.Trace.{NamesDeclared};
 
+use crate::rule_choice::reply_rule;
 use crate::text::changes::put_changes;
 use crate::text::reason::{put_reasons, put_ruled_reasons};
 use crate::text::released::put_release;
 use crate::told::{Told, Why};
 use hek_asm::put_line;
+use hek_report::put;
 use hek_rules::{NoMemory, Schedule, TxnId};
+use hek_why::{Reason, Step};
+use std::io::Write;
 
 /// Appends the line of a step, and under it what is told beside its event and reply: reasons first, then changes.
 pub fn put_told(schedule: &Schedule, told: &Told<'_>, lines: &mut Vec<u8>) -> Result<(), NoMemory>
@@ -27,7 +31,8 @@ pub fn put_told(schedule: &Schedule, told: &Told<'_>, lines: &mut Vec<u8>) -> Re
     }
 }
 
-/// The reasons of the reply, as they are asked for: of a release first what it gave back.
+/// The reasons of the reply, as they are asked for: of a release first what it gave back; with rules last the definition that
+/// decided the reply.
 fn put_why(schedule: &Schedule, told: &Told<'_>, lines: &mut Vec<u8>) -> Result<(), NoMemory> {
     let step = told.step;
     let t = step.event.txn().unwrap_or(TxnId::new(0));
@@ -37,6 +42,15 @@ fn put_why(schedule: &Schedule, told: &Told<'_>, lines: &mut Vec<u8>) -> Result<
     match told.why {
         None => Ok(()),
         Some(Why::Reasons) => put_reasons(schedule, step.before, t, told.reasons, lines),
-        Some(Why::Rules) => put_ruled_reasons(schedule, step, t, told.reasons, lines),
+        Some(Why::Rules) => {
+            put_ruled_reasons(schedule, step, t, told.reasons, lines)?;
+            put_rule(step, told.reasons, lines)
+        }
     }
+}
+
+/// The definition that decided the reply, in a line of its own.
+fn put_rule(step: &Step<'_>, reasons: &[Reason], lines: &mut Vec<u8>) -> Result<(), NoMemory> {
+    let name = reply_rule(step, reasons).definition;
+    put(writeln!(lines, "  rule: {name}"))
 }
