@@ -1,6 +1,7 @@
 //! Conditions after `where`: the keys that they name, and whether a row of the setup meets them.
 use crate::cursor::{Cursor, Listed};
 use crate::keys::literal_of;
+use crate::mistake::Reason;
 use crate::row::literal_at;
 use crate::token::Token;
 use hek_rules::number;
@@ -47,12 +48,19 @@ pub(crate) fn count_terms(condition: &[Token<'_>]) -> usize {
 
 /// The terms of a condition. One with the word `or` is a term as a whole.
 fn terms_of<'s>(condition: &'s [Token<'s>]) -> Listed<'s> {
-    for token in condition {
-        if token.is(b"or") {
-            return Listed::whole(condition);
-        }
+    if has_or(condition) {
+        return Listed::whole(condition);
     }
     Listed::terms(condition)
+}
+
+fn has_or(tokens: &[Token<'_>]) -> bool {
+    for token in tokens {
+        if token.is(b"or") {
+            return true;
+        }
+    }
+    false
 }
 
 /// The column that is next, maybe after a table's name and a point.
@@ -69,6 +77,9 @@ fn column_at<'s>(cursor: &mut Cursor<'s>) -> Option<Token<'s>> {
 
 /// A term as a comparison.
 fn test_of<'s>(term: &'s [Token<'s>]) -> Option<Test<'s>> {
+    if has_or(term) {
+        return None;
+    }
     let mut cursor = Cursor::new(term, term.first()?.place);
     let column = column_at(&mut cursor)?;
     let sign = sign_at(&mut cursor)?;
@@ -142,8 +153,8 @@ fn values_in<'s>(term: &'s [Token<'s>], column: &Token<'s>) -> Option<&'s [Token
     if !named.names(column) || !cursor.take(b"in") {
         return None;
     }
-    match cursor.rest() {
-        [_, values @ .., _] => Some(values),
+    match cursor.parentheses(Reason::NoNumber) {
+        Ok(values) if cursor.rest().is_empty() => Some(values),
         _ => None,
     }
 }
@@ -186,22 +197,32 @@ fn answer_to<'s>(
     }
 }
 
-/// Texts can only be equal or not; numbers have an order.
+/// A number is compared with a number, a text with a text, which can only be equal or not.
 fn compare(left: Token<'_>, sign: Sign, right: Token<'_>) -> Answer {
-    let is_met = match (number(left.text), number(right.text)) {
-        (Some(left), Some(right)) => match sign {
-            Sign::Equal => left == right,
-            Sign::Unequal => left != right,
-            Sign::Less => left < right,
-            Sign::Greater => left > right,
-            Sign::AtMost => left <= right,
-            Sign::AtLeast => left >= right,
-        },
-        _ => match sign {
-            Sign::Equal => left.text == right.text,
-            Sign::Unequal => left.text != right.text,
-            _ => return Answer::Unknown,
-        },
-    };
+    if left.is_number() || right.is_number() {
+        return match (number(left.text), number(right.text)) {
+            (Some(left), Some(right)) => answer_of(compare_numbers(left, sign, right)),
+            _ => Answer::Unknown,
+        };
+    }
+    match sign {
+        Sign::Equal => answer_of(left.text == right.text),
+        Sign::Unequal => answer_of(left.text != right.text),
+        _ => Answer::Unknown,
+    }
+}
+
+fn compare_numbers(left: u64, sign: Sign, right: u64) -> bool {
+    match sign {
+        Sign::Equal => left == right,
+        Sign::Unequal => left != right,
+        Sign::Less => left < right,
+        Sign::Greater => left > right,
+        Sign::AtMost => left <= right,
+        Sign::AtLeast => left >= right,
+    }
+}
+
+fn answer_of(is_met: bool) -> Answer {
     if is_met { Answer::Met } else { Answer::Unmet }
 }

@@ -115,16 +115,28 @@ fn whole_key<'s>(tables: &Tables<'s>, bucket: u64, token: &Token<'s>) -> Result<
     }
 }
 
-/// The texts of a key's columns, with blanks between them.
+/// The texts of a key's columns, with commas between them. One with a comma in it is in quotes.
 fn tuple_text(alloc: Global, values: &[Token<'_>]) -> Result<Vec<u8>, NoMemory> {
     let mut text = Vec::new(alloc);
     for value in values {
         if !text.is_empty() {
             text.extend_from_slice(b", ")?;
         }
+        let quote: &[u8] = if has_comma(value.text) { b"'" } else { b"" };
+        text.extend_from_slice(quote)?;
         text.extend_from_slice(value.text)?;
+        text.extend_from_slice(quote)?;
     }
     Ok(text)
+}
+
+fn has_comma(text: &[u8]) -> bool {
+    for byte in text {
+        if *byte == b',' {
+            return true;
+        }
+    }
+    false
 }
 
 /// The only number or text of a value, which may stand after the words of its type or before them.

@@ -89,7 +89,7 @@ impl Reason {
             Reason::NoFunction => {
                 "only columns and count, sum, min, max and avg of them can be read"
             }
-            Reason::Inner => "a select inside of a statement isn't there",
+            Reason::Inner => "a select or another table inside of a statement isn't there",
             _ => self.text_of_write(),
         }
     }

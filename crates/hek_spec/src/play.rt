@@ -2,7 +2,7 @@
 use crate::cursor::{Cursor, Stop};
 use crate::isolation::Isolation;
 use crate::mistake::{Mistakes, Reason, Trouble};
-use crate::statement::{Statement, insert, statement_of};
+use crate::statement::{Statement, insert_at, statement_of};
 use crate::step::Step;
 use crate::store::Store;
 use crate::table::Tables;
@@ -104,7 +104,7 @@ impl<'s> Play<'s> {
             return Ok(());
         }
         cursor.want(b"insert", Reason::NoSetup)?;
-        let insert = insert(&mut cursor)?;
+        let insert = insert_at(&mut cursor)?;
         cursor.end(Reason::More)?;
         self.store.fill(tables, insert)
     }
@@ -161,7 +161,7 @@ impl<'s> Play<'s> {
             Statement::Rollback => self.end(session, place, Step::Fail),
             Statement::Default(level) => {
                 if let Some(seat) = self.seats.get_mut(session) {
-                    seat.level = level;
+                    seat.level = level.or(seat.level);
                 }
                 Ok(())
             }
@@ -283,7 +283,7 @@ impl<'s> Play<'s> {
         };
         match self.txns.get_mut(open) {
             Some(txn) if !txn.has_worked => {
-                txn.level = level;
+                txn.level = level.or(txn.level);
                 Ok(())
             }
             _ => Err(Trouble::at(place, Reason::LateLevel)),

@@ -69,7 +69,7 @@ fn statement_at<'s>(cursor: &mut Cursor<'s>) -> Result<Statement<'s>, Trouble<'s
         return update(cursor);
     }
     if cursor.take(b"insert") {
-        return Ok(Statement::Insert(insert(cursor)?));
+        return Ok(Statement::Insert(insert_at(cursor)?));
     }
     if cursor.take(b"delete") {
         return delete(cursor);
@@ -255,13 +255,10 @@ fn delete<'s>(cursor: &mut Cursor<'s>) -> Result<Statement<'s>, Trouble<'s>> {
 }
 
 /// The parts of an insert.
-pub(crate) fn insert<'s>(cursor: &mut Cursor<'s>) -> Result<Insert<'s>, Trouble<'s>> {
+pub(crate) fn insert_at<'s>(cursor: &mut Cursor<'s>) -> Result<Insert<'s>, Trouble<'s>> {
     cursor.want(b"into", Reason::NoName)?;
     let table = table_at(cursor)?;
-    let columns = match cursor.peek() {
-        Some(token) if token.is_mark(b'(') => cursor.parentheses(Reason::NoColumns)?,
-        _ => slice(cursor.rest(), 0, 0),
-    };
+    let columns = columns_at(cursor)?;
     cursor.want(b"values", Reason::NoValues)?;
     let rows = rows_at(cursor)?;
     let conflict = conflict_at(cursor)?;
@@ -272,6 +269,14 @@ pub(crate) fn insert<'s>(cursor: &mut Cursor<'s>) -> Result<Insert<'s>, Trouble<
         rows,
         conflict,
     })
+}
+
+/// The columns that an insert names, if it does.
+fn columns_at<'s>(cursor: &mut Cursor<'s>) -> Result<&'s [Token<'s>], Trouble<'s>> {
+    match cursor.peek() {
+        Some(token) if token.is_mark(b'(') => cursor.parentheses(Reason::NoColumns),
+        _ => Ok(slice(cursor.rest(), 0, 0)),
+    }
 }
 
 /// What an insert does where its key is there: `on conflict .. do nothing`, `on conflict .. do update set ..`.

@@ -7,7 +7,7 @@ use crate::row::{Numbers, Row, push};
 use crate::statement::{Conflict, Insert, Statement, check_inner};
 use crate::step::Step;
 use crate::table::{Table, Tables};
-use crate::token::Token;
+use crate::token::{Place, Token};
 use crate::value::{put_tokens, reads_row, set_text};
 use hek_rules::NoMemory;
 use std::alloc::Global;
@@ -349,7 +349,7 @@ impl<'s> Store<'s> {
 }
 
 /// The place of a value in a list, or of the table's key where there is none.
-fn place_in<'s>(value: &'s [Token<'s>], table: &Table<'s>) -> crate::token::Place<'s> {
+fn place_in<'s>(value: &'s [Token<'s>], table: &Table<'s>) -> Place<'s> {
     match value.first() {
         Some(token) => token.place,
         None => table.name.place,

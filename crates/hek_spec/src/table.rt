@@ -223,21 +223,29 @@ fn with_definition<'s>(
     definition: &'s [Token<'s>],
     mistakes: &mut Mistakes<'s>,
 ) -> Result<Table<'s>, NoMemory> {
-    if let Some(key) = key_in(definition) {
-        return Ok(table.with_key(key));
+    let key = key_in(definition);
+    if !begins_rule(definition) {
+        leave_rules(definition, mistakes)?;
+    } else if let (None, Some(first)) = (key, definition.first()) {
+        mistakes.leave(first.place, Reason::Constraint)?;
     }
-    if begins_rule(definition) {
-        if let Some(first) = definition.first() {
-            mistakes.leave(first.place, Reason::Constraint)?;
-        }
-        return Ok(table);
+    match key {
+        Some(key) => Ok(table.with_key(key)),
+        None => Ok(table),
     }
+}
+
+/// Notes the rules of a column other than that of the key.
+fn leave_rules<'s>(
+    definition: &'s [Token<'s>],
+    mistakes: &mut Mistakes<'s>,
+) -> Result<(), NoMemory> {
     for token in definition {
         if is_one_of(token, &COLUMN_RULES) {
             mistakes.leave(token.place, Reason::Constraint)?;
         }
     }
-    Ok(table)
+    Ok(())
 }
 
 /// The columns of the key that a definition gives: `COLUMN .. primary key`, or `primary key (COLUMN, ..)`.

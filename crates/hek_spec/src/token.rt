@@ -78,27 +78,27 @@ pub(crate) fn part(bytes: &[u8], start: usize, end: usize) -> &[u8] {
 
 /// Where a place of a spec is: outside of braces, inside, or in a text between `$NAME$` and `$NAME$`, which may go over lines.
 #[derive(Clone, Copy)]
-enum Inside<'s> {
+enum Spot<'s> {
     Outside,
     Block,
     Dollars(&'s [u8]),
 }
 
-impl<'s> Inside<'s> {
+impl<'s> Spot<'s> {
     /// Where the place after a token is that begins here.
-    fn after(self, token: &Token<'s>) -> Inside<'s> {
+    fn after(self, token: &Token<'s>) -> Spot<'s> {
         match self {
-            Inside::Dollars(quote) if !token.text.ends_with(quote) => self,
-            Inside::Dollars(_) => Inside::Block,
-            _ if token.is_mark(b'{') => Inside::Block,
-            _ if token.is_mark(b'}') => Inside::Outside,
+            Spot::Dollars(quote) if !token.text.ends_with(quote) => self,
+            Spot::Dollars(_) => Spot::Block,
+            _ if token.is_mark(b'{') => Spot::Block,
+            _ if token.is_mark(b'}') => Spot::Outside,
             _ => self.after_text(token),
         }
     }
 
-    fn after_text(self, token: &Token<'s>) -> Inside<'s> {
+    fn after_text(self, token: &Token<'s>) -> Spot<'s> {
         match dollars_at(token.text) {
-            Some(quote) if !ends_dollars(token.text, quote) => Inside::Dollars(quote),
+            Some(quote) if !ends_dollars(token.text, quote) => Spot::Dollars(quote),
             _ => self,
         }
     }
@@ -109,7 +109,7 @@ impl<'s> Inside<'s> {
 pub fn read_tokens<'s>(alloc: Global, text: &'s [u8]) -> Result<Vec<Token<'s>>, Trouble<'s>> {
     let mut tokens = Vec::new(alloc);
     let mut rest = text;
-    let mut inside = Inside::Outside;
+    let mut inside = Spot::Outside;
     for number in 1..u64::MAX {
         let Some((line, after)) = next_line(rest) else {
             break;
@@ -124,9 +124,9 @@ pub fn read_tokens<'s>(alloc: Global, text: &'s [u8]) -> Result<Vec<Token<'s>>, 
 fn read_line<'s>(
     number: u64,
     line: &'s [u8],
-    begin: Inside<'s>,
+    begin: Spot<'s>,
     tokens: &mut Vec<Token<'s>>,
-) -> Result<Inside<'s>, Trouble<'s>> {
+) -> Result<Spot<'s>, Trouble<'s>> {
     let mut at = 0;
     let mut inside = begin;
     for _ in 0..line.len() {
@@ -137,7 +137,7 @@ fn read_line<'s>(
             break;
         }
         let found = match inside {
-            Inside::Dollars(quote) => dollars_token(number, line, start, upto_quote(rest, quote)),
+            Spot::Dollars(quote) => dollars_token(number, line, start, upto_quote(rest, quote)),
             _ => token_at(number, line, start)?,
         };
         inside = inside.after(&found);
@@ -195,11 +195,11 @@ fn push<'s>(token: Token<'s>, tokens: &mut Vec<Token<'s>>) -> Result<(), NoMemor
 }
 
 /// Whether a comment begins at the front.
-fn begins_comment(rest: &[u8], inside: Inside<'_>) -> bool {
+fn begins_comment(rest: &[u8], inside: Spot<'_>) -> bool {
     match inside {
-        Inside::Outside => rest.starts_with(b"#"),
-        Inside::Block => rest.starts_with(b"--"),
-        Inside::Dollars(_) => false,
+        Spot::Outside => rest.starts_with(b"#"),
+        Spot::Block => rest.starts_with(b"--"),
+        Spot::Dollars(_) => false,
     }
 }
 

@@ -77,21 +77,17 @@ fn translate_parts<'s>(
         },
     };
     let play = played(alloc, &tables, parts.as_slice(), order, mistakes)?;
-    check_play(&play, order, tokens)?;
+    check_play(&play, tokens)?;
     check_levels(&play, choice, mistakes)?;
     put(alloc, &tables, &play, choice, mistakes, made)
 }
 
-/// That a play has sessions; and, where all steps are played, a statement that reads or writes.
-fn check_play<'s>(
-    play: &Play<'s>,
-    order: Option<&'s [Token<'s>]>,
-    tokens: &'s [Token<'s>],
-) -> Result<(), Trouble<'s>> {
+/// That a play has sessions, and a statement that reads or writes.
+fn check_play<'s>(play: &Play<'s>, tokens: &'s [Token<'s>]) -> Result<(), Trouble<'s>> {
     if play.seats.is_empty() {
         return Err(Trouble::at(front_of(tokens), Reason::NoSessions));
     }
-    if play.has_work() || order.is_some() {
+    if play.has_work() {
         return Ok(());
     }
     Err(Trouble::at(front_of(tokens), Reason::NoWork))
