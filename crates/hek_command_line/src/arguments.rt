@@ -691,7 +691,7 @@ The status is 0 if there is an order, 1 if there is none, 3 if that is not known
 const IMPORT: CommandText = CommandText {
     name: "import",
     about: "Makes schedules of a spec of PostgreSQL's isolation tests",
-    example: r#"Rows of a table with a primary key of whole numbers become rows; select, insert, update and delete by the key become steps, and a select of a whole table a scan. Serializable stays so, repeatable read becomes snapshot, and read committed isn't there: --level says which level to take. What can't be translated is named, with status 4. Without --permutation the sessions follow one another: `hek permute` plays all their orders.
+    example: r#"Rows of a table with a primary key become rows; select, insert, update and delete become steps: reads where a condition names the key, otherwise scans. Serializable stays so, repeatable read becomes snapshot, and read committed isn't there: --level says which level to take. What can't be translated is left out and named, in comments too, with status 1; with status 4 if nothing is left. Without --permutation the sessions follow one another: `hek permute` plays all their orders.
 
 Example:
   hek import spec skew.spec

@@ -15,6 +15,9 @@ use std::str;
 /// The exit status of a spec that can't be translated.
 const AT_FAULT: u8 = 4;
 
+/// The exit status of a spec of which something is left out.
+const LESS: u8 = 1;
+
 /// How many places that can't be translated are named at most.
 const MOST: usize = 10;
 
@@ -72,13 +75,14 @@ fn import_text<'a, D: Disk, W: Write, E: Write>(
         Ok(tokens) => import_tokens(alloc, asked, tokens.as_slice(), disk, out, faults),
         Err(Trouble::NoMemory) => Err(HekFault::NoMemory),
         Err(Trouble::Mistake(mistake)) => {
-            report_mistake(asked, mistake, faults);
+            report_mistake(asked, mistake, true, faults);
             Ok(AT_FAULT)
         }
     }
 }
 
-/// Writes the schedules of a spec, once it is known that each that is asked for can be made.
+/// Writes the schedules of a spec, once it is known that each that is asked for can be made. The status is 1 if something is left
+/// out.
 fn import_tokens<'a, D: Disk, W: Write, E: Write>(
     alloc: Global,
     asked: Asked<'a>,
@@ -89,7 +93,8 @@ fn import_tokens<'a, D: Disk, W: Write, E: Write>(
 ) -> Result<u8, HekFault<'a>> {
     let made = translate(alloc, tokens, asked.choice)?;
     let count = made.permutations;
-    if has_mistakes(asked, &made, faults) {
+    if made.is_at_fault {
+        let _ = has_mistakes(asked, &made, faults);
         return Ok(AT_FAULT);
     }
     if let Some(number) = asked.choice.permutation {
@@ -98,8 +103,23 @@ fn import_tokens<'a, D: Disk, W: Write, E: Write>(
             return Ok(2);
         }
     }
-    let is_folder = asked.output.ends_with(FOLDER_END);
-    if !is_folder {
+    let leaves = has_mistakes(asked, &made, faults);
+    let status = write_made(alloc, asked, made, tokens, disk, out, faults)?;
+    Ok(if leaves { status.max(LESS) } else { status })
+}
+
+/// Writes the schedule that was made, or where all permutations are asked for theirs.
+fn write_made<'a, D: Disk, W: Write, E: Write>(
+    alloc: Global,
+    asked: Asked<'a>,
+    made: Translation<'_>,
+    tokens: &[Token<'_>],
+    disk: &D,
+    out: &mut W,
+    faults: &mut E,
+) -> Result<u8, HekFault<'a>> {
+    let count = made.permutations;
+    if !asked.output.ends_with(FOLDER_END) {
         return write_one(alloc, asked, made, disk, out, faults);
     }
     if asked.choice.permutation.is_some() || count == 0 {
@@ -172,7 +192,7 @@ fn is_translated<'a, E: Write>(
     faults: &mut E,
 ) -> Result<bool, HekFault<'a>> {
     let made = translate(alloc, tokens, asked.choice)?;
-    Ok(!has_mistakes(asked, &made, faults))
+    Ok(!(made.is_at_fault && has_mistakes(asked, &made, faults)))
 }
 
 /// Writes the schedule of a permutation to a file of the folder.
@@ -298,7 +318,7 @@ fn put_head<'a>(asked: Asked<'_>, count: u64, lines: &mut Vec<u8>) -> Result<(),
     Ok(())
 }
 
-/// Whether a spec has mistakes, which are named.
+/// Whether a spec has mistakes, or something is left out: what is named.
 fn has_mistakes<E: Write>(asked: Asked<'_>, made: &Translation<'_>, faults: &mut E) -> bool {
     let mistakes = made.mistakes.as_slice();
     for (place, mistake) in mistakes.iter().enumerate() {
@@ -307,13 +327,18 @@ fn has_mistakes<E: Write>(asked: Asked<'_>, made: &Translation<'_>, faults: &mut
             let _ = writeln!(faults, "and {more} more");
             break;
         }
-        report_mistake(asked, *mistake, faults);
+        report_mistake(asked, *mistake, made.is_at_fault, faults);
     }
     !mistakes.is_empty()
 }
 
-/// Writes the line of a mistake, and where faults are explained its place with carets.
-fn report_mistake<E: Write>(asked: Asked<'_>, mistake: Mistake<'_>, faults: &mut E) {
+/// Writes the line of a mistake, or of what is left out, and where faults are explained its place with carets.
+fn report_mistake<E: Write>(
+    asked: Asked<'_>,
+    mistake: Mistake<'_>,
+    is_at_fault: bool,
+    faults: &mut E,
+) {
     let Mistake { place, reason } = mistake;
     let number = place.number;
     let excerpt = Excerpt {
@@ -322,10 +347,15 @@ fn report_mistake<E: Write>(asked: Asked<'_>, mistake: Mistake<'_>, faults: &mut
         end: place.end,
     };
     let column = excerpt.column();
-    let _ = writeln!(
-        faults,
-        "hek: spec: line {number}, column {column}: {reason}"
-    );
+    let reason = reason.text();
+    if is_at_fault {
+        let _ = writeln!(
+            faults,
+            "hek: spec: line {number}, column {column}: {reason}"
+        );
+    } else {
+        let _ = writeln!(faults, "hek: note: left out: line {number}: {reason}");
+    }
     if asked.explains {
         let name = asked.name;
         let _ = writeln!(faults, "  {name}:{number}:{column}\n{excerpt}");

@@ -720,7 +720,7 @@ takes all transactions as serializable, repeatable or snapshot
 \fB\-o\fR, \fB\-\-output\fR \fIOUT\fR
 writes the schedule to a file; where OUT ends with /, a file for each permutation to this folder
 .PP
-Rows of a table with a primary key of whole numbers become rows; select, insert, update and delete by the key become steps, and a select of a whole table a scan. Serializable stays so, repeatable read becomes snapshot, and read committed isn't there: \-\-level says which level to take. What can't be translated is named, with status 4. Without \-\-permutation the sessions follow one another: \(gahek permute\(ga plays all their orders.
+Rows of a table with a primary key become rows; select, insert, update and delete become steps: reads where a condition names the key, otherwise scans. Serializable stays so, repeatable read becomes snapshot, and read committed isn't there: \-\-level says which level to take. What can't be translated is left out and named, in comments too, with status 1; with status 4 if nothing is left. Without \-\-permutation the sessions follow one another: \(gahek permute\(ga plays all their orders.
 .PP
 Example:
 .RS 4
@@ -782,7 +782,7 @@ shows the page in a pager.
 the command was done; of history, permute \-\-find and word \-\-changes: yes
 .TP
 1
-a fault, a trace that is not serial, a line that is at fault, or a word that is not one; of history, permute \-\-find and word \-\-changes: no
+a fault, a trace that is not serial, a line that is at fault, or a word that is not one; of history, permute \-\-find and word \-\-changes: no; of import: something is left out
 .TP
 2
 a bad command line
@@ -791,7 +791,7 @@ a bad command line
 of history and permute \-\-find: it is not known, or there is nothing to judge
 .TP
 4
-of history, permute \-\-find and word \-\-changes: a fault; of import: a fault, or what can't be translated
+of history, permute \-\-find and word \-\-changes: a fault; of import: a fault, or nothing can be translated
 .SH EXAMPLES
 .RS 4
 .nf

@@ -153,17 +153,37 @@ pub(crate) enum Stop {
     From,
     /// `where` or `returning`.
     Condition,
+    /// A word that begins what follows a condition.
+    Tail,
+    /// `for`.
+    For,
+    /// `do`.
+    Do,
 }
+
+/// The words that begin what follows a condition.
+const TAIL: [&[u8]; 7] = [
+    b"order",
+    b"group",
+    b"having",
+    b"limit",
+    b"offset",
+    b"for",
+    b"returning",
+];
 
 impl Stop {
     /// Whether this is such a token.
-    fn is(self, token: &Token<'_>) -> bool {
+    pub(crate) fn is(self, token: &Token<'_>) -> bool {
         match self {
             Stop::Brace => token.is_mark(b'}'),
             Stop::Semicolon => token.is_mark(b';'),
             Stop::Part => begins_part(token),
             Stop::From => token.is(b"from"),
             Stop::Condition => token.is(b"where") || token.is(b"returning"),
+            Stop::Tail => is_one_of(token, &TAIL),
+            Stop::For => token.is(b"for"),
+            Stop::Do => token.is(b"do"),
         }
     }
 }
@@ -198,12 +218,41 @@ fn length_in(tokens: &[Token<'_>]) -> Option<usize> {
     None
 }
 
-/// Tokens that commas outside of parentheses part, one list after another.
+/// Whether a token is one of the words.
+pub(crate) fn is_one_of(token: &Token<'_>, words: &[&[u8]]) -> bool {
+    for word in words {
+        if token.is(word) {
+            return true;
+        }
+    }
+    false
+}
+
+/// What parts tokens outside of parentheses.
+#[derive(Clone, Copy)]
+enum Between {
+    Comma,
+    And,
+    Nothing,
+}
+
+impl Between {
+    fn is(self, token: &Token<'_>) -> bool {
+        match self {
+            Between::Comma => token.is_mark(b','),
+            Between::And => token.is(b"and"),
+            Between::Nothing => false,
+        }
+    }
+}
+
+/// Tokens that commas outside of parentheses part, or the words `and`, one list after another.
 #[derive(Clone, Copy)]
 pub(crate) struct Listed<'s> {
     tokens: &'s [Token<'s>],
     at: usize,
     is_over: bool,
+    between: Between,
 }
 
 impl<'s> Listed<'s> {
@@ -213,6 +262,23 @@ impl<'s> Listed<'s> {
             tokens,
             at: 0,
             is_over: false,
+            between: Between::Comma,
+        }
+    }
+
+    /// All tokens as one list.
+    pub(crate) fn whole(tokens: &'s [Token<'s>]) -> Listed<'s> {
+        Listed {
+            between: Between::Nothing,
+            ..Listed::new(tokens)
+        }
+    }
+
+    /// The lists that `and` parts.
+    pub(crate) fn terms(tokens: &'s [Token<'s>]) -> Listed<'s> {
+        Listed {
+            between: Between::And,
+            ..Listed::new(tokens)
         }
     }
 
@@ -223,24 +289,46 @@ impl<'s> Listed<'s> {
         }
         let start = self.at;
         let rest = slice(self.tokens, start, self.tokens.len());
-        let count = length_upto_comma(rest);
+        let count = length_between(rest, self.between);
         self.is_over = count == rest.len();
         self.at = start.saturating_add(count).saturating_add(1);
         Some(slice(rest, 0, count))
     }
 }
 
-/// How many tokens come before the first comma outside of parentheses.
-fn length_upto_comma(tokens: &[Token<'_>]) -> usize {
+/// How many tokens come before the first outside of parentheses that parts them.
+fn length_between(tokens: &[Token<'_>], between: Between) -> usize {
     let mut depth: usize = 0;
     for (place, token) in tokens.iter().enumerate() {
         if token.is_mark(b'(') {
             depth = depth.saturating_add(1);
         } else if token.is_mark(b')') {
             depth = depth.saturating_sub(1);
-        } else if depth == 0 && token.is_mark(b',') {
+        } else if depth == 0 && between.is(token) {
             return place;
         }
     }
     tokens.len()
+}
+
+/// The list at a place, from 0, among those that commas part.
+pub(crate) fn nth<'s>(tokens: &'s [Token<'s>], place: usize) -> Option<&'s [Token<'s>]> {
+    let mut listed = Listed::new(tokens);
+    for _ in 0..place {
+        let _ = listed.next()?;
+    }
+    listed.next()
+}
+
+/// The place, from 0, of the list that begins with this name.
+pub(crate) fn place_of(tokens: &[Token<'_>], name: &Token<'_>) -> Option<usize> {
+    let mut listed = Listed::new(tokens);
+    for place in 0..tokens.len() {
+        if let [first, ..] = listed.next()? {
+            if first.names(name) {
+                return Some(place);
+            }
+        }
+    }
+    None
 }

@@ -23,6 +23,14 @@ impl Isolation {
     }
 }
 
+/// The levels by their texts.
+const LEVELS: [(&[u8], Isolation); 4] = [
+    (b"serializable", Isolation::Serializable),
+    (b"repeatable read", Isolation::RepeatableRead),
+    (b"read committed", Isolation::ReadCommitted),
+    (b"read uncommitted", Isolation::ReadCommitted),
+];
+
 /// Words after `begin` that say nothing of the level, and change no answer.
 const OTHER_MODES: [&[u8]; 5] = [b"read", b"write", b"only", b"not", b"deferrable"];
 
@@ -62,6 +70,23 @@ fn level_at<'s>(cursor: &mut Cursor<'s>) -> Result<Isolation, Trouble<'s>> {
     cursor.want(b"read", Reason::NoLevel)?;
     if cursor.take(b"committed") || cursor.take(b"uncommitted") {
         return Ok(Isolation::ReadCommitted);
+    }
+    Err(cursor.wrong(Reason::NoLevel))
+}
+
+/// The level of a session's transactions: its words, or a text with them.
+pub(crate) fn level_words<'s>(cursor: &mut Cursor<'s>) -> Result<Option<Isolation>, Trouble<'s>> {
+    let Some(token) = cursor.peek() else {
+        return Err(cursor.wrong(Reason::NoLevel));
+    };
+    if !token.is_literal() {
+        return modes_of(cursor);
+    }
+    for (text, level) in LEVELS {
+        if token.text.eq_ignore_ascii_case(text) {
+            let _ = cursor.next();
+            return Ok(Some(level));
+        }
     }
     Err(cursor.wrong(Reason::NoLevel))
 }

@@ -2,16 +2,19 @@
 //! them that read and write rows by a key.
 #![tactic(auto)]
 
+mod condition;
 mod cursor;
 mod file;
-mod insert;
 mod isolation;
+mod keys;
 mod mistake;
 mod play;
+mod row;
 mod schedule;
 mod session_name;
 mod statement;
 mod step;
+mod store;
 mod table;
 mod token;
 mod translating;

@@ -2,67 +2,123 @@
 use crate::token::Place;
 use hek_rules::NoMemory;
 use std::alloc::Global;
-use thiserror::Error;
 
 /// Why a place of a spec can't be translated.
-#[derive(Clone, Copy, Debug, PartialEq, Eq, Error)]
+#[derive(Clone, Copy)]
 pub enum Reason {
-    #[error("a text or a name in quotes ends on its line")]
     Open,
-    #[error("wanted setup, teardown, session, step or permutation")]
     NoPart,
-    #[error("wanted statements of SQL between {{ and }}")]
     NoBlock,
-    #[error("wanted a name after this")]
     NoName,
-    #[error("a step comes after its session")]
     NoSession,
-    #[error("no step has this name")]
     NoStep,
-    #[error("no session")]
     NoSessions,
-    #[error("wanted select, insert, update, delete, begin, commit or rollback")]
-    NoStatement,
-    #[error("wanted create table or insert, which the rows before the first session come from")]
+    NoWork,
     NoSetup,
-    #[error("wanted SQL's next word, and the statement ends")]
-    Ends,
-    #[error("nothing is wanted after the statement's condition")]
-    More,
-    #[error("a select reads one table, with the words from TABLE")]
-    NoFrom,
-    #[error("only columns and count, sum, min, max and avg of them can be read")]
-    NoFunction,
-    #[error("no table has this name")]
     NoTable,
-    #[error("wanted where and the table's key, as KEY = NUMBER or KEY in (NUMBER, ..)")]
-    NoKey,
-    #[error("wanted the value of the key as a number, from 0 on")]
-    NoNumber,
-    #[error("the key is too large")]
-    LargeKey,
-    #[error("wanted values in parentheses, one for each column")]
-    NoValues,
-    #[error("the key of a row can't be changed")]
-    ChangesKey,
-    #[error("wanted set and COLUMN = VALUE")]
-    NoSet,
-    #[error("a table has one column of whole numbers as its primary key")]
     NoPrimaryKey,
-    #[error("a rule of a table other than its primary key isn't there")]
     Constraint,
-    #[error("wanted columns in parentheses")]
+    Partition,
     NoColumns,
-    #[error("wanted isolation level and serializable or repeatable read")]
+    NoNumber,
+    LargeKey,
+    NoStatement,
+    Ends,
+    More,
+    NoFrom,
+    NoFunction,
+    Inner,
+    NoValues,
+    ChangesKey,
+    NoSet,
+    RowLock,
+    Condition,
     NoLevel,
-    #[error("read committed isn't there: --level says at which level the transactions run")]
     ReadCommitted,
-    #[error("a transaction is open here")]
     IsOpen,
-    #[error("no transaction is open here")]
     NotOpen,
-    #[error("the level is set before the first read or write")]
     LateLevel,
+}
+
+impl Reason {
+    /// The reason in words.
+    pub fn text(self) -> &'static str {
+        match self {
+            Reason::Open => "a text or a name in quotes ends on its line",
+            Reason::NoPart => "wanted setup, teardown, session, step or permutation",
+            Reason::NoBlock => "wanted statements of SQL between { and }",
+            Reason::NoName => "wanted a name after this",
+            Reason::NoSession => "a step comes after its session",
+            Reason::NoStep => "no step has this name",
+            Reason::NoSessions => "no session",
+            Reason::NoWork => "no session has a statement that reads or writes a row",
+            _ => self.text_of_table(),
+        }
+    }
+
+    fn is_no_work(self) -> bool {
+        matches!(self, Reason::NoWork)
+    }
+
+    /// Why a table, its key or a row isn't there.
+    fn text_of_table(self) -> &'static str {
+        match self {
+            Reason::NoSetup => {
+                "wanted create table or insert, which the rows before the first session come from"
+            }
+            Reason::NoTable => "no table has this name",
+            Reason::NoPrimaryKey => "a table has a primary key, or a unique index on columns",
+            Reason::Constraint => "a rule of a table other than its primary key isn't there",
+            Reason::Partition => "a table has no partitions, and inherits from none",
+            Reason::NoColumns => "wanted columns in parentheses",
+            Reason::NoNumber => "wanted the value of the key as a number, from 0 on",
+            Reason::LargeKey => "the key is too large",
+            _ => self.text_of_statement(),
+        }
+    }
+
+    /// Why a statement isn't there.
+    fn text_of_statement(self) -> &'static str {
+        match self {
+            Reason::NoStatement => {
+                "wanted select, insert, update, delete, begin, commit or rollback"
+            }
+            Reason::Ends => "wanted SQL's next word, and the statement ends",
+            Reason::More => "nothing is wanted after the statement's condition",
+            Reason::NoFrom => "a select reads one table, with the words from TABLE",
+            Reason::NoFunction => {
+                "only columns and count, sum, min, max and avg of them can be read"
+            }
+            Reason::Inner => "a select or another table inside of a statement isn't there",
+            _ => self.text_of_write(),
+        }
+    }
+
+    /// Why a write isn't there, or only a part of a statement is.
+    fn text_of_write(self) -> &'static str {
+        match self {
+            Reason::NoValues => "wanted values in parentheses, one for each column",
+            Reason::ChangesKey => "the key of a row can't be changed",
+            Reason::NoSet => "wanted set and COLUMN = VALUE",
+            Reason::RowLock => "the lock on the rows that are read",
+            Reason::Condition =>
+                "the condition, which can't be judged: each row that it may mean is written",
+            _ => self.text_of_txn(),
+        }
+    }
+
+    /// Why a transaction or its level isn't there.
+    fn text_of_txn(self) -> &'static str {
+        match self {
+            Reason::NoLevel => "wanted isolation level and serializable or repeatable read",
+            Reason::ReadCommitted => {
+                "read committed isn't there: --level says at which level the transactions run"
+            }
+            Reason::IsOpen => "a transaction is open here",
+            Reason::NotOpen => "no transaction is open here",
+            _ => "the level is set before the first read or write",
+        }
+    }
 }
 
 /// A place of a spec that can't be translated.
@@ -83,6 +139,12 @@ impl<'s> Mistake<'s> {
 pub enum Trouble<'s> {
     Mistake(Mistake<'s>),
     NoMemory,
+}
+
+impl<'s> Trouble<'s> {
+    pub(crate) fn at(place: Place<'s>, reason: Reason) -> Trouble<'s> {
+        Trouble::Mistake(Mistake { place, reason })
+    }
 }
 
 impl From<NoMemory> for Trouble<'_> {
@@ -112,6 +174,20 @@ impl<'s> Mistakes<'s> {
             Err(Trouble::Mistake(mistake)) => self.push(mistake),
             Err(Trouble::NoMemory) => Err(NoMemory),
         }
+    }
+
+    /// Notes the mistake that ends a translation. That nothing is left says less than what is left out.
+    pub(crate) fn note_fault(&mut self, came: Result<(), Trouble<'s>>) -> Result<(), NoMemory> {
+        match came {
+            Err(Trouble::Mistake(mistake))
+                if mistake.reason.is_no_work() && !self.found.is_empty() => { Ok(()) }
+            _ => self.note(came),
+        }
+    }
+
+    /// Notes that something at a place is left out.
+    pub(crate) fn leave(&mut self, place: Place<'s>, reason: Reason) -> Result<(), NoMemory> {
+        self.push(Mistake::at(place, reason))
     }
 
     pub(crate) fn push(&mut self, mistake: Mistake<'s>) -> Result<(), NoMemory> {

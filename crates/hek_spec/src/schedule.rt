@@ -1,34 +1,67 @@
 //! The schedule text of a play.
+use crate::keys::Given;
+use crate::mistake::Mistake;
 use crate::play::{Play, Seat, Turn, Txn};
 use crate::session_name::{put, txn_name};
-use crate::table::Tables;
+use crate::table::{Table, Tables};
 use crate::value::FIRST;
 use hek_rules::{Level, NoMemory};
 use std::alloc::Global;
 use std::io::Write;
 
-/// Appends the comments at the front: the keys of each table where there are several, and the values that aren't numbers.
+/// Appends the comments at the front: the keys of each table where there are several, keys and values that aren't numbers, and
+/// what is left out.
 pub(crate) fn put_comments(
     tables: &Tables<'_>,
     play: &Play<'_>,
+    mistakes: &[Mistake<'_>],
     text: &mut Vec<u8>,
 ) -> Result<(), NoMemory> {
-    let buckets = tables.buckets();
-    if buckets > 1 {
-        for (place, table) in tables.tables.iter().enumerate() {
-            put(write!(text, "# bucket {place}: the rows of "))?;
-            text.extend_from_slice(table.name.text)?;
-            put(write!(text, ", by the keys {buckets} "))?;
-            text.extend_from_slice(table.key.text)?;
-            put(writeln!(text, " + {place}"))?;
+    if tables.buckets() > 1 {
+        for table in tables.tables.iter() {
+            put_bucket(tables.buckets(), table, text)?;
         }
     }
-    for (place, value) in play.values.texts.iter().enumerate() {
+    for given in play.store.numbers.keys.given.iter() {
+        put_key(given, text)?;
+    }
+    for (place, value) in play.store.numbers.values.texts.iter().enumerate() {
         let number = FIRST.saturating_add(place as u64);
         put(write!(text, "# value {number}: "))?;
         text.extend_from_slice(value.as_slice())?;
         text.push(b'\n')?;
     }
+    for mistake in mistakes {
+        let number = mistake.place.number;
+        let reason = mistake.reason.text();
+        put(writeln!(text, "# left out: line {number}: {reason}"))?;
+    }
+    Ok(())
+}
+
+/// Appends the comment on a table's keys.
+fn put_bucket(buckets: u64, table: &Table<'_>, text: &mut Vec<u8>) -> Result<(), NoMemory> {
+    let bucket = table.bucket;
+    put(write!(text, "# bucket {bucket}: the rows of "))?;
+    text.extend_from_slice(table.name.text)?;
+    if let ([column], true) = (table.key, table.is_whole) {
+        put(write!(text, ", by the keys {buckets} "))?;
+        text.extend_from_slice(column.text)?;
+        put(write!(text, " + {bucket}"))?;
+    }
+    text.push(b'\n')?;
+    Ok(())
+}
+
+/// Appends the comment on a key with a number of its own.
+fn put_key(given: &Given, text: &mut Vec<u8>) -> Result<(), NoMemory> {
+    let key = given.key;
+    if given.text.is_empty() {
+        return Ok(());
+    }
+    put(write!(text, "# key {key}: "))?;
+    text.extend_from_slice(given.text.as_slice())?;
+    text.push(b'\n')?;
     Ok(())
 }
 
@@ -57,7 +90,8 @@ pub(crate) fn put_schedule(
 ) -> Result<(), NoMemory> {
     let buckets = tables.buckets();
     put(writeln!(text, "buckets {buckets}"))?;
-    for (key, value) in play.rows.iter() {
+    for row in play.store.rows.iter() {
+        let (key, value) = (row.key, row.value);
         put(writeln!(text, "row {key} {value}"))?;
     }
     for txn in play.txns.iter() {

@@ -1,35 +1,54 @@
 //! Statements of SQL.
-use crate::cursor::{Cursor, Stop, slice};
-use crate::isolation::{Isolation, modes_of};
-use crate::mistake::{Mistake, Reason, Trouble};
-use crate::table::is_one_of;
+use crate::cursor::{Cursor, Stop, is_one_of, slice};
+use crate::isolation::{Isolation, level_words, modes_of};
+use crate::mistake::{Reason, Trouble};
 use crate::token::{Place, Token};
 
-/// The rows that a condition `where COLUMN = NUMBER` or `where COLUMN in (NUMBER, ..)` names.
-#[derive(Clone, Copy)]
-pub(crate) struct Condition<'s> {
-    pub(crate) column: Token<'s>,
-    pub(crate) keys: &'s [Token<'s>],
-}
-
-/// A statement of a step.
+/// A statement of a step. A condition without words means all rows of a table.
 #[derive(Clone, Copy)]
 pub(crate) enum Statement<'s> {
     Begin(Option<Isolation>),
     /// `set transaction isolation level`.
     Level(Option<Isolation>),
+    /// `set default_transaction_isolation`, `set session characteristics`.
+    Default(Option<Isolation>),
     Commit,
     Rollback,
-    /// All rows of the table, or those of the condition.
-    Select(Token<'s>, Option<Condition<'s>>),
-    /// The columns that are named, and the rows.
-    Insert(Token<'s>, Option<&'s [Token<'s>]>, &'s [Token<'s>]),
-    Update(Token<'s>, &'s [Token<'s>], Condition<'s>),
-    Delete(Token<'s>, Condition<'s>),
+    /// The table, the condition, and `for` before a lock on rows.
+    Select(Token<'s>, &'s [Token<'s>], Option<Token<'s>>),
+    Insert(Insert<'s>),
+    Update(Token<'s>, &'s [Token<'s>], &'s [Token<'s>]),
+    Delete(Token<'s>, &'s [Token<'s>]),
+}
+
+/// An insert: its table, the columns that it names, if it does, and its rows.
+#[derive(Clone, Copy)]
+pub(crate) struct Insert<'s> {
+    pub(crate) table: Token<'s>,
+    pub(crate) columns: &'s [Token<'s>],
+    pub(crate) rows: &'s [Token<'s>],
+    pub(crate) conflict: Conflict<'s>,
+}
+
+/// What an insert does where its key is there.
+#[derive(Clone, Copy)]
+pub(crate) enum Conflict<'s> {
+    Fails,
+    Nothing,
+    /// What it sets.
+    Updates(&'s [Token<'s>]),
 }
 
 /// Functions over columns.
 const FUNCTIONS: [&[u8]; 5] = [b"count", b"sum", b"min", b"max", b"avg"];
+
+/// Words before parentheses that are no functions.
+const OPERATORS: [&[u8]; 6] = [b"in", b"and", b"or", b"not", b"any", b"all"];
+
+/// Words that may follow the name of a table, and are no other name for it.
+const AFTER: [&[u8]; 9] = [
+    b"where", b"set", b"values", b"using", b"join", b"left", b"cross", b"union", b"select",
+];
 
 /// The statement that some tokens are.
 pub(crate) fn statement_of<'s>(
@@ -50,8 +69,7 @@ fn statement_at<'s>(cursor: &mut Cursor<'s>) -> Result<Statement<'s>, Trouble<'s
         return update(cursor);
     }
     if cursor.take(b"insert") {
-        let (table, columns, rows) = insert_parts(cursor)?;
-        return Ok(Statement::Insert(table, columns, rows));
+        return Ok(Statement::Insert(insert_at(cursor)?));
     }
     if cursor.take(b"delete") {
         return delete(cursor);
@@ -67,6 +85,9 @@ fn transaction<'s>(cursor: &mut Cursor<'s>) -> Result<Statement<'s>, Trouble<'s>
     }
     if take_both(cursor, b"set", b"transaction") {
         return Ok(Statement::Level(modes_of(cursor)?));
+    }
+    if take_default(cursor) {
+        return Ok(Statement::Default(level_words(cursor)?));
     }
     if cursor.take(b"commit") || cursor.take(b"end") {
         take_noun(cursor);
@@ -86,6 +107,11 @@ fn take_noun(cursor: &mut Cursor<'_>) {
     }
 }
 
+/// Whether a token begins what follows a condition.
+fn is_tail(token: &Token<'_>) -> bool {
+    Stop::Tail.is(token)
+}
+
 /// Takes two words, if both are next.
 fn take_both(cursor: &mut Cursor<'_>, first: &[u8], second: &[u8]) -> bool {
     let mut ahead = *cursor;
@@ -96,113 +122,176 @@ fn take_both(cursor: &mut Cursor<'_>, first: &[u8], second: &[u8]) -> bool {
     false
 }
 
+/// Takes the words before the level of a session's transactions.
+fn take_default(cursor: &mut Cursor<'_>) -> bool {
+    if take_both(cursor, b"set", b"default_transaction_isolation") {
+        return cursor.take(b"to") || cursor.take_mark(b'=');
+    }
+    let mut ahead = *cursor;
+    if take_both(&mut ahead, b"set", b"session")
+        && take_both(&mut ahead, b"characteristics", b"as")
+    {
+        *cursor = ahead;
+        return cursor.take(b"transaction");
+    }
+    false
+}
+
 fn select<'s>(cursor: &mut Cursor<'s>) -> Result<Statement<'s>, Trouble<'s>> {
     let columns = cursor.upto(Stop::From);
-    check_columns(columns, cursor)?;
+    check_plain(columns)?;
     cursor.want(b"from", Reason::NoFrom)?;
     let table = table_at(cursor)?;
-    let condition = if cursor.take(b"where") {
-        Some(rows_where(cursor)?)
-    } else {
-        None
-    };
-    if take_both(cursor, b"order", b"by") {
-        take_order(cursor)?;
+    let condition = condition_at(cursor)?;
+    match cursor.peek() {
+        Some(token) if is_tail(&token) => check_plain(cursor.upto(Stop::For))?,
+        _ => {}
     }
-    Ok(Statement::Select(table, condition))
+    let lock = cursor.peek();
+    match lock {
+        Some(token) if token.is(b"for") => {
+            let _ = cursor.upto(Stop::Semicolon);
+            Ok(Statement::Select(table, condition, lock))
+        }
+        _ => Ok(Statement::Select(table, condition, None)),
+    }
 }
 
 /// That columns are read, and functions over them.
-fn check_columns<'s>(columns: &'s [Token<'s>], cursor: &Cursor<'s>) -> Result<(), Trouble<'s>> {
-    let mut ahead = Cursor::new(columns, cursor.place());
-    for _ in 0..columns.len() {
-        let Some(token) = ahead.peek() else {
-            break;
-        };
-        let _ = ahead.next();
-        let is_call = match ahead.peek() {
-            Some(after) => after.is_mark(b'('),
-            None => false,
-        };
-        let is_odd = is_call && token.is_name() && !is_one_of(&token, &FUNCTIONS);
-        if is_odd || token.is(b"select") {
-            return Err(Trouble::Mistake(Mistake::at(token.place, Reason::NoFunction)));
+fn check_plain<'s>(tokens: &'s [Token<'s>]) -> Result<(), Trouble<'s>> {
+    let mut before = None;
+    for token in tokens {
+        if token.is(b"select") {
+            return Err(Trouble::at(token.place, Reason::Inner));
         }
+        if token.is_mark(b'(') {
+            check_call(before)?;
+        }
+        before = Some(*token);
     }
     Ok(())
 }
 
-/// Takes the columns by which rows are ordered.
-fn take_order<'s>(cursor: &mut Cursor<'s>) -> Result<(), Trouble<'s>> {
-    for _ in 0..cursor.rest().len() {
-        let _ = cursor.name(Reason::More)?;
-        if !cursor.take_mark(b',') && cursor.peek().is_none() {
-            break;
+/// That the token before parentheses is no function other than those over columns.
+fn check_call<'s>(before: Option<Token<'s>>) -> Result<(), Trouble<'s>> {
+    match before {
+        Some(name)
+            if name.is_name() && !is_one_of(&name, &FUNCTIONS) && !is_one_of(&name, &OPERATORS) => {
+            Err(Trouble::at(name.place, Reason::NoFunction))
         }
+        _ => Ok(()),
     }
-    Ok(())
 }
 
-/// The table that is named next.
+/// The table that is named next, maybe with another name.
 fn table_at<'s>(cursor: &mut Cursor<'s>) -> Result<Token<'s>, Trouble<'s>> {
     let _ = cursor.take(b"only");
-    cursor.name(Reason::NoName)
+    let table = cursor.name(Reason::NoName)?;
+    if cursor.take(b"as") {
+        let _ = cursor.name(Reason::NoName)?;
+        return Ok(table);
+    }
+    match cursor.peek() {
+        Some(token) if token.is_name() && !is_one_of(&token, &AFTER) && !is_tail(&token) => {
+            let _ = cursor.next();
+        }
+        _ => {}
+    }
+    Ok(table)
 }
 
-/// The rows that the words after `where` name.
-fn rows_where<'s>(cursor: &mut Cursor<'s>) -> Result<Condition<'s>, Trouble<'s>> {
-    let column = cursor.name(Reason::NoKey)?;
-    if cursor.take(b"in") {
-        let keys = cursor.parentheses(Reason::NoKey)?;
-        return Ok(Condition { column, keys });
+/// The condition after `where`. Without it there are no words.
+fn condition_at<'s>(cursor: &mut Cursor<'s>) -> Result<&'s [Token<'s>], Trouble<'s>> {
+    if !cursor.take(b"where") {
+        return Ok(slice(cursor.rest(), 0, 0));
     }
-    if !cursor.take_mark(b'=') {
-        return Err(cursor.wrong(Reason::NoKey));
-    }
-    let keys = cursor.rest();
-    if cursor.next().is_none() {
+    let condition = cursor.upto(Stop::Tail);
+    if condition.is_empty() {
         return Err(cursor.wrong(Reason::Ends));
     }
-    Ok(Condition {
-        column,
-        keys: slice(keys, 0, 1),
-    })
+    check_plain(condition)?;
+    Ok(condition)
 }
 
-/// The condition that is wanted here.
-fn wanted_condition<'s>(cursor: &mut Cursor<'s>) -> Result<Condition<'s>, Trouble<'s>> {
-    cursor.want(b"where", Reason::NoKey)?;
-    rows_where(cursor)
+/// Takes `returning` and what follows it, which reads no other rows.
+fn take_returning(cursor: &mut Cursor<'_>) {
+    if cursor.take(b"returning") {
+        let _ = cursor.upto(Stop::Semicolon);
+    }
 }
 
 fn update<'s>(cursor: &mut Cursor<'s>) -> Result<Statement<'s>, Trouble<'s>> {
     let table = table_at(cursor)?;
     cursor.want(b"set", Reason::NoSet)?;
-    let set = cursor.upto(Stop::Condition);
-    let condition = wanted_condition(cursor)?;
+    let set = set_at(cursor)?;
+    let condition = condition_at(cursor)?;
+    take_returning(cursor);
     Ok(Statement::Update(table, set, condition))
+}
+
+/// What is set, which no select computes.
+fn set_at<'s>(cursor: &mut Cursor<'s>) -> Result<&'s [Token<'s>], Trouble<'s>> {
+    let set = cursor.upto(Stop::Condition);
+    check_inner(set)?;
+    Ok(set)
+}
+
+/// That there is no select among some tokens, nor another table.
+pub(crate) fn check_inner<'s>(tokens: &'s [Token<'s>]) -> Result<(), Trouble<'s>> {
+    for token in tokens {
+        if token.is(b"select") || token.is(b"from") {
+            return Err(Trouble::at(token.place, Reason::Inner));
+        }
+    }
+    Ok(())
 }
 
 fn delete<'s>(cursor: &mut Cursor<'s>) -> Result<Statement<'s>, Trouble<'s>> {
     cursor.want(b"from", Reason::NoFrom)?;
     let table = table_at(cursor)?;
-    let condition = wanted_condition(cursor)?;
+    let condition = condition_at(cursor)?;
+    take_returning(cursor);
     Ok(Statement::Delete(table, condition))
 }
 
-/// The table, the columns that are named, and the rows of an insert.
-pub(crate) fn insert_parts<'s>(
-    cursor: &mut Cursor<'s>,
-) -> Result<(Token<'s>, Option<&'s [Token<'s>]>, &'s [Token<'s>]), Trouble<'s>> {
+/// The parts of an insert.
+pub(crate) fn insert_at<'s>(cursor: &mut Cursor<'s>) -> Result<Insert<'s>, Trouble<'s>> {
     cursor.want(b"into", Reason::NoName)?;
-    let table = cursor.name(Reason::NoName)?;
-    let columns = match cursor.peek() {
-        Some(token) if token.is_mark(b'(') => Some(cursor.parentheses(Reason::NoColumns)?),
-        _ => None,
-    };
+    let table = table_at(cursor)?;
+    let columns = columns_at(cursor)?;
     cursor.want(b"values", Reason::NoValues)?;
     let rows = rows_at(cursor)?;
-    Ok((table, columns, rows))
+    let conflict = conflict_at(cursor)?;
+    take_returning(cursor);
+    Ok(Insert {
+        table,
+        columns,
+        rows,
+        conflict,
+    })
+}
+
+/// The columns that an insert names, if it does.
+fn columns_at<'s>(cursor: &mut Cursor<'s>) -> Result<&'s [Token<'s>], Trouble<'s>> {
+    match cursor.peek() {
+        Some(token) if token.is_mark(b'(') => cursor.parentheses(Reason::NoColumns),
+        _ => Ok(slice(cursor.rest(), 0, 0)),
+    }
+}
+
+/// What an insert does where its key is there: `on conflict .. do nothing`, `on conflict .. do update set ..`.
+fn conflict_at<'s>(cursor: &mut Cursor<'s>) -> Result<Conflict<'s>, Trouble<'s>> {
+    if !take_both(cursor, b"on", b"conflict") {
+        return Ok(Conflict::Fails);
+    }
+    let _ = cursor.upto(Stop::Do);
+    cursor.want(b"do", Reason::Ends)?;
+    if cursor.take(b"nothing") {
+        return Ok(Conflict::Nothing);
+    }
+    cursor.want(b"update", Reason::More)?;
+    cursor.want(b"set", Reason::NoSet)?;
+    Ok(Conflict::Updates(set_at(cursor)?))
 }
 
 /// The rows that are next, with the parentheses and commas of all.

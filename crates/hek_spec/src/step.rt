@@ -1,15 +1,16 @@
 //! The steps that transactions take.
+use crate::keys::Key;
 use std::fmt;
 use std::fmt::{Display, Formatter};
 
 /// A step of a transaction.
 #[derive(Clone, Copy)]
 pub(crate) enum Step {
-    Read(u64),
+    Read(Key),
     Scan(u64),
-    Insert(u64, u64),
-    Update(u64, u64),
-    Delete(u64),
+    Insert(Key, u64),
+    Update(Key, u64),
+    Delete(Key),
     Commit,
     Fail,
 }

@@ -55,6 +55,11 @@ impl Token<'_> {
         matches!(self.kind, Kind::Number)
     }
 
+    /// Whether this is a number, or a text in quotes.
+    pub(crate) fn is_literal(&self) -> bool {
+        matches!(self.kind, Kind::Number | Kind::Text)
+    }
+
     /// Whether both name the same: letters without quotes are small or capital ones alike.
     pub(crate) fn names(&self, other: &Token<'_>) -> bool {
         match (self.kind, other.kind) {
@@ -71,44 +76,117 @@ pub(crate) fn part(bytes: &[u8], start: usize, end: usize) -> &[u8] {
     &bytes[start..end]
 }
 
+/// Where a place of a spec is: outside of braces, inside, or in a text between `$NAME$` and `$NAME$`, which may go over lines.
+#[derive(Clone, Copy)]
+enum Spot<'s> {
+    Outside,
+    Block,
+    Dollars(&'s [u8]),
+}
+
+impl<'s> Spot<'s> {
+    /// Where the place after a token is that begins here.
+    fn after(self, token: &Token<'s>) -> Spot<'s> {
+        match self {
+            Spot::Dollars(quote) if !token.text.ends_with(quote) => self,
+            Spot::Dollars(_) => Spot::Block,
+            _ if token.is_mark(b'{') => Spot::Block,
+            _ if token.is_mark(b'}') => Spot::Outside,
+            _ => self.after_text(token),
+        }
+    }
+
+    fn after_text(self, token: &Token<'s>) -> Spot<'s> {
+        match dollars_at(token.text) {
+            Some(quote) if !ends_dollars(token.text, quote) => Spot::Dollars(quote),
+            _ => self,
+        }
+    }
+}
+
 /// All tokens of a text. Comments are left out: outside of braces from `#` on, inside from `--` on, up to the end of the line.
+/// A text in dollars is a token for each of its lines.
 pub fn read_tokens<'s>(alloc: Global, text: &'s [u8]) -> Result<Vec<Token<'s>>, Trouble<'s>> {
     let mut tokens = Vec::new(alloc);
     let mut rest = text;
-    let mut is_block = false;
+    let mut inside = Spot::Outside;
     for number in 1..u64::MAX {
         let Some((line, after)) = next_line(rest) else {
             break;
         };
         rest = after;
-        is_block = read_line(number, line, is_block, &mut tokens)?;
+        inside = read_line(number, line, inside, &mut tokens)?;
     }
     Ok(tokens)
 }
 
-/// Appends the tokens of a line, at whose begin a brace is open or not. Answers whether one is open at its end.
+/// Appends the tokens of a line, and answers where its end is.
 fn read_line<'s>(
     number: u64,
     line: &'s [u8],
-    is_block: bool,
+    begin: Spot<'s>,
     tokens: &mut Vec<Token<'s>>,
-) -> Result<bool, Trouble<'s>> {
+) -> Result<Spot<'s>, Trouble<'s>> {
     let mut at = 0;
-    let mut is_block = is_block;
+    let mut inside = begin;
     for _ in 0..line.len() {
         let rest = part(line, at, line.len());
-        let blanks = blanks_len(rest);
-        let rest = part(rest, blanks, rest.len());
-        if rest.is_empty() || begins_comment(rest, is_block) {
+        let start = at.saturating_add(count(rest, Run::Blanks));
+        let rest = part(line, start, line.len());
+        if rest.is_empty() || begins_comment(rest, inside) {
             break;
         }
-        let start = at.saturating_add(blanks);
-        let found = token_at(number, line, start)?;
-        is_block = (is_block || found.is_mark(b'{')) && !found.is_mark(b'}');
+        let found = match inside {
+            Spot::Dollars(quote) => dollars_token(number, line, start, upto_quote(rest, quote)),
+            _ => token_at(number, line, start)?,
+        };
+        inside = inside.after(&found);
         at = found.place.end;
         push(found, tokens)?;
     }
-    Ok(is_block)
+    Ok(inside)
+}
+
+/// How many bytes there are up to the end of the next quote; all of them if there is none.
+fn upto_quote(bytes: &[u8], quote: &[u8]) -> usize {
+    for place in 0..bytes.len() {
+        if part(bytes, place, bytes.len()).starts_with(quote) {
+            return place.saturating_add(quote.len());
+        }
+    }
+    bytes.len()
+}
+
+/// The quote `$NAME$` or `$$` at the front of some bytes.
+fn dollars_at(bytes: &[u8]) -> Option<&[u8]> {
+    let [b'$', rest @ ..] = bytes else {
+        return None;
+    };
+    let len = count(rest, Run::Word);
+    match rest.get(len) {
+        Some(b'$') => Some(part(bytes, 0, len.saturating_add(2))),
+        _ => None,
+    }
+}
+
+/// Whether a text that begins with a quote ends with another.
+fn ends_dollars(text: &[u8], quote: &[u8]) -> bool {
+    part(text, quote.len(), text.len()).ends_with(quote)
+}
+
+/// The token of so many bytes of a text in dollars.
+fn dollars_token<'s>(number: u64, line: &'s [u8], start: usize, len: usize) -> Token<'s> {
+    let end = start.saturating_add(len);
+    Token {
+        kind: Kind::Text,
+        text: part(line, start, end),
+        place: Place {
+            number,
+            line,
+            start,
+            end,
+        },
+    }
 }
 
 fn push<'s>(token: Token<'s>, tokens: &mut Vec<Token<'s>>) -> Result<(), NoMemory> {
@@ -117,22 +195,22 @@ fn push<'s>(token: Token<'s>, tokens: &mut Vec<Token<'s>>) -> Result<(), NoMemor
 }
 
 /// Whether a comment begins at the front.
-fn begins_comment(rest: &[u8], is_block: bool) -> bool {
-    if is_block {
-        rest.starts_with(b"--")
-    } else {
-        rest.starts_with(b"#")
+fn begins_comment(rest: &[u8], inside: Spot<'_>) -> bool {
+    match inside {
+        Spot::Outside => rest.starts_with(b"#"),
+        Spot::Block => rest.starts_with(b"--"),
+        Spot::Dollars(_) => false,
     }
-}
-
-/// How many blanks are at the front.
-fn blanks_len(bytes: &[u8]) -> usize {
-    count(bytes, Run::Blanks)
 }
 
 /// The token that begins at this byte of a line.
 fn token_at<'s>(number: u64, line: &'s [u8], start: usize) -> Result<Token<'s>, Trouble<'s>> {
     let rest = part(line, start, line.len());
+    if let Some(quote) = dollars_at(rest) {
+        let after = part(rest, quote.len(), rest.len());
+        let len = quote.len().saturating_add(upto_quote(after, quote));
+        return Ok(dollars_token(number, line, start, len));
+    }
     let first = rest.first().copied().unwrap_or(b' ');
     let kind = kind_of(first);
     let len = match kind {

@@ -23,18 +23,20 @@ pub struct Choice {
 pub struct Translation<'s> {
     /// Comments, each a line.
     pub comments: Vec<u8>,
-    /// A schedule text: rows, transactions, reads and writes, and a step that ends each transaction. It is empty where there are
-    /// mistakes, and where the spec has no permutation with the number.
+    /// A schedule text: rows, transactions, reads and writes, and a step that ends each transaction. It is empty where nothing can
+    /// be translated, and where the spec has no permutation with the number.
     pub schedule: Vec<u8>,
     /// The order of the moves, as names with blanks between them.
     pub order: Vec<u8>,
-    /// What can't be translated.
+    /// What is left out of the schedule; or why there is none, if nothing can be translated.
     pub mistakes: Vec<Mistake<'s>>,
+    /// Whether nothing can be translated.
+    pub is_at_fault: bool,
     /// How many permutations the spec has.
     pub permutations: u64,
 }
 
-/// Translates the tokens of a spec. Each statement of each session is looked at, whichever permutation is asked for.
+/// Translates the tokens of a spec: what can be translated of the steps that are asked for.
 pub fn translate<'s>(
     alloc: Global,
     tokens: &'s [Token<'s>],
@@ -45,14 +47,13 @@ pub fn translate<'s>(
         schedule: Vec::new(alloc),
         order: Vec::new(alloc),
         mistakes: Vec::new(alloc),
+        is_at_fault: false,
         permutations: 0,
     };
     let mut mistakes = Mistakes::new(alloc);
     let came = translate_parts(alloc, tokens, choice, &mut made, &mut mistakes);
-    mistakes.note(came)?;
-    if !mistakes.found.is_empty() {
-        made.schedule.clear();
-    }
+    made.is_at_fault = came.is_err();
+    mistakes.note_fault(came)?;
     made.mistakes = mistakes.found;
     Ok(made)
 }
@@ -66,28 +67,30 @@ fn translate_parts<'s>(
 ) -> Result<(), Trouble<'s>> {
     let parts = read_parts(alloc, tokens, front_of(tokens))?;
     made.permutations = count_permutations(parts.as_slice());
-    let tables = tables_of(alloc, parts.as_slice())?;
-    let all = played(alloc, &tables, parts.as_slice(), None, choice, mistakes)?;
-    if all.seats.is_empty() {
-        return Err(Trouble::Mistake(Mistake::at(front_of(tokens), Reason::NoSessions)));
+    let mut tables = Tables::new(alloc);
+    make_tables(parts.as_slice(), &mut tables, mistakes)?;
+    let order = match choice.permutation {
+        None => None,
+        Some(number) => match permutation(parts.as_slice(), number) {
+            None => return Ok(()),
+            found => found,
+        },
+    };
+    let play = played(alloc, &tables, parts.as_slice(), order, mistakes)?;
+    check_play(&play, tokens)?;
+    check_levels(&play, choice, mistakes)?;
+    put(alloc, &tables, &play, choice, mistakes, made)
+}
+
+/// That a play has sessions, and a statement that reads or writes.
+fn check_play<'s>(play: &Play<'s>, tokens: &'s [Token<'s>]) -> Result<(), Trouble<'s>> {
+    if play.seats.is_empty() {
+        return Err(Trouble::at(front_of(tokens), Reason::NoSessions));
     }
-    match choice.permutation {
-        None => put(alloc, &tables, &all, choice, made),
-        Some(number) => {
-            let Some(order) = permutation(parts.as_slice(), number) else {
-                return Ok(());
-            };
-            let play = played(
-                alloc,
-                &tables,
-                parts.as_slice(),
-                Some(order),
-                choice,
-                mistakes,
-            )?;
-            put(alloc, &tables, &play, choice, made)
-        }
+    if play.has_work() {
+        return Ok(());
     }
+    Err(Trouble::at(front_of(tokens), Reason::NoWork))
 }
 
 /// Appends a play's comments and its schedule.
@@ -96,9 +99,10 @@ fn put<'s>(
     tables: &Tables<'s>,
     play: &Play<'s>,
     choice: Choice,
+    mistakes: &Mistakes<'s>,
     made: &mut Translation<'s>,
 ) -> Result<(), Trouble<'s>> {
-    put_comments(tables, play, &mut made.comments)?;
+    put_comments(tables, play, mistakes.found.as_slice(), &mut made.comments)?;
     put_schedule(alloc, tables, play, choice.level, &mut made.schedule)?;
     put_order(alloc, play, &mut made.order)?;
     Ok(())
@@ -141,28 +145,35 @@ fn permutation<'s>(parts: &[Part<'s>], number: u64) -> Option<&'s [Token<'s>]> {
     None
 }
 
-/// The tables of the setups before the first session.
-fn tables_of<'s>(alloc: Global, parts: &[Part<'s>]) -> Result<Tables<'s>, Trouble<'s>> {
-    let mut tables = Tables::new(alloc);
+/// Adds the tables of the setups before the first session.
+fn make_tables<'s>(
+    parts: &[Part<'s>],
+    tables: &mut Tables<'s>,
+    mistakes: &mut Mistakes<'s>,
+) -> Result<(), NoMemory> {
     for part in parts {
         match part.role {
             Role::Session => break,
-            Role::Setup => add_tables(part, &mut tables)?,
+            Role::Setup => add_tables(part, tables, mistakes)?,
             Role::Teardown | Role::Step | Role::Permutation => {}
         }
     }
-    Ok(tables)
+    tables.leave_keyless(mistakes)
 }
 
 /// Adds the tables that a setup makes.
-fn add_tables<'s>(part: &Part<'s>, tables: &mut Tables<'s>) -> Result<(), Trouble<'s>> {
+fn add_tables<'s>(
+    part: &Part<'s>,
+    tables: &mut Tables<'s>,
+    mistakes: &mut Mistakes<'s>,
+) -> Result<(), NoMemory> {
     let mut cursor = Cursor::new(part.body, part.name.place);
     for _ in 0..part.body.len() {
         let tokens = cursor.upto(Stop::Semicolon);
         let mut statement = Cursor::new(tokens, part.name.place);
         if statement.take(b"create") {
-            statement.want(b"table", Reason::NoSetup)?;
-            tables.create(&mut statement)?;
+            let came = tables.create(&mut statement, mistakes);
+            mistakes.note(came)?;
         }
         if !cursor.take_mark(b';') {
             break;
@@ -178,9 +189,8 @@ fn played<'s>(
     tables: &Tables<'s>,
     parts: &[Part<'s>],
     order: Option<&'s [Token<'s>]>,
-    choice: Choice,
     mistakes: &mut Mistakes<'s>,
-) -> Result<Play<'s>, Trouble<'s>> {
+) -> Result<Play<'s>, NoMemory> {
     let mut play = Play::new(alloc);
     for part in parts {
         if matches!(part.role, Role::Session) {
@@ -194,7 +204,6 @@ fn played<'s>(
     }
     play_teardowns(parts, &mut play)?;
     play.close()?;
-    note_levels(&play, choice, mistakes)?;
     Ok(play)
 }
 
@@ -296,23 +305,40 @@ fn play_teardowns<'s>(parts: &[Part<'s>], play: &mut Play<'s>) -> Result<(), NoM
     Ok(())
 }
 
-/// Notes the transactions whose level isn't there, unless one level is asked for all.
-fn note_levels<'s>(
+/// That there is a level for each transaction, or one is asked for all. The transactions without one are all that is noted then.
+fn check_levels<'s>(
     play: &Play<'s>,
     choice: Choice,
     mistakes: &mut Mistakes<'s>,
-) -> Result<(), NoMemory> {
+) -> Result<(), Trouble<'s>> {
     if choice.level.is_some() {
         return Ok(());
     }
+    let mut last = None;
     for txn in play.txns.iter() {
         let level = match txn.level {
             Some(isolation) => isolation.level(),
             None => None,
         };
         if level.is_none() {
-            mistakes.push(Mistake::at(txn.place, Reason::ReadCommitted))?;
+            last = note_level(txn.place, last, mistakes)?;
         }
     }
-    Ok(())
+    match last {
+        Some(place) => Err(Trouble::at(place, Reason::ReadCommitted)),
+        None => Ok(()),
+    }
+}
+
+/// Notes the transaction without a level before this one; the first takes the place of what is left out.
+fn note_level<'s>(
+    place: Place<'s>,
+    last: Option<Place<'s>>,
+    mistakes: &mut Mistakes<'s>,
+) -> Result<Option<Place<'s>>, NoMemory> {
+    match last {
+        Some(last) => mistakes.leave(last, Reason::ReadCommitted)?,
+        None => mistakes.found.clear(),
+    }
+    Ok(Some(place))
 }

@@ -62,28 +62,6 @@ fn quotes_of(kind: Kind) -> (&'static [u8], &'static [u8]) {
     }
 }
 
-/// The text of a row's values other than its key, whose place is given; `0` if it has no other.
-pub(crate) fn row_text(
-    alloc: Global,
-    row: &[Token<'_>],
-    key_place: usize,
-) -> Result<Vec<u8>, NoMemory> {
-    let mut text = Vec::new(alloc);
-    let mut listed = Listed::new(row);
-    for place in 0..row.len() {
-        let Some(value) = listed.next() else {
-            break;
-        };
-        if place != key_place {
-            put_tokens(value, &mut text)?;
-        }
-    }
-    if text.is_empty() {
-        text.push(b'0')?;
-    }
-    Ok(text)
-}
-
 /// The text of what an update sets: the value alone where the table has one column beside its key.
 pub(crate) fn set_text(
     alloc: Global,
@@ -92,7 +70,9 @@ pub(crate) fn set_text(
 ) -> Result<Vec<u8>, NoMemory> {
     let mut text = Vec::new(alloc);
     match set {
-        [_, _, value @ ..] if table.columns == 2 => put_tokens(value, &mut text)?,
+        [_, _, value @ ..] if table.columns == table.width().saturating_add(1) => put_tokens(
+            value, &mut text,
+        )?,
         _ => put_tokens(set, &mut text)?,
     }
     Ok(text)
