@@ -1,0 +1,1 @@
+//! Whether a certificate is an explanation.

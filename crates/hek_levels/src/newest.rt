@@ -1,0 +1,1 @@
+//! Whether no read sees a writer of its key that is newer than its source.
