@@ -1,0 +1,4 @@
+pub mod Orders
+pub mod Earlier
+pub mod Marks
+pub mod Swept

@@ -81,3 +81,8 @@ SeesBy rules log e t r read (y ∷ ys) x = Shows rules log e y x × SeesBy rules
 -- the r-th read of t sees x
 abbrev pub Sees : Rules → Log → Explanation → ℕ → ℕ → Read → ℕ → Type 0
 Sees rules log e t r read x = (ys : List ℕ) × SeesBy rules log e t r read ys x
+
+-- an order in which each stands once, after the sources of its reads
+pub record IsOrdered (log : Log) (e : Explanation) : Type 0 where
+  pub once : (i j t : ℕ) → At e.order i t → At e.order j t → i ≡ j
+  pub back : (t r : ℕ) (read : Read) (x : ℕ) → TakesPlace e t → read_at log t r ≡ Some read → e.source t r ≡ writer.Transaction x → IsBefore e x t

@@ -5,8 +5,9 @@ use Rattle.hek_levels.specs.declared.log.Read.{Read}
 use Rattle.hek_levels.specs.declared.log.Turn.{Turn}
 use Rattle.hek_levels.specs.declared.rules.Rules.{Rules}
 use Rattle.hek_levels.specs.declared.rules.Links.{Links}
-use Rattle.hek_levels.specs.Logs.{turn_of, does_write, is_earlier}
-use Rattle.hek_levels.specs.Seen.{Explanation, At, SeesByOwn, Sees, ReadsFrom, Precedes}
+use Rattle.hek_levels.specs.declared.certificate.Writer.TheVariants as writer
+use Rattle.hek_levels.specs.Logs.{read_at, turn_of, does_write, is_earlier}
+use Rattle.hek_levels.specs.Seen.{Explanation, At, rank, SeesByOwn, Sees, ReadsFrom, Precedes}
 
 -- the latest number of each session among the first n
 abbrev pub AreLatest : Log → List ℕ → ℕ → (ℕ → Option ℕ) → Type 0
@@ -53,3 +54,12 @@ pub record IsSwept (rules : Rules) (log : Log) (e : Explanation) (t r : ℕ) (re
   pub shows : rules.causes ≡ true → (y : ℕ) → IsListed seen y → AreMarked log e marked y
   pub apart : (y : ℕ) → IsListed seen y → does_write log y read.key ≡ false
   pub carried : (z j y : ℕ) → p ≤ j → At e.order j z → Carries rules log e t r read y → Precedes log e z y → AreMarked log e marked z
+
+-- no writer of the key from the place low on is seen
+abbrev pub IsNewestFrom : Rules → Log → Explanation → ℕ → ℕ → Read → ℕ → Type 0
+IsNewestFrom rules log e t r read low = (j x : ℕ) → low ≤ j → At e.order j x → Sees rules log e t r read x → does_write log x read.key ≡ false
+
+-- no writer of its key that the r-th read of t sees is newer than its source
+abbrev pub IsNewestAt : Rules → Log → Explanation → ℕ → ℕ → Type 0
+IsNewestAt rules log e t r = (read : Read) (x : ℕ) → read_at log t r ≡ Some read → Sees rules log e t r read x → does_write log x read.key ≡ true →
+    rank e.order (writer.Transaction x) ≤ rank e.order (e.source t r)

@@ -1,7 +1,7 @@
 //! An explanation as a list.
 
 /// Where what was found at a key comes from: the opening rows, or a transaction.
-#[derive(Clone, Copy, Debug, PartialEq, Eq)]
+#[derive(Clone, Copy, PartialEq, Eq)]
 pub enum Writer {
     Opening,
     Transaction(usize),

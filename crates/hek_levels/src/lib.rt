@@ -13,6 +13,7 @@ mod sessions;
 mod sourced;
 mod sweep;
 
+pub use explains::explains;
 pub use certificate::{Certificate, Sources, Writer};
 
 pub use log::{Change, Log, Need, Read, Status, Transaction, Turn};

@@ -1,7 +1,7 @@
 //! A log as levels see it: what each transaction found that it had not itself changed, and what it left.
 
 /// How a transaction ended, as far as it is known.
-#[derive(Clone, Copy, Debug, PartialEq, Eq)]
+#[derive(Clone, Copy)]
 pub enum Status {
     Committed,
     Aborted,
@@ -10,7 +10,7 @@ pub enum Status {
 }
 
 /// What an answer says of a key.
-#[derive(Clone, Copy, Debug, PartialEq, Eq)]
+#[derive(Clone, Copy)]
 pub enum Need {
     Absent,
     /// There is a value, whichever.
@@ -19,7 +19,7 @@ pub enum Need {
 }
 
 /// What an operation says of a key that no earlier operation of its transaction changes.
-#[derive(Clone, Copy, Debug, PartialEq, Eq)]
+#[derive(Clone, Copy)]
 pub struct Read {
     /// The place of the operation in its transaction. A scan has a read for each key, all of one operation.
     pub operation: usize,
@@ -28,14 +28,14 @@ pub struct Read {
 }
 
 /// A key gets a value, or goes.
-#[derive(Clone, Copy, Debug, PartialEq, Eq)]
+#[derive(Clone, Copy)]
 pub struct Change {
     pub key: u64,
     pub value: Option<u64>,
 }
 
 /// A place in a session.
-#[derive(Clone, Copy, Debug, PartialEq, Eq)]
+#[derive(Clone, Copy)]
 pub struct Turn {
     pub session: usize,
     pub number: u64,

@@ -1,5 +1,5 @@
 //! What a log says of a transaction.
-ghost use Rattle.std.specs.Prelude.{◌≡◌, ◌↔◌, ℕ, true, IsTrue, Some};
+ghost use Rattle.std.specs.Prelude.{◌≡◌, slice_get};
 ghost use Rattle.hek_rules.specs.Listing.{value_of as value_in};
 ghost use Rattle.hek_levels.specs.Logs.{meets as meets_it, left_in, reads_of as reads_there, writes_of as writes_there, turn_of as turn_there, read_at as read_there, is_committed as committed_there, is_possible as possible_there, is_earlier as earlier_there, does_write as writes_it, left_by as left_there, offers as offers_it};
 ghost use Rattle.hek_levels.specs.Explanations.{source_in as source_there};
@@ -159,4 +159,11 @@ pub(crate) fn source_in(sources: &[Sources], t: usize, r: usize) -> Writer
         Some(writer) => *writer,
         None => Writer::Opening,
     }
+}
+
+/// The transaction at a place of an order.
+pub(crate) fn at(order: &[usize], i: usize) -> Option<usize>
+    ensures { result ≡ slice_get order.now i }
+{
+    order.get(i).copied()
 }

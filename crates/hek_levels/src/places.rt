@@ -7,7 +7,7 @@ ghost use Rattle.hek_levels.specs.Places.{IsPlacing, IsPlacedBefore};
 
 use crate::certificate::Writer;
 use crate::log::Log;
-use crate::logged::{is_committed, is_possible};
+use crate::logged::{at, is_committed, is_possible};
 use hek_rules::NoMemory;
 use std::collections::HashMap;
 
@@ -31,7 +31,7 @@ fn put(log: &Log, order: &[usize], i: usize, places: &mut HashMap<usize, usize>)
     requires known { IsPlacing log.now order.now i (get_in ◌==◌ places.old) }
     ensures { IfOk result (λ yes. IsTrue yes → IsPlacing log.now order.now (i + 1) (get_in ◌==◌ places.new)) }
 {
-    let Some(t) = order.get(i).copied() else {
+    let Some(t) = at(order, i) else {
         return Ok(false);
     };
     if !is_possible(log, t) {

@@ -2,7 +2,7 @@
 
 /// The levels of a whole history that the rules of this crate define. A snapshot has two points in a history, and so is not
 /// among them.
-#[derive(Clone, Copy, Debug, PartialEq, Eq)]
+#[derive(Clone, Copy)]
 pub enum Level {
     /// No answer is that of an aborted transaction, of a change that was undone, or of a later transaction.
     ReadCommitted,
@@ -19,7 +19,7 @@ pub enum Level {
 }
 
 /// Which guarantees of sessions are asked for together.
-#[derive(Clone, Copy, Debug, PartialEq, Eq)]
+#[derive(Clone, Copy)]
 pub struct Guarantees {
     pub monotonic_reads: bool,
     pub read_your_writes: bool,
@@ -28,7 +28,7 @@ pub struct Guarantees {
 }
 
 /// Which reads of its own transaction show a read their sources.
-#[derive(Clone, Copy, Debug, PartialEq, Eq)]
+#[derive(Clone, Copy)]
 pub enum Own {
     Nothing,
     /// Those of earlier operations, and the read itself.
@@ -37,7 +37,7 @@ pub enum Own {
 }
 
 /// Whom a transaction sees by writes and by its session.
-#[derive(Clone, Copy, Debug, PartialEq, Eq)]
+#[derive(Clone, Copy)]
 pub struct Links {
     /// The earlier writers of the keys that it writes.
     pub writers: bool,
@@ -48,7 +48,7 @@ pub struct Links {
 }
 
 /// What a read sees.
-#[derive(Clone, Copy, Debug, PartialEq, Eq)]
+#[derive(Clone, Copy)]
 pub struct Rules {
     /// The order keeps the turns of each session.
     pub sessions: bool,

@@ -8,7 +8,7 @@ ghost use Rattle.hek_levels.specs.Places.{AreInTurn};
 ghost use Rattle.hek_levels.specs.Sweeps.{AreLatest};
 
 use crate::log::{Log, Turn};
-use crate::logged::turn_of;
+use crate::logged::{at, turn_of};
 use hek_rules::NoMemory;
 use std::alloc::Global;
 use std::collections::HashMap;
@@ -38,7 +38,7 @@ fn take_turn(log: &Log, order: &[usize], i: usize, latest: &mut HashMap<usize, u
     ensures latest { IfOk result (λ yes. IsTrue yes → AreLatest log.now order.now (i + 1) (get_in ◌==◌ latest.new)) }
     ensures before { IfOk result (λ yes. IsTrue yes → AreInTurn log.now order.now (i + 1)) }
 {
-    let Some(t) = order.get(i).copied() else {
+    let Some(t) = at(order, i) else {
         return Ok(false);
     };
     let Some(turn) = turn_of(log, t) else {

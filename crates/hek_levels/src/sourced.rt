@@ -7,7 +7,7 @@ ghost use Rattle.hek_levels.specs.Explanations.{source_in as source_there};
 
 use crate::certificate::Sources;
 use crate::log::Log;
-use crate::logged::{offers, read_at, reads_of, source_in};
+use crate::logged::{at, offers, read_at, reads_of, source_in};
 use crate::places::is_placed_before;
 use std::collections::HashMap;
 
@@ -57,7 +57,7 @@ fn is_sourced_at(
 ) -> bool
     ensures { IsTrue result → (t r : ℕ) → At order.now i t → IsSourcedAt log.now (source_there sources.now) (get_in ◌==◌ places.now) i t r }
 {
-    match order.get(i).copied() {
+    match at(order, i) {
         Some(t) => is_each_sourced(log, sources, places, i, t),
         None => true,
     }
