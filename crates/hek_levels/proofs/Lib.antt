@@ -2,3 +2,4 @@ pub mod Orders
 pub mod Earlier
 pub mod Marks
 pub mod Swept
+pub mod Judged

@@ -3,7 +3,7 @@
 #![tactic(auto)]
 
 mod certificate;
-mod explains;
+mod judging;
 mod log;
 mod logged;
 mod newest;
@@ -13,7 +13,7 @@ mod sessions;
 mod sourced;
 mod sweep;
 
-pub use explains::explains;
+pub use judging::explains;
 pub use certificate::{Certificate, Sources, Writer};
 
 pub use log::{Change, Log, Need, Read, Status, Transaction, Turn};

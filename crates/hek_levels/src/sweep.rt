@@ -1,5 +1,5 @@
 //! Whom a read sees: from its transaction back along the order.
-ghost use Rattle.std.specs.Prelude.{◌≡◌, ◌==◌, ◌<◌, ◌≤◌, ◌+◌, ℕ, true, false, Option, Some, None, List, length, IsTrue, OnOk, IfOk, if◌then◌else◌};
+ghost use Rattle.std.specs.Prelude.{◌≡◌, ◌==◌, ◌<◌, ◌≤◌, ◌+◌, ℕ, true, false, Option, Some, None, List, length, slice_get, IsTrue, OnOk, IfOk, if◌then◌else◌};
 ghost use Rattle.std.specs.HashMap.{get as get_in};
 ghost use Rattle.hek_levels.specs.Logs.{does_write as writes_it, is_earlier as earlier_there, read_at as read_there};
 ghost use Rattle.hek_levels.specs.declared.log.Read.{Read as TheRead};
@@ -12,7 +12,7 @@ ghost use Rattle.hek_levels.specs.declared.certificate.Writer.TheVariants.{Trans
 
 use crate::certificate::{Certificate, Writer};
 use crate::log::{Log, Read};
-use crate::logged::{does_write, is_earlier, read_at, reads_of, source_in, writes_of};
+use crate::logged::{at, does_write, is_earlier, read_at, reads_of, source_in, writes_of};
 use crate::places::place_of;
 use crate::rules::{Links, Own, Rules};
 use hek_rules::NoMemory;
@@ -108,7 +108,7 @@ fn mark_earlier(
 }
 
 /// What the r-th read of t, of the n-th operation, sees by the reads of t is marked from now on.
-fn mark_own(
+pub(crate) fn mark_own(
     own: Own,
     log: &Log,
     certificate: &Certificate,
@@ -146,23 +146,43 @@ fn may_link(links: Links, log: &Log, y: usize, x: usize) -> bool
     links.writers && share_key(log, y, x) || links.session && is_earlier(log, x, y)
 }
 
+/// Whether the n-th of these may see x by writes or by its session.
+fn may_link_at(links: Links, log: &Log, seen: &[usize], n: usize, x: usize) -> bool
+    ensures { (y : ℕ) → slice_get seen.now n ≡ Some y → MayLink links log.now y x → IsTrue result }
+{
+    match at(seen, n) {
+        Some(y) => may_link(links, log, y, x),
+        None => false,
+    }
+}
+
 /// Whether one of these may see x by writes or by its session.
 fn may_any_link(links: Links, log: &Log, seen: &[usize], x: usize) -> bool
     ensures { (y : ℕ) → IsListed seen.now y → MayLink links log.now y x → IsTrue result }
 {
-    if !links.writers && !links.session {
-        return false;
-    }
     for n in 0..seen.len() {
-        if may_link(links, log, seen[n], x) {
+        if may_link_at(links, log, seen, n, x) {
             return true;
         }
     }
     false
 }
 
+/// The same; nobody is looked at where writes and sessions show nothing.
+fn may_link_any(links: Links, log: &Log, seen: &[usize], x: usize) -> bool
+    ensures { (y : ℕ) → IsListed seen.now y → MayLink links log.now y x → IsTrue result }
+{
+    if links.writers {
+        return may_any_link(links, log, seen, x);
+    }
+    if links.session {
+        return may_any_link(links, log, seen, x);
+    }
+    false
+}
+
 /// Whether y may be seen.
-fn may_see(
+pub(crate) fn may_see(
     rules: Rules,
     log: &Log,
     t: usize,
@@ -181,7 +201,7 @@ fn may_see(
     if may_link(rules.first, log, t, y) {
         return true;
     }
-    may_any_link(rules.next, log, seen, y)
+    may_link_any(rules.next, log, seen, y)
 }
 
 /// Whether z is before one of these in its session.
@@ -207,7 +227,7 @@ fn may_carry(rules: Rules, log: &Log, t: usize, seen: &[usize], z: usize) -> boo
 }
 
 /// The sources of z are marked from now on, if sessions may bring them.
-fn carry(
+pub(crate) fn carry(
     rules: Rules,
     log: &Log,
     certificate: &Certificate,
@@ -226,7 +246,7 @@ fn carry(
 }
 
 /// The sources of y are marked from now on, if what is seen shows them.
-fn show(
+pub(crate) fn show(
     rules: Rules,
     log: &Log,
     certificate: &Certificate,
