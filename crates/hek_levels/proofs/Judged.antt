@@ -1,9 +1,9 @@
 -- What the passes of the checker show together.
-use Rattle.std.proofs.Common.{◌≡◌, ℕ, suc, ◌+◌, ◌<◌, ◌≤◌, true, false, Bool, cond, List, Option, Some, None, refl, sym, ap, ◌∙◌, subst, inl, inr, ◌⊎◌, length, arith}
+use Rattle.std.proofs.Common.{◌≡◌, ℕ, suc, ◌+◌, ◌<◌, ◌≤◌, true, false, Bool, cond, List, Option, Some, None, Result, Ok, Err, refl, sym, ap, ◌∙◌, subst, inl, inr, ◌⊎◌, length, arith}
 use Rattle.std.proofs.lemmas.Bool.{cases_Bool, cases_order, cases_lt, both_ways, eqb-true}
 use Rattle.std.proofs.lemmas.Bool.Decides.{nat_tests}
 use Rattle.std.proofs.lemmas.Option.{slice_get_within}
-use Rattle.std.specs.Prelude.{slice_get, nat_lt, ◌==◌, ◌&&◌}
+use Rattle.std.specs.Prelude.{slice_get, nat_lt, ◌==◌, ◌&&◌, IfOk}
 use Rattle.hek_levels.specs.declared.log.Log.{Log}
 use Rattle.hek_levels.specs.declared.log.Read.{Read}
 use Rattle.hek_levels.specs.declared.log.Turn.{Turn}
@@ -11,6 +11,7 @@ use Rattle.hek_levels.specs.declared.rules.Rules.{Rules}
 use Rattle.hek_levels.specs.declared.certificate.Writer.{Writer}
 use Rattle.hek_levels.specs.declared.certificate.Writer.TheVariants as writer
 use Rattle.hek_levels.specs.declared.certificate.Certificate.{Certificate}
+use Rattle.hek_levels.specs.declared.certificate.Sources.{Sources}
 use Rattle.hek_levels.specs.Logs.{read_at, does_write, is_earlier, is_before_turn, turn_of, is_committed, is_possible, offers}
 use Rattle.hek_levels.specs.Seen.{Explanation, At, TakesPlace, place, rank, IsBefore, Sees, IsOrdered}
 use Rattle.hek_levels.specs.Explanations.{IsSource, Explains, source_in, explanation}
@@ -151,3 +152,25 @@ explained rules log e places p s all turns newest = record {
   sessions = (λ on x t earlier px pt. in_turn log e (once_placed log e.order places p) (turns on) x t earlier px pt);
   newest = (λ t r read x k there sees w. newest k.0 t r k.1 read x there sees w);
 }
+
+pub if_ok : {A E : Type 0} {P Q : A → Type 0} (r : Result A E) → IfOk r P → ((x : A) → P x → Q x) → IfOk r Q
+if_ok (Ok x) p f = f x p
+if_ok (Err e) p f = tt
+
+-- the same of lists that are the certificate's
+module _ (log : Log) (c : Certificate) (order : List ℕ) (sources : List Sources) (places : ℕ → Option ℕ) (same : order ≡ c.order.items) (alike : sources ≡ c.sources.items)
+         (p : IsPlacing log order (length order) places) (s : AreSourced log order (source_in sources) places) where
+  placing_from : IsPlacing log c.order.items (length c.order.items) places
+  placing_from = subst (λ (xs : List ℕ). IsPlacing log xs (length xs) places) same p
+
+  sourced_from : AreSourced log c.order.items (source_in c.sources.items) places
+  sourced_from =
+      subst (λ (xs : List ℕ). AreSourced log xs (source_in c.sources.items) places) same (subst (λ (ss : List Sources). AreSourced log order (source_in ss) places) alike s)
+
+  pub ordered_from : IsOrdered log (explanation c)
+  ordered_from = ordered_by log (explanation c) places placing_from sourced_from
+
+  pub explained_from : (rules : Rules) → ((t : ℕ) → is_committed log t ≡ true → places t ≡ None → ⊥) → (rules.sessions ≡ true → AreInTurn log order (length order)) →
+      ((i t r : ℕ) → At c.order.items i t → IsNewestAt rules log (explanation c) t r) → Explains rules log (explanation c)
+  explained_from rules all turns newest =
+      explained rules log (explanation c) places placing_from sourced_from all (λ on. subst (λ (xs : List ℕ). AreInTurn log xs (length xs)) same (turns on)) newest

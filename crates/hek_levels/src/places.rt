@@ -26,6 +26,13 @@ pub(crate) fn place_of(places: &HashMap<usize, usize>, t: usize) -> Option<usize
     places.get(&t).copied()
 }
 
+/// Whether t has no place.
+fn is_absent(places: &HashMap<usize, usize>, t: usize) -> bool
+    ensures { IsTrue result ↔ (get_in ◌==◌ places.now t ≡ None) }
+{
+    places.get(&t).is_none()
+}
+
 /// One transaction more, if it may take place and has no place yet.
 fn put(log: &Log, order: &[usize], i: usize, places: &mut HashMap<usize, usize>) -> Result<bool, NoMemory>
     requires known { IsPlacing log.now order.now i (get_in ◌==◌ places.old) }
@@ -37,7 +44,7 @@ fn put(log: &Log, order: &[usize], i: usize, places: &mut HashMap<usize, usize>)
     if !is_possible(log, t) {
         return Ok(false);
     }
-    if place_of(places, t).is_some() {
+    if !is_absent(places, t) {
         return Ok(false);
     }
     mark(places, t, i)?;
@@ -66,7 +73,7 @@ pub(crate) fn have_all_places(log: &Log, places: &HashMap<usize, usize>) -> bool
     ensures { IsTrue result → (t : ℕ) → committed_there log.now t ≡ true → get_in ◌==◌ places.now t ≡ None → ⊥ }
 {
     for t in 0..log.transactions.len() {
-        if is_committed(log, t) && place_of(places, t).is_none() {
+        if is_committed(log, t) && is_absent(places, t) {
             return false;
         }
     }
