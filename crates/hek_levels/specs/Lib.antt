@@ -3,3 +3,4 @@ pub mod Seen
 pub mod Explanations
 pub mod Places
 pub mod Sweeps
+pub mod Levels

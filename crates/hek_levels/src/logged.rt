@@ -8,7 +8,7 @@ use crate::certificate::{Sources, Writer};
 use crate::log::{Change, Log, Need, Read, Status, Turn};
 
 /// The reads of t.
-pub(crate) fn reads_of(log: &Log, t: usize) -> &[Read]
+pub fn reads_of(log: &Log, t: usize) -> &[Read]
     ensures { result.now ≡ reads_there log.now t }
 {
     match log.transactions.get(t) {
@@ -18,7 +18,7 @@ pub(crate) fn reads_of(log: &Log, t: usize) -> &[Read]
 }
 
 /// What t leaves.
-pub(crate) fn writes_of(log: &Log, t: usize) -> &[Change]
+pub fn writes_of(log: &Log, t: usize) -> &[Change]
     ensures { result.now ≡ writes_there log.now t }
 {
     match log.transactions.get(t) {
@@ -28,7 +28,7 @@ pub(crate) fn writes_of(log: &Log, t: usize) -> &[Change]
 }
 
 /// The turn of t in its session, if it is of one.
-pub(crate) fn turn_of(log: &Log, t: usize) -> Option<Turn>
+pub fn turn_of(log: &Log, t: usize) -> Option<Turn>
     ensures { result ≡ turn_there log.now t }
 {
     match log.transactions.get(t) {
@@ -38,14 +38,14 @@ pub(crate) fn turn_of(log: &Log, t: usize) -> Option<Turn>
 }
 
 /// The r-th read of t.
-pub(crate) fn read_at(log: &Log, t: usize, r: usize) -> Option<Read>
+pub fn read_at(log: &Log, t: usize, r: usize) -> Option<Read>
     ensures { result ≡ read_there log.now t r }
 {
     reads_of(log, t).get(r).copied()
 }
 
 /// Whether t is known to have committed.
-pub(crate) fn is_committed(log: &Log, t: usize) -> bool
+pub fn is_committed(log: &Log, t: usize) -> bool
     ensures { result ≡ committed_there log.now t }
 {
     match log.transactions.get(t) {
@@ -58,7 +58,7 @@ pub(crate) fn is_committed(log: &Log, t: usize) -> bool
 }
 
 /// Whether t may take place: it did not abort, and its answers fit its own changes.
-pub(crate) fn is_possible(log: &Log, t: usize) -> bool
+pub fn is_possible(log: &Log, t: usize) -> bool
     ensures { result ≡ possible_there log.now t }
 {
     match log.transactions.get(t) {
@@ -71,7 +71,7 @@ pub(crate) fn is_possible(log: &Log, t: usize) -> bool
 }
 
 /// Whether x is before t in their session.
-pub(crate) fn is_earlier(log: &Log, x: usize, t: usize) -> bool
+pub fn is_earlier(log: &Log, x: usize, t: usize) -> bool
     ensures { result ≡ earlier_there log.now x t }
 {
     let Some(first) = turn_of(log, x) else {
@@ -110,7 +110,7 @@ fn left(changes: &[Change], key: u64) -> Option<Option<u64>>
 }
 
 /// Whether t writes the key.
-pub(crate) fn does_write(log: &Log, t: usize, key: u64) -> bool
+pub fn does_write(log: &Log, t: usize, key: u64) -> bool
     ensures { result ≡ writes_it log.now t key }
 {
     left(writes_of(log, t), key).is_some()
@@ -139,7 +139,7 @@ fn left_by(log: &Log, key: u64, writer: Writer) -> Option<Option<u64>>
 }
 
 /// Whether a writer leaves at the key what was found there.
-pub(crate) fn offers(log: &Log, writer: Writer, read: Read) -> bool
+pub fn offers(log: &Log, writer: Writer, read: Read) -> bool
     ensures { result ≡ offers_it log.now writer read }
 {
     match left_by(log, read.key, writer) {
@@ -149,7 +149,7 @@ pub(crate) fn offers(log: &Log, writer: Writer, read: Read) -> bool
 }
 
 /// The source of the r-th read of t.
-pub(crate) fn source_in(sources: &[Sources], t: usize, r: usize) -> Writer
+pub fn source_in(sources: &[Sources], t: usize, r: usize) -> Writer
     ensures { result ≡ source_there sources.now t r }
 {
     let Some(list) = sources.get(t) else {
@@ -162,7 +162,7 @@ pub(crate) fn source_in(sources: &[Sources], t: usize, r: usize) -> Writer
 }
 
 /// The transaction at a place of an order.
-pub(crate) fn at(order: &[usize], i: usize) -> Option<usize>
+pub fn at(order: &[usize], i: usize) -> Option<usize>
     ensures { result ≡ slice_get order.now i }
 {
     order.get(i).copied()

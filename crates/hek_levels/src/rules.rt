@@ -1,4 +1,6 @@
 //! Levels and guarantees, each as what a read sees.
+ghost use Rattle.std.specs.Prelude.{◌≡◌};
+ghost use Rattle.hek_levels.specs.Levels.{links, plain_rules, rules_of, rules_for};
 
 /// The levels of a whole history that the rules of this crate define. A snapshot has two points in a history, and so is not
 /// among them.
@@ -64,28 +66,24 @@ pub struct Rules {
     pub next: Links,
 }
 
-impl Links {
-    /// Nobody.
-    pub const NONE: Links = Links {
-        writers: false,
-        session: false,
-        session_reads: false,
-    };
+/// Whom a transaction sees by writes and by its session.
+fn links_of(writers: bool, session: bool, session_reads: bool) -> Links
+    ensures { result ≡ links writers session session_reads }
+{
+    Links {
+        writers,
+        session,
+        session_reads,
+    }
 }
 
 impl Level {
     /// The rules of the level, where sessions bind or do not.
-    pub fn rules(self, sessions: bool) -> Rules {
-        let by_session = Links {
-            writers: false,
-            session: sessions,
-            session_reads: false,
-        };
-        let by_writers = Links {
-            writers: true,
-            session: sessions,
-            session_reads: false,
-        };
+    pub fn rules(self, sessions: bool) -> Rules
+        ensures { result ≡ rules_of self sessions }
+    {
+        let by_session = links_of(false, sessions, false);
+        let by_writers = links_of(true, sessions, false);
         match self {
             Level::ReadCommitted => plain(sessions, false, Own::Nothing),
             Level::MonotonicView => plain(sessions, false, Own::Earlier),
@@ -95,7 +93,7 @@ impl Level {
                 own: Own::All,
                 first: by_session,
                 causes: false,
-                next: Links::NONE,
+                next: links_of(false, false, false),
             },
             Level::Causal => Rules {
                 sessions,
@@ -119,20 +117,24 @@ impl Level {
 }
 
 /// Rules with no links.
-fn plain(sessions: bool, whole: bool, own: Own) -> Rules {
+fn plain(sessions: bool, whole: bool, own: Own) -> Rules
+    ensures { result ≡ plain_rules sessions whole own }
+{
     Rules {
         sessions,
         whole,
         own,
-        first: Links::NONE,
+        first: links_of(false, false, false),
         causes: false,
-        next: Links::NONE,
+        next: links_of(false, false, false),
     }
 }
 
 impl Guarantees {
     /// The rules of these guarantees. The reads of a transaction go forward, as at the monotonic view.
-    pub fn rules(self) -> Rules {
+    pub fn rules(self) -> Rules
+        ensures { result ≡ rules_for self }
+    {
         Rules {
             sessions: true,
             whole: false,

@@ -1,0 +1,5 @@
+use Rattle.std.proofs.Common.{refl, sym}
+use Rattle.hek_levels_refutation.proofs.ordering.not_later.Goals as goal
+
+pub returns : goal.returns
+returns c e x hold takes is = ?
