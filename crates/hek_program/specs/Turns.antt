@@ -1,5 +1,5 @@
 -- What a step of a program does when its turn comes.
-use Rattle.std.specs.Prelude.{ℕ, ◌≡◌, Bool, true, false, if◌then◌else◌, List, [], ◌∷◌, Option, Some, None}
+use Rattle.std.specs.Prelude.{ℕ, ◌≡◌, if◌then◌else◌, List, [], ◌∷◌, Option, Some, None}
 use Rattle.hek_rules.specs.declared.event.Event.{Event}
 use Rattle.hek_rules.specs.declared.event.Event.TheVariants.{Insert, Update, Fail}
 use Rattle.hek_program.specs.declared.term.Factor.{Factor}
@@ -42,7 +42,3 @@ plain_turn e = Makes e
 -- a step without a term and without a condition does the same, whatever a transaction sees
 abbrev pub PlainStepsAreConstant : Type 0
 PlainStepsAreConstant = (v : Factor → Option ℕ) (e : Event) → turn_of v e plain_rule ≡ plain_turn e
-
--- what a step writes is below 2^64 if the step's own value is, and nothing else of it changes
-abbrev pub OnlyValuesChange : Type 0
-OnlyValuesChange = (v : Factor → Option ℕ) (e f : Event) (r : Rule) → turn_of v e r ≡ Makes f → (n : ℕ) × (f ≡ with_value n e)

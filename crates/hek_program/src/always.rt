@@ -17,6 +17,7 @@ pub struct Always {
 }
 
 /// The rows at the end of an order, and whether each transaction committed, by ID.
+#[derive(Clone, Copy)]
 pub struct AtEnd<'a> {
     pub rows: &'a [(u64, u64)],
     pub committed: &'a [bool],

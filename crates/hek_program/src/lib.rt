@@ -3,18 +3,26 @@
 
 mod always;
 mod condition;
+mod fault;
 mod laws;
 mod lookup;
+mod parse;
 mod program;
+mod reader;
 mod rule;
-mod told;
 mod term;
+mod token;
+mod told;
+mod written;
 
 pub use always::{Always, AtEnd};
 pub use condition::{Comparison, Condition, Relation};
-pub use laws::{only_values_change, plain_steps_are_constant};
+pub use fault::{ProgramFault, Wanted};
+pub use laws::plain_steps_are_constant;
 pub use lookup::Lookup;
 pub use program::Program;
+pub use reader::read_program;
 pub use rule::{Rule, Turn, turn_of};
-pub use told::{Own, known_after, value_at};
 pub use term::{Amount, Factor, Product, Sum};
+pub use told::{Own, known_after, value_at};
+pub use written::computed_line;

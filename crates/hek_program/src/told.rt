@@ -87,6 +87,7 @@ fn known_in(buckets: u64, key: u64, steps: &[(Event, Reply)]) -> Option<u64>
 
 /// What a transaction sees after its own events, each with its reply: the value that it found last at a key, or wrote
 /// there.
+#[derive(Drop)]
 pub struct Own<'a> {
     pub buckets: u64,
     pub steps: &'a [(Event, Reply)],
