@@ -152,11 +152,15 @@ class Client:
         self.connect()
 
     def connect(self):
-        self.session = Session(self.server, DATABASE)
-        self.session.count(f"set session innodb_snapshot_isolation = {int(self.level == 'snapshot')}")
-        isolation = "repeatable read" if self.level == "snapshot" else self.level.replace("-", " ")
-        self.session.count(f"set session transaction isolation level {isolation}")
-        self.written = self.place("@@last_gtid")
+        try:
+            self.session = Session(self.server, DATABASE)
+            self.session.count(f"set session innodb_snapshot_isolation = {int(self.level == 'snapshot')}")
+            isolation = "repeatable read" if self.level == "snapshot" else self.level.replace("-", " ")
+            self.session.count(f"set session transaction isolation level {isolation}")
+            # The place of what this connection wrote last.
+            self.written = 0
+        except Lost:
+            self.connect()
 
     def place(self, expression):
         """The number of a transaction in the binary log, from its GTID; 0: none."""
@@ -200,10 +204,10 @@ class Client:
 
 
 def kill(server, count, is_over):
-    """Kills connections that are in a transaction, one after another, until the load is over."""
+    """Kills connections, one after another, until the load is over."""
     chief, dice = Session(server), random.Random(count)
     while count and not is_over.wait(PAUSE):
-        found = chief.rows("select trx_mysql_thread_id from information_schema.innodb_trx where trx_mysql_thread_id > 0")
+        found = chief.rows(f"select id from information_schema.processlist where db = '{DATABASE}'")
         if found:
             chief.kill(dice.choice(found)[0])
             count -= 1
@@ -213,6 +217,7 @@ def run_load(server, level, options, recorder):
     chief = Session(server)
     for sql in (f"drop database if exists {DATABASE}", f"create database {DATABASE}", f"use {DATABASE}", *loads.setup()):
         chief.count(sql)
+    chief.connection.close()
 
     def client(dice, numbers):
         it = Client(server, level)
