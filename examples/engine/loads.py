@@ -12,7 +12,8 @@ from concurrent.futures import ThreadPoolExecutor
 from record import Recorder
 
 KEYS, BUCKETS = 16, 4
-ROWS = [[key, key + 1] for key in range(0, KEYS, 2)]
+# Below 10, where the values of transactions begin.
+ROWS = [[key, key // 2 + 1] for key in range(0, KEYS, 2)]
 MOST_OPERATIONS = 4
 # The kinds of operations, and how often each comes.
 KINDS = {"read": 9, "update": 6, "scan": 2, "insert": 2, "delete": 1}
