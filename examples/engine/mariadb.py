@@ -46,6 +46,8 @@ PATIENCE = 60
 # Seconds from one killed connection to the next.
 PAUSE = 0.05
 DATABASE = "loads"
+# The server tells all sessions' positions of snapshots by one variable: of two that ask at once, one may get the other's.
+STATUS = threading.Lock()
 # What InnoDB answers to a transaction that it has rolled back or that is to roll back: lock wait timeout, deadlock, record has changed.
 ABORTS = {1205, 1213, 1020}
 # A write's answer is how many rows it found.
@@ -172,7 +174,8 @@ class Client:
             self.session.count("begin")
             return self.place("@@global.gtid_binlog_pos")
         self.session.count("start transaction with consistent snapshot")
-        status = dict(self.session.rows("show status like 'binlog_snapshot_%'"))
+        with STATUS:
+            status = dict(self.session.rows("show status like 'binlog_snapshot_%'"))
         return self.place(f"binlog_gtid_pos('{status['Binlog_snapshot_file']}', {status['Binlog_snapshot_position']})")
 
     def transaction(self, recorder, number, operations):
