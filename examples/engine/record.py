@@ -29,7 +29,9 @@ answer, and `t.answer()` adds that. Then the log also has an operation during wh
 
 Record each operation, also one that found nothing and one of a transaction that aborts, for others may have read what it wrote.
 Where each write of a key has a value of its own, more anomalies can be told, and sooner. A null of SQL is a value and not an absent
-row: give it a text. Docs: docs/FORMATS.md, "Logs".
+row: give it a text. A process that is killed leaves no lines of the transactions that it was in.
+
+docs/FORMATS.md, "Logs", says what the lines mean.
 """
 import itertools
 import json
@@ -188,7 +190,7 @@ class Recorder:
         self.transactions: list[Transaction] = []
         self._late, self._clock = late, clock
         self._names, self._lock = itertools.count(1), threading.Lock()
-        header = {} if buckets is None else {"buckets": buckets}
+        header: dict[str, Any] = {} if buckets is None else {"buckets": buckets}
         header["rows"] = pairs(rows)
         self._file = open(path, "w", encoding="utf-8")
         self._write(header)

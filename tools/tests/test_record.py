@@ -124,14 +124,14 @@ class Logs(Tree):
 
     def test_threads_write_whole_lines(self):
         def run(recorder):
-            for _ in range(100):
+            for _ in range(20):
                 with recorder.transaction() as t:
                     t.range("a", "b", [("a" * 100, 1)] * 20)
 
         with self.recorder() as recorder:
-            threads = [threading.Thread(target=run, args=(recorder,)) for _ in range(8)]
+            threads = [threading.Thread(target=run, args=(recorder,)) for _ in range(6)]
             for it in threads:
                 it.start()
             for it in threads:
                 it.join()
-        self.assertEqual(sorted(it["txn"] for it in self.lines()[1:]), list(range(1, 801)))
+        self.assertEqual(sorted(it["txn"] for it in self.lines()[1:]), list(range(1, 121)))
