@@ -50,6 +50,9 @@ DATABASE = "loads"
 STATUS = threading.Lock()
 # What InnoDB answers to a transaction that it has rolled back or that is to roll back: lock wait timeout, deadlock, record has changed.
 ABORTS = {1205, 1213, 1020}
+# What pymysql says where the connection was killed: closed, interrupted, killed, gone, lost; and what `kill` says where it is gone.
+LOSSES = {0, 1317, 1927, 2006, 2013}
+UNKNOWN_CONNECTION = 1094
 # A write's answer is how many rows it found.
 WRITES = {
     "insert": "insert ignore into kv values ({0}, {1})",
@@ -95,7 +98,7 @@ class Failed(Exception):
 
 
 class Lost(Exception):
-    """A statement has no answer by which the transaction goes on or is rolled back: the connection is gone."""
+    """The connection is gone, and nobody knows whether the statement was done."""
 
 
 class Session:
@@ -113,7 +116,11 @@ class Session:
             return self.cursor.execute(sql)
         except self.pymysql.err.MySQLError as fault:
             code = fault.args[0]
-            raise Failed(code) if code in ABORTS else Lost(code) from fault
+            if code in ABORTS:
+                raise Failed(code) from fault
+            if code in LOSSES:
+                raise Lost(code) from fault
+            raise
 
     def rows(self, sql):
         self.count(sql)
@@ -126,8 +133,9 @@ class Session:
         """Kills a connection; it may be gone by itself."""
         try:
             self.count(f"kill {number}")
-        except Lost:
-            pass
+        except self.pymysql.err.MySQLError as fault:
+            if fault.args[0] != UNKNOWN_CONNECTION:
+                raise
 
     def answers(self, operation):
         """The rows that an operation answers, as `loads.record` wants them."""
@@ -229,10 +237,11 @@ def run_load(server, level, options, recorder):
     is_over = threading.Event()
     killer = threading.Thread(target=kill, args=(server, options.kills, is_over))
     killer.start()
-    made = loads.clients(options, client)
-    is_over.set()
-    killer.join()
-    return made
+    try:
+        return loads.clients(options, client)
+    finally:
+        is_over.set()
+        killer.join()
 
 
 def main():
