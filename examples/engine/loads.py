@@ -1,14 +1,19 @@
-"""What the loads of postgres.py and sqlite.py share: random transactions on one table in SQL, and the history as JSON Lines.
+"""What the loads of postgres.py, mariadb.py and sqlite.py share: random transactions on one table in SQL, and the log of them.
 
 The table `kv` has a number `k`, the key, and a number `v`. A bucket is all keys with the same remainder.
 """
-import json
+import argparse
 import random
 import subprocess
+import time
+from collections import Counter
 from concurrent.futures import ThreadPoolExecutor
 
+from record import Recorder
+
 KEYS, BUCKETS = 16, 4
-ROWS = [[key, key + 1] for key in range(0, KEYS, 2)]
+# Below 10, where the values of transactions begin.
+ROWS = [[key, key // 2 + 1] for key in range(0, KEYS, 2)]
 MOST_OPERATIONS = 4
 # The kinds of operations, and how often each comes.
 KINDS = {"read": 9, "update": 6, "scan": 2, "insert": 2, "delete": 1}
@@ -45,26 +50,26 @@ def statement(operation):
     }[kind].format(*numbers, buckets=BUCKETS)
 
 
-def logged(operation, rows):
-    """The operation with its answer, from the rows that the statement answered."""
-    kind = operation[0]
-    if kind == "read":
-        return [*operation, rows[0][0] if rows else None]
-    if kind == "scan":
-        return [*operation, [[*row] for row in rows]]
-    return [*operation, bool(rows)]
+def record(transaction, operation, rows_of):
+    """Runs an operation, and records it with its answer; `rows_of` gives the rows that it is answered."""
+    kind, *words = operation
+    getattr(transaction, kind)(*words)
+    rows = rows_of(operation)
+    transaction.answer({"read": rows[0][0] if rows else None, "scan": rows}.get(kind, bool(rows)))
 
 
-def arguments(parser, levels):
-    """What both loads are given."""
+def arguments(about, levels):
+    """What each load is given; `about` is its help."""
+    parser = argparse.ArgumentParser(description=about, formatter_class=argparse.RawDescriptionHelpFormatter)
     parser.add_argument("level", choices=[*levels, "all"])
     parser.add_argument("--txns", type=int, default=3000)
     parser.add_argument("--clients", type=int, default=6)
     parser.add_argument("--seed", type=int, default=1)
     parser.add_argument("--kinds", type=lambda text: text.split(","), default=[*KINDS])
+    parser.add_argument("--at", action="store_true")
     parser.add_argument("--log")
     parser.add_argument("--hek")
-    return parser.parse_args()
+    return parser
 
 
 def clients(options, run):
@@ -83,17 +88,16 @@ def setup():
     return ["create table kv (k bigint primary key, v bigint)", f"insert into kv values {rows}"]
 
 
-def save(path, transactions):
-    with open(path, "w", encoding="utf-8") as file:
-        for line in ({"buckets": BUCKETS, "rows": ROWS}, *transactions):
-            file.write(json.dumps(line, separators=(",", ":")) + "\n")
+def recorder(path, options, **words):
+    return Recorder(path, rows=ROWS, buckets=BUCKETS, clock=time.monotonic_ns if options.at else None, **words)
 
 
 def report(name, transactions, path, hek):
     """Prints how the transactions ended, and what `hek history` says if there is a program."""
-    aborted = [it for it in transactions if it["status"] == "aborted"]
-    causes = sorted({it["x-cause"] for it in aborted})
-    counts = "".join(f", {sum(it['x-cause'] == cause for it in aborted)} aborted by {cause}" for cause in causes)
-    print(f"{name}: {len(transactions) - len(aborted)} committed{counts}", flush=True)
+    status = Counter(it.status for it in transactions)
+    causes = Counter(str(it.cause) for it in transactions if it.status == "aborted")
+    counts = "".join(f", {count} aborted by {cause}" for cause, count in sorted(causes.items()))
+    counts += f", {status['unknown']} unknown" if status["unknown"] else ""
+    print(f"{name}: {status['committed']} committed{counts}", flush=True)
     if hek:
         subprocess.run([hek, "history", path])

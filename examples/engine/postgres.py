@@ -1,19 +1,18 @@
 #!/usr/bin/env python3
 """Runs random transactions on a private PostgreSQL server, and writes the history for `hek history`.
 
-    postgres.py LEVEL [--txns N] [--clients N] [--seed N] [--kinds K,K..] [--log FILE] [--hek HEK]
+    postgres.py LEVEL [--txns N] [--clients N] [--seed N] [--kinds K,K..] [--at] [--log FILE] [--hek HEK]
 
 LEVEL is `read-committed`, `repeatable-read` or `serializable`, or `all`: one after another. The history goes to FILE, which is
-`LEVEL.jsonl` if not given; with --hek, the program judges it. Kinds of operations are read, update, scan, insert
-and delete; all if not given. It needs Debian's packages postgresql and postgresql-client:
-initdb, pg_ctl, psql and the plugin test_decoding. The server has its files in a folder that is removed at the end, and
-listens there alone.
+`LEVEL.jsonl` if not given; with --hek, the program judges it. With --at each line also says when its transaction was invoked and
+answered. Kinds of operations are read, update, scan, insert and delete; all if not given. It needs Debian's packages postgresql
+and postgresql-client: initdb, pg_ctl, psql and the plugin test_decoding. The server has its files in a folder that is removed at
+the end, and listens there alone.
 
 In the history a committed transaction that wrote has as its `end` its place in the server's log of commits, and each `begin`
 says how many of those commits its first snapshot saw. A transaction at repeatable read is logged at the level `snapshot`,
 all others at `serializable`.
 """
-import argparse
 import bisect
 import glob
 import os
@@ -21,8 +20,10 @@ import shutil
 import subprocess
 import sys
 import tempfile
+from dataclasses import dataclass
 
 import loads
+import record
 
 LEVELS = {"read-committed": "serializable", "repeatable-read": "snapshot", "serializable": "serializable"}
 # Where Debian puts initdb and pg_ctl; the newest version that is there.
@@ -92,40 +93,52 @@ class Session:
     def rows(self, sql):
         return [[int(word) for word in line.split()] for line in self.texts(sql)]
 
+    def answers(self, operation):
+        return self.rows(loads.statement(operation))
+
     def close(self):
         self.psql.communicate()
 
 
-def transaction(session, level, number, operations):
-    """One transaction, as a line of the history; `xid` and `snapshot` are of the server, for `order`."""
-    made = {"txn": number, "level": LEVELS[level], "status": "committed", "ops": []}
-    try:
-        session.texts(f"begin isolation level {level.replace('-', ' ')}")
-        made["snapshot"] = session.texts("select pg_current_snapshot()")[0]
-        for operation in operations:
-            made["ops"].append(loads.logged(operation, session.rows(loads.statement(operation))))
-        made["xid"] = session.texts("select pg_current_xact_id_if_assigned()")[0]
-        session.texts("commit")
-    except Failed as failed:
-        made |= {"status": "aborted", "x-cause": str(failed)}
-        session.texts("rollback")
-    return made
+@dataclass
+class Snapshot:
+    """What the server says of a transaction: which transactions its first snapshot did not see, and its own number if it wrote."""
+
+    transaction: record.Transaction
+    seen: str = "0:0:"
+    number: str = ""
 
 
-def order(transactions, commits):
-    """Puts `begin` and `end` in place of snapshots and transaction numbers; `commits` are the latter in order of commit."""
-    place = {xid: 2 * number for number, xid in enumerate(commits, 1)}
+def transaction(recorder, session, level, number, operations):
+    with recorder.transaction(number, LEVELS[level]) as made:
+        told = Snapshot(made)
+        try:
+            session.texts(f"begin isolation level {level.replace('-', ' ')}")
+            told.seen = session.texts("select pg_current_snapshot()")[0]
+            for operation in operations:
+                loads.record(made, operation, session.answers)
+            told.number = session.texts("select pg_current_xact_id_if_assigned()")[0]
+            session.texts("commit")
+        except Failed as failed:
+            made.aborted(str(failed))
+            session.texts("rollback")
+    return told
+
+
+def order(snapshots, commits):
+    """Gives transactions their `begin` and `end`; `commits` are the server's numbers of transactions in order of commit."""
+    place = {number: 2 * count for count, number in enumerate(commits, 1)}
     known = sorted(commits)
-    for it in transactions:
-        _, upper, running = it.pop("snapshot").split(":")
-        unseen = sum(xid in place for xid in map(int, running.split(",")) if xid) if running else 0
-        it["begin"] = 2 * (bisect.bisect_left(known, int(upper)) - unseen) + 1
-        xid = it.pop("xid", "")
-        if it["status"] == "committed":
-            it["end"] = place.get(int(xid or 0), it["begin"])
+    for it in snapshots:
+        _, upper, running = it.seen.split(":")
+        unseen = sum(number in place for number in map(int, running.split(",")) if number) if running else 0
+        begin = 2 * (bisect.bisect_left(known, int(upper)) - unseen) + 1
+        it.transaction.begin = begin
+        if it.transaction.status == "committed":
+            it.transaction.end = place.get(int(it.number or 0), begin)
 
 
-def run_load(server, level, options):
+def run_load(server, level, options, recorder):
     chief = Session(server)
     chief.texts("drop table if exists kv")
     for sql in loads.setup():
@@ -134,25 +147,25 @@ def run_load(server, level, options):
 
     def client(dice, numbers):
         session = Session(server)
-        made = [transaction(session, level, number, loads.operations(dice, number, options.kinds)) for number in numbers]
+        made = [transaction(recorder, session, level, number, loads.operations(dice, number, options.kinds)) for number in numbers]
         session.close()
         return made
 
-    made = loads.clients(options, client)
+    snapshots = loads.clients(options, client)
     commits = [row[0] for row in chief.rows("select xid from pg_logical_slot_get_changes('commits', null, null) where data like 'COMMIT%'")]
     chief.texts("select pg_drop_replication_slot('commits')")
     chief.close()
-    order(made, commits)
-    return made
+    order(snapshots, commits)
+    return [it.transaction for it in snapshots]
 
 
 def main():
-    parser = argparse.ArgumentParser(description=__doc__, formatter_class=argparse.RawDescriptionHelpFormatter)
-    options = loads.arguments(parser, LEVELS)
+    options = loads.arguments(__doc__, LEVELS).parse_args()
     with Server() as server:
         for level in LEVELS if options.level == "all" else [options.level]:
-            made, path = run_load(server, level, options), options.log or f"{level}.jsonl"
-            loads.save(path, made)
+            path = options.log or f"{level}.jsonl"
+            with loads.recorder(path, options, late=True) as recorder:
+                made = run_load(server, level, options, recorder)
             loads.report(level, made, path, options.hek)
 
 

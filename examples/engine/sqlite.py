@@ -1,16 +1,16 @@
 #!/usr/bin/env python3
 """Runs random transactions on a private SQLite database by threads, and writes the history for `hek history`.
 
-    sqlite.py LEVEL [--txns N] [--clients N] [--seed N] [--kinds K,K..] [--log FILE] [--hek HEK]
+    sqlite.py LEVEL [--txns N] [--clients N] [--seed N] [--kinds K,K..] [--at] [--log FILE] [--hek HEK]
 
 LEVEL is `deferred` or `immediate` (the two kinds of `begin`, with a write-ahead log), `uncommitted` (connections that share a
 cache and read what is not committed), or `all`: one after another. The history goes to FILE, which is `LEVEL.jsonl` if not
-given; with --hek, the program judges it. Kinds of operations are read, update, scan, insert and delete; all if not given.
+given; with --hek, the program judges it. With --at each line also says when its transaction was invoked and answered. Kinds of
+operations are read, update, scan, insert and delete; all if not given.
 
 A writer draws its `end` right before its commit, while it has the database's only write lock, so writers are in order. All
 transactions are logged as serializable.
 """
-import argparse
 import itertools
 import sqlite3
 import tempfile
@@ -43,33 +43,31 @@ class Database:
     def close(self):
         self.first.close()
 
-    def transaction(self, connection, number, operations):
-        """One transaction, as a line of the history."""
-        made = {"txn": number, "level": "serializable", "status": "committed", "ops": []}
-        try:
-            connection.execute("begin immediate" if self.level == "immediate" else "begin")
-            made["begin"] = next(self.clock)
-            for operation in operations:
-                made["ops"].append(loads.logged(operation, connection.execute(loads.statement(operation)).fetchall()))
-                # Another thread may go on.
-                time.sleep(0)
-            made["end"] = next(self.clock)
-            connection.execute("commit")
-        except sqlite3.OperationalError as fault:
-            made |= {"status": "aborted", "x-cause": str(fault)}
-            made.pop("end", None)
-            if connection.in_transaction:
-                connection.execute("rollback")
+    def transaction(self, recorder, connection, number, operations):
+        with recorder.transaction(number) as made:
+            try:
+                connection.execute("begin immediate" if self.level == "immediate" else "begin")
+                made.begin = next(self.clock)
+                for operation in operations:
+                    loads.record(made, operation, lambda it: connection.execute(loads.statement(it)).fetchall())
+                    # Another thread may go on.
+                    time.sleep(0)
+                made.end = next(self.clock)
+                connection.execute("commit")
+            except sqlite3.OperationalError as fault:
+                made.aborted(str(fault))
+                if connection.in_transaction:
+                    connection.execute("rollback")
         return made
 
 
-def run_load(folder, level, options):
+def run_load(folder, level, options, recorder):
     database = Database(folder, level)
 
     def client(dice, numbers):
         connection = database.connect()
         operations = {number: loads.operations(dice, number, options.kinds) for number in numbers}
-        made = [database.transaction(connection, number, it) for number, it in operations.items()]
+        made = [database.transaction(recorder, connection, number, it) for number, it in operations.items()]
         connection.close()
         return made
 
@@ -79,13 +77,13 @@ def run_load(folder, level, options):
 
 
 def main():
-    parser = argparse.ArgumentParser(description=__doc__, formatter_class=argparse.RawDescriptionHelpFormatter)
-    options = loads.arguments(parser, LEVELS)
+    options = loads.arguments(__doc__, LEVELS).parse_args()
     print(f"SQLite {sqlite3.sqlite_version}")
     with tempfile.TemporaryDirectory() as folder:
         for level in LEVELS if options.level == "all" else [options.level]:
-            made, path = run_load(folder, level, options), options.log or f"{level}.jsonl"
-            loads.save(path, made)
+            path = options.log or f"{level}.jsonl"
+            with loads.recorder(path, options) as recorder:
+                made = run_load(folder, level, options, recorder)
             loads.report(level, made, path, options.hek)
 
 
