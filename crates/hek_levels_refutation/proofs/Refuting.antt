@@ -33,40 +33,40 @@ possible_in-some log x e = go (slice_get log.transactions.items x) refl e
     go None is e = cc
     go (Some y) is e = (y, is)
 
-number_within : (log : Log) (w : Writer) → MayWrite log w → number_of w < length log.transactions.items + 1
-number_within log writer.Opening m = omega arith
-number_within log (writer.Transaction x) m = let s = possible_in-some log x m in let lt = slice_get_within log.transactions.items x s.0 s.1 in omega arith
+number_within : (log : Log) (t : ℕ) (w : Writer) → MayWrite log t w → number_of w < length log.transactions.items + 1
+number_within log t writer.Opening m = omega arith
+number_within log t (writer.Transaction x) m = let s = possible_in-some log x m.0 in let lt = slice_get_within log.transactions.items x s.0 s.1 in omega arith
 
-pub none_more : (log : Log) (read : Read) (from n : ℕ) (w : Writer) → number_of w ≡ n → IsNoneBetween log read from n → (IsCandidate log read w → ⊥) → IsNoneBetween log read from (n + 1)
-none_more log read from n w is before here v low high c =
+pub none_more : (log : Log) (t : ℕ) (read : Read) (from n : ℕ) (w : Writer) → number_of w ≡ n → IsNoneBetween log t read from n → (IsCandidate log t read w → ⊥) → IsNoneBetween log t read from (n + 1)
+none_more log t read from n w is before here v low high c =
     elim (cases_below (number_of v) n high) [
       | inl less ↦ before v low less c
-      | inr same ↦ here (subst (IsCandidate log read) (number-injective v w (same ∙ sym is)) c)
+      | inr same ↦ here (subst (IsCandidate log t read) (number-injective v w (same ∙ sym is)) c)
     ]
 
-pub none_all : (log : Log) (read : Read) (from : ℕ) → IsNoneBetween log read from (length log.transactions.items + 1) → IsNoneFrom log read from
-none_all log read from none w low c = none w low (number_within log w c.0) c
+pub none_all : (log : Log) (t : ℕ) (read : Read) (from : ℕ) → IsNoneBetween log t read from (length log.transactions.items + 1) → IsNoneFrom log t read from
+none_all log t read from none w low c = none w low (number_within log t w c.0) c
 
 module _ (rules : Rules) (log : Log) (e : Explanation) (x : Explains rules log e) where
-  may_write : (t : ℕ) → TakesPlace e t → (w : Writer) → rank e.order w < rank e.order (writer.Transaction t) → MayWrite log w
+  may_write : (t : ℕ) → TakesPlace e t → (w : Writer) → rank e.order w < rank e.order (writer.Transaction t) → MayWrite log t w
   may_write t o writer.Opening l = tt
-  may_write t o (writer.Transaction y) l = let k = takes e y t l o in x.possible k.0 y k.1
+  may_write t o (writer.Transaction y) l = let k = takes e y t l o in (x.possible k.0 y k.1, λ same. let b : IsBefore e t t = subst (λ (n : ℕ). IsBefore e n t) same l in omega arith)
 
-  pub candidate : (t r : ℕ) (read : Read) → TakesPlace e t → read_at log t r ≡ Some read → IsCandidate log read (e.source t r)
+  pub candidate : (t r : ℕ) (read : Read) → TakesPlace e t → read_at log t r ≡ Some read → IsCandidate log t read (e.source t r)
   candidate t r read o there = let s = x.sources t r read o there in (may_write t o (e.source t r) s.before, s.offered)
 
-  pub skipped : (t r : ℕ) (read : Read) (from to : ℕ) → TakesPlace e t → read_at log t r ≡ Some read → from ≤ number_of (e.source t r) → IsNoneBetween log read from to → to ≤ number_of (e.source t r)
+  pub skipped : (t r : ℕ) (read : Read) (from to : ℕ) → TakesPlace e t → read_at log t r ≡ Some read → from ≤ number_of (e.source t r) → IsNoneBetween log t read from to → to ≤ number_of (e.source t r)
   skipped t r read from to o there low none =
       elim (cases_lt (number_of (e.source t r)) to) [ inl less ↦ absurd (none (e.source t r) low less (candidate t r read o there)) | inr ge ↦ ge ]
 
-  pub only_one : (t r : ℕ) (read : Read) (from : ℕ) (w : Writer) → number_of w ≡ from → TakesPlace e t → read_at log t r ≡ Some read → from ≤ number_of (e.source t r) → IsNoneFrom log read (from + 1) → e.source t r ≡ w
+  pub only_one : (t r : ℕ) (read : Read) (from : ℕ) (w : Writer) → number_of w ≡ from → TakesPlace e t → read_at log t r ≡ Some read → from ≤ number_of (e.source t r) → IsNoneFrom log t read (from + 1) → e.source t r ≡ w
   only_one t r read from w is o there low none =
       elim (cases_lt from (number_of (e.source t r))) [
         | inl less ↦ absurd (none (e.source t r) (omega arith) (candidate t r read o there))
         | inr ge ↦ let same : number_of (e.source t r) ≡ number_of w = omega arith in number-injective (e.source t r) w same
       ]
 
-  pub none_left : (t r : ℕ) (read : Read) (from : ℕ) → TakesPlace e t → read_at log t r ≡ Some read → from ≤ number_of (e.source t r) → IsNoneFrom log read from → ⊥
+  pub none_left : (t r : ℕ) (read : Read) (from : ℕ) → TakesPlace e t → read_at log t r ≡ Some read → from ≤ number_of (e.source t r) → IsNoneFrom log t read from → ⊥
   none_left t r read from o there low none = none (e.source t r) low (candidate t r read o there)
 
   pub dropped : (t r : ℕ) (from : ℕ) (w : Writer) → number_of w ≡ from → from ≤ number_of (e.source t r) → (e.source t r ≡ w → ⊥) → from + 1 ≤ number_of (e.source t r)

@@ -17,22 +17,22 @@ fn writer_of(number: usize) -> Writer
     if number == 0 { Writer::Opening } else { Writer::Transaction(number - 1) }
 }
 
-/// Whether a writer may be the source of a read.
-fn is_candidate(log: &Log, read: Read, writer: Writer) -> bool
-    ensures { IsCandidate log.now read writer → IsTrue result }
+/// Whether a writer may be the source of a read of t.
+fn is_candidate(log: &Log, t: usize, read: Read, writer: Writer) -> bool
+    ensures { IsCandidate log.now t read writer → IsTrue result }
 {
     match writer {
         Writer::Opening => offers(log, writer, read),
-        Writer::Transaction(x) => is_possible(log, x) && offers(log, writer, read),
+        Writer::Transaction(x) => x != t && is_possible(log, x) && offers(log, writer, read),
     }
 }
 
 /// Whether no writer of these numbers, from the first on and below the second, may be the source of a read.
-fn is_none_between(log: &Log, read: Read, from: usize, to: usize) -> bool
-    ensures { IsTrue result → IsNoneBetween log.now read from to }
+fn is_none_between(log: &Log, t: usize, read: Read, from: usize, to: usize) -> bool
+    ensures { IsTrue result → IsNoneBetween log.now t read from to }
 {
     for n in from..to {
-        if is_candidate(log, read, writer_of(n)) {
+        if is_candidate(log, t, read, writer_of(n)) {
             return false;
         }
     }
@@ -40,10 +40,10 @@ fn is_none_between(log: &Log, read: Read, from: usize, to: usize) -> bool
 }
 
 /// Whether no writer from the number on may be the source of a read.
-fn is_none_from(log: &Log, read: Read, from: usize) -> bool
-    ensures { IsTrue result → IsNoneFrom log.now read from }
+fn is_none_from(log: &Log, t: usize, read: Read, from: usize) -> bool
+    ensures { IsTrue result → IsNoneFrom log.now t read from }
 {
-    is_none_between(log, read, from, log.transactions.len() + 1)
+    is_none_between(log, t, read, from, log.transactions.len() + 1)
 }
 
 /// The source of a read is among all writers.
@@ -70,7 +70,7 @@ pub(crate) fn skip(context: &Context<'_>, from: usize, number: usize) -> Option<
     let Some(read) = read_at(context.log, left.reader, left.place) else {
         return None;
     };
-    if !is_none_between(context.log, read, left.number, number) {
+    if !is_none_between(context.log, left.reader, read, left.number, number) {
         return None;
     }
     Some(Claim::From {
@@ -122,7 +122,7 @@ pub(crate) fn only(context: &Context<'_>, from: usize) -> Option<Claim>
     if left.number == usize::MAX {
         return None;
     }
-    if !is_none_from(context.log, read, left.number + 1) {
+    if !is_none_from(context.log, left.reader, read, left.number + 1) {
         return None;
     }
     Some(Claim::Source {
@@ -142,7 +142,7 @@ pub(crate) fn exhausted(context: &Context<'_>, from: usize) -> Option<Claim>
     let Some(read) = read_at(context.log, left.reader, left.place) else {
         return None;
     };
-    if !is_none_from(context.log, read, left.number) {
+    if !is_none_from(context.log, left.reader, read, left.number) {
         return None;
     }
     Some(Claim::Contradiction)

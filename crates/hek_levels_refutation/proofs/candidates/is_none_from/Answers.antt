@@ -5,4 +5,4 @@ use Rattle.hek_levels_refutation.proofs.candidates.is_none_from.Goals as goal
 
 pub returns : goal.returns
 returns c yes' =
-    none_all c.args.log.now c.args.read c.args.from (subst (λ (n : ℕ). IsNoneBetween c.args.log.now c.args.read c.args.from (n + 1)) c.len.ensures (c.is_none_between.ensures yes'))
+    none_all c.args.log.now c.args.t c.args.read c.args.from (subst (λ (n : ℕ). IsNoneBetween c.args.log.now c.args.t c.args.read c.args.from (n + 1)) c.len.ensures (c.is_none_between.ensures yes'))
