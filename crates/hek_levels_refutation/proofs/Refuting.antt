@@ -2,7 +2,7 @@
 use Rattle.std.proofs.Common.{◌≡◌, ℕ, suc, ◌+◌, ◌<◌, ◌≤◌, true, false, List, [], ◌∷◌, Option, Some, None, refl, sym, ap, ◌∙◌, subst, inl, inr, ◌⊎◌, length, arith}
 use Rattle.std.proofs.lemmas.Bool.{cases_order, cases_lt, both_ways}
 use Rattle.std.proofs.lemmas.Option.{slice_get_within}
-use Rattle.std.specs.Prelude.{slice_get}
+use Rattle.std.specs.Prelude.{slice_get, IfSome}
 use Rattle.hek_levels.specs.declared.log.Log.{Log}
 use Rattle.hek_levels.specs.declared.log.Read.{Read}
 use Rattle.hek_levels.specs.declared.log.Transaction.{Transaction}
@@ -103,3 +103,18 @@ turned e w v other not_so =
       | inl same ↦ absurd (other (rank-injective e.order w v same))
       | inr differ ↦ elim differ [ inl lt ↦ absurd (not_so lt) | inr gt ↦ gt ]
     ]
+
+-- ---- premises
+
+pub if_some : {A : Type 0} {P Q : A → Type 0} (o : Option A) → IfSome o P → ((a : A) → P a → Q a) → IfSome o Q
+if_some None p f = tt
+if_some (Some a) p f = f a p
+
+pub as_pair : (e : Explanation) (w v : Writer) (x t : ℕ) → w ≡ writer.Transaction x → v ≡ writer.Transaction t → rank e.order w < rank e.order v → IsBefore e x t
+as_pair e w v x t a b l = let f = ap (rank e.order) a in let g = ap (rank e.order) b in omega (arith, f, g, l)
+
+pub not_first : (e : Explanation) (t r u q : ℕ) (w v : Writer) → u ≡ t → q ≡ r → w ≡ v → (TakesPlace e u → e.source u q ≡ w → ⊥) → TakesPlace e t → e.source t r ≡ v → ⊥
+not_first e t r u q w v a b d no o is = no (subst (TakesPlace e) (sym a) o) (ap (λ (n : ℕ). e.source n q) a ∙ ap (e.source t) b ∙ is ∙ sym d)
+
+pub same_source : (e : Explanation) (t r u q : ℕ) (w : Writer) → t ≡ u → r ≡ q → e.source u q ≡ w → e.source t r ≡ w
+same_source e t r u q w a b is = ap (λ (n : ℕ). e.source n r) a ∙ ap (e.source u) b ∙ is

@@ -43,7 +43,7 @@ fn is_none_between(log: &Log, t: usize, read: Read, from: usize, to: usize) -> b
 fn is_none_from(log: &Log, t: usize, read: Read, from: usize) -> bool
     ensures { IsTrue result → IsNoneFrom log.now t read from }
 {
-    is_none_between(log, t, read, from, log.transactions.len() + 1)
+    is_none_between(log, t, read, from, log.transactions.as_slice().len() + 1)
 }
 
 /// The source of a read is among all writers.
