@@ -1,8 +1,8 @@
 -- The rules of a certificate, each in one explanation.
-use Rattle.std.proofs.Common.{◌≡◌, ℕ, suc, ◌+◌, ◌<◌, ◌≤◌, true, false, List, [], ◌∷◌, Option, Some, None, refl, sym, ap, ◌∙◌, subst, inl, inr, ◌⊎◌, length, arith}
+use Rattle.std.proofs.Common.{◌≡◌, ℕ, suc, ◌+◌, ◌<◌, ◌≤◌, true, false, Bool, List, [], ◌∷◌, Option, Some, None, refl, sym, ap, ◌∙◌, subst, inl, inr, ◌⊎◌, length, arith}
 use Rattle.std.proofs.lemmas.Bool.{cases_order, cases_lt, both_ways}
 use Rattle.std.proofs.lemmas.Option.{slice_get_within}
-use Rattle.std.specs.Prelude.{slice_get, IfSome}
+use Rattle.std.specs.Prelude.{slice_get, not, IfSome}
 use Rattle.hek_levels.specs.declared.log.Log.{Log}
 use Rattle.hek_levels.specs.declared.log.Read.{Read}
 use Rattle.hek_levels.specs.declared.log.Transaction.{Transaction}
@@ -114,7 +114,11 @@ pub as_pair : (e : Explanation) (w v : Writer) (x t : ℕ) → w ≡ writer.Tran
 as_pair e w v x t a b l = let f = ap (rank e.order) a in let g = ap (rank e.order) b in omega (arith, f, g, l)
 
 pub not_first : (e : Explanation) (t r u q : ℕ) (w v : Writer) → u ≡ t → q ≡ r → w ≡ v → (TakesPlace e u → e.source u q ≡ w → ⊥) → TakesPlace e t → e.source t r ≡ v → ⊥
-not_first e t r u q w v a b d no o is = no (subst (TakesPlace e) (sym a) o) (ap (λ (n : ℕ). e.source n q) a ∙ ap (e.source t) b ∙ is ∙ sym d)
+not_first e t r u q w v a b d never o is = never (subst (TakesPlace e) (sym a) o) (ap (λ (n : ℕ). e.source n q) a ∙ ap (e.source t) b ∙ is ∙ sym d)
 
 pub same_source : (e : Explanation) (t r u q : ℕ) (w : Writer) → t ≡ u → r ≡ q → e.source u q ≡ w → e.source t r ≡ w
 same_source e t r u q w a b is = ap (λ (n : ℕ). e.source n r) a ∙ ap (e.source u) b ∙ is
+
+pub not_false : (b : Bool) → not b ≡ false → b ≡ true
+not_false true e = refl
+not_false false e = cc
