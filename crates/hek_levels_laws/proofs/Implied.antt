@@ -78,7 +78,8 @@ within strong weak bind all own first causes next log e x =
         (elim f [
           | inl a ↦ inl (causes a.0, a.1)
           | inr c ↦ inr (linked_within weak.next strong.next log e z w next c)
-        ]), seen.1))
+        ],
+        seen.1)))
         y s) x
 
 same_links : (links : Links) → AreWithin links links
