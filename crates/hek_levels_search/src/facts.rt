@@ -154,6 +154,11 @@ impl Facts {
         self.units.get(u).copied()
     }
 
+    /// What is shown at a place.
+    fn entry_at(&self, place: usize) -> Option<Entry> {
+        self.shown.get(place).copied()
+    }
+
     /// A fact is shown at a place.
     fn record(&mut self, fact: Fact, place: usize) {
         match fact {
@@ -220,8 +225,9 @@ impl Facts {
             self.source[u] = None;
         }
         for place in 0..self.shown.len() {
-            let entry = self.shown[place];
-            self.record(entry.fact, place);
+            if let Some(entry) = self.entry_at(place) {
+                self.record(entry.fact, place);
+            }
         }
     }
 
