@@ -1,8 +1,7 @@
 //! What can be wrong with a file of logs.
 use hek_rules::NoMemory;
 use std::alloc::{AllocError, AllocFailed};
-use std::fmt;
-use std::io;
+use std::{fmt, io};
 
 /// A file can't be read, or a line is none of a log.
 #[derive(Debug, Drop)]

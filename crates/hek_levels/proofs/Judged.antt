@@ -159,7 +159,7 @@ if_ok (Err e) p f = tt
 
 -- the same of lists that are the certificate's
 module _ (log : Log) (c : Certificate) (order : List ℕ) (sources : List Sources) (places : ℕ → Option ℕ) (same : order ≡ c.order.items) (alike : sources ≡ c.sources.items)
-         (p : IsPlacing log order (length order) places) (s : AreSourced log order (source_in sources) places) where
+    (p : IsPlacing log order (length order) places) (s : AreSourced log order (source_in sources) places) where
   placing_from : IsPlacing log c.order.items (length c.order.items) places
   placing_from = subst (λ (xs : List ℕ). IsPlacing log xs (length xs) places) same p
 

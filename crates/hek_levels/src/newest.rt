@@ -78,11 +78,29 @@ fn sweep(
 {
     let mut marked = HashMap::new(alloc);
     let mut seen = Vec::new(alloc);
-    mark_own(rules.own, log, certificate, &mut marked, t, r, read.operation)?;
+    mark_own(
+        rules.own,
+        log,
+        certificate,
+        &mut marked,
+        t,
+        r,
+        read.operation,
+    )?;
     let mut p = i;
     while low < p {
         p -= 1;
-        if !visit(rules, log, certificate, p, t, r, read, &mut marked, &mut seen)? {
+        if !visit(
+            rules,
+            log,
+            certificate,
+            p,
+            t,
+            r,
+            read,
+            &mut marked,
+            &mut seen,
+        )? {
             return Ok(false);
         }
     }

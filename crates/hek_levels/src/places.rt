@@ -34,7 +34,12 @@ fn is_absent(places: &HashMap<usize, usize>, t: usize) -> bool
 }
 
 /// One transaction more, if it may take place and has no place yet.
-fn put(log: &Log, order: &[usize], i: usize, places: &mut HashMap<usize, usize>) -> Result<bool, NoMemory>
+fn put(
+    log: &Log,
+    order: &[usize],
+    i: usize,
+    places: &mut HashMap<usize, usize>,
+) -> Result<bool, NoMemory>
     requires known { IsPlacing log.now order.now i (get_in ◌==◌ places.old) }
     ensures { IfOk result (λ yes. IsTrue yes → IsPlacing log.now order.now (i + 1) (get_in ◌==◌ places.new)) }
 {

@@ -32,7 +32,12 @@ fn is_next(latest: &HashMap<usize, u64>, turn: Turn) -> bool
 }
 
 /// One transaction more, if its turn has come.
-fn take_turn(log: &Log, order: &[usize], i: usize, latest: &mut HashMap<usize, u64>) -> Result<bool, NoMemory>
+fn take_turn(
+    log: &Log,
+    order: &[usize],
+    i: usize,
+    latest: &mut HashMap<usize, u64>,
+) -> Result<bool, NoMemory>
     requires latest { AreLatest log.now order.now i (get_in ◌==◌ latest.old) }
     requires before { AreInTurn log.now order.now i }
     ensures latest { IfOk result (λ yes. IsTrue yes → AreLatest log.now order.now (i + 1) (get_in ◌==◌ latest.new)) }

@@ -39,8 +39,8 @@ weakened strong weak log e bind sees x = record {
 
 -- step by step
 module _ (strong weak : Rules) (log : Log) (e : Explanation) (t r : ℕ) (read : Read)
-         (first : (y : ℕ) → SeesFirst weak log e t r read y → Sees strong log e t r read y)
-         (shows : (z y : ℕ) → Sees strong log e t r read z → Shows weak log e z y → Sees strong log e t r read y) where
+    (first : (y : ℕ) → SeesFirst weak log e t r read y → Sees strong log e t r read y)
+    (shows : (z y : ℕ) → Sees strong log e t r read z → Shows weak log e z y → Sees strong log e t r read y) where
   sees_by : (ys : List ℕ) (y : ℕ) → SeesBy weak log e t r read ys y → Sees strong log e t r read y
   sees_by [] y s = first y s
   sees_by (z ∷ zs) y s = shows z y (sees_by zs z s.1) s.0
@@ -67,20 +67,24 @@ within strong weak bind all own first causes next log e x =
     weakened strong weak log e bind
     (λ t r read y o there s.
     sees_so strong weak log e t r read
-        (λ z f.
-        ([],
+    (λ z f. (
+      [],
+      elim f [
+        | inl a ↦ inl (all a.0, a.1)
+        | inr other ↦ elim other [ inl b ↦ inr (inl (own log e t r read z there b)) | inr c ↦ inr (inr (linked_within weak.first strong.first log e t z first c)) ]
+      ],
+    ))
+    (λ z w seen f. (
+      z ∷ seen.0,
+      (
         elim f [
-          | inl a ↦ inl (all a.0, a.1)
-          | inr other ↦ elim other [ inl b ↦ inr (inl (own log e t r read z there b)) | inr c ↦ inr (inr (linked_within weak.first strong.first log e t z first c)) ]
-        ]))
-        (λ z w seen f.
-        (z ∷ seen.0,
-        (elim f [
           | inl a ↦ inl (causes a.0, a.1)
           | inr c ↦ inr (linked_within weak.next strong.next log e z w next c)
         ],
-        seen.1)))
-        y s) x
+        seen.1,
+      ),
+    ))
+    y s) x
 
 same_links : (links : Links) → AreWithin links links
 same_links links = (λ a. a, λ a. a, λ a. a)
@@ -150,17 +154,17 @@ four log e x =
     weakened (rules_of Causal true) (rules_for all_four) log e (λ on. refl)
     (λ t r read y o there s.
     sees_so (rules_of Causal true) (rules_for all_four) log e t r read
-        (λ z f.
-        elim f [
-          | inl a ↦ never a.0
-          | inr other ↦ elim other [ inl b ↦ ([], inr (inl (earlier_is_own log e t r read z there b))) | inr c ↦ carried_first log e t r read z c ]
-        ])
-        (λ z w seen f.
-        elim f [
-          | inl a ↦ (z ∷ seen.0, (inl (refl, a.1), seen.1))
-          | inr c ↦ carried log e t r read z w seen c
-        ])
-        y s) x
+    (λ z f.
+    elim f [
+      | inl a ↦ never a.0
+      | inr other ↦ elim other [ inl b ↦ ([], inr (inl (earlier_is_own log e t r read z there b))) | inr c ↦ carried_first log e t r read z c ]
+    ])
+    (λ z w seen f.
+    elim f [
+      | inl a ↦ (z ∷ seen.0, (inl (refl, a.1), seen.1))
+      | inr c ↦ carried log e t r read z w seen c
+    ])
+    y s) x
 
 pub guarantees_imply : GuaranteesImply
 guarantees_imply = record {

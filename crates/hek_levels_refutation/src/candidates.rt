@@ -14,7 +14,11 @@ use hek_levels::{Log, Read, Writer, is_possible, offers, read_at};
 fn writer_of(number: usize) -> Writer
     ensures { number_in result ≡ number }
 {
-    if number == 0 { Writer::Opening } else { Writer::Transaction(number - 1) }
+    if number == 0 {
+        Writer::Opening
+    } else {
+        Writer::Transaction(number - 1)
+    }
 }
 
 /// Whether a writer may be the source of a read of t.
@@ -47,7 +51,12 @@ fn is_none_from(log: &Log, t: usize, read: Read, from: usize) -> bool
 }
 
 /// The source of a read is among all writers.
-pub(crate) fn start(context: &Context<'_>, t: usize, r: usize, taken: Option<usize>) -> Option<Claim>
+pub(crate) fn start(
+    context: &Context<'_>,
+    t: usize,
+    r: usize,
+    taken: Option<usize>,
+) -> Option<Claim>
     ensures { IfSome result (λ claim. FollowsFrom context.now claim) }
 {
     if !takes_place(context.log, context.shown, t, taken) {

@@ -5,7 +5,10 @@ use hek_levels::{Log, Rules, Writer};
 #[derive(Clone, Copy)]
 pub enum Claim {
     /// The first is before the second.
-    Before { first: Writer, second: Writer },
+    Before {
+        first: Writer,
+        second: Writer,
+    },
     /// It takes place.
     Occurs(usize),
     /// The reader takes place, and the source of its read has this number or a later one: the opening has 0, and the
@@ -46,7 +49,10 @@ pub enum Link {
         before: usize,
     },
     /// The other is before it in its session, and the premise says that it is before.
-    Session { other: usize, before: usize },
+    Session {
+        other: usize,
+        before: usize,
+    },
     /// The same of one that reads from another, by the premise `source`.
     Reads {
         through: usize,
@@ -62,11 +68,18 @@ pub enum Link {
 #[derive(Clone, Copy)]
 pub enum Step {
     /// The opening is before each transaction.
-    First { second: usize },
+    First {
+        second: usize,
+    },
     /// A transaction that is known to have committed takes place.
-    Committed { transaction: usize },
+    Committed {
+        transaction: usize,
+    },
     /// Who is before one that takes place does so too.
-    In { premise: usize, taken: Option<usize> },
+    In {
+        premise: usize,
+        taken: Option<usize>,
+    },
     /// The source of a read is among all writers.
     Start {
         reader: usize,
@@ -74,15 +87,27 @@ pub enum Step {
         taken: Option<usize>,
     },
     /// No writer below the number is a candidate.
-    Skip { from: usize, number: usize },
+    Skip {
+        from: usize,
+        number: usize,
+    },
     /// The first that is left is not the source.
-    Drop { from: usize, not: usize },
+    Drop {
+        from: usize,
+        not: usize,
+    },
     /// The first that is left is the only candidate.
-    Only { from: usize },
+    Only {
+        from: usize,
+    },
     /// No candidate is left.
-    Exhausted { from: usize },
+    Exhausted {
+        from: usize,
+    },
     /// The source is before its reader.
-    Read { source: usize },
+    Read {
+        source: usize,
+    },
     /// Where sessions bind, turns are kept.
     Session {
         first: usize,
@@ -91,9 +116,15 @@ pub enum Step {
         second_taken: Option<usize>,
     },
     /// One before a second, and this one before a third.
-    Chain { first: usize, second: usize },
+    Chain {
+        first: usize,
+        second: usize,
+    },
     /// A read sees the source of a read of its transaction.
-    Own { source: usize, place: usize },
+    Own {
+        source: usize,
+        place: usize,
+    },
     /// A read sees who is before its transaction.
     Whole {
         before: usize,
@@ -108,17 +139,35 @@ pub enum Step {
         link: Link,
     },
     /// What is seen shows its source.
-    Shows { visible: usize, source: usize },
+    Shows {
+        visible: usize,
+        source: usize,
+    },
     /// What is seen shows what it sees by writes or by its session.
-    ShowsLinked { visible: usize, link: Link },
+    ShowsLinked {
+        visible: usize,
+        link: Link,
+    },
     /// A writer of the key that is seen and is not the source is before the source.
-    Newest { visible: usize, source: usize },
+    Newest {
+        visible: usize,
+        source: usize,
+    },
     /// Who is after the reader is not the source.
-    NotLater { place: usize, before: usize },
+    NotLater {
+        place: usize,
+        before: usize,
+    },
     /// Who is before a writer of the key that is seen is not the source.
-    NotOlder { visible: usize, before: usize },
+    NotOlder {
+        visible: usize,
+        before: usize,
+    },
     /// One case of two: the first is before the second.
-    AssumeBefore { first: Writer, second: Writer },
+    AssumeBefore {
+        first: Writer,
+        second: Writer,
+    },
     /// One case of two: the reader takes place, and the writer is the source of its read.
     AssumeSource {
         reader: usize,
@@ -126,9 +175,14 @@ pub enum Step {
         writer: Writer,
     },
     /// A writer before itself, or before the opening.
-    Contra { premise: usize },
+    Contra {
+        premise: usize,
+    },
     /// One that takes place, and cannot.
-    Impossible { transaction: usize, taken: Option<usize> },
+    Impossible {
+        transaction: usize,
+        taken: Option<usize>,
+    },
 }
 
 /// A claim, and its contrary if it is assumed.

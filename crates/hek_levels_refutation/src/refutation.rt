@@ -8,7 +8,8 @@ ghost use Rattle.hek_levels_refutation.specs.Claims.{FollowsFrom, IsContraryIn, 
 use crate::candidates::{drop_first, exhausted, only, skip, start};
 use crate::claim::{Claim, Context, Shown, Step};
 use crate::ordering::{
-    chain, committed, contra, first, impossible, inside, newest, not_later, not_older, read, session,
+    chain, committed, contra, first, impossible, inside, newest, not_later, not_older, read,
+    session,
 };
 use crate::premises::is_same;
 use crate::seeing::{by_link, own, shows, shows_linked, whole};
@@ -259,12 +260,7 @@ enum Outcome {
 }
 
 /// One step.
-fn advance(
-    rules: Rules,
-    log: &Log,
-    shown: &mut Vec<Shown>,
-    step: Step,
-) -> Result<Outcome, NoMemory>
+fn advance(rules: Rules, log: &Log, shown: &mut Vec<Shown>, step: Step) -> Result<Outcome, NoMemory>
     requires { IsSound rules log.now shown.old.items }
     ensures { IfOk result (λ outcome. IsOutcome rules log.now shown.new.items outcome) }
 {
@@ -290,12 +286,7 @@ fn advance(
 /// Whether these steps show that the log has no explanation by these rules. Each step has to follow. A step that is
 /// assumed opens a case, and a contradiction ends the innermost that is open: the contrary takes its place. Where
 /// none is open, the log has no explanation.
-pub fn refutes(
-    alloc: Global,
-    rules: Rules,
-    log: &Log,
-    steps: &[Step],
-) -> Result<bool, NoMemory>
+pub fn refutes(alloc: Global, rules: Rules, log: &Log, steps: &[Step]) -> Result<bool, NoMemory>
     ensures { IfOk result (λ yes. IsTrue yes → HasNoExplanation rules log.now) }
 {
     let mut shown = Vec::new(alloc);

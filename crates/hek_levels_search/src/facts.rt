@@ -61,7 +61,11 @@ pub(crate) struct Facts {
 
 /// The writer of a number.
 pub(crate) fn writer_of(number: usize) -> Writer {
-    if number == 0 { Writer::Opening } else { Writer::Transaction(number - 1) }
+    if number == 0 {
+        Writer::Opening
+    } else {
+        Writer::Transaction(number - 1)
+    }
 }
 
 /// All reads of a log.
@@ -202,7 +206,12 @@ impl Facts {
     }
 
     /// A step assumes a fact.
-    pub(crate) fn assume(&mut self, step: Step, fact: Fact, contrary: Fact) -> Result<(), NoMemory> {
+    pub(crate) fn assume(
+        &mut self,
+        step: Step,
+        fact: Fact,
+        contrary: Fact,
+    ) -> Result<(), NoMemory> {
         self.steps.push(step)?;
         self.push(Entry {
             fact,

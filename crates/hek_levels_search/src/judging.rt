@@ -83,8 +83,14 @@ fn assume_source(facts: &mut Facts) -> Result<bool, NoMemory> {
 fn is_open(facts: &Facts, x: usize, t: usize) -> bool {
     facts.occurs_at(x).is_some()
         && facts.occurs_at(t).is_some()
-        && facts.before.at(x.saturating_add(1), t.saturating_add(1)).is_none()
-        && facts.before.at(t.saturating_add(1), x.saturating_add(1)).is_none()
+        && facts
+            .before
+            .at(x.saturating_add(1), t.saturating_add(1))
+            .is_none()
+        && facts
+            .before
+            .at(t.saturating_add(1), x.saturating_add(1))
+            .is_none()
 }
 
 /// Two transactions that take place, in no order.
@@ -121,7 +127,10 @@ fn assume_order(facts: &mut Facts) -> Result<bool, NoMemory> {
 fn is_next(facts: &Facts, placed: &[usize], t: usize) -> bool {
     for x in 0..facts.count {
         let is_waiting = facts.occurs_at(x).is_some()
-            && facts.before.at(x.saturating_add(1), t.saturating_add(1)).is_some();
+            && facts
+                .before
+                .at(x.saturating_add(1), t.saturating_add(1))
+                .is_some();
         if is_waiting && !placed.contains(&x) {
             return false;
         }

@@ -12,15 +12,19 @@ fn shows_own(rules: Rules, shown: Unit, unit: Unit) -> bool {
     }
     match rules.own {
         Own::Nothing => false,
-        Own::Earlier => {
-            shown.place == unit.place || shown.read.operation < unit.read.operation
-        }
+        Own::Earlier => { shown.place == unit.place || shown.read.operation < unit.read.operation }
         Own::All => true,
     }
 }
 
 /// A read sees the source of another.
-fn see_own(facts: &mut Facts, rules: Rules, u: usize, unit: Unit, q: usize) -> Result<(), NoMemory> {
+fn see_own(
+    facts: &mut Facts,
+    rules: Rules,
+    u: usize,
+    unit: Unit,
+    q: usize,
+) -> Result<(), NoMemory> {
     let Some(shown) = facts.unit(q) else {
         return Ok(());
     };
@@ -48,7 +52,10 @@ fn see_whole(facts: &mut Facts, u: usize, unit: Unit, x: usize) -> Result<(), No
     let Some(taken) = facts.occurs_at(unit.reader) else {
         return Ok(());
     };
-    match facts.before.at(x.saturating_add(1), unit.reader.saturating_add(1)) {
+    match facts
+        .before
+        .at(x.saturating_add(1), unit.reader.saturating_add(1))
+    {
         Some(before) => facts.add(
             Step::Whole {
                 before,
@@ -167,7 +174,13 @@ fn see_first(
 }
 
 /// What is seen by way of y.
-fn see_next(facts: &mut Facts, rules: Rules, log: &Log, u: usize, y: usize) -> Result<(), NoMemory> {
+fn see_next(
+    facts: &mut Facts,
+    rules: Rules,
+    log: &Log,
+    u: usize,
+    y: usize,
+) -> Result<(), NoMemory> {
     if facts.visible.at(u, y).is_none() {
         return Ok(());
     }

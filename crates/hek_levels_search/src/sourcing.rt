@@ -148,10 +148,7 @@ fn not_older(
         if let Some(visible) = facts.visible.at(u, x) {
             if let Some(before) = facts.before.at(number, x.saturating_add(1)) {
                 if does_write(log, x, unit.read.key) {
-                    return facts.add(
-                        Step::NotOlder { visible, before },
-                        Fact::Not(u, number),
-                    );
+                    return facts.add(Step::NotOlder { visible, before }, Fact::Not(u, number));
                 }
             }
         }

@@ -16,9 +16,9 @@ returns-then-not-may_see c yes' =
     (get ◌==◌ c.args.marked.now) (get ◌==◌ c.carry.new.marked) c.args.seen.now.items c.requires.swept c.in_ok-carry.ensures.kept
     (subst (λ (s : List ℕ). MayCarry c.args.rules c.args.log.now c.args.t s c.in-Some.y → AreMarked c.args.log.now e (get ◌==◌ c.carry.new.marked) c.in-Some.y) c.as_slice-2.ensures.value c.in_ok-carry.ensures.there)
     (λ m.
-        false≢true
-        (c.if-not-may_see.ensures
-        (subst (λ (s : List ℕ). MaySee c.args.rules c.args.log.now c.args.t (get ◌==◌ c.carry.new.marked) s c.in-Some.y) (sym c.as_slice-3.ensures.value) m)))
+    false≢true
+    (c.if-not-may_see.ensures
+    (subst (λ (s : List ℕ). MaySee c.args.rules c.args.log.now c.args.t (get ◌==◌ c.carry.new.marked) s c.in-Some.y) (sym c.as_slice-3.ensures.value) m)))
 
 pub returns : goal.returns
 returns c yes' =

@@ -12,5 +12,5 @@ abbrev pub invariant-loop-q : goal.invariant-loop-q
 invariant-loop-q l = record {
   kept : AreKept (get ◌==◌ l.initial.marked) (get ◌==◌ l.marked);
   there : (k : ℕ) → k < l.q → (x : ℕ) (read : Read) → read_at l.log l.t k ≡ Some read → read.operation < l.n →
-    source_in l.certificate.sources.items l.t k ≡ writer.Transaction x → IsMarked (get ◌==◌ l.marked) x;
+      source_in l.certificate.sources.items l.t k ≡ writer.Transaction x → IsMarked (get ◌==◌ l.marked) x;
 }
