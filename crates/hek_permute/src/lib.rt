@@ -11,13 +11,14 @@ mod order;
 mod outcome;
 mod parts;
 mod play;
+mod seen;
 mod tally;
 mod whole;
 
 pub use fault::OrderFault;
 pub use find::{Pace, Sought, find_order};
 pub use leveled::schedule_with;
-pub use moves::{Form, Moves, first_order, move_count, moves_of};
+pub use moves::{Form, Move, Moves, first_order, move_count, moves_of};
 pub use number::{all_orders_are_numbered, order_at, order_count};
 pub use one_play::{each_order_has_one_outcome, each_order_has_one_play};
 pub use order::next_order;

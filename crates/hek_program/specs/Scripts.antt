@@ -4,10 +4,10 @@ use Rattle.hek_rules.specs.declared.event.Event.{Event}
 use Rattle.hek_rules.specs.Plan.{Plan}
 use Rattle.hek_program.specs.declared.term.Factor.{Factor}
 use Rattle.hek_program.specs.declared.rule.Rule.{Rule}
-use Rattle.hek_program.specs.declared.rule.Turn.{Turn}
+use Rattle.hek_program.specs.declared.rule.Act.{Act}
 use Rattle.hek_program.specs.declared.always.Always.{Always}
 use Rattle.hek_program.specs.Conditions.{all_hold}
-use Rattle.hek_program.specs.Turns.{plain_rule, turn_of}
+use Rattle.hek_program.specs.Acts.{plain_rule, act_of}
 
 -- the schedule, whose computed values are 0; the rule of each step, those without one at the end left out; invariants
 pub record Script : Type 0 where
@@ -23,8 +23,8 @@ abbrev pub rule_at : Script → ℕ → Rule
 rule_at s place = unwrap_or (slice_get s.rules place) plain_rule
 
 -- what the step at a place does for a transaction that sees these values
-abbrev pub turn_at : Script → ℕ → (Factor → Option ℕ) → Option Turn
-turn_at s place v = option_map (λ e. turn_of v e (rule_at s place)) (slice_get s.plan.steps place)
+abbrev pub act_at : Script → ℕ → (Factor → Option ℕ) → Option Act
+act_at s place v = option_map (λ e. act_of v e (rule_at s place)) (slice_get s.plan.steps place)
 
 -- the line of the first invariant that does not hold
 abbrev pub first_broken : (Factor → Option ℕ) → List Always → Option ℕ

@@ -54,12 +54,12 @@ fn key_factor(
     line: &Line<'_>,
     at: usize,
     schedule: &Schedule,
-    scope: Scope,
+    scope: &Scope,
     key: u64,
 ) -> Result<Factor, ProgramFault> {
     match scope {
         Scope::Step(txn, before) => {
-            if is_seen(schedule, txn, before, key) {
+            if is_seen(schedule, *txn, *before, key) {
                 Ok(Factor::Key(key))
             } else {
                 Err(line.wants(at, Wanted::SeenKey))
@@ -79,7 +79,7 @@ fn key_factor(
 fn name_factor(
     line: &Line<'_>,
     at: usize,
-    scope: Scope,
+    scope: &Scope,
     txn: TxnId,
 ) -> Result<Factor, ProgramFault> {
     match scope {
@@ -92,7 +92,7 @@ fn factor(
     line: &Line<'_>,
     at: usize,
     schedule: &Schedule,
-    scope: Scope,
+    scope: &Scope,
 ) -> Result<Factor, ProgramFault> {
     match line.kind(at) {
         Some(Kind::Number(value)) => Ok(Factor::Number(value)),
@@ -108,7 +108,7 @@ fn product(
     line: &Line<'_>,
     at: usize,
     schedule: &Schedule,
-    scope: Scope,
+    scope: &Scope,
     minus: bool,
 ) -> Result<(Product, usize), ProgramFault> {
     let mut factors = Vec::new(alloc);
@@ -130,7 +130,7 @@ pub(crate) fn amount(
     line: &Line<'_>,
     at: usize,
     schedule: &Schedule,
-    scope: Scope,
+    scope: &Scope,
 ) -> Result<(Amount, usize), ProgramFault> {
     let mut products = Vec::new(alloc);
     let mut next = at;
@@ -160,7 +160,7 @@ fn comparison(
     line: &Line<'_>,
     at: usize,
     schedule: &Schedule,
-    scope: Scope,
+    scope: &Scope,
 ) -> Result<(Comparison, usize), ProgramFault> {
     let (left, middle) = amount(alloc, line, at, schedule, scope)?;
     let relation = relation(line, middle)?;
@@ -181,7 +181,7 @@ pub(crate) fn condition(
     line: &Line<'_>,
     at: usize,
     schedule: &Schedule,
-    scope: Scope,
+    scope: &Scope,
 ) -> Result<Condition, ProgramFault> {
     let mut comparisons = Vec::new(alloc);
     let mut next = at;

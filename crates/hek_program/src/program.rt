@@ -1,11 +1,11 @@
 //! Programs.
 ghost use Rattle.std.specs.Prelude.{◌≡◌, [], length, IfOk, OnOk};
-ghost use Rattle.hek_program.specs.Scripts.{first_broken, plain_script, turn_at};
+ghost use Rattle.hek_program.specs.Scripts.{first_broken, plain_script, act_at};
 ghost use Rattle.hek_program.specs.Told.{at_end};
 
 use crate::always::{Always, AtEnd, first_broken};
 use crate::lookup::Lookup;
-use crate::rule::{Rule, Turn, turn_of};
+use crate::rule::{Rule, Act, act_of};
 use hek_rules::{Event, Schedule};
 use std::alloc::Global;
 use std::marker::Model;
@@ -71,14 +71,14 @@ impl Program {
     }
 
     /// What the step at a place does for a transaction that sees these values; None if there is no such step.
-    pub fn turn_at<L: Lookup>(&self, place: usize, lookup: &L) -> Option<Turn>
-        ensures { result ≡ turn_at self.now place (L.value_of lookup.now) }
+    pub fn act_at<L: Lookup>(&self, place: usize, lookup: &L) -> Option<Act>
+        ensures { result ≡ act_at self.now place (L.value_of lookup.now) }
     {
         let steps = self.schedule.steps();
         let step = *steps.get(place)?;
         match self.rules.get(place) {
-            Some(rule) => Some(turn_of(step, rule, lookup)),
-            None => Some(plain_turn(step)),
+            Some(rule) => Some(act_of(step, rule, lookup)),
+            None => Some(plain_act(step)),
         }
     }
 
@@ -91,13 +91,13 @@ impl Program {
 }
 
 /// What a step without a rule does.
-fn plain_turn(step: Event) -> Turn
-    ensures { result ≡ plain_turn step }
+fn plain_act(step: Event) -> Act
+    ensures { result ≡ plain_act step }
 {
     match step {
-        Event::Fail(_) => Turn::Fails,
-        _ => Turn::Makes(step),
+        Event::Fail(_) => Act::Fails,
+        _ => Act::Makes(step),
     }
 }
 
-ghost use Rattle.hek_program.specs.Turns.{plain_turn};
+ghost use Rattle.hek_program.specs.Acts.{plain_act};

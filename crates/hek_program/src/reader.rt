@@ -134,13 +134,13 @@ fn rule_of(
     match event {
         Event::Insert(txn, _, _) | Event::Update(txn, _, _) => {
             let scope = Scope::Step(txn, place);
-            let (amount, next) = amount(alloc, line, 3, schedule, scope)?;
-            let when = when_of(alloc, schedule, line, next, scope)?;
+            let (amount, next) = amount(alloc, line, 3, schedule, &scope)?;
+            let when = when_of(alloc, schedule, line, next, &scope)?;
             Ok(Rule { amount, when })
         }
         Event::Read(txn, _) | Event::Scan(txn, _) | Event::Delete(txn, _) =>
-            conditional(alloc, schedule, line, 3, Scope::Step(txn, place)),
-        Event::Fail(txn) => conditional(alloc, schedule, line, 2, Scope::Step(txn, place)),
+            conditional(alloc, schedule, line, 3, &Scope::Step(txn, place)),
+        Event::Fail(txn) => conditional(alloc, schedule, line, 2, &Scope::Step(txn, place)),
         _ => Err(line.wants(1, Wanted::Move)),
     }
 }
@@ -151,7 +151,7 @@ fn conditional(
     schedule: &Schedule,
     line: &Line<'_>,
     at: usize,
-    scope: Scope,
+    scope: &Scope,
 ) -> Result<Rule, ProgramFault> {
     Ok(Rule {
         amount: Amount::none(alloc),
@@ -165,7 +165,7 @@ fn when_of(
     schedule: &Schedule,
     line: &Line<'_>,
     at: usize,
-    scope: Scope,
+    scope: &Scope,
 ) -> Result<Condition, ProgramFault> {
     if at >= line.tokens.len() {
         return Ok(Condition::none(alloc));
@@ -206,7 +206,7 @@ fn read_always(
 ) -> Result<Always, ProgramFault> {
     let tokens = tokens_of(alloc, schedule, line)?;
     let line = line_of(number, line, tokens.as_slice());
-    let condition = condition(alloc, &line, 1, schedule, Scope::End)?;
+    let condition = condition(alloc, &line, 1, schedule, &Scope::End)?;
     Ok(Always {
         line: number,
         condition,

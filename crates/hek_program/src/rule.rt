@@ -1,6 +1,6 @@
 //! How a step of a program is computed.
 ghost use Rattle.std.specs.Prelude.{◌≡◌, IfOk};
-ghost use Rattle.hek_program.specs.Turns.{made, plain_rule, turn_of, with_value};
+ghost use Rattle.hek_program.specs.Acts.{made, plain_rule, act_of, with_value};
 
 use crate::condition::Condition;
 use crate::lookup::Lookup;
@@ -18,7 +18,7 @@ pub struct Rule {
 
 /// What a step does when its turn comes.
 #[derive(Clone, Copy, Debug, PartialEq, Eq)]
-pub enum Turn {
+pub enum Act {
     Makes(Event),
     /// Nothing, since its condition doesn't hold.
     Skips,
@@ -60,29 +60,29 @@ fn with_value(value: u64, event: Event) -> Event
 }
 
 /// What a step does whose condition holds.
-fn made<L: Lookup>(event: Event, amount: &Amount, lookup: &L) -> Turn
+fn made<L: Lookup>(event: Event, amount: &Amount, lookup: &L) -> Act
     ensures { result ≡ made (L.value_of lookup.now) event amount.now }
 {
     if let Event::Fail(_) = event {
-        return Turn::Fails;
+        return Act::Fails;
     }
     if amount.products().is_empty() {
-        return Turn::Makes(event);
+        return Act::Makes(event);
     }
     match amount.value(lookup) {
-        Some(value) => Turn::Makes(with_value(value, event)),
-        None => Turn::Fails,
+        Some(value) => Act::Makes(with_value(value, event)),
+        None => Act::Fails,
     }
 }
 
 /// What a step does for a transaction that sees these values. Without a value that it could write, as below zero, from
 /// 2^64 on, or with a key at which there is nothing, the transaction fails. A comparison with such a key doesn't hold.
-pub fn turn_of<L: Lookup>(event: Event, rule: &Rule, lookup: &L) -> Turn
-    ensures { result ≡ turn_of (L.value_of lookup.now) event rule.now }
+pub fn act_of<L: Lookup>(event: Event, rule: &Rule, lookup: &L) -> Act
+    ensures { result ≡ act_of (L.value_of lookup.now) event rule.now }
 {
     if rule.when.holds(lookup) {
         made(event, &rule.amount, lookup)
     } else {
-        Turn::Skips
+        Act::Skips
     }
 }
