@@ -121,8 +121,8 @@ reach-same form works t h k s z (x ∷ xs) (y ∷ ys) e know so =
       sym (next-same form works t h k s.places s.turn know) ∙ so.0 ∙ ap (λ (q : ℕ × Event). Some q) made,
       so.1,
       sym (by-bare form works k (k ++ y ∷ []) s.places s.turn y.reply) ∙ sym (ap (after_by form works k (k ++ y ∷ []) s.places s.turn) bare)
-      ∙ by-bare form works k (k ++ y ∷ []) s.places s.turn x.reply
-      ∙ sym (after-same form works h k (h ++ x ∷ []) (k ++ y ∷ []) s.places s.turn x.reply know then) ∙ so.2,
+          ∙ by-bare form works k (k ++ y ∷ []) s.places s.turn x.reply
+          ∙ sym (after-same form works h k (h ++ x ∷ []) (k ++ y ∷ []) s.places s.turn x.reply know then) ∙ so.2,
       reach-same form works t (h ++ x ∷ []) (k ++ y ∷ []) so.1 z xs ys tail then so.3,
     )
 

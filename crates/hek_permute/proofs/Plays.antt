@@ -56,12 +56,12 @@ under_way-more form works t was now later turn next_turn h k new x u n a e =
     let on : after form works (h ++ u.more) ((h ++ u.more) ++ x ∷ []) (record { places = now; turn = turn }) x.reply ≡ Some (record { places = later; turn = next_turn }) =
     subst (λ (l : List Entry). after form works l (l ++ x ∷ []) (record { places = now; turn = turn }) x.reply ≡ Some (record { places = later; turn = next_turn })) u.grown led in
     record {
-  more = u.more ++ x ∷ [];
-  grown = e ∙ ap (λ (l : List Entry). l ++ x ∷ []) u.grown ∙ append_assoc h u.more (x ∷ []);
-  first = u.first;
-  sent = u.sent;
-  way = reach_more form works t h u.first (record { places = now; turn = turn }) (record { places = later; turn = next_turn }) u.more x u.way told on;
-}
+      more = u.more ++ x ∷ [];
+      grown = e ∙ ap (λ (l : List Entry). l ++ x ∷ []) u.grown ∙ append_assoc h u.more (x ∷ []);
+      first = u.first;
+      sent = u.sent;
+      way = reach_more form works t h u.first (record { places = now; turn = turn }) (record { places = later; turn = next_turn }) u.more x u.way told on;
+    }
 
 pub back_more : (xs : List ℕ) (i d : ℕ) → i < length xs → reverse (take (i + 1) xs) ≡ get_or xs i d ∷ reverse (take i xs)
 back_more xs i d h = ap (λ (n : ℕ). reverse (take n xs)) (add-one i) ∙ ap reverse (take-suc xs i d h) ∙ reverse-append (take i xs) (get_or xs i d ∷ [])

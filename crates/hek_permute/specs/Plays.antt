@@ -82,30 +82,30 @@ may_go form s n stage = true
 
 -- what a transaction does at the place of a step: it fails where the step does, and one that fails in the end where its
 -- last move is due
-abbrev pub worked_at : Form → Shown → ℕ → Option Act → Stage
-worked_at form s i (Some Fails) = GivingUp
-worked_at form s i (Some act) = Working i
-worked_at Whole s i None = if s.fails then GivingUp else Working i
-worked_at form s i None = Working i
+abbrev pub worked_at : Form → Bool → ℕ → Option Act → Stage
+worked_at form fails i (Some Fails) = GivingUp
+worked_at form fails i (Some act) = Working i
+worked_at Whole fails i None = if fails then GivingUp else Working i
+worked_at form fails i None = Working i
 
 -- what a transaction does next: steps that are skipped are passed over
 abbrev pub turned : Form → Shown → Stage → Stage
-turned form s (Working i) = worked_at form s (ahead s.acts i) (slice_get s.acts (ahead s.acts i))
+turned form s (Working i) = worked_at form s.fails (ahead s.acts i) (slice_get s.acts (ahead s.acts i))
 turned Split s (Releasing false) = if s.fails then GivingUp else Releasing false
 turned ByEvent s (Releasing false) = if s.fails then GivingUp else Releasing false
 turned form s stage = stage
 
 -- whether it fails while it waits: all its moves have come, the last of which is `fail`
-abbrev pub gives_up : Form → Shown → Place → Bool
-gives_up form s p = p.waits && s.fails && nat_le (all_moves form s) p.moves
+abbrev pub gives_up : ℕ → Bool → Place → Bool
+gives_up all fails p = p.waits && fails && nat_le all p.moves
 
 -- the stage that decides its next event
 abbrev pub due : Form → Shown → Place → Stage
-due form s p = if gives_up form s p then GivingUp else turned form s p.stage
+due form s p = if gives_up (all_moves form s) s.fails p then GivingUp else turned form s p.stage
 
 -- whether it goes no further: it waits and does not fail, or its next event belongs to a later move
 abbrev pub rests : Form → Shown → Place → Bool
-rests form s p = (p.waits && not (gives_up form s p)) || not (may_go form s p.moves p.stage)
+rests form s p = (p.waits && not (gives_up (all_moves form s) s.fails p)) || not (may_go form s p.moves p.stage)
 
 -- the event of a step; past the last one there is `finish`
 abbrev pub step_event : ℕ → Option Act → Event

@@ -119,18 +119,16 @@ impl Moves {
     {
         match self.act(place, txn, history) {
             Some(Act::Skips) => true,
-            _ => false,
+            Some(Act::Makes(_)) => false,
+            Some(Act::Fails) => false,
+            None => false,
         }
     }
 }
 
 /// The moves of each declared transaction of a schedule, in order of their IDs. The first rule is that of the first
 /// step; steps without a rule are their events.
-pub fn moves_of(
-    alloc: Global,
-    schedule: &Schedule,
-    rules: &[Rule],
-) -> Result<Vec<Moves>, NoMemory>
+pub fn moves_of(alloc: Global, schedule: &Schedule, rules: &[Rule]) -> Result<Vec<Moves>, NoMemory>
     ensures { IfOk result (λ moves. AreMoves schedule.now rules.now moves.items) }
 {
     let mut moves = Vec::with_capacity(alloc, schedule.txn_count())?;

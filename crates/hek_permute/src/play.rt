@@ -1,9 +1,9 @@
 //! One order of moves, played on a new machine.
-ghost use Rattle.std.specs.Prelude.{◌≡◌, ◌+◌, ℕ, IfOk, List, OnOk, [], length, nat_lt, replicate, reverse, take};
-ghost use Rattle.hek_worker.specs.declared.entry.Entry.{Entry};
+ghost use Rattle.std.specs.Prelude.{◌≡◌, ◌+◌, IfOk, OnOk, [], length, nat_lt, replicate, reverse, take};
 ghost use Rattle.hek_worker.specs.Grammar.{answers};
 ghost use Rattle.hek_worker.specs.History.{Replays};
-ghost use Rattle.hek_permute.specs.Plays.{HasMoved, IsPlay, Shown, after_by, after_step, all_wait, answered, asks, asks_on, before_precommit, before_work, comes, due, event_by, first_asked, first_place, gives_up, is_it, is_over, is_running, may_go, next_by, noted, passed, rests, sends, shown_to, stage_after, step_event, turned, worked_at};
+ghost use Rattle.hek_permute.specs.Moves.{move_count};
+ghost use Rattle.hek_permute.specs.Plays.{HasMoved, IsPlay, after_by, after_step, all_wait, answered, asks, asks_on, before_precommit, before_work, comes, due, event_by, first_asked, first_place, gives_up, is_it, is_over, is_running, may_go, next_by, noted, passed, rests, sends, shown_to, stage_after, step_event, turned, worked_at};
 
 use crate::fault::OrderFault;
 use crate::moves::{Form, Moves, move_count};
@@ -64,7 +64,7 @@ impl Place {
 
     /// Whether the transaction fails while it waits: all its moves have come, the last of which is `fail`.
     fn gives_up(&self, of_one: &Moves, form: Form) -> bool
-        ensures { (txn : ℕ) (history : List Entry) → result ≡ gives_up form (shown_to of_one.now txn history) self.now }
+        ensures { result ≡ gives_up (move_count form of_one.now) of_one.now.fails self.now }
     {
         self.waits && of_one.fails() && self.moves >= move_count(of_one, form)
     }
@@ -151,7 +151,7 @@ impl Place {
 
 /// What a transaction does at the place of a step, by what the step does.
 fn worked_at(form: Form, fails: bool, place: usize, act: Option<Act>) -> Stage
-    ensures { (s : Shown) → s.fails ≡ fails → result ≡ worked_at form s place act }
+    ensures { result ≡ worked_at form fails place act }
 {
     match act {
         Some(Act::Fails) => Stage::GivingUp,

@@ -136,7 +136,14 @@ fn beginning_of<E: Write>(
     progress: &mut Progress<'_, E>,
 ) -> Result<Option<Search>, OrderFault> {
     let moves = match wanted {
-        Wanted::Reply(sought) => find_order(alloc, given.schedule, given.rules, form, sought, progress)?,
+        Wanted::Reply(sought) => find_order(
+            alloc,
+            given.schedule,
+            given.rules,
+            form,
+            sought,
+            progress,
+        )?,
         Wanted::Kind(kind) => find_kind(alloc, given, form, kind, progress)?,
         Wanted::Verdict(_) | Wanted::Breaks => {
             return first_with(alloc, given, form, wanted, limit, progress);
@@ -236,7 +243,14 @@ fn events_found<'a>(
     moves: &[TxnId],
 ) -> Result<Vec<Event>, HekFault<'a>> {
     let of_all = moves_of(alloc, given.schedule, given.rules)?;
-    events_played(alloc, given.schedule, form, wanted, of_all.as_slice(), moves)
+    events_played(
+        alloc,
+        given.schedule,
+        form,
+        wanted,
+        of_all.as_slice(),
+        moves,
+    )
 }
 
 /// The events of the play of moves, up to the event that has the reply, given the moves of all transactions.
@@ -276,10 +290,14 @@ pub(crate) fn found_in<'a, E: Write>(
 ) -> Result<Answer, HekFault<'a>> {
     let wanted = wanted_of(alloc, given.schedule, text)?;
     match beginning_of(alloc, given, form, &wanted, limit, progress) {
-        Ok(Some(Search {
-            moves: Some(moves),
-            verdict,
-        })) => {
+        Ok(
+            Some(
+                Search {
+                    moves: Some(moves),
+                    verdict,
+                },
+            ),
+        ) => {
             let most = most_moves(alloc, given, form)?;
             let beginning = Beginning { moves, most };
             let found = found_of(alloc, given, form, &wanted, verdict, beginning)?;

@@ -2,7 +2,7 @@
 use hek_asm::AsmKind;
 use hek_permute::{Ending, Outcome};
 use hek_program::{AtEnd, Program, ProgramFault, Rule, Wanted, read_program};
-use hek_report::{HekFault, ScheduleFile, schedule_of_image};
+use hek_report::{HekFault, ScheduleFile, schedule_in};
 use hek_rules::{Event, NoMemory, Schedule};
 use std::alloc::Global;
 use std::io::Read;
@@ -75,7 +75,7 @@ pub(crate) fn program_in<'a, R: Read + Drop>(
     match file {
         ScheduleFile::Text(text) => program_of_text(alloc, text.as_slice()),
         ScheduleFile::Image(reader) => {
-            let schedule = schedule_of_image(alloc, reader)?;
+            let schedule = schedule_in(alloc, ScheduleFile::Image(reader))?;
             Ok(Program::plain(alloc, schedule))
         }
     }

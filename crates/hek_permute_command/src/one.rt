@@ -24,7 +24,13 @@ pub(crate) fn one_order<'a>(
 ) -> Result<Played, HekFault<'a>> {
     let moves = moves_of(alloc, given.schedule, given.rules)?;
     let order = order_named(alloc, given.schedule, moves.as_slice(), form, names)?;
-    let played = played_by(alloc, given.schedule, moves.as_slice(), form, order.as_slice())?;
+    let played = played_by(
+        alloc,
+        given.schedule,
+        moves.as_slice(),
+        form,
+        order.as_slice(),
+    )?;
     Ok(Played {
         most: order.len(),
         moves: order,

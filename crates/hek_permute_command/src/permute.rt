@@ -238,7 +238,14 @@ fn tally_of<'a, E: Write>(
             let played = play_all(alloc, given.schedule, given.rules, form, from, to, progress);
             Ok(Some(sorted(played)?))
         }
-        Extent::States(most) => match explore(alloc, given.schedule, given.rules, form, most, progress) {
+        Extent::States(most) => match explore(
+            alloc,
+            given.schedule,
+            given.rules,
+            form,
+            most,
+            progress,
+        ) {
             Ok(None) => Ok(None),
             Ok(Some(tally)) => {
                 progress.tell();

@@ -56,7 +56,10 @@ pub enum ProgramFault {
     NoMemory,
     /// The line is none of a schedule's, without what it computes.
     #[error("line {line}: {kind}")]
-    Line { line: u64, kind: AsmKind },
+    Line {
+        line: u64,
+        kind: AsmKind,
+    },
     #[error("line {line}, column {column}: {wanted} is wanted")]
     At {
         line: u64,

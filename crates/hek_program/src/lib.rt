@@ -22,7 +22,7 @@ pub use laws::plain_steps_are_constant;
 pub use lookup::Lookup;
 pub use program::Program;
 pub use reader::read_program;
-pub use rule::{Rule, Act, act_of};
+pub use rule::{Act, Rule, act_of};
 pub use term::{Amount, Factor, Product, Sum};
 pub use told::{Own, known_after, value_at};
 pub use written::computed_line;

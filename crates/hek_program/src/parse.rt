@@ -80,11 +80,11 @@ fn name_factor(
     line: &Line<'_>,
     at: usize,
     scope: &Scope,
-    txn: TxnId,
+    number: u64,
 ) -> Result<Factor, ProgramFault> {
     match scope {
         Scope::Step(_, _) => Err(line.wants(at, Wanted::Term)),
-        Scope::End => Ok(Factor::Name(txn)),
+        Scope::End => Ok(Factor::Name(TxnId::new(number))),
     }
 }
 
@@ -97,7 +97,7 @@ fn factor(
     match line.kind(at) {
         Some(Kind::Number(value)) => Ok(Factor::Number(value)),
         Some(Kind::Key(key)) => key_factor(line, at, schedule, scope, key),
-        Some(Kind::Name(txn)) => name_factor(line, at, scope, txn),
+        Some(Kind::Name(number)) => name_factor(line, at, scope, number),
         _ => Err(line.wants(at, Wanted::Term)),
     }
 }

@@ -5,7 +5,7 @@ ghost use Rattle.hek_program.specs.Told.{at_end};
 
 use crate::always::{Always, AtEnd, first_broken};
 use crate::lookup::Lookup;
-use crate::rule::{Rule, Act, act_of};
+use crate::rule::{Act, Rule, act_of};
 use hek_rules::{Event, Schedule};
 use std::alloc::Global;
 use std::marker::Model;

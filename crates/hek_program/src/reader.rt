@@ -70,11 +70,7 @@ fn line_of<'t>(number: u64, line: &[u8], tokens: &'t [Token]) -> Line<'t> {
 }
 
 /// The rules of the steps.
-fn rules_of(
-    alloc: Global,
-    schedule: &Schedule,
-    text: &str,
-) -> Result<Vec<Rule>, ProgramFault> {
+fn rules_of(alloc: Global, schedule: &Schedule, text: &str) -> Result<Vec<Rule>, ProgramFault> {
     let mut rules = Vec::new(alloc);
     let mut number: u64 = 0;
     let mut rest = text.as_bytes();
@@ -138,8 +134,13 @@ fn rule_of(
             let when = when_of(alloc, schedule, line, next, &scope)?;
             Ok(Rule { amount, when })
         }
-        Event::Read(txn, _) | Event::Scan(txn, _) | Event::Delete(txn, _) =>
-            conditional(alloc, schedule, line, 3, &Scope::Step(txn, place)),
+        Event::Read(txn, _) | Event::Scan(txn, _) | Event::Delete(txn, _) => conditional(
+            alloc,
+            schedule,
+            line,
+            3,
+            &Scope::Step(txn, place),
+        ),
         Event::Fail(txn) => conditional(alloc, schedule, line, 2, &Scope::Step(txn, place)),
         _ => Err(line.wants(1, Wanted::Move)),
     }
@@ -177,11 +178,7 @@ fn when_of(
 }
 
 /// The invariants.
-fn always_of(
-    alloc: Global,
-    schedule: &Schedule,
-    text: &str,
-) -> Result<Vec<Always>, ProgramFault> {
+fn always_of(alloc: Global, schedule: &Schedule, text: &str) -> Result<Vec<Always>, ProgramFault> {
     let mut always = Vec::new(alloc);
     let mut number: u64 = 0;
     let mut rest = text.as_bytes();

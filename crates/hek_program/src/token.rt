@@ -1,7 +1,7 @@
 //! The tokens of a line.
 use crate::condition::Relation;
 use crate::fault::{ProgramFault, Wanted};
-use hek_rules::{Schedule, TxnId, number, same_bytes};
+use hek_rules::{Schedule, number, same_bytes};
 use std::alloc::Global;
 
 /// What a token is. Words that are neither `if`, `and` nor the name of a transaction are not told apart.
@@ -9,7 +9,8 @@ use std::alloc::Global;
 pub(crate) enum Kind {
     Number(u64),
     Key(u64),
-    Name(TxnId),
+    /// The name of the transaction with this number.
+    Name(u64),
     If,
     And,
     Word,
@@ -118,7 +119,7 @@ fn word_kind(schedule: &Schedule, word: &[u8]) -> Kind {
         return Kind::And;
     }
     match schedule.id_of(word) {
-        Some(txn) => Kind::Name(txn),
+        Some(txn) => Kind::Name(txn.number()),
         None => Kind::Word,
     }
 }

@@ -18,10 +18,7 @@ pub(crate) enum Sort {
 
 /// Whether a byte stands only in a term or a condition.
 fn is_sign(byte: u8) -> bool {
-    matches!(
-        byte,
-        b'@' | b'+' | b'-' | b'*' | b'=' | b'<' | b'>' | b'!'
-    )
+    matches!(byte, b'@' | b'+' | b'-' | b'*' | b'=' | b'<' | b'>' | b'!')
 }
 
 /// Whether such a byte stands before the comment.
