@@ -19,3 +19,4 @@ pub mod OnePlay
 pub mod Constant
 pub mod Acts
 pub mod Own
+pub mod Seats

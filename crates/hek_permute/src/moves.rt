@@ -1,5 +1,5 @@
 //! The moves of transactions, and the orders in which they can come.
-ghost use Rattle.std.specs.Prelude.{◌≡◌, ◌+◌, ◌<◌, [], ◌∷◌, ◌++◌, false, drop, filter, length, replicate, slice_get, IfOk, IsTrue, OnOk, Some};
+ghost use Rattle.std.specs.Prelude.{◌≡◌, ◌+◌, ◌<◌, ◌^◌, [], ◌∷◌, ◌++◌, false, drop, filter, length, replicate, slice_get, IfOk, IsTrue, OnOk, Some};
 ghost use Rattle.hek_program.specs.declared.rule.Act.TheVariants.{Skips};
 ghost use Rattle.hek_permute.specs.Moves.{AreMoves, counts_of, first_order_from, first_rule, has_fail, has_some, is_conditional, is_move, later_rules, move_count, other_moves, with_rules, work_in};
 ghost use Rattle.hek_permute.specs.Plays.{ahead, shown_to, skips};
@@ -87,38 +87,53 @@ impl Moves {
         self.fails
     }
 
+    /// How many buckets there are.
+    fn buckets(&self) -> u64
+        ensures value { result ≡ self.now.buckets }
+        ensures some { 0 < result }
+    {
+        self.buckets
+    }
+
     /// What the step at a place does by what its transaction has seen in a history; None past the last step.
     pub(crate) fn act(&self, place: usize, txn: TxnId, history: &[Entry]) -> Option<Act>
         ensures { result ≡ slice_get (shown_to self.now txn history.now).acts place }
     {
-        let step = self.steps.get(place)?;
-        let seen = Seen {
-            buckets: self.buckets,
-            txn,
-            history,
-        };
-        Some(act_of(step.event, &step.rule, &seen))
+        match self.steps().get(place) {
+            Some(step) => Some(act_of(
+                step.event,
+                &step.rule,
+                &Seen {
+                    buckets: self.buckets(),
+                    txn,
+                    history,
+                },
+            )),
+            None => None,
+        }
     }
 
     /// The first place from one on whose step is not skipped.
     pub(crate) fn ahead(&self, place: usize, txn: TxnId, history: &[Entry]) -> usize
         ensures { result ≡ ahead (shown_to self.now txn history.now).acts place }
     {
+        let number = txn.number();
         let mut at = place;
-        while self.is_skipped(at, txn, history) {
+        while self.is_skipped(at, number, history) {
             at += 1;
         }
         at
     }
 
-    /// Whether there is a step at a place, and it is skipped.
-    fn is_skipped(&self, place: usize, txn: TxnId, history: &[Entry]) -> bool
-        ensures skips { IsTrue result → slice_get (shown_to self.now txn history.now).acts place ≡ Some Skips }
-        ensures goes_on { result ≡ false → skips (drop place (shown_to self.now txn history.now).acts) ≡ 0 }
-        ensures within { IsTrue result → place < length self.now.steps }
+    /// Whether there is a step at a place, and it is skipped by the transaction with this number.
+    fn is_skipped(&self, place: usize, number: u64, history: &[Entry]) -> bool
+        ensures skips { IsTrue result → slice_get (shown_to self.now number history.now).acts place ≡ Some Skips }
+        ensures goes_on { result ≡ false → skips (drop place (shown_to self.now number history.now).acts) ≡ 0 }
+        ensures within { IsTrue result → place + 1 < 2 ^ 64 }
     {
-        match self.act(place, txn, history) {
-            Some(Act::Skips) => true,
+        let most = self.steps().len();
+        match self.act(place, TxnId::new(number), history) {
+            Some(Act::Skips) => place < most,
             Some(Act::Makes(_)) => false,
             Some(Act::Fails) => false,
             None => false,
@@ -197,10 +212,10 @@ fn first_rule(alloc: Global, rules: &[Rule]) -> Result<Rule, NoMemory>
 }
 
 /// Whether a step with the first of these rules is a move of a transaction.
-fn is_move(txn: TxnId, event: Event, rules: &[Rule]) -> bool
-    ensures { result ≡ is_move txn (record { event = event; rule = first_rule rules.now }) }
+fn is_move(txn: TxnId, event: &Event, rules: &[Rule]) -> bool
+    ensures { result ≡ is_move txn (record { event = event.now; rule = first_rule rules.now }) }
 {
-    is_work(txn, event) || (is_fail(txn, event) && is_conditional(rules))
+    is_work(txn, *event) || (is_fail(txn, *event) && is_conditional(rules))
 }
 
 /// The moves of one transaction among these steps.
@@ -216,7 +231,7 @@ fn own_steps(
     let mut rest = steps;
     let mut rules_rest = rules;
     while let Some((step, later)) = rest.split_first() {
-        put_move(alloc, txn, *step, rules_rest, &mut own)?;
+        put_move(alloc, txn, step, rules_rest, &mut own)?;
         rest = later;
         rules_rest = later_rules(rules_rest);
     }
@@ -227,17 +242,20 @@ fn own_steps(
 fn put_move(
     alloc: Global,
     txn: TxnId,
-    event: Event,
+    event: &Event,
     rules: &[Rule],
     own: &mut Vec<Move>,
 ) -> Result<(), NoMemory>
-    ensures { OnOk result (own.new.items ≡ own.old.items ++ filter (is_move txn) (record { event = event; rule = first_rule rules.now } ∷ [])) }
+    ensures { OnOk result (own.new.items ≡ own.old.items ++ filter (is_move txn) (record { event = event.now; rule = first_rule rules.now } ∷ [])) }
 {
     if !is_move(txn, event, rules) {
         return Ok(());
     }
     let rule = first_rule(alloc, rules)?;
-    own.push(Move { event, rule })?;
+    own.push(Move {
+        event: *event,
+        rule,
+    })?;
     Ok(())
 }
 
