@@ -71,14 +71,12 @@ pub fn schedule_to_run<'a, D: Disk, I: Read + Drop>(
 ) -> Result<ScheduleFile<BufReader<FromFront<I, D::Reader>>>, HekFault<'a>> {
     let level = level_of(found)?;
     let file = schedule_file(alloc, found, disk, input)?;
-    let file = match level {
-        Some(level) => level_file(alloc, file, level)?,
-        None => file,
-    };
     if found.get_flag("auto") {
-        auto_file(alloc, file)
-    } else {
-        Ok(file)
+        return auto_file(alloc, file, level);
+    }
+    match level {
+        Some(level) => level_file(alloc, file, level),
+        None => Ok(file),
     }
 }
 

@@ -72,7 +72,7 @@ fn explorer_data<'a>(
     ensures stops { IfErr result IsExploreStop }
 {
     let Extent { form, limit } = extent;
-    let moves = moves_of(alloc, schedule)?;
+    let moves = moves_of(alloc, schedule, &[])?;
     let moves = moves.as_slice();
     let Some(prefixes) = prefixes_of(alloc, moves, form, limit)? else {
         return Ok(None);

@@ -40,15 +40,13 @@ fn remade<'a, R: Read + Drop>(
     file: ScheduleFile<R>,
     making: Making,
 ) -> Result<ScheduleFile<R>, HekFault<'a>> {
+    if making.auto {
+        return auto_file(alloc, file, making.level);
+    }
     let schedule = schedule_in(alloc, file)?;
     let schedule = at_level(alloc, schedule, making.level)?;
     let text = canonical(alloc, &schedule)?;
-    let made = ScheduleFile::Text(text.into_bytes());
-    if making.auto {
-        auto_file(alloc, made)
-    } else {
-        Ok(made)
-    }
+    Ok(ScheduleFile::Text(text.into_bytes()))
 }
 
 /// The schedule at this level, or at its own levels.

@@ -110,8 +110,8 @@ fn moves_of_one(alloc: Global, of_one: &Moves, form: Form) -> Result<Value, NoMe
     if form == Form::Event {
         values.push(text_value(alloc, "begin")?)?;
     }
-    for event in of_one.work() {
-        values.push(work_value(alloc, event)?)?;
+    for step in of_one.steps() {
+        values.push(work_value(alloc, &step.event)?)?;
     }
     push_last(alloc, form, of_one.fails(), &mut values)?;
     Ok(Value::Array(values))

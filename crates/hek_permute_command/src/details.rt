@@ -1,4 +1,5 @@
 //! In which other order the committed transactions of an order's play can follow one another, or why they can't.
+use crate::given::Given;
 use crate::one::fault_of;
 use hek_history_report::{Together, together_of};
 use hek_permute::{Form, Moves, moves_of, play_order};
@@ -11,7 +12,7 @@ use std::alloc::Global;
 /// What is said of a verdict beside its word: nothing where the order of end times is serial.
 pub(crate) fn details_of<'a>(
     alloc: Global,
-    schedule: &Schedule,
+    given: &Given<'_>,
     form: Form,
     order: &[TxnId],
     verdict: Serializability,
@@ -19,8 +20,8 @@ pub(crate) fn details_of<'a>(
     match verdict {
         Serializability::ByEndTime => Ok(Together::ByEndTime),
         Serializability::InAnotherOrder | Serializability::NotSerial => {
-            let moves = moves_of(alloc, schedule)?;
-            together_in_play(alloc, schedule, moves.as_slice(), form, order)
+            let moves = moves_of(alloc, given.schedule, given.rules)?;
+            together_in_play(alloc, given.schedule, moves.as_slice(), form, order)
         }
     }
 }

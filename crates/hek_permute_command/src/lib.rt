@@ -8,6 +8,7 @@ mod counts;
 mod details;
 mod each;
 mod find;
+mod given;
 mod jobs;
 mod json;
 mod kinds;

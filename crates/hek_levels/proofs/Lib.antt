@@ -1,0 +1,5 @@
+pub mod Orders
+pub mod Earlier
+pub mod Marks
+pub mod Swept
+pub mod Judged

@@ -1,0 +1,6 @@
+pub mod Logs
+pub mod Seen
+pub mod Explanations
+pub mod Places
+pub mod Sweeps
+pub mod Levels
