@@ -25,4 +25,4 @@ pub use reader::read_program;
 pub use rule::{Act, Rule, act_of};
 pub use term::{Amount, Factor, Product, Sum};
 pub use told::{Own, known_after, value_at};
-pub use written::computed_line;
+pub use written::{ComputedLine, bare_text, computed_line};

@@ -96,7 +96,7 @@ fn put_rule(
     match sort_of(line) {
         Sort::Head | Sort::Always => {}
         Sort::Plain => rules.push(Rule::plain(alloc))?,
-        Sort::Computed => {
+        Sort::Term | Sort::Condition => {
             let place = rules.len();
             rules.push(read_rule(alloc, schedule, number, line, place)?)?;
         }

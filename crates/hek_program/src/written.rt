@@ -10,8 +10,10 @@ pub(crate) enum Sort {
     Head,
     /// A step that is its event.
     Plain,
-    /// A step with a term or a condition.
-    Computed,
+    /// A step with a term, and no condition.
+    Term,
+    /// A step with a condition.
+    Condition,
     /// An invariant.
     Always,
 }
@@ -57,8 +59,10 @@ fn step_sort(first: &[u8], rest: &[u8]) -> Sort {
     if same_bytes(first, b"always") && EventKind::named(word).is_none() {
         return Sort::Always;
     }
-    if has_sign(later) || has_if(later) {
-        Sort::Computed
+    if has_if(later) {
+        Sort::Condition
+    } else if has_sign(later) {
+        Sort::Term
     } else {
         Sort::Plain
     }
@@ -75,18 +79,35 @@ pub(crate) fn sort_of(line: &[u8]) -> Sort {
     step_sort(first, rest)
 }
 
-/// The number of the first line that computes something, or is an invariant; none if a text has no such line, as a
-/// schedule hasn't.
-pub fn computed_line(text: &str) -> Option<u64> {
+/// A line that a program has and a schedule hasn't.
+#[derive(Clone, Copy, Debug, PartialEq, Eq)]
+pub struct ComputedLine {
+    /// Its number, from 1.
+    pub number: u64,
+    /// What it has, in words.
+    pub what: &'static str,
+}
+
+/// What a line of this sort has, if no schedule has it.
+fn what_of(sort: Sort) -> Option<&'static str> {
+    match sort {
+        Sort::Term => Some("a value that is computed"),
+        Sort::Condition => Some("a condition"),
+        Sort::Always => Some("an invariant"),
+        Sort::Head | Sort::Plain => None,
+    }
+}
+
+/// The first line that computes something, or is an invariant; none if a text has no such line, as a schedule hasn't.
+pub fn computed_line(text: &str) -> Option<ComputedLine> {
     let mut number: u64 = 0;
     let mut rest = text.as_bytes();
     for _ in 0..text.len() {
         let (line, later) = next_line(rest)?;
         number = number.saturating_add(1);
         rest = later;
-        match sort_of(line) {
-            Sort::Computed | Sort::Always => return Some(number),
-            Sort::Head | Sort::Plain => {}
+        if let Some(what) = what_of(sort_of(line)) {
+            return Some(ComputedLine { number, what });
         }
     }
     None
@@ -130,15 +151,15 @@ fn put_operands(text: &mut Vec<u8>, rest: &[u8], operands: usize) -> Result<(), 
 fn put_line(text: &mut Vec<u8>, line: &[u8]) -> Result<(), ProgramFault> {
     match sort_of(line) {
         Sort::Head | Sort::Plain => text.extend_from_slice(line)?,
-        Sort::Computed => put_step(text, line)?,
+        Sort::Term | Sort::Condition => put_step(text, line)?,
         Sort::Always => {}
     }
     text.push(b'\n')?;
     Ok(())
 }
 
-/// The text without what its lines compute: a schedule's, with a line for each line.
-pub(crate) fn bare_text(alloc: Global, text: &str) -> Result<Vec<u8>, ProgramFault> {
+/// The text without what its lines compute, with a line for each line: a schedule's, if the text is a program's.
+pub fn bare_text(alloc: Global, text: &str) -> Result<Vec<u8>, ProgramFault> {
     let mut bare = Vec::new(alloc);
     let mut rest = text.as_bytes();
     for _ in 0..text.len() {
