@@ -8,10 +8,13 @@ use crate::heading::Heading;
 use crate::prefixes::prefixes_of;
 use crate::sheet::write_sheet;
 use crate::tree::tree_of;
-use crate::tree_data::{levels_data, tree_data};
+use crate::texts::{add_invariants, step_texts};
+use crate::tree_data::{Shown, levels_data, tree_data};
 use hek_permute::{Form, moves_of, schedule_with};
+use hek_permute_command::{Given, leveled, program_in};
+use hek_program::Program;
 use hek_report::{HekFault, ScheduleFile, schedule_in};
-use hek_rules::{Level, NoMemory, Schedule};
+use hek_rules::{Level, NoMemory};
 use serde_json::Value;
 use std::alloc::Global;
 use std::io::{Read, Write};
@@ -40,12 +43,17 @@ pub fn explorer_command<'a, R: Read + Drop, W: Write, E: Write>(
 {
     let comments = comments_in(alloc, &file)?;
     let schedule = schedule_in(alloc, file)?;
-    write_explorer(alloc, &schedule, extent, &heading, &comments, out, faults)
+    let program = Program::plain(alloc, schedule);
+    let shown = Shown {
+        given: Given::of(&program),
+        texts: &[],
+    };
+    write_explorer(alloc, &shown, extent, &heading, &comments, out, faults)
 }
 
 fn write_explorer<'a, W: Write, E: Write>(
     alloc: Global,
-    schedule: &Schedule,
+    shown: &Shown<'_>,
     extent: Extent,
     heading: &Heading<'_>,
     comments: &Comments,
@@ -55,7 +63,7 @@ fn write_explorer<'a, W: Write, E: Write>(
     ensures answer { IfOk result (λ status. IsExplored status (W.contents out.old) (W.contents out.new)) }
     ensures stops { IfErr result IsExploreStop }
 {
-    match explorer_data(alloc, schedule, extent, heading, comments) {
+    match explorer_data(alloc, shown, extent, heading, comments) {
         Ok(data) => write_data(alloc, extent, heading, data, out, faults),
         Err(fault) => Err(fault),
     }
@@ -64,7 +72,7 @@ fn write_explorer<'a, W: Write, E: Write>(
 /// The data of the explorer of a schedule; none if the tree has more nodes than the limit.
 fn explorer_data<'a>(
     alloc: Global,
-    schedule: &Schedule,
+    shown: &Shown<'_>,
     extent: Extent,
     heading: &Heading<'_>,
     comments: &Comments,
@@ -72,13 +80,16 @@ fn explorer_data<'a>(
     ensures stops { IfErr result IsExploreStop }
 {
     let Extent { form, limit } = extent;
-    let moves = moves_of(alloc, schedule, &[])?;
+    let Given {
+        schedule, rules, ..
+    } = shown.given;
+    let moves = moves_of(alloc, schedule, rules)?;
     let moves = moves.as_slice();
     let Some(prefixes) = prefixes_of(alloc, moves, form, limit)? else {
         return Ok(None);
     };
-    match tree_of(alloc, schedule, moves, form, prefixes.as_slice()) {
-        Ok(tree) => some_data(tree_data(alloc, schedule, moves, form, &tree, heading, comments)),
+    match tree_of(alloc, &shown.given, moves, form, prefixes.as_slice()) {
+        Ok(tree) => some_data(tree_data(alloc, shown, moves, form, &tree, heading, comments)),
         Err(fault) => Err(fault),
     }
 }
@@ -131,12 +142,60 @@ pub fn levels_command<'a, R: Read + Drop, W: Write, E: Write>(
 {
     let comments = comments_in(alloc, &file)?;
     let schedule = schedule_in(alloc, file)?;
-    write_levels(alloc, &schedule, extent, &heading, &comments, out, faults)
+    let program = Program::plain(alloc, schedule);
+    let shown = Shown {
+        given: Given::of(&program),
+        texts: &[],
+    };
+    write_levels(alloc, &shown, extent, &heading, &comments, out, faults)
+}
+
+/// Which explorer is shown.
+#[derive(Clone, Copy, PartialEq, Eq)]
+pub enum Explored {
+    /// That of all transactions at a level, or at their own.
+    At(Option<Level>),
+    /// Those at all levels.
+    AllLevels,
+}
+
+/// Writes the explorer of the orders of the moves of the program in a file, or the explorers at all levels. A schedule is
+/// the program of its steps. Answers as `explorer_command` does.
+pub fn program_command<'a, R: Read + Drop, W: Write, E: Write>(
+    alloc: Global,
+    file: ScheduleFile<R>,
+    explored: Explored,
+    extent: Extent,
+    heading: Heading<'_>,
+    out: &mut W,
+    faults: &mut E,
+) -> Result<u8, HekFault<'a>>
+    ensures answer { IfOk result (λ status. IsExplored status (W.contents out.old) (W.contents out.new)) }
+{
+    let mut comments = comments_in(alloc, &file)?;
+    add_invariants(alloc, &file, &mut comments.about)?;
+    let texts = step_texts(alloc, &file)?;
+    let program = program_in(alloc, file)?;
+    let shown = Shown {
+        given: Given::of(&program),
+        texts: texts.as_slice(),
+    };
+    match explored {
+        Explored::At(level) => {
+            let schedule = shown.given.schedule;
+            let leveled_one = leveled(alloc, schedule, level, schedule.steps())?;
+            let shown = shown.over(&leveled_one);
+            write_explorer(alloc, &shown, extent, &heading, &comments, out, faults)
+        }
+        Explored::AllLevels => {
+            write_levels(alloc, &shown, extent, &heading, &comments, out, faults)
+        }
+    }
 }
 
 fn write_levels<'a, W: Write, E: Write>(
     alloc: Global,
-    schedule: &Schedule,
+    shown: &Shown<'_>,
     extent: Extent,
     heading: &Heading<'_>,
     comments: &Comments,
@@ -146,7 +205,7 @@ fn write_levels<'a, W: Write, E: Write>(
     ensures answer { IfOk result (λ status. IsExplored status (W.contents out.old) (W.contents out.new)) }
     ensures stops { IfErr result IsExploreStop }
 {
-    match all_levels(alloc, schedule, extent, heading, comments) {
+    match all_levels(alloc, shown, extent, heading, comments) {
         Ok(data) => write_data(alloc, extent, heading, data, out, faults),
         Err(fault) => Err(fault),
     }
@@ -155,7 +214,7 @@ fn write_levels<'a, W: Write, E: Write>(
 /// The data of the explorers at all levels; none if a tree has more nodes than the limit.
 fn all_levels<'a>(
     alloc: Global,
-    schedule: &Schedule,
+    shown: &Shown<'_>,
     extent: Extent,
     heading: &Heading<'_>,
     comments: &Comments,
@@ -164,7 +223,7 @@ fn all_levels<'a>(
 {
     let mut trees = Vec::new(alloc);
     for level in Level::ALL {
-        match data_at(alloc, schedule, level, extent, heading, comments) {
+        match data_at(alloc, shown, level, extent, heading, comments) {
             Ok(Some(tree)) => {
                 if trees.push(tree).is_err() {
                     return Err(HekFault::NoMemory);
@@ -180,7 +239,7 @@ fn all_levels<'a>(
 /// The data of the explorer with all transactions at a level.
 fn data_at<'a>(
     alloc: Global,
-    schedule: &Schedule,
+    shown: &Shown<'_>,
     level: Level,
     extent: Extent,
     heading: &Heading<'_>,
@@ -188,8 +247,9 @@ fn data_at<'a>(
 ) -> Result<Option<Value>, HekFault<'a>>
     ensures stops { IfErr result IsExploreStop }
 {
+    let schedule = shown.given.schedule;
     match schedule_with(alloc, schedule, Some(level), schedule.steps()) {
-        Ok(schedule) => explorer_data(alloc, &schedule, extent, heading, comments),
+        Ok(schedule) => explorer_data(alloc, &shown.over(&schedule), extent, heading, comments),
         Err(_) => Err(HekFault::NoMemory),
     }
 }

@@ -1,7 +1,6 @@
 //! What a file gives to play: a schedule, or a program.
-use hek_asm::AsmKind;
 use hek_permute::{Ending, Outcome};
-use hek_program::{AtEnd, Program, ProgramFault, Rule, Wanted, read_program};
+use hek_program::{AtEnd, Program, ProgramFault, Rule, read_program};
 use hek_report::{HekFault, ScheduleFile, schedule_in};
 use hek_rules::{Event, NoMemory, Schedule};
 use std::alloc::Global;
@@ -10,15 +9,15 @@ use std::str;
 
 /// A schedule, the rules of its steps, and the program whose they are.
 #[derive(Clone, Copy)]
-pub(crate) struct Given<'p> {
-    pub(crate) schedule: &'p Schedule,
-    pub(crate) rules: &'p [Rule],
+pub struct Given<'p> {
+    pub schedule: &'p Schedule,
+    pub rules: &'p [Rule],
     program: &'p Program,
 }
 
 impl<'p> Given<'p> {
     /// The parts of a program.
-    pub(crate) fn of(program: &'p Program) -> Given<'p> {
+    pub fn of(program: &'p Program) -> Given<'p> {
         Given {
             schedule: program.schedule(),
             rules: program.rules(),
@@ -27,7 +26,7 @@ impl<'p> Given<'p> {
     }
 
     /// The same rules over another schedule.
-    pub(crate) fn over<'s>(&'s self, schedule: &'s Schedule) -> Given<'s> {
+    pub fn over<'s>(&'s self, schedule: &'s Schedule) -> Given<'s> {
         Given {
             schedule,
             rules: self.rules,
@@ -36,7 +35,7 @@ impl<'p> Given<'p> {
     }
 
     /// Whether the step at a place is a `fail` under a condition.
-    pub(crate) fn fails_if(&self, place: usize, step: &Event) -> bool {
+    pub fn fails_if(&self, place: usize, step: &Event) -> bool {
         let Event::Fail(_) = step else {
             return false;
         };
@@ -68,7 +67,7 @@ impl<'p> Given<'p> {
 }
 
 /// The program in a file; a schedule is the program of its steps.
-pub(crate) fn program_in<'a, R: Read + Drop>(
+pub fn program_in<'a, R: Read + Drop>(
     alloc: Global,
     file: ScheduleFile<R>,
 ) -> Result<Program, HekFault<'a>> {
@@ -96,18 +95,14 @@ fn fault_of_text<'a>(fault: ProgramFault) -> HekFault<'a> {
     match fault {
         ProgramFault::NoMemory => HekFault::NoMemory,
         ProgramFault::Line { line, kind } => HekFault::Line { line, kind },
-        ProgramFault::At { line, wanted, .. } => HekFault::Line {
+        ProgramFault::At {
             line,
-            kind: kind_of(wanted),
+            column,
+            wanted,
+        } => HekFault::Wanted {
+            line,
+            column,
+            wanted: wanted.text(),
         },
-    }
-}
-
-/// The kind of fault that is nearest to what is wanted.
-fn kind_of(wanted: Wanted) -> AsmKind {
-    match wanted {
-        Wanted::Number => AsmKind::BadNumber,
-        Wanted::SeenKey | Wanted::RowKey => AsmKind::UnknownName,
-        _ => AsmKind::BadWord,
     }
 }

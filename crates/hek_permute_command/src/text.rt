@@ -81,7 +81,7 @@ pub(crate) fn put_order(
 }
 
 /// An outcome, and the line of the first invariant that it breaks.
-fn put_judged(
+pub fn put_judged(
     alloc: Global,
     given: &Given<'_>,
     outcome: &Outcome,

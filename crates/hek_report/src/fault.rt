@@ -24,7 +24,10 @@ pub enum HekFault<'a> {
     BadWaits,
     /// What is wrong with a schedule text, at the line of this number.
     #[error("hek: line {line}: {kind}")]
-    Line { line: u64, kind: AsmKind },
+    Line {
+        line: u64,
+        kind: AsmKind,
+    },
     #[error("hek: image: {0}")]
     Image(LoadFault),
     /// The number of the first line that cannot appear there in any trace.
@@ -35,7 +38,10 @@ pub enum HekFault<'a> {
     CommandLine(u64),
     /// The number of the first line that only a program has, and what it is, where a schedule is wanted.
     #[error("hek: line {line}: {what} wants --auto")]
-    Computed { line: u64, what: &'static str },
+    Computed {
+        line: u64,
+        what: &'static str,
+    },
     /// What is wanted at a place of a program: the number of the line, and that of the byte in it, from 1.
     #[error("hek: line {line}, column {column}: {wanted} is wanted")]
     Wanted {
