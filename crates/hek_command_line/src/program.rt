@@ -100,7 +100,7 @@ pub fn explain_place<E: Write>(
         return;
     };
     let start = (column as usize).saturating_sub(1).min(line.len());
-    let end = end_of_word(line, start);
+    let end = end_of_token(line, start);
     let excerpt = Excerpt { line, start, end };
     let column = excerpt.column();
     let _ = writeln!(
@@ -142,10 +142,18 @@ fn line_at(text: &[u8], number: u64) -> Option<&[u8]> {
     Some(line)
 }
 
-/// Where the word ends that begins at a place of a line.
-fn end_of_word(line: &[u8], start: usize) -> usize {
+/// Whether a byte ends the token before it: a blank, or one that begins another token.
+fn ends_token(byte: u8) -> bool {
+    matches!(
+        byte,
+        b' ' | b'\t' | b'\r' | b'@' | b'+' | b'-' | b'*' | b'=' | b'!' | b'<' | b'>'
+    )
+}
+
+/// Where the token ends that begins at a place of a line.
+fn end_of_token(line: &[u8], start: usize) -> usize {
     for (place, byte) in line.iter().enumerate() {
-        if place > start && matches!(*byte, b' ' | b'\t' | b'\r') {
+        if place > start && ends_token(*byte) {
             return place;
         }
     }

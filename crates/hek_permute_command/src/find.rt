@@ -45,6 +45,8 @@ pub(crate) struct Found {
     pub(crate) played: Played,
     /// Whether those that committed can follow one another, if a verdict was looked for.
     pub(crate) together: Option<Together>,
+    /// The line of the first invariant that the order breaks, if all of it was played.
+    pub(crate) breaks: Option<u64>,
 }
 
 /// The verdict that a text asks for: as it is printed, or `another order` for short.
@@ -152,6 +154,7 @@ fn beginning_of<E: Write>(
     Ok(Some(Search {
         moves,
         verdict: None,
+        breaks: None,
     }))
 }
 
@@ -161,8 +164,8 @@ fn most_moves<'a>(alloc: Global, given: &Given<'_>, form: Form) -> Result<usize,
     Ok(first_order(alloc, moves.as_slice(), form)?.len())
 }
 
-/// The first order with a verdict, or that breaks an invariant: a row of the tally of all orders has the first of its own, and the first row has the
-/// first of all. None if orders lead to more states than the limit.
+/// The first order with a verdict, or that breaks an invariant: a row of the tally of all orders has the first of its own, and
+/// the first row has the first of all. None if orders lead to more states than the limit.
 fn first_with<E: Write>(
     alloc: Global,
     given: &Given<'_>,
@@ -180,12 +183,14 @@ fn first_with<E: Write>(
             return Ok(Some(Search {
                 moves: Some(Vec::from_slice(alloc, row.first())?),
                 verdict: Some(row.outcome().verdict()),
+                breaks: given.broken_by(alloc, row.outcome())?,
             }));
         }
     }
     Ok(Some(Search {
         moves: None,
         verdict: None,
+        breaks: None,
     }))
 }
 
@@ -209,6 +214,8 @@ struct Search {
     moves: Option<Vec<TxnId>>,
     /// The verdict of the order, if all orders were looked through.
     verdict: Option<Serializability>,
+    /// The line of the first invariant that the order breaks, if all orders were looked through.
+    breaks: Option<u64>,
 }
 
 /// Whether a text asks for a verdict, which is looked for by states.
@@ -304,38 +311,36 @@ fn answer_of<'a>(
     wanted: &Wanted,
     search: Search,
 ) -> Result<Answer, HekFault<'a>> {
-    let Search { moves, verdict } = search;
-    match moves {
-        Some(moves) => {
-            let most = most_moves(alloc, given, form)?;
-            let beginning = Beginning { moves, most };
-            let found = found_of(alloc, given, form, wanted, verdict, beginning)?;
-            Ok(Answer::Found(found))
-        }
-        None => Ok(Answer::Nowhere),
-    }
+    let Search {
+        moves,
+        verdict,
+        breaks,
+    } = search;
+    let Some(moves) = moves else {
+        return Ok(Answer::Nowhere);
+    };
+    let most = most_moves(alloc, given, form)?;
+    let beginning = Beginning { moves, most };
+    let together = together_of(alloc, given, form, verdict, beginning.moves.as_slice())?;
+    Ok(Answer::Found(Found {
+        played: played_of(alloc, given, form, wanted, beginning)?,
+        together,
+        breaks,
+    }))
 }
 
-/// What was found, with its play.
-fn found_of<'a>(
+/// What is said of the order that was found, if a verdict was looked for.
+fn together_of<'a>(
     alloc: Global,
     given: &Given<'_>,
     form: Form,
-    wanted: &Wanted,
     verdict: Option<Serializability>,
-    found: Beginning,
-) -> Result<Found, HekFault<'a>> {
-    let together = match verdict {
-        None => None,
-        Some(verdict) => {
-            let order = found.moves.as_slice();
-            Some(details_of(alloc, given, form, order, verdict)?)
-        }
-    };
-    Ok(Found {
-        played: played_of(alloc, given, form, wanted, found)?,
-        together,
-    })
+    order: &[TxnId],
+) -> Result<Option<Together>, HekFault<'a>> {
+    match verdict {
+        None => Ok(None),
+        Some(verdict) => Ok(Some(details_of(alloc, given, form, order, verdict)?)),
+    }
 }
 
 /// The events of a play up to the first that has the reply; all, if none is asked for.

@@ -176,6 +176,9 @@ pub(crate) fn put_found(alloc: Global, found: &Found, lines: &mut Vec<u8>) -> Re
     if let Some(together) = &found.together {
         put_members(&played.schedule, together, &mut objects);
     }
+    if let Some(line) = found.breaks {
+        objects.put_number("breaks", line);
+    }
     objects.end_line();
     objects.put_back(lines)?;
     put_run(

@@ -219,6 +219,9 @@ fn put_together(found: &Found, text: &mut Vec<u8>) -> Result<(), NoMemory> {
     };
     text.extend_from_slice(b"# ")?;
     put_phrase(&found.played.schedule, together, text)?;
+    if let Some(line) = found.breaks {
+        put(write!(text, "; breaks line {line}"))?;
+    }
     text.push(b'\n')?;
     Ok(())
 }
