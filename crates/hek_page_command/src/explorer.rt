@@ -7,8 +7,8 @@ use crate::comments::{Comments, comments_in};
 use crate::heading::Heading;
 use crate::prefixes::prefixes_of;
 use crate::sheet::write_sheet;
-use crate::tree::tree_of;
 use crate::texts::{add_invariants, step_texts};
+use crate::tree::tree_of;
 use crate::tree_data::{Shown, levels_data, tree_data};
 use hek_permute::{Form, moves_of, schedule_with};
 use hek_permute_command::{Given, leveled, program_in};
@@ -81,7 +81,9 @@ fn explorer_data<'a>(
 {
     let Extent { form, limit } = extent;
     let Given {
-        schedule, rules, ..
+        schedule,
+        rules,
+        ..
     } = shown.given;
     let moves = moves_of(alloc, schedule, rules)?;
     let moves = moves.as_slice();

@@ -74,7 +74,10 @@ pub(crate) fn step_texts<R: Read + Drop>(
 
 /// Words without the first, with one space between them.
 fn without_first(alloc: Global, words: &str) -> Result<String, NoMemory> {
-    match words.trim_start().split_once(|letter: char| letter.is_whitespace()) {
+    match words
+        .trim_start()
+        .split_once(|letter: char| letter.is_whitespace())
+    {
         Some((_, rest)) => joined(alloc, rest),
         None => Ok(String::new(alloc)),
     }
