@@ -1,5 +1,5 @@
 //! The command line: its words, and what the program does for them.
-use crate::arguments::{RULES, meant_command, read_words};
+use crate::arguments::{meant_command, read_words};
 use crate::colour::{Paint, Painted};
 use crate::convert::{asm, dis, release, word};
 use crate::disk::{Disk, open};
@@ -15,6 +15,7 @@ use crate::pages::{Document, write_document};
 use crate::permute::{permute_alone, permute_jobs};
 use crate::schedule::{plain_schedule, plain_to_run, schedule_to_run};
 use crate::sources::SourceFiles;
+use crate::texts::RULES;
 use crate::told;
 use crate::words::advise_sign;
 use clap::error::ErrorKind as ClapKind;
