@@ -1,5 +1,6 @@
 -- The keys of a history that matter to scans: those of opening rows, of changes, and of the pairs of scans.
-use Rattle.std.specs.Prelude.{ℕ, ◌↔◌, if◌then◌else◌, List, [], ◌∷◌, ◌++◌, map, flat_map, Contains, IsStrictlyIncreasing}
+use Rattle.std.specs.Prelude.{ℕ, ◌↔◌, if◌then◌else◌, List, [], ◌∷◌, ◌++◌, map, flat_map, Contains}
+use Rattle.std.specs.List.Sorted.{IsStrictlyIncreasing}
 use Rattle.hek_history.specs.declared.history.History.{History}
 use Rattle.hek_history.specs.declared.history.Transaction.{Transaction}
 use Rattle.hek_history.specs.declared.history.Operation.{Operation}
