@@ -45,7 +45,11 @@ module _ (log : Log) (e : Explanation) (o : IsOrdered log e) where
       ]
 
   pub shows-earlier : (rules : Rules) (y x : ℕ) → TakesPlace e y → Shows rules log e y x → IsBefore e x y
-  shows-earlier rules y x p s = elim s [ inl reads ↦ reads-earlier y x p reads.1 | inr linked ↦ linked-earlier rules.next y x p linked ]
+  shows-earlier rules y x p s =
+      elim s [
+        | inl before ↦ before.1
+        | inr other ↦ elim other [ inl reads ↦ reads-earlier y x p reads.1 | inr linked ↦ linked-earlier rules.next y x p linked ]
+      ]
 
   pub seen_by-earlier : (rules : Rules) (t r : ℕ) (read : Read) → TakesPlace e t → read_at log t r ≡ Some read → (ys : List ℕ) (x : ℕ) → SeesBy rules log e t r read ys x → IsBefore e x t
   seen_by-earlier rules t r read p there [] x s = first-earlier rules t r read x p there s

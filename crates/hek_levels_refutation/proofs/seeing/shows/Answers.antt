@@ -10,6 +10,6 @@ returns c e x hold =
       λ read there.
           let s = v.1 read there in (
             c.in-Some.met.transaction ∷ s.0,
-            (inl (c.if-not-context.false, subst (λ (n : ℕ). ReadsFrom c.args.context.now.log.now e n c.in-Some-edge_at.edge.transaction) c.if-edge-met.false edge.1), s.1),
+            (inr (inl (c.if-not-context.false, subst (λ (n : ℕ). ReadsFrom c.args.context.now.log.now e n c.in-Some-edge_at.edge.transaction) c.if-edge-met.false edge.1)), s.1),
           ),
     )
