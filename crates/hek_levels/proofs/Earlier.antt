@@ -1,5 +1,5 @@
 -- Who is seen is earlier.
-use Rattle.std.proofs.Common.{◌≡◌, ℕ, suc, ◌<◌, ◌≤◌, true, List, [], ◌∷◌, Some, refl, sym, inl, inr, ◌⊎◌, arith}
+use Rattle.std.proofs.Common.{◌≡◌, ℕ, ◌<◌, List, [], ◌∷◌, Some, inl, inr, arith}
 use Rattle.hek_levels.specs.declared.log.Log.{Log}
 use Rattle.hek_levels.specs.declared.log.Read.{Read}
 use Rattle.hek_levels.specs.declared.rules.Rules.{Rules}
@@ -7,7 +7,7 @@ use Rattle.hek_levels.specs.declared.rules.Links.{Links}
 use Rattle.hek_levels.specs.declared.rules.Own.{Own}
 use Rattle.hek_levels.specs.declared.rules.Own.TheVariants.{Nothing, Earlier, All}
 use Rattle.hek_levels.specs.Logs.{read_at}
-use Rattle.hek_levels.specs.Seen.{Explanation, At, TakesPlace, rank, place, IsBefore, ReadsFrom, SeesByOwn, IsLinked, SeesFirst, Shows, SeesBy, Sees, IsOrdered}
+use Rattle.hek_levels.specs.Seen.{Explanation, At, TakesPlace, IsBefore, ReadsFrom, SeesByOwn, IsLinked, SeesFirst, Shows, SeesBy, Sees, IsOrdered}
 use Rattle.hek_levels.proofs.Orders.{takes, placed}
 
 pub before_trans : (e : Explanation) (x y z : ℕ) → IsBefore e x y → IsBefore e y z → IsBefore e x z

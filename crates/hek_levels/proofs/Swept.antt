@@ -1,14 +1,13 @@
 -- A sweep, one place on.
-use Rattle.std.proofs.Common.{◌≡◌, ℕ, suc, ◌+◌, ◌<◌, ◌≤◌, true, false, List, [], ◌∷◌, ◌++◌, Option, Some, None, refl, sym, ap, ◌∙◌, subst, inl, inr, ◌⊎◌, arith}
-use Rattle.std.proofs.lemmas.Bool.{both_ways}
+use Rattle.std.proofs.Common.{◌≡◌, ℕ, ◌+◌, ◌≤◌, true, false, List, [], ◌∷◌, ◌++◌, Option, Some, refl, sym, subst, inl, inr, ◌⊎◌, arith}
 use Rattle.hek_levels.specs.declared.log.Log.{Log}
 use Rattle.hek_levels.specs.declared.log.Read.{Read}
 use Rattle.hek_levels.specs.declared.rules.Rules.{Rules}
 use Rattle.hek_levels.specs.declared.rules.Links.{Links}
 use Rattle.hek_levels.specs.Logs.{read_at, does_write, is_earlier}
-use Rattle.hek_levels.specs.Seen.{Explanation, At, TakesPlace, rank, IsBefore, ReadsFrom, Precedes, SeesByOwn, SeesFirst, IsLinked, Shows, SeesBy, Sees, IsOrdered}
+use Rattle.hek_levels.specs.Seen.{Explanation, At, TakesPlace, IsBefore, ReadsFrom, Precedes, SeesByOwn, IsLinked, SeesBy, Sees, IsOrdered}
 use Rattle.hek_levels.specs.Sweeps.{IsMarked, IsListed, AreMarked, AreKept, MayLink, MaySee, MayCarry, Carries, IsSwept, IsNewestFrom}
-use Rattle.hek_levels.proofs.Orders.{takes, placed, same_at, cases_from}
+use Rattle.hek_levels.proofs.Orders.{takes, same_at, cases_from}
 use Rattle.hek_levels.proofs.Earlier.{before_trans, linked-earlier, seen-earlier, stands_before}
 use Rattle.hek_levels.proofs.Marks.{listed-old, listed-new, listed-cases}
 

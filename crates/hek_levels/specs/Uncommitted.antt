@@ -1,5 +1,5 @@
 -- Read uncommitted: what each committed transaction found was at some time there.
-use Rattle.std.specs.Prelude.{ℕ, suc, ◌≡◌, ◌==◌, ◌&&◌, ◌||◌, ◌⊎◌, not, Bool, true, false, if◌then◌else◌, List, [], ◌∷◌, ◌++◌, Option, Some, None, length, slice_get}
+use Rattle.std.specs.Prelude.{ℕ, zero, suc, ◌≡◌, ◌==◌, ◌&&◌, ◌||◌, ◌⊎◌, not, Bool, true, false, if◌then◌else◌, List, [], ◌∷◌, ◌++◌, Option, Some, None, length, slice_get}
 use Rattle.std.specs.HashMap.{get}
 use Rattle.hek_rules.specs.Listing.{value_of}
 use Rattle.hek_levels.specs.declared.log.Log.{Log}
@@ -35,7 +35,7 @@ did_leave log x key need = is_met_in key need (writes_of log x) || is_met_in key
 
 -- whether one of the first n transactions did, and is not t
 abbrev pub did_other_leave : Log → ℕ → ℕ → Need → ℕ → Bool
-did_other_leave log t key need 0 = false
+did_other_leave log t key need zero = false
 did_other_leave log t key need (suc n) = did_other_leave log t key need n || (not (n == t) && did_leave log n key need)
 
 -- whether what a read of t found is what the opening has, or what another transaction at some time left
@@ -51,7 +51,7 @@ abbrev pub is_right : Log → ℕ → Bool
 is_right log t = if is_committed log t then is_possible log t && are_found log t (reads_of log t) else true
 
 abbrev pub are_right : Log → ℕ → Bool
-are_right log 0 = true
+are_right log zero = true
 are_right log (suc n) = are_right log n && is_right log n
 
 abbrev pub is_read_uncommitted : Log → Bool
@@ -102,7 +102,7 @@ who_with log key need t who = who_by key need t (passing_of log t) (who_by key n
 
 -- with those of the first n transactions
 abbrev pub who_below : Log → ℕ → Need → ℕ → Option Who → Option Who
-who_below log key need 0 who = who
+who_below log key need zero who = who
 who_below log key need (suc n) who = who_with log key need n (who_below log key need n who)
 
 -- the index knows who leaves what

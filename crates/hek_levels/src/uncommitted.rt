@@ -4,7 +4,7 @@ ghost use Rattle.std.specs.HashMap.{get as get_in};
 ghost use Rattle.hek_rules.specs.Listing.{value_of};
 ghost use Rattle.hek_levels.specs.declared.log.Need.{Need as TheNeed};
 ghost use Rattle.hek_levels.specs.Logs.{meets as meets_it, reads_of as reads_there};
-ghost use Rattle.hek_levels.specs.Uncommitted.{is_read_uncommitted as is_so, is_right as is_right_there, is_found as is_found_there, are_found as are_found_there, does_meet, with_one, is_other as is_another, who_in, who_by, who_with, who_below, IsIndex};
+ghost use Rattle.hek_levels.specs.Uncommitted.{is_read_uncommitted as is_so, is_right as is_right_there, is_found as is_found_there, are_found as are_found_there, does_meet, with_one, is_other as is_another, who_in, who_by, who_with, who_below, IsIndex, either};
 
 use crate::log::{Change, Log, Need, Read};
 use crate::logged::{is_committed, is_possible, meets, passing_of, reads_of, writes_of};
@@ -58,6 +58,13 @@ fn note(map: &mut HashMap<u64, Who>, key: u64, t: usize) -> Result<(), NoMemory>
     Ok(())
 }
 
+/// Who leaves this value at a key.
+fn with_value(map: &HashMap<(u64, u64), Who>, key: u64, value: u64) -> Option<Who>
+    ensures { result ≡ get_in (λ (a b : ℕ × ℕ). (a.0 == b.0) && (a.1 == b.1)) map.now (key, value) }
+{
+    map.get(&(key, value)).copied()
+}
+
 /// One more at a key with a value.
 fn note_value(
     map: &mut HashMap<(u64, u64), Who>,
@@ -67,9 +74,8 @@ fn note_value(
 ) -> Result<(), NoMemory>
     ensures { OnOk result ((k v : ℕ) → get_in (λ (a b : ℕ × ℕ). (a.0 == b.0) && (a.1 == b.1)) map.new (k, v) ≡ (if (key == k) && (value == v) then with_one (get_in (λ (a b : ℕ × ℕ). (a.0 == b.0) && (a.1 == b.1)) map.old (k, v)) t else get_in (λ (a b : ℕ × ℕ). (a.0 == b.0) && (a.1 == b.1)) map.old (k, v))) }
 {
-    let pair = (key, value);
-    let who = with(map.get(&pair).copied(), t);
-    let _before = map.insert(pair, who)?;
+    let who = with(with_value(map, key, value), t);
+    let _before = map.insert((key, value), who)?;
     Ok(())
 }
 
@@ -126,7 +132,7 @@ fn who_leaves(changers: &Changers, key: u64, need: Need) -> Option<Who>
     match need {
         Need::Absent => changers.absent.get(&key).copied(),
         Need::Present => changers.present.get(&key).copied(),
-        Need::Value(value) => changers.values.get(&(key, value)).copied(),
+        Need::Value(value) => with_value(&changers.values, key, value),
     }
 }
 
@@ -152,20 +158,21 @@ fn by_key(alloc: Global, rows: &[(u64, u64)]) -> Result<HashMap<u64, u64>, NoMem
     Ok(map)
 }
 
+/// The value of a key in the rows.
+fn row_of(rows: &HashMap<u64, u64>, key: u64) -> Option<u64>
+    ensures { result ≡ get_in ◌==◌ rows.now key }
+{
+    rows.get(&key).copied()
+}
+
 /// Whether what a read of t found was at some time there.
-fn is_found(
-    log: &Log,
-    rows: &HashMap<u64, u64>,
-    changers: &Changers,
-    t: usize,
-    read: Read,
-) -> bool
+fn is_found(log: &Log, rows: &HashMap<u64, u64>, changers: &Changers, t: usize, read: Read) -> bool
     requires rows { (k : ℕ) → get_in ◌==◌ rows.now k ≡ value_of log.now.rows.items k }
     requires index { IsIndex log.now changers.now }
     ensures { result ≡ is_found_there log.now t read }
 {
     let _count = log.transactions.len();
-    meets(read.need, rows.get(&read.key).copied())
+    meets(read.need, row_of(rows, read.key))
         || is_other(who_leaves(changers, read.key, read.need), t)
 }
 
