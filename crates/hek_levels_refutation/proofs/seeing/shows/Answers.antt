@@ -1,4 +1,4 @@
-use Rattle.std.proofs.Common.{ℕ, ◌∷◌, inl, subst}
+use Rattle.std.proofs.Common.{ℕ, ◌∷◌, inl, inr, subst}
 use Rattle.hek_levels.specs.Seen.{ReadsFrom}
 use Rattle.hek_levels_refutation.proofs.seeing.shows.Goals as goal
 
