@@ -1,5 +1,5 @@
 -- What a transaction leaves, and what it writes over itself.
-use Rattle.std.specs.Prelude.{ℕ, ◌&&◌, Bool, true, false, not, if◌then◌else◌, List, [], ◌∷◌, ◌++◌, None}
+use Rattle.std.specs.Prelude.{◌&&◌, not, if◌then◌else◌, List, [], ◌∷◌, None}
 use Rattle.hek_history.specs.declared.history.Operation.{Operation}
 use Rattle.hek_history.specs.Answers.{key_of, change_of, is_change, after}
 use Rattle.hek_levels.specs.declared.log.Change.{Change}

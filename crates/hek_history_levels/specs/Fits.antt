@@ -1,7 +1,7 @@
 -- Whether the answers of a transaction agree with what it had done itself.
 use Rattle.std.specs.Prelude.{ℕ, ◌≡◌, true, List, Some, None, slice_get, take}
 use Rattle.hek_history.specs.declared.history.Operation.{Operation}
-use Rattle.hek_history.specs.declared.history.Operation.TheVariants.{Read, Put, Insert, Update, Delete, Scan}
+use Rattle.hek_history.specs.declared.history.Operation.TheVariants.{Scan}
 use Rattle.hek_history.specs.declared.history.Scope.{Scope}
 use Rattle.hek_history.specs.Answers.{covers, after, last_change, tells, IsByKey}
 use Rattle.hek_history_levels.specs.Reads.{changes}

@@ -4,7 +4,7 @@ use Rattle.std.specs.List.Sorted.{IsStrictlyIncreasing}
 use Rattle.hek_history.specs.declared.history.History.{History}
 use Rattle.hek_history.specs.declared.history.Transaction.{Transaction}
 use Rattle.hek_history.specs.declared.history.Operation.{Operation}
-use Rattle.hek_history.specs.declared.history.Operation.TheVariants.{Read, Put, Insert, Update, Delete, Scan}
+use Rattle.hek_history.specs.declared.history.Operation.TheVariants.{Scan}
 use Rattle.hek_history.specs.Answers.{key_of, change_of, is_change}
 
 abbrev pub changed_by : Operation → List ℕ

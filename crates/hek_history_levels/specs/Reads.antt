@@ -1,10 +1,10 @@
 -- What the answers of a transaction say of keys that it had not changed itself before.
-use Rattle.std.specs.Prelude.{ℕ, zero, suc, ◌&&◌, Bool, true, false, not, if◌then◌else◌, List, [], ◌∷◌, ◌++◌, Option, Some, None, slice_get, take, length}
+use Rattle.std.specs.Prelude.{ℕ, zero, suc, ◌&&◌, Bool, not, if◌then◌else◌, List, [], ◌∷◌, ◌++◌, Option, Some, None, slice_get, take, length}
 use Rattle.hek_rules.specs.Listing.{value_of}
 use Rattle.hek_history.specs.declared.history.Operation.{Operation}
 use Rattle.hek_history.specs.declared.history.Operation.TheVariants.{Read, Put, Insert, Update, Delete, Scan}
 use Rattle.hek_history.specs.declared.history.Scope.{Scope}
-use Rattle.hek_history.specs.Answers.{key_of, covers, is_change, last_change}
+use Rattle.hek_history.specs.Answers.{covers, is_change, last_change}
 use Rattle.hek_levels.specs.declared.log.Need.{Need}
 use Rattle.hek_levels.specs.declared.log.Need.TheVariants.{Absent, Present, Value}
 use Rattle.hek_levels.specs.declared.log.Read.{Read as TheRead}

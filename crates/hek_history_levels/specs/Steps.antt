@@ -28,9 +28,9 @@ abbrev pub turn_at : List (Option Turn) → ℕ → Option Turn
 turn_at turns t = turn_in (slice_get turns t)
 
 -- y is the transaction x as levels see it
-pub record IsSeen (keys : List ℕ) (turn : Option Turn) (x : Transaction) (y : TheTransaction) : Type 0 where
+pub record IsSeen (keys : List ℕ) (place : Option Turn) (x : Transaction) (y : TheTransaction) : Type 0 where
   pub status : y.status ≡ status_of x.status
-  pub turn : y.turn ≡ turn
+  pub turn : y.turn ≡ place
   pub fits : IsTrue y.fits ↔ AreFitting x.operations.items
   pub reads : y.reads.items ≡ reads_of keys x.operations.items
   pub writes : y.writes.items ≡ writes_of x.operations.items

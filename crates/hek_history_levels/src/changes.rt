@@ -1,5 +1,5 @@
 //! What a transaction leaves, and what it writes over itself.
-ghost use Rattle.std.specs.Prelude.{◌≡◌, ◌++◌, ◌∷◌, ◌&&◌, [], not, OnOk, IfOk, if◌then◌else◌, drop};
+ghost use Rattle.std.specs.Prelude.{◌≡◌, ◌+◌, ◌++◌, ◌∷◌, ◌&&◌, [], not, OnOk, IfOk, if◌then◌else◌, drop};
 ghost use Rattle.hek_history.specs.Answers.{key_of as key_there, change_of as change_there, is_change as is_any};
 ghost use Rattle.hek_history_levels.specs.Reads.{changes as changes_it};
 ghost use Rattle.hek_history_levels.specs.Changes.{change_in, writes_of as writes_there, passing_of as passing_there};
@@ -52,9 +52,10 @@ fn add_passing(
 fn after(operations: &[Operation], place: usize) -> &[Operation]
     ensures { result.now ≡ drop (place + 1) operations.now }
 {
-    match operations.get(place..) {
-        Some([_, rest @ ..]) => rest,
-        _ => &[],
+    if place < operations.len() {
+        &operations[place + 1..]
+    } else {
+        &[]
     }
 }
 
@@ -63,8 +64,8 @@ pub(crate) fn writes_of(alloc: Global, operations: &[Operation]) -> Result<Vec<C
     ensures { IfOk result (λ writes. writes.items ≡ writes_there operations.now) }
 {
     let mut writes = Vec::new(alloc);
-    for (place, operation) in operations.iter().enumerate() {
-        add_write(&mut writes, operation, after(operations, place))?;
+    for place in 0..operations.len() {
+        add_write(&mut writes, &operations[place], after(operations, place))?;
     }
     Ok(writes)
 }
@@ -74,8 +75,8 @@ pub(crate) fn passing_of(alloc: Global, operations: &[Operation]) -> Result<Vec<
     ensures { IfOk result (λ passing. passing.items ≡ passing_there operations.now) }
 {
     let mut passing = Vec::new(alloc);
-    for (place, operation) in operations.iter().enumerate() {
-        add_passing(&mut passing, operation, after(operations, place))?;
+    for place in 0..operations.len() {
+        add_passing(&mut passing, &operations[place], after(operations, place))?;
     }
     Ok(passing)
 }

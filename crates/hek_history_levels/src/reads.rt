@@ -25,9 +25,7 @@ fn need_at(operation: &Operation) -> Option<Need>
     match operation {
         Operation::Read(_, found) => Some(need_of(*found)),
         Operation::Put(_, _) | Operation::Scan(_, _) => None,
-        Operation::Insert(_, _, done) => {
-            Some(if *done { Need::Absent } else { Need::Present })
-        }
+        Operation::Insert(_, _, done) => { Some(if *done { Need::Absent } else { Need::Present }) }
         Operation::Update(_, _, done) | Operation::Delete(_, done) => {
             Some(if *done { Need::Present } else { Need::Absent })
         }
@@ -94,13 +92,7 @@ fn add_reads(
         Operation::Scan(scope, pairs) => {
             add_scan(reads, place, before, *scope, pairs.as_slice(), keys)
         }
-        _ => add_own(
-            reads,
-            place,
-            before,
-            key_of(operation),
-            need_at(operation),
-        ),
+        _ => add_own(reads, place, before, key_of(operation), need_at(operation)),
     }
 }
 
@@ -113,9 +105,10 @@ fn add_reads_at(
 ) -> Result<(), NoMemory>
     ensures { OnOk result (reads.new.items ≡ reads.old.items ++ reads_if keys.now place (take place operations.now) (slice_get operations.now place)) }
 {
-    match operations.get(place) {
-        Some(operation) => add_reads(reads, keys, place, &operations[..place], operation),
-        None => Ok(()),
+    if place < operations.len() {
+        add_reads(reads, keys, place, &operations[..place], &operations[place])
+    } else {
+        Ok(())
     }
 }
 

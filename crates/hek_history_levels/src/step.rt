@@ -72,11 +72,7 @@ fn all_seen(
 
 /// The log of a history, as levels see it. `turns` has the turn in its session of each transaction, by its place: one that is
 /// not there is in none.
-pub fn log_of(
-    alloc: Global,
-    history: &History,
-    turns: &[Option<Turn>],
-) -> Result<Log, NoMemory>
+pub fn log_of(alloc: Global, history: &History, turns: &[Option<Turn>]) -> Result<Log, NoMemory>
     ensures { IfOk result (λ log. IsLogOf history.now turns.now log) }
 {
     let keys = keys_of(alloc, history)?;
