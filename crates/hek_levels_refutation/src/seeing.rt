@@ -203,11 +203,7 @@ pub(crate) fn by_link(
 }
 
 /// What is seen shows who is before it.
-pub(crate) fn shows_before(
-    context: &Context<'_>,
-    visible: usize,
-    before: usize,
-) -> Option<Claim>
+pub(crate) fn shows_before(context: &Context<'_>, visible: usize, before: usize) -> Option<Claim>
     ensures { IfSome result (λ claim. FollowsFrom context.now claim) }
 {
     if !context.rules.prefix {
