@@ -233,7 +233,7 @@ class Pages:
     def add_programs(self):
         intro, *sections = re.split(r"(?m)^(?=### [a-z-]+: )", self.programs)
         names = [re.match(r"### ([a-z-]+): ", it)[1] for it in sections]
-        prose = Prose({it: "program-" + it for it in names}, self.numbered)
+        prose = Prose({**self.names, **{it: "program-" + it for it in names}}, self.numbered)
         about = self.keep(prose.html(intro))
         for name, section in zip(names, sections):
             head, _, body = section.partition("\n")
