@@ -38,13 +38,22 @@ pub(crate) fn put_tally<'a>(
 ) -> Result<(), HekFault<'a>> {
     match printing {
         Printing::Text => text::put_tally(alloc, given, form, tally, lines),
-        Printing::Json => {
-            let mut objects = Lines::after(alloc, lines);
-            json::put_tally(alloc, given, form, tally, &mut objects)?;
-            objects.put_back(lines)?;
-            Ok(())
-        }
+        Printing::Json => put_objects(alloc, given, form, tally, lines),
     }
+}
+
+/// Appends the object of the number of orders, and that of each outcome.
+fn put_objects<'a>(
+    alloc: Global,
+    given: &Given<'_>,
+    form: Form,
+    tally: &Tally,
+    lines: &mut Vec<u8>,
+) -> Result<(), HekFault<'a>> {
+    let mut objects = Lines::after(alloc, lines);
+    json::put_tally(alloc, given, form, tally, &mut objects)?;
+    objects.put_back(lines)?;
+    Ok(())
 }
 
 /// Appends each outcome with the number of orders that have it at each level.
