@@ -1,2 +1,0 @@
-mod Changed
-mod Pushed

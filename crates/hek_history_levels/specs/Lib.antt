@@ -1,5 +1,0 @@
-pub mod Reads
-pub mod Changes
-pub mod Fits
-pub mod Keys
-pub mod Steps

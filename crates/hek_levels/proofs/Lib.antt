@@ -1,6 +1,0 @@
-pub mod Orders
-pub mod Earlier
-pub mod Marks
-pub mod Swept
-pub mod Judged
-pub mod Founds
