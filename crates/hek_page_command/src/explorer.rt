@@ -9,7 +9,7 @@ use crate::prefixes::prefixes_of;
 use crate::sheet::write_sheet;
 use crate::texts::{add_invariants, step_texts};
 use crate::tree::tree_of;
-use crate::tree_data::{Shown, levels_data, tree_data};
+use crate::tree_data::{levels_data, tree_data};
 use hek_permute::{Form, moves_of, schedule_with};
 use hek_permute_command::{Given, leveled, program_in};
 use hek_program::Program;
@@ -44,16 +44,14 @@ pub fn explorer_command<'a, R: Read + Drop, W: Write, E: Write>(
     let comments = comments_in(alloc, &file)?;
     let schedule = schedule_in(alloc, file)?;
     let program = Program::plain(alloc, schedule);
-    let shown = Shown {
-        given: Given::of(&program),
-        texts: &[],
-    };
-    write_explorer(alloc, &shown, extent, &heading, &comments, out, faults)
+    let given = Given::of(&program);
+    write_explorer(alloc, &given, &[], extent, &heading, &comments, out, faults)
 }
 
 fn write_explorer<'a, W: Write, E: Write>(
     alloc: Global,
-    shown: &Shown<'_>,
+    given: &Given<'_>,
+    texts: &[String],
     extent: Extent,
     heading: &Heading<'_>,
     comments: &Comments,
@@ -63,16 +61,15 @@ fn write_explorer<'a, W: Write, E: Write>(
     ensures answer { IfOk result (λ status. IsExplored status (W.contents out.old) (W.contents out.new)) }
     ensures stops { IfErr result IsExploreStop }
 {
-    match explorer_data(alloc, shown, extent, heading, comments) {
-        Ok(data) => write_data(alloc, extent, heading, data, out, faults),
-        Err(fault) => Err(fault),
-    }
+    let data = explorer_data(alloc, given, texts, extent, heading, comments)?;
+    write_data(alloc, extent, heading, data, out, faults)
 }
 
 /// The data of the explorer of a schedule; none if the tree has more nodes than the limit.
 fn explorer_data<'a>(
     alloc: Global,
-    shown: &Shown<'_>,
+    given: &Given<'_>,
+    texts: &[String],
     extent: Extent,
     heading: &Heading<'_>,
     comments: &Comments,
@@ -90,10 +87,8 @@ fn explorer_data<'a>(
     let Some(prefixes) = prefixes_of(alloc, moves, form, limit)? else {
         return Ok(None);
     };
-    match tree_of(alloc, &shown.given, moves, form, prefixes.as_slice()) {
-        Ok(tree) => some_data(tree_data(alloc, shown, moves, form, &tree, heading, comments)),
-        Err(fault) => Err(fault),
-    }
+    let tree = tree_of(alloc, given, moves, form, prefixes.as_slice())?;
+    some_data(tree_data(alloc, given, texts, moves, form, &tree, heading, comments))
 }
 
 /// These data, if there was memory for them.
@@ -145,11 +140,8 @@ pub fn levels_command<'a, R: Read + Drop, W: Write, E: Write>(
     let comments = comments_in(alloc, &file)?;
     let schedule = schedule_in(alloc, file)?;
     let program = Program::plain(alloc, schedule);
-    let shown = Shown {
-        given: Given::of(&program),
-        texts: &[],
-    };
-    write_levels(alloc, &shown, extent, &heading, &comments, out, faults)
+    let given = Given::of(&program);
+    write_levels(alloc, &given, &[], extent, &heading, &comments, out, faults)
 }
 
 /// Which explorer is shown.
@@ -178,26 +170,42 @@ pub fn program_command<'a, R: Read + Drop, W: Write, E: Write>(
     add_invariants(alloc, &file, &mut comments.about)?;
     let texts = step_texts(alloc, &file)?;
     let program = program_in(alloc, file)?;
-    let shown = Shown {
-        given: Given::of(&program),
-        texts: texts.as_slice(),
-    };
+    let given = Given::of(&program);
+    let texts = texts.as_slice();
     match explored {
-        Explored::At(level) => {
-            let schedule = shown.given.schedule;
-            let leveled_one = leveled(alloc, schedule, level, schedule.steps())?;
-            let shown = shown.over(&leveled_one);
-            write_explorer(alloc, &shown, extent, &heading, &comments, out, faults)
-        }
-        Explored::AllLevels => {
-            write_levels(alloc, &shown, extent, &heading, &comments, out, faults)
-        }
+        Explored::At(level) => write_at(
+            alloc, &given, texts, level, extent, &heading, &comments, out, faults,
+        ),
+        Explored::AllLevels => write_levels(
+            alloc, &given, texts, extent, &heading, &comments, out, faults,
+        ),
     }
+}
+
+/// Writes the explorer with all transactions at a level, or at their own.
+fn write_at<'a, W: Write, E: Write>(
+    alloc: Global,
+    given: &Given<'_>,
+    texts: &[String],
+    level: Option<Level>,
+    extent: Extent,
+    heading: &Heading<'_>,
+    comments: &Comments,
+    out: &mut W,
+    faults: &mut E,
+) -> Result<u8, HekFault<'a>>
+    ensures answer { IfOk result (λ status. IsExplored status (W.contents out.old) (W.contents out.new)) }
+{
+    let schedule = given.schedule;
+    let leveled_one = leveled(alloc, schedule, level, schedule.steps())?;
+    let over = given.over(&leveled_one);
+    write_explorer(alloc, &over, texts, extent, heading, comments, out, faults)
 }
 
 fn write_levels<'a, W: Write, E: Write>(
     alloc: Global,
-    shown: &Shown<'_>,
+    given: &Given<'_>,
+    texts: &[String],
     extent: Extent,
     heading: &Heading<'_>,
     comments: &Comments,
@@ -207,16 +215,15 @@ fn write_levels<'a, W: Write, E: Write>(
     ensures answer { IfOk result (λ status. IsExplored status (W.contents out.old) (W.contents out.new)) }
     ensures stops { IfErr result IsExploreStop }
 {
-    match all_levels(alloc, shown, extent, heading, comments) {
-        Ok(data) => write_data(alloc, extent, heading, data, out, faults),
-        Err(fault) => Err(fault),
-    }
+    let data = all_levels(alloc, given, texts, extent, heading, comments)?;
+    write_data(alloc, extent, heading, data, out, faults)
 }
 
 /// The data of the explorers at all levels; none if a tree has more nodes than the limit.
 fn all_levels<'a>(
     alloc: Global,
-    shown: &Shown<'_>,
+    given: &Given<'_>,
+    texts: &[String],
     extent: Extent,
     heading: &Heading<'_>,
     comments: &Comments,
@@ -225,7 +232,7 @@ fn all_levels<'a>(
 {
     let mut trees = Vec::new(alloc);
     for level in Level::ALL {
-        match data_at(alloc, shown, level, extent, heading, comments) {
+        match data_at(alloc, given, texts, level, extent, heading, comments) {
             Ok(Some(tree)) => {
                 if trees.push(tree).is_err() {
                     return Err(HekFault::NoMemory);
@@ -241,7 +248,8 @@ fn all_levels<'a>(
 /// The data of the explorer with all transactions at a level.
 fn data_at<'a>(
     alloc: Global,
-    shown: &Shown<'_>,
+    given: &Given<'_>,
+    texts: &[String],
     level: Level,
     extent: Extent,
     heading: &Heading<'_>,
@@ -249,9 +257,8 @@ fn data_at<'a>(
 ) -> Result<Option<Value>, HekFault<'a>>
     ensures stops { IfErr result IsExploreStop }
 {
-    let schedule = shown.given.schedule;
-    match schedule_with(alloc, schedule, Some(level), schedule.steps()) {
-        Ok(schedule) => explorer_data(alloc, &shown.over(&schedule), extent, heading, comments),
-        Err(_) => Err(HekFault::NoMemory),
-    }
+    let schedule = given.schedule;
+    let leveled_one = schedule_with(alloc, schedule, Some(level), schedule.steps())?;
+    let over = given.over(&leveled_one);
+    explorer_data(alloc, &over, texts, extent, heading, comments)
 }

@@ -15,41 +15,30 @@ use serde_json::{Map, Value};
 use std::alloc::Global;
 use std::io::Write;
 
-/// What an explorer shows: what is given to play, and the words of its steps if it is a program.
-#[derive(Clone, Copy)]
-pub(crate) struct Shown<'s> {
-    pub(crate) given: Given<'s>,
-    pub(crate) texts: &'s [String],
+/// Whether the step at a place is a move of a transaction that isn't its last.
+fn is_move(given: &Given<'_>, txn: TxnId, place: usize, event: &Event) -> bool {
+    let fails_if = event.txn() == Some(txn) && given.fails_if(place, event);
+    fails_if || is_work(txn, *event)
 }
 
-impl<'s> Shown<'s> {
-    /// The same over another schedule.
-    pub(crate) fn over<'o>(&'o self, schedule: &'o Schedule) -> Shown<'o> {
-        Shown {
-            given: self.given.over(schedule),
-            texts: self.texts,
-        }
-    }
-
-    /// Whether the step at a place is a move of a transaction that isn't its last.
-    fn is_move(&self, txn: TxnId, place: usize, event: &Event) -> bool {
-        let fails_if = event.txn() == Some(txn) && self.given.fails_if(place, event);
-        fails_if || is_work(txn, *event)
-    }
-
-    /// The step at a place, without the name.
-    fn step_value(&self, alloc: Global, place: usize, event: &Event) -> Result<Value, NoMemory> {
-        match self.texts.get(place) {
-            Some(text) => text_value(alloc, text.as_str()),
-            None => work_value(alloc, event),
-        }
+/// The step at a place, without the name: its words, if there are some.
+fn step_words(
+    alloc: Global,
+    texts: &[String],
+    place: usize,
+    event: &Event,
+) -> Result<Value, NoMemory> {
+    match texts.get(place) {
+        Some(text) => text_value(alloc, text.as_str()),
+        None => work_value(alloc, event),
     }
 }
 
 /// The data of the page of a tree of orders.
 pub(crate) fn tree_data(
     alloc: Global,
-    shown: &Shown<'_>,
+    given: &Given<'_>,
+    texts: &[String],
     moves: &[Moves],
     form: Form,
     tree: &Tree,
@@ -59,8 +48,8 @@ pub(crate) fn tree_data(
     let mut members = Map::new(alloc);
     put_text(alloc, "kind", "tree", &mut members)?;
     put_heading(alloc, heading, comments, &mut members)?;
-    put_start(alloc, shown.given.schedule, tree, &mut members)?;
-    put_moves(alloc, shown, moves, form, &mut members)?;
+    put_start(alloc, given.schedule, tree, &mut members)?;
+    put_moves(alloc, given, texts, moves, form, &mut members)?;
     put_tree(alloc, tree, &mut members)?;
     Ok(Value::Object(members))
 }
@@ -96,14 +85,15 @@ fn put_start(
 /// Adds the names of the transactions and their moves.
 fn put_moves(
     alloc: Global,
-    shown: &Shown<'_>,
+    given: &Given<'_>,
+    texts: &[String],
     moves: &[Moves],
     form: Form,
     members: &mut Members,
 ) -> Result<(), NoMemory> {
-    let names = name_values(alloc, shown.given.schedule)?;
+    let names = name_values(alloc, given.schedule)?;
     put_value(alloc, "names", names, members)?;
-    let moves = move_values(alloc, shown, moves, form)?;
+    let moves = move_values(alloc, given, texts, moves, form)?;
     put_value(alloc, "moves", moves, members)
 }
 
@@ -131,14 +121,15 @@ fn name_values(alloc: Global, schedule: &Schedule) -> Result<Value, NoMemory> {
 /// The moves of each transaction.
 fn move_values(
     alloc: Global,
-    shown: &Shown<'_>,
+    given: &Given<'_>,
+    texts: &[String],
     moves: &[Moves],
     form: Form,
 ) -> Result<Value, NoMemory> {
     let mut values = Vec::new(alloc);
     for (place, of_one) in moves.iter().enumerate() {
         let txn = TxnId::new((place as u64).saturating_add(1));
-        values.push(moves_of_one(alloc, shown, txn, of_one.fails(), form)?)?;
+        values.push(moves_of_one(alloc, given, texts, txn, of_one.fails(), form)?)?;
     }
     Ok(Value::Array(values))
 }
@@ -146,7 +137,8 @@ fn move_values(
 /// The moves of one transaction: its reads and writes, and how it ends.
 fn moves_of_one(
     alloc: Global,
-    shown: &Shown<'_>,
+    given: &Given<'_>,
+    texts: &[String],
     txn: TxnId,
     fails: bool,
     form: Form,
@@ -155,9 +147,9 @@ fn moves_of_one(
     if form == Form::Event {
         values.push(text_value(alloc, "begin")?)?;
     }
-    for (place, event) in shown.given.schedule.steps().iter().enumerate() {
-        if shown.is_move(txn, place, event) {
-            values.push(shown.step_value(alloc, place, event)?)?;
+    for (place, event) in given.schedule.steps().iter().enumerate() {
+        if is_move(given, txn, place, event) {
+            values.push(step_words(alloc, texts, place, event)?)?;
         }
     }
     push_last(alloc, form, fails, &mut values)?;
