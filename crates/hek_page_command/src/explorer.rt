@@ -77,12 +77,7 @@ fn explorer_data<'a>(
     ensures stops { IfErr result IsExploreStop }
 {
     let Extent { form, limit } = extent;
-    let Given {
-        schedule,
-        rules,
-        ..
-    } = shown.given;
-    let moves = moves_of(alloc, schedule, rules)?;
+    let moves = moves_of(alloc, given.schedule, given.rules)?;
     let moves = moves.as_slice();
     let Some(prefixes) = prefixes_of(alloc, moves, form, limit)? else {
         return Ok(None);
@@ -258,7 +253,9 @@ fn data_at<'a>(
     ensures stops { IfErr result IsExploreStop }
 {
     let schedule = given.schedule;
-    let leveled_one = schedule_with(alloc, schedule, Some(level), schedule.steps())?;
+    let Ok(leveled_one) = schedule_with(alloc, schedule, Some(level), schedule.steps()) else {
+        return Err(HekFault::NoMemory);
+    };
     let over = given.over(&leveled_one);
     explorer_data(alloc, &over, texts, extent, heading, comments)
 }
