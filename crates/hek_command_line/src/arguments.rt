@@ -149,6 +149,8 @@ fn rivals_of(command: &str, name: &str) -> &'static [&'static str] {
         ("permute", "find") => &["each", "levels", "part", "order"],
         ("permute" | "page", "grain") => &["split"],
         ("permute", "levels") => &["each", "level"],
+        ("history", "levels" | "guarantees") => &["level", "order", "all", "order-out"],
+        ("history", "sessions") => &["order", "all", "order-out"],
         ("run", "history") => &["state", "state-at", "why", "changes", "json"],
         ("page", "orders") => &["from", "to", "auto"],
         ("page", "levels") => &["from", "to", "auto", "level", "orders"],

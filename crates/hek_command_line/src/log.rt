@@ -5,6 +5,7 @@ use crate::refused::{OUTPUT, refuse_same};
 use clap::ArgMatches;
 use hek_history::{Level, Order};
 use hek_history_command::{Choice, Extent, history_command};
+use hek_levels_command::{Asked, LevelsChoice, Promise, levels_command};
 use hek_report::{HekFault, send};
 use std::alloc::Global;
 use std::io::{Read, Write};
@@ -19,8 +20,12 @@ pub fn history<'a, D: Disk, I: Read + Drop, W: Write, E: Write>(
     out: &mut W,
     faults: &mut E,
 ) -> Result<u8, HekFault<'a>> {
-    let choice = choice_of(found, explains)?;
     let name = found.get_str("FILE").ok_or(HekFault::BadArgument)?;
+    if let Some(choice) = levels_choice(found, explains)? {
+        let file = open(disk, input, name)?;
+        return levels_command(alloc, file, name, choice, out, faults);
+    }
+    let choice = choice_of(found, explains)?;
     match found.get_str("order-out") {
         None => {
             let mut none: Option<Vec<u8>> = None;
@@ -66,6 +71,48 @@ fn judge<'a, D: Disk, I: Read + Drop, O: Write, W: Write, E: Write>(
 /// Whether a log was judged: there is an order, there is none, or neither is known.
 fn is_verdict(ran: &Result<u8, HekFault<'_>>) -> bool {
     matches!(ran, Ok(0 | 1 | 3))
+}
+
+/// What the words ask of levels, if they ask for more than the levels of the machine: with `--levels`, `--guarantees` or
+/// `--sessions`, or with a `--level` that the machine hasn't.
+fn levels_choice<'a>(
+    found: &ArgMatches<'a>,
+    explains: bool,
+) -> Result<Option<LevelsChoice>, HekFault<'a>> {
+    let sessions = found.get_flag("sessions");
+    let Some(asked) = asked_of(found, sessions)? else {
+        return Ok(None);
+    };
+    if found.get_str("order").is_some()
+        || found.get_str("order-out").is_some()
+        || found.get_str("all").is_some()
+    {
+        return Err(HekFault::BadArgument);
+    }
+    Ok(Some(LevelsChoice {
+        asked,
+        sessions,
+        explains,
+        printing: printing_of(found),
+    }))
+}
+
+/// Which levels and guarantees the words ask for.
+fn asked_of<'a>(found: &ArgMatches<'a>, sessions: bool) -> Result<Option<Asked>, HekFault<'a>> {
+    match (found.get_flag("levels"), found.get_flag("guarantees")) {
+        (true, true) => return Ok(Some(Asked::Both)),
+        (true, false) => return Ok(Some(Asked::Levels)),
+        (false, true) => return Ok(Some(Asked::Guarantees)),
+        (false, false) => {}
+    }
+    let Some(word) = found.get_str("level") else {
+        return Ok(sessions.then_some(Asked::One(Promise::Serializable)));
+    };
+    match (Level::named(word), Promise::named(word)) {
+        (Some(_), _) if !sessions => Ok(None),
+        (_, Some(promise)) => Ok(Some(Asked::One(promise))),
+        (_, None) => Err(HekFault::BadArgument),
+    }
 }
 
 fn choice_of<'a>(found: &ArgMatches<'a>, explains: bool) -> Result<Choice, HekFault<'a>> {

@@ -154,7 +154,26 @@ The status is 0 if there is an order, 1 if there is none, 3 if that is not known
             form: Form::Word,
         },
         EXPLAIN,
-        LEVEL,
+        ArgumentText {
+            name: "level",
+            help: "judges all transactions at a level: serializable, repeatable, snapshot, parallel-snapshot, causal, read-atomic, monotonic-view, read-committed, read-uncommitted; or asks for a guarantee of sessions: monotonic-reads, read-your-writes, monotonic-writes, writes-follow-reads, or guarantees for all four",
+            form: Form::Value("L"),
+        },
+        ArgumentText {
+            name: "levels",
+            help: "says of each level from read uncommitted to serializable whether it holds, and which anomaly breaks it",
+            form: Form::Flag,
+        },
+        ArgumentText {
+            name: "guarantees",
+            help: "says of each guarantee of sessions whether it holds",
+            form: Form::Flag,
+        },
+        ArgumentText {
+            name: "sessions",
+            help: "binds the order of each session's transactions at the level, by default serializable, or at each with --levels",
+            form: Form::Flag,
+        },
         ArgumentText {
             name: "order",
             help: "asks for an order of a kind: any, versions, commit or real",
