@@ -1,14 +1,14 @@
 //! What keeps a log from a level, by its name.
-use crate::entries::{Entry, Proof, from_at, source_at};
+use crate::entries::{Entry, Proof, from_at, source_at, visible_at};
 use crate::own_faults::own_story;
 use crate::reasons::{cycle_lines, edges_of, exclusion_lines, step_at};
 use crate::scene::Scene;
 use crate::story::{Story, StoryLine};
 use crate::unread::unread_story;
-use crate::words::found_words;
+use crate::words::{both_words, found_words};
 use hek_history_report::anomaly_name;
 use hek_history_search::Anomaly;
-use hek_levels::read_at;
+use hek_levels::{read_at, reads_of};
 use hek_levels_refutation::{Link, Step};
 use hek_rules::NoMemory;
 use std::alloc::Global;
@@ -17,6 +17,9 @@ use std::alloc::Global;
 pub(crate) fn story_of(alloc: Global, scene: &Scene, proof: &Proof) -> Result<Story, NoMemory> {
     match proof.end {
         Some(Step::Contra { premise }) => {
+            if let Some(story) = lost_story(alloc, scene, proof, premise)? {
+                return Ok(story);
+            }
             let name = cycle_name(alloc, scene, proof, premise)?;
             Ok(Story::Lines(
                 name,
@@ -29,6 +32,59 @@ pub(crate) fn story_of(alloc: Global, scene: &Scene, proof: &Proof) -> Result<St
             anomaly_name(Anomaly::NoOrder),
             Vec::new(alloc),
         )),
+    }
+}
+
+/// The story of two transactions that found one value of a key and both wrote the key, if that is the cycle.
+fn lost_story(
+    alloc: Global,
+    scene: &Scene,
+    proof: &Proof,
+    premise: usize,
+) -> Result<Option<Story>, NoMemory> {
+    let entries = proof.entries.as_slice();
+    let edges = edges_of(alloc, entries, premise)?;
+    let [edge] = edges.as_slice() else {
+        return Ok(None);
+    };
+    let Some((reader, place, other)) = rival_at(entries, *edge) else {
+        return Ok(None);
+    };
+    let Some(read) = read_at(&scene.seen, reader, place) else {
+        return Ok(None);
+    };
+    let is_lost = reads_of(&scene.seen, other)
+        .iter()
+        .any(|one| one.key == read.key && one.need == read.need);
+    if !is_lost {
+        return Ok(None);
+    }
+    let (first, second) = (reader.min(other), reader.max(other));
+    let mut lines = Vec::new(alloc);
+    lines.push(StoryLine {
+        words: both_words(alloc, scene, first, second, read)?,
+        depth: 0,
+        before: None,
+    })?;
+    Ok(Some(Story::Lines(
+        anomaly_name(Anomaly::LostUpdate),
+        lines,
+    )))
+}
+
+/// The reader of an edge, its read, and another writer of the key that the reader writes too and must not miss.
+fn rival_at(entries: &[Entry], edge: usize) -> Option<(usize, usize, usize)> {
+    let Some(Step::Newest { visible, .. }) = step_at(entries, edge) else {
+        return None;
+    };
+    match step_at(entries, visible) {
+        Some(
+            Step::Linked {
+                link: Link::Writers { .. },
+                ..
+            },
+        ) => visible_at(entries, visible),
+        _ => None,
     }
 }
 
@@ -148,12 +204,10 @@ fn cycle_name(
 
 /// The name of a cycle by the ways in which its reads see.
 fn name_of(ways: Ways) -> &'static str {
-    if ways.newest == 0 || ways.whole {
+    if ways.newest == 0 || ways.whole || ways.prefix {
         anomaly_name(Anomaly::NoOrder)
-    } else if ways.prefix {
-        if ways.newest == 2 { "long fork" } else { anomaly_name(Anomaly::NoOrder) }
     } else if ways.writers {
-        anomaly_name(Anomaly::LostUpdate)
+        anomaly_name(if ways.newest == 1 { Anomaly::LostUpdate } else { Anomaly::NoOrder })
     } else if ways.shown_turns {
         "writes of a session apart"
     } else if ways.causes {

@@ -13,14 +13,23 @@ const MOST_LINES: usize = 40;
 
 const MOST_PLACES: usize = 400;
 
-/// A place that is told, and how far in.
+/// What is told of a place, and how far in.
 #[derive(Clone, Copy)]
 struct Job {
     place: usize,
     depth: usize,
+    part: Part,
 }
 
-/// The places that are still to be told, the next one last, and those that were.
+#[derive(Clone, Copy, PartialEq, Eq)]
+enum Part {
+    /// The claim, and then what it rests on.
+    Whole,
+    /// The claim alone.
+    Line,
+}
+
+/// What is still to be told, the next one last, and the places that were.
 #[derive(Drop)]
 struct Jobs {
     waiting: Vec<Job>,
@@ -36,7 +45,20 @@ impl Jobs {
     }
 
     fn add(&mut self, place: usize, depth: usize) -> Result<(), NoMemory> {
-        self.waiting.push(Job { place, depth })?;
+        self.waiting.push(Job {
+            place,
+            depth,
+            part: Part::Whole,
+        })?;
+        Ok(())
+    }
+
+    fn add_line(&mut self, place: usize, depth: usize) -> Result<(), NoMemory> {
+        self.waiting.push(Job {
+            place,
+            depth,
+            part: Part::Line,
+        })?;
         Ok(())
     }
 
@@ -44,6 +66,9 @@ impl Jobs {
     fn next(&mut self) -> Option<Job> {
         for _ in 0..MOST_PLACES {
             let job = self.waiting.pop()?;
+            if job.part == Part::Line {
+                return Some(job);
+            }
             if let Some(told) = self.told.get_mut(job.place) {
                 if !*told {
                     *told = true;
@@ -153,28 +178,30 @@ fn tell(
         let Some(job) = jobs.next() else {
             return Ok(());
         };
-        if has_line(entries, job.place) && lines.len() < MOST_LINES {
+        if has_line(entries, job) && lines.len() < MOST_LINES {
             lines.push(StoryLine {
                 words: words_at(alloc, scene, entries, job.place)?,
                 depth: job.depth,
                 before: before_at(entries, job.place),
             })?;
         }
-        add_premises(entries, job, jobs)?;
+        if job.part == Part::Whole {
+            add_premises(entries, job, jobs)?;
+        }
     }
     Ok(())
 }
 
-/// Whether the claim at a place has a line of its own, and is not told by others alone.
-fn has_line(entries: &[Entry], place: usize) -> bool {
-    let Some(entry) = entries.get(place) else {
+/// Whether the claim has a line of its own here, and is not told by others alone.
+fn has_line(entries: &[Entry], job: Job) -> bool {
+    let Some(entry) = entries.get(job.place) else {
         return false;
     };
     match (entry.claim, entry.by) {
         (Claim::Before { .. }, Some(Step::Chain { .. } | Step::First { .. })) => false,
         (Claim::Before { .. } | Claim::Source { .. } | Claim::Not { .. }, _) => true,
-        (Claim::Visible { .. }, Some(Step::Linked { .. } | Step::ShowsLinked { .. })) => true,
-        _ => false,
+        (Claim::Visible { .. }, Some(Step::Linked { .. })) => true,
+        _ => job.part == Part::Line,
     }
 }
 
@@ -200,6 +227,7 @@ fn add_premises(entries: &[Entry], job: Job, jobs: &mut Jobs) -> Result<(), NoMe
         }
         Some(Step::ShowsLinked { visible, link }) => {
             add_link(link, job.depth, jobs)?;
+            jobs.add_line(job.place, job.depth)?;
             jobs.add(visible, job.depth)
         }
         Some(Step::NotLater { before, .. }) => jobs.add(before, deeper),

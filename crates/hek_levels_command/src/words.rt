@@ -25,6 +25,27 @@ pub(crate) fn found_words(
     }
 }
 
+/// What two transactions found, both of which wrote the key.
+pub(crate) fn both_words(
+    alloc: Global,
+    scene: &Scene,
+    first: usize,
+    second: usize,
+    read: Read,
+) -> Result<String, AllocError> {
+    let first = scene.log.name(first);
+    let second = scene.log.name(second);
+    let key = scene.log.key(read.key);
+    match read.need {
+        Need::Absent => format!(in alloc; "{first} and {second} both found {key} absent, and both wrote it"),
+        Need::Present => format!(in alloc; "{first} and {second} both found that {key} is there, and both wrote it"),
+        Need::Value(value) => {
+            let value = scene.log.value(value);
+            format!(in alloc; "{first} and {second} both read {key} = {value}, and both wrote it")
+        }
+    }
+}
+
 /// What a transaction found, and whose that is.
 pub(crate) fn read_words(
     alloc: Global,
