@@ -1,6 +1,6 @@
 //! `tools/completions` writes this file.
 pub(crate) const TEXT: &str = r#".\" tools/completions writes this file.
-.TH HEK 1 "" "hek 0.3.0"
+.TH HEK 1 "" "hek 0.4.0"
 .SH NAME
 hek \- the reference machine of pessimistic multiversion locking
 .SH SYNOPSIS
