@@ -96,7 +96,9 @@ impl Answers {
 
     /// Whether one of them stands so.
     fn has(&self, standing: Standing) -> bool {
-        self.known.iter().any(|answer| answer.standing() == standing)
+        self.known
+            .iter()
+            .any(|answer| answer.standing() == standing)
     }
 
     /// The exit status: 1 if one fails, else 3 if one is unknown, else 0.

@@ -7,11 +7,7 @@ use hek_rules::NoMemory;
 use std::alloc::Global;
 
 /// What is known of a log at each level.
-pub(crate) fn climb(
-    alloc: Global,
-    scene: &mut Scene,
-    sessions: bool,
-) -> Result<Answers, NoMemory> {
+pub(crate) fn climb(alloc: Global, scene: &mut Scene, sessions: bool) -> Result<Answers, NoMemory> {
     let mut answers = Answers::new(alloc);
     answers.ask(&Promise::LEVELS)?;
     if !sessions && try_series(alloc, scene, &mut answers)? {
@@ -34,11 +30,7 @@ pub(crate) fn guarantees(alloc: Global, scene: &mut Scene) -> Result<Answers, No
 }
 
 /// Looks for a serial order, and for one of snapshots, with little effort: whether all levels are known then.
-fn try_series(
-    alloc: Global,
-    scene: &mut Scene,
-    answers: &mut Answers,
-) -> Result<bool, NoMemory> {
+fn try_series(alloc: Global, scene: &mut Scene, answers: &mut Answers) -> Result<bool, NoMemory> {
     let top = Promise::LEVELS.len().saturating_sub(1);
     let found = in_series(alloc, scene, Promise::Serializable, LITTLE)?;
     if learn(answers, top, found) {

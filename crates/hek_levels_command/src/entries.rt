@@ -227,11 +227,19 @@ fn sight_of(entries: &[Entry], step: Step) -> Option<Claim> {
         } => (reader, place, linked(entries, link)?),
         Step::ShowsBefore { visible, before } => {
             let (reader, place, _) = visible_at(entries, visible)?;
-            (reader, place, transaction_in(before_at(entries, before)?.0)?)
+            (
+                reader,
+                place,
+                transaction_in(before_at(entries, before)?.0)?,
+            )
         }
         Step::Shows { visible, source } => {
             let (reader, place, _) = visible_at(entries, visible)?;
-            (reader, place, transaction_in(source_at(entries, source)?.2)?)
+            (
+                reader,
+                place,
+                transaction_in(source_at(entries, source)?.2)?,
+            )
         }
         Step::ShowsLinked { visible, link } => {
             let (reader, place, _) = visible_at(entries, visible)?;

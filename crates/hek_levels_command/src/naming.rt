@@ -8,7 +8,7 @@ use crate::unread::unread_story;
 use crate::words::{both_words, found_words};
 use hek_history_report::anomaly_name;
 use hek_history_search::Anomaly;
-use hek_levels::{read_at, reads_of};
+use hek_levels::{Need, read_at, reads_of};
 use hek_levels_refutation::{Link, Step};
 use hek_rules::NoMemory;
 use std::alloc::Global;
@@ -21,17 +21,11 @@ pub(crate) fn story_of(alloc: Global, scene: &Scene, proof: &Proof) -> Result<St
                 return Ok(story);
             }
             let name = cycle_name(alloc, scene, proof, premise)?;
-            Ok(Story::Lines(
-                name,
-                cycle_lines(alloc, scene, proof, premise)?,
-            ))
+            Ok(Story::Lines(name, cycle_lines(alloc, scene, proof, premise)?))
         }
         Some(Step::Exhausted { from }) => exhausted_story(alloc, scene, proof, from),
         Some(Step::Impossible { transaction, .. }) => own_story(alloc, scene, transaction),
-        _ => Ok(Story::Lines(
-            anomaly_name(Anomaly::NoOrder),
-            Vec::new(alloc),
-        )),
+        _ => Ok(Story::Lines(anomaly_name(Anomaly::NoOrder), Vec::new(alloc))),
     }
 }
 
@@ -47,15 +41,18 @@ fn lost_story(
     let [edge] = edges.as_slice() else {
         return Ok(None);
     };
-    let Some((reader, place, other)) = rival_at(entries, *edge) else {
+    let Some((reader, place, other, key)) = rival_at(entries, *edge) else {
         return Ok(None);
     };
     let Some(read) = read_at(&scene.seen, reader, place) else {
         return Ok(None);
     };
+    if read.key != key {
+        return Ok(None);
+    }
     let is_lost = reads_of(&scene.seen, other)
         .iter()
-        .any(|one| one.key == read.key && one.need == read.need);
+        .any(|one| one.key == read.key && is_same(one.need, read.need));
     if !is_lost {
         return Ok(None);
     }
@@ -66,26 +63,31 @@ fn lost_story(
         depth: 0,
         before: None,
     })?;
-    Ok(Some(Story::Lines(
-        anomaly_name(Anomaly::LostUpdate),
-        lines,
-    )))
+    Ok(Some(Story::Lines(anomaly_name(Anomaly::LostUpdate), lines)))
 }
 
-/// The reader of an edge, its read, and another writer of the key that the reader writes too and must not miss.
-fn rival_at(entries: &[Entry], edge: usize) -> Option<(usize, usize, usize)> {
+/// Whether two answers say the same of a key.
+fn is_same(one: Need, other: Need) -> bool {
+    match (one, other) {
+        (Need::Absent, Need::Absent) | (Need::Present, Need::Present) => true,
+        (Need::Value(x), Need::Value(y)) => x == y,
+        _ => false,
+    }
+}
+
+/// The reader of an edge, its read, and another transaction that it must not miss since both write a key.
+fn rival_at(entries: &[Entry], edge: usize) -> Option<(usize, usize, usize, u64)> {
     let Some(Step::Newest { visible, .. }) = step_at(entries, edge) else {
         return None;
     };
-    match step_at(entries, visible) {
-        Some(
-            Step::Linked {
-                link: Link::Writers { .. },
-                ..
-            },
-        ) => visible_at(entries, visible),
-        _ => None,
-    }
+    let Some(Step::Linked { link, .. }) = step_at(entries, visible) else {
+        return None;
+    };
+    let Link::Writers { key, .. } = link else {
+        return None;
+    };
+    let (reader, place, other) = visible_at(entries, visible)?;
+    Some((reader, place, other, key))
 }
 
 /// The story of a read for which no source is left.
@@ -97,17 +99,11 @@ fn exhausted_story(
 ) -> Result<Story, NoMemory> {
     let entries = proof.entries.as_slice();
     let Some((reader, place, _)) = from_at(entries, from) else {
-        return Ok(Story::Lines(
-            anomaly_name(Anomaly::NoSource),
-            Vec::new(alloc),
-        ));
+        return Ok(Story::Lines(anomaly_name(Anomaly::NoSource), Vec::new(alloc)));
     };
     let excluded = excluded_by(alloc, entries, from)?;
     let Some(read) = read_at(&scene.seen, reader, place) else {
-        return Ok(Story::Lines(
-            anomaly_name(Anomaly::NoSource),
-            Vec::new(alloc),
-        ));
+        return Ok(Story::Lines(anomaly_name(Anomaly::NoSource), Vec::new(alloc)));
     };
     if excluded.is_empty() {
         return unread_story(alloc, scene, reader, read);
@@ -207,7 +203,11 @@ fn name_of(ways: Ways) -> &'static str {
     if ways.newest == 0 || ways.whole || ways.prefix {
         anomaly_name(Anomaly::NoOrder)
     } else if ways.writers {
-        anomaly_name(if ways.newest == 1 { Anomaly::LostUpdate } else { Anomaly::NoOrder })
+        anomaly_name(if ways.newest == 1 {
+            Anomaly::LostUpdate
+        } else {
+            Anomaly::NoOrder
+        })
     } else if ways.shown_turns {
         "writes of a session apart"
     } else if ways.causes {

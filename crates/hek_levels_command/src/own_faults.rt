@@ -24,10 +24,7 @@ pub(crate) fn own_story(alloc: Global, scene: &Scene, t: usize) -> Result<Story,
             return Ok(Story::Lines(fault_name(fault), lines));
         }
     }
-    Ok(Story::Lines(
-        anomaly_name(Anomaly::OwnAnswers),
-        Vec::new(alloc),
-    ))
+    Ok(Story::Lines(anomaly_name(Anomaly::OwnAnswers), Vec::new(alloc)))
 }
 
 /// What is wrong with an answer, by what its transaction had done.

@@ -123,7 +123,9 @@ pub(crate) fn cycle_lines(
     let mut lines = Vec::new(alloc);
     let mut jobs = Jobs::new(alloc, entries.len())?;
     for n in 0..edges.len() {
-        let place = (start.saturating_add(n)).checked_rem(edges.len()).unwrap_or(0);
+        let place = (start.saturating_add(n))
+            .checked_rem(edges.len())
+            .unwrap_or(0);
         if let Some(edge) = edges.get(place) {
             jobs.add(*edge, 0)?;
             tell(alloc, scene, entries, &mut jobs, &mut lines)?;

@@ -42,7 +42,9 @@ pub(crate) fn unread_story(
         }
         Found::Impossible(t) => {
             let name = scene.log.name(t);
-            format!(in alloc; "{words}, written by {name}, whose own answers contradict each other")?
+            format!(in alloc;
+                "{words}, written by {name}, whose own answers contradict each other"
+            )?
         }
         Found::Later => format!(in alloc; "{words}, which only it wrote, and that later")?,
         Found::Nobody => match read.need {
@@ -98,9 +100,7 @@ fn found_in(transaction: &Transaction, t: usize, is_last: bool, read: Read) -> O
 
 /// Whether one of these changes leaves what was found.
 fn has(changes: &[Change], read: Read) -> bool {
-    changes
-        .iter()
-        .any(|change| change.key == read.key && meets(read.need, change.value))
+    changes.iter().any(|change| change.key == read.key && meets(read.need, change.value))
 }
 
 fn meets(need: Need, value: Option<u64>) -> bool {
@@ -125,10 +125,7 @@ pub(crate) fn uncommitted_story(alloc: Global, scene: &Scene) -> Result<Story, N
             }
         }
     }
-    Ok(Story::Lines(
-        anomaly_name(Anomaly::UnwrittenRead),
-        Vec::new(alloc),
-    ))
+    Ok(Story::Lines(anomaly_name(Anomaly::UnwrittenRead), Vec::new(alloc)))
 }
 
 /// Whether neither the opening nor a change of another transaction has what a read found.
@@ -137,8 +134,8 @@ fn is_unwritten(scene: &Scene, reader: usize, read: Read) -> bool {
         return false;
     }
     for (t, transaction) in scene.seen.transactions.iter().enumerate() {
-        let is_any =
-            has(transaction.writes.as_slice(), read) || has(transaction.passing.as_slice(), read);
+        let is_any = has(transaction.writes.as_slice(), read)
+            || has(transaction.passing.as_slice(), read);
         if t != reader && is_any {
             return false;
         }

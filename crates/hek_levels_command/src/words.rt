@@ -37,8 +37,12 @@ pub(crate) fn both_words(
     let second = scene.log.name(second);
     let key = scene.log.key(read.key);
     match read.need {
-        Need::Absent => format!(in alloc; "{first} and {second} both found {key} absent, and both wrote it"),
-        Need::Present => format!(in alloc; "{first} and {second} both found that {key} is there, and both wrote it"),
+        Need::Absent => format!(in alloc;
+            "{first} and {second} both found {key} absent, and both wrote it"
+        ),
+        Need::Present => format!(in alloc;
+            "{first} and {second} both found that {key} is there, and both wrote it"
+        ),
         Need::Value(value) => {
             let value = scene.log.value(value);
             format!(in alloc; "{first} and {second} both read {key} = {value}, and both wrote it")
@@ -60,7 +64,9 @@ pub(crate) fn read_words(
     let found = found_words(alloc, scene, reader, read)?;
     match (scene.who(writer), read.need) {
         (Who::Opening, _) => format!(in alloc; "{found}, as at the opening"),
-        (Who::Transaction(name), Need::Absent) => format!(in alloc; "{found}, which {name} deleted"),
+        (Who::Transaction(name), Need::Absent) => format!(in alloc;
+            "{found}, which {name} deleted"
+        ),
         (Who::Transaction(name), _) => format!(in alloc; "{found}, which {name} wrote"),
     }
 }
@@ -76,18 +82,33 @@ pub(crate) fn words_at(
         return String::from_str(alloc, "");
     };
     match (entry.claim, entry.by) {
-        (Claim::Source { reader, place, writer }, _) => {
-            read_words(alloc, scene, reader, place, writer)
-        }
+        (
+            Claim::Source {
+                reader,
+                place,
+                writer,
+            },
+            _,
+        ) => { read_words(alloc, scene, reader, place, writer) }
         (Claim::Before { first, second }, by) => {
             before_words(alloc, scene, entries, first, second, by)
         }
-        (Claim::Visible { reader, transaction, .. }, by) => {
-            visible_words(alloc, scene, entries, reader, transaction, by)
-        }
-        (Claim::Not { reader, place, writer }, _) => {
-            not_words(alloc, scene, reader, place, writer)
-        }
+        (
+            Claim::Visible {
+                reader,
+                transaction,
+                ..
+            },
+            by,
+        ) => { visible_words(alloc, scene, entries, reader, transaction, by) }
+        (
+            Claim::Not {
+                reader,
+                place,
+                writer,
+            },
+            _,
+        ) => { not_words(alloc, scene, reader, place, writer) }
         _ => String::from_str(alloc, ""),
     }
 }
@@ -126,9 +147,10 @@ fn newest_words(
     visible: usize,
     source: usize,
 ) -> Result<String, AllocError> {
-    let (Some((_, _, transaction)), Some((reader, place, writer))) =
-        (visible_at(entries, visible), source_at(entries, source))
-    else {
+    let (Some((_, _, transaction)), Some((reader, place, writer))) = (
+        visible_at(entries, visible),
+        source_at(entries, source),
+    ) else {
         return String::from_str(alloc, "");
     };
     let found = read_words(alloc, scene, reader, place, writer)?;
@@ -137,7 +159,9 @@ fn newest_words(
         Some(read) => {
             let key = scene.log.key(read.key);
             match left_at(scene, transaction, read.key) {
-                Some(Some(value)) => format!(in alloc; "{found}, and sees {name}, which wrote {key} = {value}"),
+                Some(Some(value)) => format!(in alloc;
+                    "{found}, and sees {name}, which wrote {key} = {value}"
+                ),
                 _ => format!(in alloc; "{found}, and sees {name}, which deleted {key}"),
             }
         }
