@@ -17,9 +17,6 @@ use std::alloc::Global;
 /// How much each search tries before it gives up.
 const EFFORT: usize = 100_000;
 
-/// How much the search for a serial order tries at first, before weaker levels are asked.
-pub(crate) const LITTLE: usize = 2_000;
-
 /// What is found of a level.
 #[derive(Drop)]
 pub(crate) enum Finding {
@@ -31,21 +28,15 @@ pub(crate) enum Finding {
     Unknown,
 }
 
-/// Asks whether a level or guarantee holds.
+/// Asks whether a level or guarantee holds, by its rules.
 pub(crate) fn ask(
     alloc: Global,
-    scene: &mut Scene,
+    scene: &Scene,
     promise: Promise,
     sessions: bool,
 ) -> Result<Finding, NoMemory> {
     if promise == Promise::ReadUncommitted {
         return ask_uncommitted(alloc, scene);
-    }
-    if !sessions {
-        match in_series(alloc, scene, promise, EFFORT)? {
-            Finding::Unknown => {}
-            found => return Ok(found),
-        }
     }
     match promise.rules(sessions) {
         Some(rules) => ask_rules(alloc, scene, rules),
@@ -90,7 +81,6 @@ pub(crate) fn in_series(
     alloc: Global,
     scene: &mut Scene,
     promise: Promise,
-    effort: usize,
 ) -> Result<Finding, NoMemory> {
     let level = match promise {
         Promise::Serializable => Level::Serializable,
@@ -100,7 +90,7 @@ pub(crate) fn in_series(
     for transaction in scene.log.history.transactions.iter_mut() {
         transaction.level = level;
     }
-    match hek_history_search::judge(alloc, &scene.log.history, Order::Any, effort)? {
+    match hek_history_search::judge(alloc, &scene.log.history, Order::Any, EFFORT)? {
         hek_history_search::Verdict::Serial(points) => {
             found_order(alloc, scene, promise, points.as_slice())
         }

@@ -1,6 +1,6 @@
 //! All levels of a log: what holds at one holds at each weaker one, and what fails at one fails at each stronger one.
 use crate::answers::{Answer, Answers, Standing};
-use crate::asking::{Finding, LITTLE, ask, in_series};
+use crate::asking::{Finding, ask, in_series};
 use crate::promise::Promise;
 use crate::scene::Scene;
 use hek_rules::NoMemory;
@@ -19,7 +19,7 @@ pub(crate) fn climb(alloc: Global, scene: &mut Scene, sessions: bool) -> Result<
 }
 
 /// The guarantees of sessions, each alone and all together.
-pub(crate) fn guarantees(alloc: Global, scene: &mut Scene) -> Result<Answers, NoMemory> {
+pub(crate) fn guarantees(alloc: Global, scene: &Scene) -> Result<Answers, NoMemory> {
     let mut answers = Answers::new(alloc);
     answers.ask(&Promise::GUARANTEES)?;
     for (place, promise) in Promise::GUARANTEES.iter().enumerate() {
@@ -29,16 +29,16 @@ pub(crate) fn guarantees(alloc: Global, scene: &mut Scene) -> Result<Answers, No
     Ok(answers)
 }
 
-/// Looks for a serial order, and for one of snapshots, with little effort: whether all levels are known then.
+/// Looks for a serial order, and for one of snapshots: whether all levels are known then.
 fn try_series(alloc: Global, scene: &mut Scene, answers: &mut Answers) -> Result<bool, NoMemory> {
     let top = Promise::LEVELS.len().saturating_sub(1);
-    let found = in_series(alloc, scene, Promise::Serializable, LITTLE)?;
+    let found = in_series(alloc, scene, Promise::Serializable)?;
     if learn(answers, top, found) {
         answers.hold_below(top);
         return Ok(true);
     }
     let next = top.saturating_sub(1);
-    let found = in_series(alloc, scene, Promise::Snapshot, LITTLE)?;
+    let found = in_series(alloc, scene, Promise::Snapshot)?;
     if learn(answers, next, found) {
         answers.hold_below(next);
         return Ok(answers.standing(top) != Standing::Unknown);
@@ -68,7 +68,7 @@ fn learn(answers: &mut Answers, place: usize, found: Finding) -> bool {
 /// Asks from the weakest up, to the first that fails or is not known: how many hold.
 fn go_up(
     alloc: Global,
-    scene: &mut Scene,
+    scene: &Scene,
     sessions: bool,
     answers: &mut Answers,
 ) -> Result<usize, NoMemory> {
@@ -92,7 +92,7 @@ fn go_up(
 /// Asks from the strongest down to those that are known to hold, to the first that holds.
 fn go_down(
     alloc: Global,
-    scene: &mut Scene,
+    scene: &Scene,
     sessions: bool,
     low: usize,
     answers: &mut Answers,
@@ -127,11 +127,17 @@ pub(crate) fn answer_one(
 ) -> Result<Answers, NoMemory> {
     let mut answers = Answers::new(alloc);
     answers.ask(&[promise])?;
-    let found = ask(alloc, scene, promise, sessions)?;
-    let _ = learn(&mut answers, 0, found);
+    if !sessions {
+        let found = in_series(alloc, scene, promise)?;
+        let _ = learn(&mut answers, 0, found);
+    }
+    if answers.standing(0) == Standing::Unknown {
+        let found = ask(alloc, scene, promise, sessions)?;
+        let _ = learn(&mut answers, 0, found);
+    }
     let is_open = answers.standing(0) == Standing::Unknown;
     if is_open && !sessions && !promise.is_guarantee() {
-        match in_series(alloc, scene, Promise::Serializable, LITTLE)? {
+        match in_series(alloc, scene, Promise::Serializable)? {
             Finding::Explained => answers.know(0, Answer::Holds),
             Finding::Holds | Finding::Fails(_) | Finding::Unknown => {}
         }

@@ -91,13 +91,13 @@ fn answer<'a, W: Write>(
             write(alloc, &scene, choice, &answers, out)
         }
         Asked::Guarantees => {
-            let answers = guarantees(alloc, &mut scene)?;
+            let answers = guarantees(alloc, &scene)?;
             write(alloc, &scene, choice, &answers, out)
         }
         Asked::Both => {
             let answers = climb(alloc, &mut scene, choice.sessions)?;
             let first = write(alloc, &scene, choice, &answers, out)?;
-            let answers = guarantees(alloc, &mut scene)?;
+            let answers = guarantees(alloc, &scene)?;
             let second = write(alloc, &scene, choice, &answers, out)?;
             Ok(worse(first, second))
         }
