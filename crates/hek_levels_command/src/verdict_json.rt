@@ -49,14 +49,14 @@ fn put_answer(
             out.put_text("anomaly", anomaly_name(cause.anomaly));
             put_cycle(alloc, &scene.log, cause, out)?;
         }
-        Answer::Fails(Story::Lines(name, told)) => {
-            out.put_text("anomaly", *name);
-            put_story(scene, told.as_slice(), out);
-        }
+        Answer::Fails(Story::Lines(name, _)) => out.put_text("anomaly", *name),
         Answer::FailsAs(weaker) => out.put_text("as", weaker.word()),
         Answer::Holds | Answer::Unknown => {}
     }
     out.put_text("level", promise.word());
+    if let Answer::Fails(Story::Lines(_, told)) = answer {
+        put_story(scene, told.as_slice(), out);
+    }
     out.put_flag("sessions", sessions || promise.is_guarantee());
     out.put_text("verdict", verb_of(answer.standing()));
     out.end_line();

@@ -107,8 +107,8 @@ pub(crate) fn words_at(
                 place,
                 writer,
             },
-            _,
-        ) => { not_words(alloc, scene, reader, place, writer) }
+            by,
+        ) => not_words(alloc, scene, entries, reader, place, writer, by),
         _ => String::from_str(alloc, ""),
     }
 }
@@ -232,20 +232,35 @@ fn link_words(
     }
 }
 
-/// Who is not the source of a read.
+/// Why a writer is not the source of a read.
 fn not_words(
     alloc: Global,
     scene: &Scene,
+    entries: &[Entry],
     reader: usize,
     place: usize,
     writer: Writer,
+    by: Option<Step>,
 ) -> Result<String, AllocError> {
     let Some(read) = read_at(&scene.seen, reader, place) else {
         return String::from_str(alloc, "");
     };
-    let found = found_words(alloc, scene, reader, read)?;
-    match scene.who(writer) {
-        Who::Opening => format!(in alloc; "{found}, not as at the opening"),
-        Who::Transaction(name) => format!(in alloc; "{found}, not of {name}"),
+    let key = scene.log.key(read.key);
+    let reader = scene.log.name(reader);
+    let who = scene.who(writer);
+    let whose = match who {
+        Who::Opening => String::from_str(alloc, "not as at the opening")?,
+        Who::Transaction(name) => format!(in alloc; "not of {name}")?,
+    };
+    match by {
+        Some(Step::NotOlder { visible, .. }) => match visible_at(entries, visible) {
+            Some((_, _, later)) => {
+                let later = scene.log.name(later);
+                format!(in alloc; "{whose}: {reader} sees {later}, which wrote {key} later")
+            }
+            None => Ok(whose),
+        },
+        Some(Step::NotLater { .. }) => format!(in alloc; "{whose}: {who} is after {reader}"),
+        _ => format!(in alloc; "{whose}: that comes to a contradiction"),
     }
 }
