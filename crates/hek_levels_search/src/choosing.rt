@@ -6,23 +6,13 @@ use crate::saturating::State;
 use hek_levels::Own;
 use hek_rules::NoMemory;
 
-/// Of so many of the last writers of a key is asked at first whether a reading sees them, and of so many times as many next.
-const FIRST: usize = 8;
-
-const TIMES: usize = 8;
+/// Of the last writer of a key is asked at first whether a reading sees it, and of so many times as many next.
+const TIMES: usize = 4;
 
 impl State<'_> {
-    /// The writer of what stands at a place, if it is a transaction.
-    fn writer_at(&self, place: usize) -> usize {
-        match self.problem.left_at(place).writer {
-            0 => NONE,
-            writer => writer - 1,
-        }
-    }
-
     /// The place in the order of the writer of what stands at a place.
     fn rank_at(&self, place: usize) -> usize {
-        self.sorting.place_of(self.writer_at(place))
+        self.sorting.place_of(self.problem.transaction_at(place))
     }
 
     /// How many writers of the key of a reading are before its reader.
@@ -41,17 +31,38 @@ impl State<'_> {
     /// The last of the writers of a key, before one and not before another, that was seen; one more than its place there.
     fn last_seen(&self, key: usize, from: usize, to: usize) -> usize {
         for n in (from..to).rev() {
-            if self.walk.has_seen(self.writer_at(self.written_at(key, n))) {
+            if self.walk.has_seen(self.problem.transaction_at(self.written_at(key, n))) {
                 return n.saturating_add(1);
             }
         }
         0
     }
 
+    /// Whether a reading sees who left what stands at a place by the readings of its transaction.
+    fn is_own(&self, u: usize, place: usize) -> bool {
+        let reading = self.problem.reading(u);
+        let span = self.problem.readings_of(reading.reader);
+        for q in span.from..span.to {
+            let is_shown = match self.problem.rules.own {
+                Own::Nothing => false,
+                Own::Earlier => self.problem.reading(q).operation < reading.operation,
+                Own::All => true,
+            };
+            if is_shown && place != NONE && self.sources.of(q) == place {
+                return true;
+            }
+        }
+        false
+    }
+
     /// How many writers of its key there are up to the last before its reader that a reading sees.
     fn seen_up_to(&mut self, u: usize, count: usize) -> Result<usize, NoMemory> {
         let key = self.problem.reading(u).key;
-        let mut width = FIRST;
+        let last = self.written_at(key, count.saturating_sub(1));
+        if self.is_own(u, last) {
+            return Ok(count);
+        }
+        let mut width: usize = 1;
         let mut to = count;
         for _n in 0..count {
             let from = count.saturating_sub(width);
@@ -82,7 +93,7 @@ impl State<'_> {
     /// Whether a reading has to find the last before its reader in the order.
     fn finds_last(&self, reading: Reading) -> bool {
         let rules = self.problem.rules;
-        rules.whole || rules.first.writers && reading.overwrites
+        rules.whole || rules.first.writers && reading.overwrites || !self.sees_any()
     }
 
     /// How many writers of its key, of those before its reader, are not after its source.
@@ -90,9 +101,6 @@ impl State<'_> {
         let reading = self.problem.reading(u);
         if self.finds_last(reading) {
             return Ok(count);
-        }
-        if !self.sees_any() {
-            return Ok(0);
         }
         self.seen_up_to(u, count)
     }
@@ -163,7 +171,7 @@ impl State<'_> {
             self.is_stuck = true;
             return Ok(false);
         }
-        self.sources.choose(u, place);
+        self.sources.choose(self.problem, u, place);
         Ok(true)
     }
 

@@ -10,10 +10,7 @@ impl State<'_> {
         let mut last = NONE;
         for n in 0..self.sorting.written(self.problem, key).len() {
             let place = at(self.sorting.written(self.problem, key), n, NONE);
-            let t = match self.problem.left_at(place).writer {
-                0 => NONE,
-                writer => writer - 1,
-            };
+            let t = self.problem.transaction_at(place);
             if last != NONE && t != NONE && !self.graph.has_since(0, last, t) {
                 self.graph.link(last, t, Reason::Chosen)?;
             }

@@ -7,14 +7,10 @@ use hek_rules::NoMemory;
 use std::alloc::Global;
 
 /// The writer that a reading has as its source.
-fn writer_of(problem: &Problem, sources: &Sources, u: usize) -> Writer {
-    let place = sources.of(u);
-    if place == NONE {
-        return Writer::Opening;
-    }
-    match problem.left_at(place).writer {
-        0 => Writer::Opening,
-        writer => Writer::Transaction(writer - 1),
+fn writer_of(sources: &Sources, u: usize) -> Writer {
+    match sources.writer_of(u) {
+        NONE => Writer::Opening,
+        t => Writer::Transaction(t),
     }
 }
 
@@ -28,7 +24,7 @@ fn sources_of(
     let span = problem.readings_of(t);
     let mut writers = Vec::new(alloc);
     for u in span.from..span.to {
-        writers.push(writer_of(problem, sources, u))?;
+        writers.push(writer_of(sources, u))?;
     }
     Ok(SourcesOf { writers })
 }

@@ -152,7 +152,7 @@ impl Walk {
     ) -> Result<(), NoMemory> {
         let span = ground.problem.readings_of(t);
         for u in span.from..span.to {
-            let x = ground.sources.writer_of(ground.problem, u);
+            let x = ground.sources.writer_of(u);
             self.come(ground, Kind::Seen, x, from, By::Reading(u))?;
         }
         Ok(())
@@ -164,7 +164,7 @@ impl Walk {
         let span = ground.problem.readings_of(reading.reader);
         for q in span.from..span.to {
             if q == u || ground.problem.reading(q).operation < reading.operation {
-                let x = ground.sources.writer_of(ground.problem, q);
+                let x = ground.sources.writer_of(q);
                 self.come(ground, Kind::Seen, x, NONE, By::Reading(q))?;
             }
         }

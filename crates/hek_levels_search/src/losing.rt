@@ -76,7 +76,7 @@ pub(crate) fn tell_lost(
     let mut telling = Telling::new(alloc);
     let first = half(alloc, state, &mut telling, u)?;
     let second = half(alloc, state, &mut telling, q)?;
-    let is_opening = state.sources.writer_of(state.problem, u) == NONE;
+    let is_opening = state.sources.writer_of(u) == NONE;
     let case = telling.say(Step::AssumeBefore {
         first: Writer::Transaction(first.reading.reader),
         second: Writer::Transaction(second.reading.reader),

@@ -85,7 +85,7 @@ impl<'a> State<'a> {
     fn link_readings(&mut self, t: usize) -> Result<(), NoMemory> {
         let span = self.problem.readings_of(t);
         for u in span.from..span.to {
-            let x = self.sources.writer_of(self.problem, u);
+            let x = self.sources.writer_of(u);
             if x != NONE {
                 self.graph.link(x, t, Reason::Read(u))?;
             }
@@ -154,7 +154,7 @@ impl<'a> State<'a> {
 
     /// What comes after a source in the order.
     pub(crate) fn after_source(&self, u: usize) -> usize {
-        let x = self.sources.writer_of(self.problem, u);
+        let x = self.sources.writer_of(u);
         if x == NONE {
             return 0;
         }
@@ -185,10 +185,7 @@ impl<'a> State<'a> {
 
     /// The place in the order of whoever left what stands at a place.
     fn place_of(&self, place: usize) -> usize {
-        match self.problem.left_at(place).writer {
-            0 => 0,
-            writer => self.sorting.place_of(writer - 1),
-        }
+        self.sorting.place_of(self.problem.transaction_at(place))
     }
 
     /// Walks back from a reading to all from a place of the order on.
@@ -206,14 +203,11 @@ impl<'a> State<'a> {
 
     /// A writer between is before the source, if it is seen.
     fn derive_one(&mut self, one: Between, fresh: usize) -> Result<Option<Outcome>, NoMemory> {
-        let x = match self.problem.left_at(one.place).writer {
-            0 => return Ok(None),
-            writer => writer - 1,
-        };
+        let x = self.problem.transaction_at(one.place);
         if !self.walk.has_seen(x) {
             return Ok(None);
         }
-        let source = self.sources.writer_of(self.problem, one.reading);
+        let source = self.sources.writer_of(one.reading);
         if source == NONE {
             return Ok(Some(Outcome::AfterOpening(one.reading, x)));
         }

@@ -17,8 +17,9 @@ pub(crate) enum Plain {
 /// Sources, and who takes place.
 #[derive(Drop)]
 pub(crate) struct Sources {
-    /// The place of what each reading found, among all that is left.
+    /// The place of what each reading found, among all that is left; and the transaction that left it.
     found: Vec<usize>,
+    writers: Vec<usize>,
     /// Whether that was chosen among several.
     is_chosen: Vec<bool>,
     /// Who takes place.
@@ -34,6 +35,7 @@ impl Sources {
     pub(crate) fn new(alloc: Global, problem: &Problem) -> Result<Sources, NoMemory> {
         let mut sources = Sources {
             found: Vec::new(alloc),
+            writers: Vec::new(alloc),
             is_chosen: Vec::new(alloc),
             members: Vec::new(alloc),
             is_in: Vec::new(alloc),
@@ -46,6 +48,7 @@ impl Sources {
                 Sole::None | Sole::Several => NONE,
             };
             add(&mut sources.found, place)?;
+            add(&mut sources.writers, problem.transaction_at(place))?;
         }
         Ok(sources)
     }
@@ -56,15 +59,8 @@ impl Sources {
     }
 
     /// The transaction that is the source of a reading, if it is one.
-    pub(crate) fn writer_of(&self, problem: &Problem, u: usize) -> usize {
-        let place = self.of(u);
-        if place == NONE {
-            return NONE;
-        }
-        match problem.left_at(place).writer {
-            0 => NONE,
-            writer => writer - 1,
-        }
+    pub(crate) fn writer_of(&self, u: usize) -> usize {
+        at(self.writers.as_slice(), u, NONE)
     }
 
     pub(crate) fn is_chosen(&self, u: usize) -> bool {
@@ -81,14 +77,16 @@ impl Sources {
     }
 
     /// Chooses a source.
-    pub(crate) fn choose(&mut self, u: usize, place: usize) {
+    pub(crate) fn choose(&mut self, problem: &Problem, u: usize, place: usize) {
         put(&mut self.found, u, place);
+        put(&mut self.writers, u, problem.transaction_at(place));
         put(&mut self.is_chosen, u, true);
     }
 
     /// Leaves a source open again.
     pub(crate) fn leave_open(&mut self, u: usize) {
         put(&mut self.found, u, NONE);
+        put(&mut self.writers, u, NONE);
     }
 
     /// One more takes place.
@@ -121,7 +119,7 @@ impl Sources {
             if let Sole::None = problem.sole(problem.reading(u)) {
                 return Ok(u);
             }
-            let x = self.writer_of(problem, u);
+            let x = self.writer_of(u);
             if x != NONE {
                 self.take_in(x, u)?;
             }

@@ -96,7 +96,7 @@ impl Telling {
         let premise = self.say(Step::Read { source })?;
         let taken = self.taken(state, reading.reader);
         let place = self.say(Step::In { premise, taken })?;
-        let t = state.sources.writer_of(state.problem, u);
+        let t = state.sources.writer_of(u);
         let _before = self.occurs.insert(t, place)?;
         Ok(())
     }
