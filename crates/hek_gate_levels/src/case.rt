@@ -2,7 +2,7 @@
 use crate::fault::Fault;
 use crate::reading::Reader;
 use crate::tally::Tally;
-use hek_levels::{Guarantees, Level, Log, Rules, Status, Transaction};
+use hek_levels::{Guarantees, Level, Log, Rules, Status, Transaction, is_read_uncommitted};
 use hek_levels_search::{Verdict, judge};
 use std::alloc::Global;
 
@@ -118,6 +118,7 @@ fn level_of(word: &str) -> Option<Level> {
         "read-atomic" => Some(Level::ReadAtomic),
         "causal" => Some(Level::Causal),
         "parallel-snapshot" => Some(Level::ParallelSnapshot),
+        "snapshot" => Some(Level::Snapshot),
         "serializable" => Some(Level::Serializable),
         _ => None,
     }
@@ -157,6 +158,21 @@ fn word_of(verdict: &Verdict) -> &'static str {
     }
 }
 
+/// The verdict on a log at the level or for the guarantees of this name, as a word.
+fn verdict_of(alloc: Global, log: &Log, name: &str) -> Result<&'static str, Fault> {
+    if name == "read-uncommitted" {
+        return Ok(if is_read_uncommitted(alloc, log)? {
+            "holds"
+        } else {
+            "fails"
+        });
+    }
+    match rules_of(name) {
+        Some(rules) => Ok(word_of(&judge(alloc, rules, log, EFFORT)?)),
+        None => Err(Fault::NoLine),
+    }
+}
+
 /// Judges a log by the rules of this name, and prints a line if the verdict is another.
 pub(crate) fn compare<R: AllocGlobal + Print>(
     rt: &R,
@@ -165,11 +181,7 @@ pub(crate) fn compare<R: AllocGlobal + Print>(
     wanted: &str,
     tally: &mut Tally,
 ) -> Result<(), Fault> {
-    let Some(rules) = rules_of(name) else {
-        return Ok(());
-    };
-    let verdict = judge(rt.alloc(), rules, &case.log, EFFORT)?;
-    let found = word_of(&verdict);
+    let found = verdict_of(rt.alloc(), &case.log, name)?;
     tally.note(found == wanted, found == "unknown");
     if found != wanted {
         let title = case.title.as_str();

@@ -1,5 +1,5 @@
 -- Who is seen is earlier.
-use Rattle.std.proofs.Common.{◌≡◌, ℕ, suc, ◌<◌, ◌≤◌, true, List, [], ◌∷◌, Some, refl, sym, inl, inr, ◌⊎◌, arith}
+use Rattle.std.proofs.Common.{◌≡◌, ℕ, ◌<◌, List, [], ◌∷◌, Some, inl, inr, arith}
 use Rattle.hek_levels.specs.declared.log.Log.{Log}
 use Rattle.hek_levels.specs.declared.log.Read.{Read}
 use Rattle.hek_levels.specs.declared.rules.Rules.{Rules}
@@ -7,7 +7,7 @@ use Rattle.hek_levels.specs.declared.rules.Links.{Links}
 use Rattle.hek_levels.specs.declared.rules.Own.{Own}
 use Rattle.hek_levels.specs.declared.rules.Own.TheVariants.{Nothing, Earlier, All}
 use Rattle.hek_levels.specs.Logs.{read_at}
-use Rattle.hek_levels.specs.Seen.{Explanation, At, TakesPlace, rank, place, IsBefore, ReadsFrom, SeesByOwn, IsLinked, SeesFirst, Shows, SeesBy, Sees, IsOrdered}
+use Rattle.hek_levels.specs.Seen.{Explanation, At, TakesPlace, IsBefore, ReadsFrom, SeesByOwn, IsLinked, SeesFirst, Shows, SeesBy, Sees, IsOrdered}
 use Rattle.hek_levels.proofs.Orders.{takes, placed}
 
 pub before_trans : (e : Explanation) (x y z : ℕ) → IsBefore e x y → IsBefore e y z → IsBefore e x z
@@ -45,7 +45,11 @@ module _ (log : Log) (e : Explanation) (o : IsOrdered log e) where
       ]
 
   pub shows-earlier : (rules : Rules) (y x : ℕ) → TakesPlace e y → Shows rules log e y x → IsBefore e x y
-  shows-earlier rules y x p s = elim s [ inl reads ↦ reads-earlier y x p reads.1 | inr linked ↦ linked-earlier rules.next y x p linked ]
+  shows-earlier rules y x p s =
+      elim s [
+        | inl before ↦ before.1
+        | inr other ↦ elim other [ inl reads ↦ reads-earlier y x p reads.1 | inr linked ↦ linked-earlier rules.next y x p linked ]
+      ]
 
   pub seen_by-earlier : (rules : Rules) (t r : ℕ) (read : Read) → TakesPlace e t → read_at log t r ≡ Some read → (ys : List ℕ) (x : ℕ) → SeesBy rules log e t r read ys x → IsBefore e x t
   seen_by-earlier rules t r read p there [] x s = first-earlier rules t r read x p there s

@@ -3,3 +3,4 @@ pub mod Earlier
 pub mod Marks
 pub mod Swept
 pub mod Judged
+pub mod Founds

@@ -1,6 +1,6 @@
 -- What is marked stays marked; small steps of loops.
-use Rattle.std.proofs.Common.{◌≡◌, ◌==◌, ℕ, zero, suc, ◌+◌, ◌<◌, ◌≤◌, true, false, cond, List, [], ◌∷◌, ◌++◌, Option, Some, None, refl, sym, ap, ◌∙◌, subst, inl, inr, ◌⊎◌, length, arith}
-use Rattle.std.proofs.lemmas.Bool.{cases_Bool, cases_lt, eqb-true, eq-eqb, both_ways}
+use Rattle.std.proofs.Common.{◌≡◌, ◌==◌, ℕ, zero, suc, ◌<◌, true, false, cond, List, [], ◌∷◌, ◌++◌, Option, Some, None, refl, ◌∙◌, inl, inr, ◌⊎◌, length}
+use Rattle.std.proofs.lemmas.Bool.{cases_Bool, eqb-true, eq-eqb}
 use Rattle.std.proofs.lemmas.Option.{slice_get_within}
 use Rattle.std.specs.Prelude.{slice_get, is_some}
 use Rattle.hek_levels.specs.declared.log.Log.{Log}
@@ -8,7 +8,7 @@ use Rattle.hek_levels.specs.declared.log.Read.{Read}
 use Rattle.hek_levels.specs.declared.log.Change.{Change}
 use Rattle.hek_levels.specs.declared.log.Transaction.{Transaction}
 use Rattle.hek_levels.specs.Logs.{is_committed, committed_in, left_in, read_at, reads_of}
-use Rattle.hek_levels.specs.Sweeps.{IsMarked, IsListed, AreKept}
+use Rattle.hek_levels.specs.Sweeps.{IsListed, AreKept}
 
 pub kept-refl : (f : ℕ → Option ℕ) → AreKept f f
 kept-refl f x m = m

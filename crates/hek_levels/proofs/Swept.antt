@@ -1,14 +1,13 @@
 -- A sweep, one place on.
-use Rattle.std.proofs.Common.{◌≡◌, ℕ, suc, ◌+◌, ◌<◌, ◌≤◌, true, false, List, [], ◌∷◌, ◌++◌, Option, Some, None, refl, sym, ap, ◌∙◌, subst, inl, inr, ◌⊎◌, arith}
-use Rattle.std.proofs.lemmas.Bool.{both_ways}
+use Rattle.std.proofs.Common.{◌≡◌, ℕ, ◌+◌, ◌≤◌, true, false, List, [], ◌∷◌, ◌++◌, Option, Some, refl, sym, subst, inl, inr, ◌⊎◌, arith}
 use Rattle.hek_levels.specs.declared.log.Log.{Log}
 use Rattle.hek_levels.specs.declared.log.Read.{Read}
 use Rattle.hek_levels.specs.declared.rules.Rules.{Rules}
 use Rattle.hek_levels.specs.declared.rules.Links.{Links}
 use Rattle.hek_levels.specs.Logs.{read_at, does_write, is_earlier}
-use Rattle.hek_levels.specs.Seen.{Explanation, At, TakesPlace, rank, IsBefore, ReadsFrom, Precedes, SeesByOwn, SeesFirst, IsLinked, Shows, SeesBy, Sees, IsOrdered}
+use Rattle.hek_levels.specs.Seen.{Explanation, At, TakesPlace, IsBefore, ReadsFrom, Precedes, SeesByOwn, IsLinked, SeesBy, Sees, IsOrdered}
 use Rattle.hek_levels.specs.Sweeps.{IsMarked, IsListed, AreMarked, AreKept, MayLink, MaySee, MayCarry, Carries, IsSwept, IsNewestFrom}
-use Rattle.hek_levels.proofs.Orders.{takes, placed, same_at, cases_from}
+use Rattle.hek_levels.proofs.Orders.{takes, same_at, cases_from}
 use Rattle.hek_levels.proofs.Earlier.{before_trans, linked-earlier, seen-earlier, stands_before}
 use Rattle.hek_levels.proofs.Marks.{listed-old, listed-new, listed-cases}
 
@@ -85,22 +84,26 @@ module _ (rules : Rules) (log : Log) (e : Explanation) (o : IsOrdered log e) (t 
               | inl whole ↦ inl whole.0
               | inr other ↦
                   elim other [
-                    | inl own ↦ inr (inl (kept y (swept.own y own)))
-                    | inr k ↦ elim (linked rules.first t p (λ on. inl (on, refl)) k) [ inl may ↦ inr (inr (inl may)) | inr m ↦ inr (inl m) ]
+                    | inl own ↦ inr (inr (inl (kept y (swept.own y own))))
+                    | inr k ↦ elim (linked rules.first t p (λ on. inl (on, refl)) k) [ inl may ↦ inr (inr (inr (inl may))) | inr m ↦ inr (inr (inl m)) ]
                   ]
             ]
         go (z ∷ zs) f =
             let s : Sees rules log e t r read z = (zs, f.1) in
             let q = sees-takes z s in
             elim (f.0) [
-              | inl reads ↦
-                  let rd = reads.1 in
-                  let l = listed z s (o.back z rd.0 rd.1 y q rd.2 rd.3) in
-                  inr (inl (kept y (swept.shows reads.0 z l y rd)))
-              | inr k ↦
-                  elim (linked rules.next z q (λ on. inr (on, s)) k) [
-                    | inl may ↦ inr (inr (inr (z, listed z s (linked-earlier log e o rules.next z y q k), may)))
-                    | inr m ↦ inr (inl m)
+              | inl before ↦ inr (inl (before.0, (z, listed z s before.1)))
+              | inr by ↦
+                  elim by [
+                    | inl reads ↦
+                        let rd = reads.1 in
+                        let l = listed z s (o.back z rd.0 rd.1 y q rd.2 rd.3) in
+                        inr (inr (inl (kept y (swept.shows reads.0 z l y rd))))
+                    | inr k ↦
+                        elim (linked rules.next z q (λ on. inr (on, s)) k) [
+                          | inl may ↦ inr (inr (inr (inr (z, listed z s (linked-earlier log e o rules.next z y q k), may))))
+                          | inr m ↦ inr (inr (inl m))
+                        ]
                   ]
             ]
 

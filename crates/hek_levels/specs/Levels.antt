@@ -1,7 +1,7 @@
 -- The levels and the guarantees, each by what a read sees.
 use Rattle.std.specs.Prelude.{Bool, true, false}
 use Rattle.hek_levels.specs.declared.rules.Level.{Level}
-use Rattle.hek_levels.specs.declared.rules.Level.TheVariants.{ReadCommitted, MonotonicView, ReadAtomic, Causal, ParallelSnapshot, Serializable}
+use Rattle.hek_levels.specs.declared.rules.Level.TheVariants.{ReadCommitted, MonotonicView, ReadAtomic, Causal, ParallelSnapshot, Snapshot, Serializable}
 use Rattle.hek_levels.specs.declared.rules.Guarantees.{Guarantees}
 use Rattle.hek_levels.specs.declared.rules.Links.{Links}
 use Rattle.hek_levels.specs.declared.rules.Own.{Own}
@@ -15,18 +15,23 @@ links by_writes by_turns by_reads = record { writers = by_writes; session = by_t
 -- nobody is seen but by the reads of the transaction
 abbrev pub plain_rules : Bool → Bool → Own → Rules
 plain_rules bind all own_reads =
-    record { sessions = bind; whole = all; own = own_reads; first = links false false false; causes = false; next = links false false false }
+    record { sessions = bind; whole = all; own = own_reads; first = links false false false; causes = false; prefix = false; next = links false false false }
+
+-- of two writers of a key one sees the other
+abbrev pub conflict_rules : Bool → Bool → Rules
+conflict_rules bind all_before =
+    record { sessions = bind; whole = false; own = All; first = links true bind false; causes = true; prefix = all_before; next = links true bind false }
 
 -- the rules of a level, where sessions bind or do not
 abbrev pub rules_of : Level → Bool → Rules
 rules_of ReadCommitted bind = plain_rules bind false Nothing
 rules_of MonotonicView bind = plain_rules bind false Earlier
 rules_of ReadAtomic bind =
-    record { sessions = bind; whole = false; own = All; first = links false bind false; causes = false; next = links false false false }
+    record { sessions = bind; whole = false; own = All; first = links false bind false; causes = false; prefix = false; next = links false false false }
 rules_of Causal bind =
-    record { sessions = bind; whole = false; own = All; first = links false bind false; causes = true; next = links false bind false }
-rules_of ParallelSnapshot bind =
-    record { sessions = bind; whole = false; own = All; first = links true bind false; causes = true; next = links true bind false }
+    record { sessions = bind; whole = false; own = All; first = links false bind false; causes = true; prefix = false; next = links false bind false }
+rules_of ParallelSnapshot bind = conflict_rules bind false
+rules_of Snapshot bind = conflict_rules bind true
 rules_of Serializable bind = plain_rules bind true Nothing
 
 -- the rules of guarantees
@@ -37,6 +42,7 @@ rules_for g = record {
   own = Earlier;
   first = links false g.read_your_writes g.monotonic_reads;
   causes = g.writes_follow_reads;
+  prefix = false;
   next = links false g.monotonic_writes g.writes_follow_reads;
 }
 

@@ -4,3 +4,4 @@ pub mod Explanations
 pub mod Places
 pub mod Sweeps
 pub mod Levels
+pub mod Uncommitted

@@ -71,7 +71,8 @@ SeesFirst rules log e t r read x =
 
 -- who sees y sees x
 abbrev pub Shows : Rules → Log → Explanation → ℕ → ℕ → Type 0
-Shows rules log e y x = ((rules.causes ≡ true) × ReadsFrom log e y x) ⊎ IsLinked rules.next log e y x
+Shows rules log e y x =
+    ((rules.prefix ≡ true) × IsBefore e x y) ⊎ (((rules.causes ≡ true) × ReadsFrom log e y x) ⊎ IsLinked rules.next log e y x)
 
 -- the read sees the last of these at once, and by each the one before it, and so x by the first
 abbrev pub SeesBy : Rules → Log → Explanation → ℕ → ℕ → Read → List ℕ → ℕ → Type 0

@@ -1,5 +1,5 @@
 -- What a sweep knows: from a transaction back along the order, whom one of its reads sees.
-use Rattle.std.specs.Prelude.{ℕ, ◌≡◌, ◌<◌, ◌≤◌, ◌⊎◌, true, false, List, Option, Some, None, slice_get}
+use Rattle.std.specs.Prelude.{ℕ, ◌≡◌, ◌<◌, ◌≤◌, ◌⊎◌, true, false, List, Option, Some, slice_get}
 use Rattle.hek_levels.specs.declared.log.Log.{Log}
 use Rattle.hek_levels.specs.declared.log.Read.{Read}
 use Rattle.hek_levels.specs.declared.log.Turn.{Turn}
@@ -35,7 +35,9 @@ MayLink links log y x = ((links.writers ≡ true) × ((key : ℕ) × (does_write
 -- y may be seen, by what is marked and who is listed
 abbrev pub MaySee : Rules → Log → ℕ → (ℕ → Option ℕ) → List ℕ → ℕ → Type 0
 MaySee rules log t marked seen y =
-    (rules.whole ≡ true) ⊎ (IsMarked marked y ⊎ (MayLink rules.first log t y ⊎ ((z : ℕ) × IsListed seen z × MayLink rules.next log z y)))
+    (rules.whole ≡ true)
+    ⊎ (((rules.prefix ≡ true) × ((z : ℕ) × IsListed seen z))
+    ⊎ (IsMarked marked y ⊎ (MayLink rules.first log t y ⊎ ((z : ℕ) × IsListed seen z × MayLink rules.next log z y))))
 
 -- the sources of z may be brought by sessions
 abbrev pub MayCarry : Rules → Log → ℕ → List ℕ → ℕ → Type 0

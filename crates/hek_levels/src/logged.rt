@@ -2,6 +2,7 @@
 ghost use Rattle.std.specs.Prelude.{◌≡◌, slice_get};
 ghost use Rattle.hek_rules.specs.Listing.{value_of as value_in};
 ghost use Rattle.hek_levels.specs.Logs.{meets as meets_it, left_in, reads_of as reads_there, writes_of as writes_there, turn_of as turn_there, read_at as read_there, is_committed as committed_there, is_possible as possible_there, is_earlier as earlier_there, does_write as writes_it, left_by as left_there, offers as offers_it};
+ghost use Rattle.hek_levels.specs.Uncommitted.{passing_of as passing_there};
 ghost use Rattle.hek_levels.specs.Explanations.{source_in as source_there};
 
 use crate::certificate::{Sources, Writer};
@@ -23,6 +24,16 @@ pub fn writes_of(log: &Log, t: usize) -> &[Change]
 {
     match log.transactions.get(t) {
         Some(transaction) => transaction.writes.as_slice(),
+        None => &[],
+    }
+}
+
+/// The changes of t that a later one of its own undoes.
+pub fn passing_of(log: &Log, t: usize) -> &[Change]
+    ensures { result.now ≡ passing_there log.now t }
+{
+    match log.transactions.get(t) {
+        Some(transaction) => transaction.passing.as_slice(),
         None => &[],
     }
 }
@@ -84,7 +95,7 @@ pub fn is_earlier(log: &Log, x: usize, t: usize) -> bool
 }
 
 /// Whether a value, or its absence, meets the need.
-fn meets(need: Need, value: Option<u64>) -> bool
+pub(crate) fn meets(need: Need, value: Option<u64>) -> bool
     ensures { result ≡ meets_it need value }
 {
     match (need, value) {

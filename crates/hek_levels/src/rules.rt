@@ -1,9 +1,8 @@
 //! Levels and guarantees, each as what a read sees.
 ghost use Rattle.std.specs.Prelude.{◌≡◌};
-ghost use Rattle.hek_levels.specs.Levels.{links, plain_rules, rules_of, rules_for};
+ghost use Rattle.hek_levels.specs.Levels.{links, plain_rules, conflict_rules, rules_of, rules_for};
 
-/// The levels of a whole history that the rules of this crate define. A snapshot has two points in a history, and so is not
-/// among them.
+/// The levels of a whole history. Read uncommitted is below them, and has no rules: it asks for no order.
 #[derive(Clone, Copy)]
 pub enum Level {
     /// No answer is that of an aborted transaction, of a change that was undone, or of a later transaction.
@@ -16,6 +15,8 @@ pub enum Level {
     Causal,
     /// Of two writers of a key one sees the other.
     ParallelSnapshot,
+    /// The same, and who sees a transaction sees all that commit before it.
+    Snapshot,
     /// Each transaction sees all that commit before it.
     Serializable,
 }
@@ -62,6 +63,8 @@ pub struct Rules {
     pub first: Links,
     /// What is seen shows its sources.
     pub causes: bool,
+    /// What is seen shows all that is before it.
+    pub prefix: bool,
     /// What is seen shows what it sees in other ways.
     pub next: Links,
 }
@@ -83,7 +86,6 @@ impl Level {
         ensures { result ≡ rules_of self sessions }
     {
         let by_session = links_of(false, sessions, false);
-        let by_writers = links_of(true, sessions, false);
         match self {
             Level::ReadCommitted => plain(sessions, false, Own::Nothing),
             Level::MonotonicView => plain(sessions, false, Own::Earlier),
@@ -93,6 +95,7 @@ impl Level {
                 own: Own::All,
                 first: by_session,
                 causes: false,
+                prefix: false,
                 next: links_of(false, false, false),
             },
             Level::Causal => Rules {
@@ -101,16 +104,11 @@ impl Level {
                 own: Own::All,
                 first: by_session,
                 causes: true,
+                prefix: false,
                 next: by_session,
             },
-            Level::ParallelSnapshot => Rules {
-                sessions,
-                whole: false,
-                own: Own::All,
-                first: by_writers,
-                causes: true,
-                next: by_writers,
-            },
+            Level::ParallelSnapshot => by_conflict(sessions, false),
+            Level::Snapshot => by_conflict(sessions, true),
             Level::Serializable => plain(sessions, true, Own::Nothing),
         }
     }
@@ -126,7 +124,23 @@ fn plain(sessions: bool, whole: bool, own: Own) -> Rules
         own,
         first: links_of(false, false, false),
         causes: false,
+        prefix: false,
         next: links_of(false, false, false),
+    }
+}
+
+/// Rules by which of two writers of a key one sees the other.
+fn by_conflict(sessions: bool, prefix: bool) -> Rules
+    ensures { result ≡ conflict_rules sessions prefix }
+{
+    Rules {
+        sessions,
+        whole: false,
+        own: Own::All,
+        first: links_of(true, sessions, false),
+        causes: true,
+        prefix,
+        next: links_of(true, sessions, false),
     }
 }
 
@@ -145,6 +159,7 @@ impl Guarantees {
                 session_reads: self.monotonic_reads,
             },
             causes: self.writes_follow_reads,
+            prefix: false,
             next: Links {
                 writers: false,
                 session: self.monotonic_writes,

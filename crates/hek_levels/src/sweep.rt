@@ -195,6 +195,9 @@ pub(crate) fn may_see(
     if rules.whole {
         return true;
     }
+    if rules.prefix && !seen.is_empty() {
+        return true;
+    }
     if place_of(marked, y).is_some() {
         return true;
     }

@@ -1,16 +1,14 @@
 -- What one level sees, another sees.
-use Rattle.std.proofs.Common.{◌≡◌, ℕ, suc, ◌<◌, ◌≤◌, true, false, Bool, List, [], ◌∷◌, Some, refl, sym, subst, inl, inr, ◌⊎◌, arith}
+use Rattle.std.proofs.Common.{◌≡◌, ℕ, ◌<◌, true, false, List, [], ◌∷◌, Some, refl, subst, inl, inr, ◌⊎◌}
 use Rattle.hek_levels.specs.declared.log.Log.{Log}
 use Rattle.hek_levels.specs.declared.log.Read.{Read}
 use Rattle.hek_levels.specs.declared.rules.Rules.{Rules}
 use Rattle.hek_levels.specs.declared.rules.Links.{Links}
-use Rattle.hek_levels.specs.declared.rules.Guarantees.{Guarantees}
-use Rattle.hek_levels.specs.declared.rules.Level.{Level}
-use Rattle.hek_levels.specs.declared.rules.Level.TheVariants.{ReadCommitted, MonotonicView, ReadAtomic, Causal, ParallelSnapshot, Serializable}
+use Rattle.hek_levels.specs.declared.rules.Level.TheVariants.{ReadCommitted, MonotonicView, ReadAtomic, Causal, ParallelSnapshot, Snapshot, Serializable}
 use Rattle.hek_levels.specs.declared.certificate.Writer.{Writer}
 use Rattle.hek_levels.specs.declared.certificate.Writer.TheVariants as writer
 use Rattle.hek_levels.specs.Logs.{read_at}
-use Rattle.hek_levels.specs.Seen.{Explanation, TakesPlace, rank, IsBefore, ReadsFrom, ReadBefore, SeesByOwn, IsLinked, SeesFirst, Shows, SeesBy, Sees, IsOrdered}
+use Rattle.hek_levels.specs.Seen.{Explanation, TakesPlace, rank, ReadsFrom, ReadBefore, SeesByOwn, IsLinked, SeesFirst, Shows, SeesBy, Sees, IsOrdered}
 use Rattle.hek_levels.specs.Explanations.{Explains}
 use Rattle.hek_levels.specs.Levels.{rules_of, rules_for, all_four}
 use Rattle.hek_levels_laws.specs.Laws.{Implies, LevelsImply, SessionsImply, GuaranteesImply}
@@ -62,8 +60,8 @@ linked_within few more log e y x w l =
 -- rules of which each is one of others
 within : (strong weak : Rules) → (weak.sessions ≡ true → strong.sessions ≡ true) → (weak.whole ≡ true → strong.whole ≡ true) →
     ((log : Log) (e : Explanation) (t r : ℕ) (read : Read) (y : ℕ) → read_at log t r ≡ Some read → SeesByOwn weak.own log e t r read.operation y → SeesByOwn strong.own log e t r read.operation y) →
-    AreWithin weak.first strong.first → (weak.causes ≡ true → strong.causes ≡ true) → AreWithin weak.next strong.next → Implies strong weak
-within strong weak bind all own first causes next log e x =
+    AreWithin weak.first strong.first → (weak.prefix ≡ true → strong.prefix ≡ true) → (weak.causes ≡ true → strong.causes ≡ true) → AreWithin weak.next strong.next → Implies strong weak
+within strong weak bind all own first before causes next log e x =
     weakened strong weak log e bind
     (λ t r read y o there s.
     sees_so strong weak log e t r read
@@ -78,8 +76,8 @@ within strong weak bind all own first causes next log e x =
       z ∷ seen.0,
       (
         elim f [
-          | inl a ↦ inl (causes a.0, a.1)
-          | inr c ↦ inr (linked_within weak.next strong.next log e z w next c)
+          | inl p ↦ inl (before p.0, p.1)
+          | inr by ↦ inr (elim by [ inl a ↦ inl (causes a.0, a.1) | inr c ↦ inr (linked_within weak.next strong.next log e z w next c) ])
         ],
         seen.1,
       ),
@@ -103,28 +101,32 @@ earlier_is_own log e t r read y there s = elim s [ inl is ↦ (r, read, there, i
 
 pub levels_imply : LevelsImply
 levels_imply = record {
-  serializable = (λ bind. whole_implies (rules_of Serializable bind) (rules_of ParallelSnapshot bind) refl (λ on. on));
+  serializable = (λ bind. whole_implies (rules_of Serializable bind) (rules_of Snapshot bind) refl (λ on. on));
+  snapshot = (λ bind.
+      within (rules_of Snapshot bind) (rules_of ParallelSnapshot bind) (λ on. on) (λ on. never on) (λ log e t r read y there s. s)
+      (same_links _) (λ on. never on) (λ on. on) (same_links _));
   parallel_snapshot = (λ bind.
       within (rules_of ParallelSnapshot bind) (rules_of Causal bind) (λ on. on) (λ on. never on) (λ log e t r read y there s. s)
-      (λ on. refl, λ on. on, λ on. on) (λ on. on) (λ on. refl, λ on. on, λ on. on));
+      (λ on. refl, λ on. on, λ on. on) (λ on. on) (λ on. on) (λ on. refl, λ on. on, λ on. on));
   causal = (λ bind.
       within (rules_of Causal bind) (rules_of ReadAtomic bind) (λ on. on) (λ on. never on) (λ log e t r read y there s. s)
-      (λ on. on, λ on. on, λ on. on) (λ on. refl) (λ on. on, λ on. never on, λ on. on));
+      (λ on. on, λ on. on, λ on. on) (λ on. on) (λ on. refl) (λ on. on, λ on. never on, λ on. on));
   read_atomic = (λ bind.
       within (rules_of ReadAtomic bind) (rules_of MonotonicView bind) (λ on. on) (λ on. never on) earlier_is_own
-      (λ on. on, λ on. never on, λ on. on) (λ on. on) (λ on. on, λ on. on, λ on. on));
+      (λ on. on, λ on. never on, λ on. on) (λ on. on) (λ on. on) (λ on. on, λ on. on, λ on. on));
   monotonic_view = (λ bind.
       within (rules_of MonotonicView bind) (rules_of ReadCommitted bind) (λ on. on) (λ on. never on) (λ log e t r read y there s. absurd s)
-      (λ on. on, λ on. on, λ on. on) (λ on. on) (λ on. on, λ on. on, λ on. on));
+      (λ on. on, λ on. on, λ on. on) (λ on. on) (λ on. on) (λ on. on, λ on. on, λ on. on));
 }
 
 pub sessions_imply : SessionsImply
-sessions_imply ReadCommitted = within (rules_of ReadCommitted true) (rules_of ReadCommitted false) (λ on. refl) (λ on. on) (λ log e t r read y there s. s) (same_links _) (λ on. on) (same_links _)
-sessions_imply MonotonicView = within (rules_of MonotonicView true) (rules_of MonotonicView false) (λ on. refl) (λ on. on) (λ log e t r read y there s. s) (same_links _) (λ on. on) (same_links _)
-sessions_imply ReadAtomic = within (rules_of ReadAtomic true) (rules_of ReadAtomic false) (λ on. refl) (λ on. on) (λ log e t r read y there s. s) (λ on. on, λ on. refl, λ on. on) (λ on. on) (same_links _)
-sessions_imply Causal = within (rules_of Causal true) (rules_of Causal false) (λ on. refl) (λ on. on) (λ log e t r read y there s. s) (λ on. on, λ on. refl, λ on. on) (λ on. on) (λ on. on, λ on. refl, λ on. on)
-sessions_imply ParallelSnapshot = within (rules_of ParallelSnapshot true) (rules_of ParallelSnapshot false) (λ on. refl) (λ on. on) (λ log e t r read y there s. s) (λ on. on, λ on. refl, λ on. on) (λ on. on) (λ on. on, λ on. refl, λ on. on)
-sessions_imply Serializable = within (rules_of Serializable true) (rules_of Serializable false) (λ on. refl) (λ on. on) (λ log e t r read y there s. s) (same_links _) (λ on. on) (same_links _)
+sessions_imply ReadCommitted = within (rules_of ReadCommitted true) (rules_of ReadCommitted false) (λ on. refl) (λ on. on) (λ log e t r read y there s. s) (same_links _) (λ on. on) (λ on. on) (same_links _)
+sessions_imply MonotonicView = within (rules_of MonotonicView true) (rules_of MonotonicView false) (λ on. refl) (λ on. on) (λ log e t r read y there s. s) (same_links _) (λ on. on) (λ on. on) (same_links _)
+sessions_imply ReadAtomic = within (rules_of ReadAtomic true) (rules_of ReadAtomic false) (λ on. refl) (λ on. on) (λ log e t r read y there s. s) (λ on. on, λ on. refl, λ on. on) (λ on. on) (λ on. on) (same_links _)
+sessions_imply Causal = within (rules_of Causal true) (rules_of Causal false) (λ on. refl) (λ on. on) (λ log e t r read y there s. s) (λ on. on, λ on. refl, λ on. on) (λ on. on) (λ on. on) (λ on. on, λ on. refl, λ on. on)
+sessions_imply ParallelSnapshot = within (rules_of ParallelSnapshot true) (rules_of ParallelSnapshot false) (λ on. refl) (λ on. on) (λ log e t r read y there s. s) (λ on. on, λ on. refl, λ on. on) (λ on. on) (λ on. on) (λ on. on, λ on. refl, λ on. on)
+sessions_imply Snapshot = within (rules_of Snapshot true) (rules_of Snapshot false) (λ on. refl) (λ on. on) (λ log e t r read y there s. s) (λ on. on, λ on. refl, λ on. on) (λ on. on) (λ on. on) (λ on. on, λ on. refl, λ on. on)
+sessions_imply Serializable = within (rules_of Serializable true) (rules_of Serializable false) (λ on. refl) (λ on. on) (λ log e t r read y there s. s) (same_links _) (λ on. on) (λ on. on) (same_links _)
 
 -- what a session brings is seen in two steps
 carried : (log : Log) (e : Explanation) (t r : ℕ) (read : Read) (z y : ℕ) → Sees (rules_of Causal true) log e t r read z → IsLinked (rules_for all_four).next log e z y → Sees (rules_of Causal true) log e t r read y
@@ -133,8 +135,8 @@ carried log e t r read z y seen l =
       | inl a ↦ never a.0
       | inr other ↦
           elim other [
-            | inl b ↦ (z ∷ seen.0, (inr (inr (inl (refl, b.1))), seen.1))
-            | inr c ↦ let m = c.1.0 in (m ∷ z ∷ seen.0, (inl (refl, c.1.2), (inr (inr (inl (refl, c.1.1))), seen.1)))
+            | inl b ↦ (z ∷ seen.0, (inr (inr (inr (inl (refl, b.1)))), seen.1))
+            | inr c ↦ let m = c.1.0 in (m ∷ z ∷ seen.0, (inr (inl (refl, c.1.2)), (inr (inr (inr (inl (refl, c.1.1)))), seen.1)))
           ]
     ]
 
@@ -145,7 +147,7 @@ carried_first log e t r read y l =
       | inr other ↦
           elim other [
             | inl b ↦ ([], inr (inr (inr (inl (refl, b.1)))))
-            | inr c ↦ let m = c.1.0 in (m ∷ [], (inl (refl, c.1.2), inr (inr (inr (inl (refl, c.1.1))))))
+            | inr c ↦ let m = c.1.0 in (m ∷ [], (inr (inl (refl, c.1.2)), inr (inr (inr (inl (refl, c.1.1))))))
           ]
     ]
 
@@ -161,8 +163,8 @@ four log e x =
     ])
     (λ z w seen f.
     elim f [
-      | inl a ↦ (z ∷ seen.0, (inl (refl, a.1), seen.1))
-      | inr c ↦ carried log e t r read z w seen c
+      | inl p ↦ never p.0
+      | inr by ↦ elim by [ inl a ↦ (z ∷ seen.0, (inr (inl (refl, a.1)), seen.1)) | inr c ↦ carried log e t r read z w seen c ]
     ])
     y s) x
 
@@ -171,8 +173,8 @@ guarantees_imply = record {
   causal = four;
   each = (λ g.
       within (rules_for all_four) (rules_for g) (λ on. on) (λ on. on) (λ log e t r read y there s. s)
-      (λ on. on, λ on. refl, λ on. refl) (λ on. refl) (λ on. on, λ on. refl, λ on. refl));
+      (λ on. on, λ on. refl, λ on. refl) (λ on. on) (λ on. refl) (λ on. on, λ on. refl, λ on. refl));
   monotonic_view = (λ g.
       within (rules_for g) (rules_of MonotonicView true) (λ on. on) (λ on. on) (λ log e t r read y there s. s)
-      (λ on. on, λ on. never on, λ on. never on) (λ on. never on) (λ on. on, λ on. never on, λ on. never on));
+      (λ on. on, λ on. never on, λ on. never on) (λ on. on) (λ on. never on) (λ on. on, λ on. never on, λ on. never on));
 }

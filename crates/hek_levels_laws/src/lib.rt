@@ -3,4 +3,7 @@
 
 mod laws;
 
-pub use laws::{guarantees_imply, levels_imply, sessions_imply};
+pub use laws::{
+    explained_is_read_uncommitted, guarantees_imply, levels_imply, read_uncommitted_says,
+    sessions_imply,
+};

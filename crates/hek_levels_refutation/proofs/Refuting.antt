@@ -1,22 +1,20 @@
 -- The rules of a certificate, each in one explanation.
-use Rattle.std.proofs.Common.{◌≡◌, ℕ, suc, ◌+◌, ◌<◌, ◌≤◌, true, false, Bool, List, [], ◌∷◌, Option, Some, None, refl, sym, ap, ◌∙◌, subst, inl, inr, ◌⊎◌, length, arith}
-use Rattle.std.proofs.lemmas.Bool.{cases_order, cases_lt, both_ways}
+use Rattle.std.proofs.Common.{◌≡◌, ℕ, ◌+◌, ◌<◌, ◌≤◌, true, false, Bool, Option, Some, None, refl, sym, ap, ◌∙◌, subst, inl, inr, length, arith}
+use Rattle.std.proofs.lemmas.Bool.{cases_order, cases_lt}
 use Rattle.std.proofs.lemmas.Option.{slice_get_within}
 use Rattle.std.specs.Prelude.{slice_get, not, IfSome}
 use Rattle.hek_levels.specs.declared.log.Log.{Log}
 use Rattle.hek_levels.specs.declared.log.Read.{Read}
 use Rattle.hek_levels.specs.declared.log.Transaction.{Transaction}
 use Rattle.hek_levels.specs.declared.rules.Rules.{Rules}
-use Rattle.hek_levels.specs.declared.rules.Own.{Own}
 use Rattle.hek_levels.specs.declared.certificate.Writer.{Writer}
 use Rattle.hek_levels.specs.declared.certificate.Writer.TheVariants as writer
-use Rattle.hek_levels.specs.Logs.{read_at, is_possible, possible_in, does_write, offers}
-use Rattle.hek_levels.specs.Seen.{Explanation, At, TakesPlace, place, rank, IsBefore, ReadsFrom, Precedes, IsLinked, Shows, SeesFirst, SeesBy, Sees}
-use Rattle.hek_levels.specs.Explanations.{Explains, HasNoExplanation}
+use Rattle.hek_levels.specs.Logs.{read_at, is_possible, possible_in, does_write}
+use Rattle.hek_levels.specs.Seen.{Explanation, TakesPlace, rank, IsBefore, Sees}
+use Rattle.hek_levels.specs.Explanations.{Explains}
 use Rattle.hek_levels_refutation.specs.Claims.{number_of}
 use Rattle.hek_levels_refutation.specs.Candidates.{MayWrite, IsCandidate, IsNoneBetween, IsNoneFrom}
 use Rattle.hek_levels.proofs.Orders.{takes, rank-injective, cases_below}
-use Rattle.hek_levels.proofs.Judged.{same_read}
 
 -- ---- numbers of writers
 

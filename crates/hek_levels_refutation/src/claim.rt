@@ -138,6 +138,11 @@ pub enum Step {
         taken: Option<usize>,
         link: Link,
     },
+    /// What is seen shows who is before it.
+    ShowsBefore {
+        visible: usize,
+        before: usize,
+    },
     /// What is seen shows its source.
     Shows {
         visible: usize,

@@ -12,7 +12,7 @@ use crate::ordering::{
     session,
 };
 use crate::premises::is_same;
-use crate::seeing::{by_link, own, shows, shows_linked, whole};
+use crate::seeing::{by_link, own, shows, shows_before, shows_linked, whole};
 use hek_levels::{Log, Rules, Writer};
 use hek_rules::NoMemory;
 use std::alloc::Global;
@@ -75,6 +75,7 @@ fn by_seeing(context: &Context<'_>, step: Step) -> Option<Claim>
             taken,
             link,
         } => by_link(context, reader, place, taken, link),
+        Step::ShowsBefore { visible, before } => shows_before(context, visible, before),
         Step::Shows { visible, source } => shows(context, visible, source),
         Step::ShowsLinked { visible, link } => shows_linked(context, visible, link),
         _ => None,

@@ -202,6 +202,29 @@ pub(crate) fn by_link(
     })
 }
 
+/// What is seen shows who is before it.
+pub(crate) fn shows_before(context: &Context<'_>, visible: usize, before: usize) -> Option<Claim>
+    ensures { IfSome result (λ claim. FollowsFrom context.now claim) }
+{
+    if !context.rules.prefix {
+        return None;
+    }
+    let Some(met) = visible_at(context.shown, visible) else {
+        return None;
+    };
+    let Some(pair) = pair_at(context.shown, before) else {
+        return None;
+    };
+    if pair.second != met.transaction {
+        return None;
+    }
+    Some(Claim::Visible {
+        reader: met.reader,
+        place: met.place,
+        transaction: pair.first,
+    })
+}
+
 /// What is seen shows its source.
 pub(crate) fn shows(context: &Context<'_>, visible: usize, source: usize) -> Option<Claim>
     ensures { IfSome result (λ claim. FollowsFrom context.now claim) }

@@ -1,4 +1,4 @@
-use Rattle.std.proofs.Common.{refl, sym}
+use Rattle.std.proofs.Common.{refl}
 use Rattle.hek_levels_refutation.proofs.Refuting.{dropped, not_first}
 use Rattle.hek_levels_refutation.proofs.candidates.drop_first.Goals as goal
 

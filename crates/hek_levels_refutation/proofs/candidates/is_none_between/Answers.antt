@@ -1,4 +1,4 @@
-use Rattle.std.proofs.Common.{◌<◌, arith}
+use Rattle.std.proofs.Common.{arith}
 use Rattle.std.proofs.lemmas.Bool.{false≢true}
 use Rattle.hek_levels_refutation.proofs.Refuting.{none_more}
 use Rattle.hek_levels_refutation.proofs.candidates.is_none_between.Goals as goal

@@ -1,4 +1,4 @@
-use Rattle.std.proofs.Common.{◌≡◌, ◌+◌, ℕ, ap, length, subst}
+use Rattle.std.proofs.Common.{◌+◌, ℕ, ap, length, subst}
 use Rattle.hek_levels_refutation.specs.Candidates.{IsNoneBetween}
 use Rattle.hek_levels_refutation.proofs.Refuting.{none_all}
 use Rattle.hek_levels_refutation.proofs.candidates.is_none_from.Goals as goal

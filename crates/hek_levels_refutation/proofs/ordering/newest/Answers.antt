@@ -1,4 +1,4 @@
-use Rattle.std.proofs.Common.{refl, sym}
+use Rattle.std.proofs.Common.{sym}
 use Rattle.std.proofs.lemmas.Bool.{false≢true}
 use Rattle.hek_levels_refutation.proofs.Refuting.{newest, same_source}
 use Rattle.hek_levels_refutation.proofs.ordering.newest.Goals as goal

@@ -1,5 +1,5 @@
-use Rattle.std.proofs.Common.{refl, ap, subst}
-use Rattle.std.proofs.Common.{◌<◌, arith}
+use Rattle.std.proofs.Common.{refl, ap}
+use Rattle.std.proofs.Common.{arith}
 use Rattle.hek_levels.specs.Seen.{rank}
 use Rattle.hek_levels_refutation.proofs.premises.is_before.Goals as goal
 

@@ -1,4 +1,4 @@
-use Rattle.std.proofs.Common.{ℕ, ◌∷◌, inl, subst}
+use Rattle.std.proofs.Common.{ℕ, ◌∷◌, inl, inr, subst}
 use Rattle.hek_levels.specs.Seen.{ReadsFrom}
 use Rattle.hek_levels_refutation.proofs.seeing.shows.Goals as goal
 
@@ -10,6 +10,6 @@ returns c e x hold =
       λ read there.
           let s = v.1 read there in (
             c.in-Some.met.transaction ∷ s.0,
-            (inl (c.if-not-context.false, subst (λ (n : ℕ). ReadsFrom c.args.context.now.log.now e n c.in-Some-edge_at.edge.transaction) c.if-edge-met.false edge.1), s.1),
+            (inr (inl (c.if-not-context.false, subst (λ (n : ℕ). ReadsFrom c.args.context.now.log.now e n c.in-Some-edge_at.edge.transaction) c.if-edge-met.false edge.1)), s.1),
           ),
     )
