@@ -151,6 +151,22 @@ fn see_by(
     }
 }
 
+/// A read that sees y sees who is before y.
+fn see_before(facts: &mut Facts, u: usize, y: usize, x: usize) -> Result<(), NoMemory> {
+    if facts.visible.at(u, x).is_some() {
+        return Ok(());
+    }
+    let Some(visible) = facts.visible.at(u, y) else {
+        return Ok(());
+    };
+    match facts.before.at(x.saturating_add(1), y.saturating_add(1)) {
+        Some(before) => {
+            facts.add(Step::ShowsBefore { visible, before }, Fact::Visible(u, x))
+        }
+        None => Ok(()),
+    }
+}
+
 /// What a read sees at once.
 fn see_first(
     facts: &mut Facts,
@@ -190,6 +206,9 @@ fn see_next(
         }
     }
     for x in 0..facts.count {
+        if rules.prefix {
+            see_before(facts, u, y, x)?;
+        }
         see_by(facts, rules, log, u, y, x)?;
     }
     Ok(())
