@@ -51,6 +51,9 @@ pub(crate) struct State<'a> {
     low: usize,
 }
 
+/// For each of the effort so many stops of walks are made.
+const STOPS: usize = 1000;
+
 /// Nobody in a session.
 const NOBODY: Turned = Turned {
     session: NONE,
@@ -292,7 +295,7 @@ impl<'a> State<'a> {
             if outcome.is_some() {
                 return Ok(outcome);
             }
-            if self.walk.looked_at > effort {
+            if self.walk.looked_at > effort.saturating_mul(STOPS) {
                 return Ok(Some(Outcome::GivenUp));
             }
         }
