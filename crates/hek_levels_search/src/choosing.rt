@@ -10,22 +10,9 @@ use hek_rules::NoMemory;
 const TIMES: usize = 4;
 
 impl State<'_> {
-    /// The place in the order of the writer of what stands at a place.
-    fn rank_at(&self, place: usize) -> usize {
-        self.sorting.place_of(self.problem.transaction_at(place))
-    }
-
     /// How many writers of the key of a reading are before its reader.
     fn count_before(&self, reading: Reading) -> usize {
-        let here = self.sorting.place_of(reading.reader);
-        self.sorting
-            .written(self.problem, reading.key)
-            .partition_point(|place| self.rank_at(*place) < here)
-    }
-
-    /// What stands at the n-th place of the writers of a key in order.
-    fn written_at(&self, key: usize, n: usize) -> usize {
-        at(self.sorting.written(self.problem, key), n, NONE)
+        self.count_below(reading.key, self.sorting.place_of(reading.reader))
     }
 
     /// The last of the writers of a key, before one and not before another, that was seen; one more than its place there.

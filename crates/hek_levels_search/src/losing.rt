@@ -17,7 +17,7 @@ struct Half {
 }
 
 /// The source of one of the two.
-fn half(
+fn half_of(
     alloc: Global,
     state: &State<'_>,
     telling: &mut Telling,
@@ -74,8 +74,8 @@ pub(crate) fn tell_lost(
     q: usize,
 ) -> Result<Telling, NoMemory> {
     let mut telling = Telling::new(alloc);
-    let first = half(alloc, state, &mut telling, u)?;
-    let second = half(alloc, state, &mut telling, q)?;
+    let first = half_of(alloc, state, &mut telling, u)?;
+    let second = half_of(alloc, state, &mut telling, q)?;
     let is_opening = state.sources.writer_of(u) == NONE;
     let case = telling.say(Step::AssumeBefore {
         first: Writer::Transaction(first.reading.reader),

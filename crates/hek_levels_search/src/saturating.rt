@@ -147,12 +147,7 @@ impl<'a> State<'a> {
 
     /// Sorts those who take place. Answers whether the edges let all be sorted.
     pub(crate) fn sort(&mut self) -> Result<bool, NoMemory> {
-        self.sorting.sort(
-            self.problem,
-            &self.sources,
-            &self.graph,
-            self.sources.members.as_slice(),
-        )
+        self.sorting.sort(self.problem, &self.sources, &self.graph)
     }
 
     /// What comes after a source in the order.
@@ -172,11 +167,9 @@ impl<'a> State<'a> {
         let reading = self.problem.reading(u);
         let low = self.after_source(u);
         let high = self.sorting.place_of(reading.reader);
-        let written = self.sorting.written(self.problem, reading.key);
-        let from = written.partition_point(|one| self.place_of(*one) < low);
-        for n in from..written.len() {
-            let place = at(written, n, NONE);
-            let there = self.place_of(place);
+        for n in self.count_below(reading.key, low)..self.written(reading.key) {
+            let place = self.written_at(reading.key, n);
+            let there = self.rank_at(place);
             if there >= high {
                 break;
             }
@@ -186,9 +179,26 @@ impl<'a> State<'a> {
         Ok(())
     }
 
-    /// The place in the order of whoever left what stands at a place.
-    fn place_of(&self, place: usize) -> usize {
+    /// The place in the order of the writer of what stands at a place.
+    pub(crate) fn rank_at(&self, place: usize) -> usize {
         self.sorting.place_of(self.problem.transaction_at(place))
+    }
+
+    /// How many writers of a key take place.
+    fn written(&self, key: usize) -> usize {
+        self.sorting.written(self.problem, key).len()
+    }
+
+    /// What the n-th writer of a key in order left.
+    pub(crate) fn written_at(&self, key: usize, n: usize) -> usize {
+        at(self.sorting.written(self.problem, key), n, NONE)
+    }
+
+    /// How many writers of a key are below a place of the order.
+    pub(crate) fn count_below(&self, key: usize, low: usize) -> usize {
+        self.sorting
+            .written(self.problem, key)
+            .partition_point(|place| self.rank_at(*place) < low)
     }
 
     /// Walks back from a reading to all from a place of the order on.

@@ -117,14 +117,13 @@ impl Sorting {
         &mut self,
         problem: &Problem,
         sources: &Sources,
-        members: &[usize],
     ) -> Result<(), NoMemory> {
         let all = problem.writers.all().len();
         fill(&mut self.waits, problem.count, 0)?;
         fill(&mut self.readers, all, 0)?;
         fill(&mut self.overwriting, all, NONE)?;
         fill(&mut self.next, problem.readings(), NONE)?;
-        for t in members {
+        for t in &sources.members {
             let span = problem.readings_of(*t);
             for u in span.from..span.to {
                 self.count_reading(problem, sources, u);
@@ -224,8 +223,8 @@ impl Sorting {
     fn restart(
         &mut self,
         problem: &Problem,
+        sources: &Sources,
         graph: &Graph,
-        members: &[usize],
     ) -> Result<(), NoMemory> {
         self.free.clear();
         self.ready.clear();
@@ -237,7 +236,7 @@ impl Sorting {
         for edge in graph.all() {
             raise(&mut self.held, edge.to);
         }
-        for t in members {
+        for t in &sources.members {
             if self.held(*t) == 0 {
                 self.take_ready(*t)?;
             }
@@ -251,11 +250,10 @@ impl Sorting {
         problem: &Problem,
         sources: &Sources,
         graph: &Graph,
-        members: &[usize],
     ) -> Result<bool, NoMemory> {
-        self.begin(problem, sources, members)?;
-        self.restart(problem, graph, members)?;
-        for _n in 0..members.len().saturating_mul(2) {
+        self.begin(problem, sources)?;
+        self.restart(problem, sources, graph)?;
+        for _n in 0..sources.members.len().saturating_mul(2) {
             let t = self.next_one();
             if t == NONE {
                 break;
@@ -269,6 +267,6 @@ impl Sorting {
                 self.release_later(graph, t)?;
             }
         }
-        Ok(self.order.len() == members.len())
+        Ok(self.order.len() == sources.members.len())
     }
 }
