@@ -1,0 +1,12 @@
+//! The step from a history to the log that levels see: what each transaction found that it had not itself changed, and what
+//! it left.
+#![tactic(auto)]
+
+mod answers;
+mod changes;
+mod fitting;
+mod keys;
+mod reads;
+mod step;
+
+pub use step::log_of;
