@@ -150,6 +150,8 @@ fn rivals_of(command: &str, name: &str) -> &'static [&'static str] {
         ("permute" | "page", "grain") => &["split"],
         ("permute", "levels") => &["each", "level"],
         ("run", "history") => &["state", "state-at", "why", "changes", "json"],
+        ("history", "levels" | "guarantees") => &["level", "order", "all", "order-out"],
+        ("history", "sessions") => &["order", "all", "order-out"],
         ("page", "orders") => &["from", "to", "auto"],
         ("page", "levels") => &["from", "to", "auto", "level", "orders"],
         ("permute", "jobs") => &["each", "levels", "order", "find"],

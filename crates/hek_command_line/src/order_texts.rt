@@ -146,7 +146,9 @@ it prints
   not serial: write skew (G2-item)
     a read x = 1, which b overwrote with 0    a before b
     b read y = 1, which a overwrote with 0    b before a
-The status is 0 if there is an order, 1 if there is none, 3 if that is not known or there is nothing to judge, and 4 after a fault of the log."#,
+With --levels it says of each level whether the log satisfies it: the last line is
+  fails at serializable; holds at snapshot, parallel-snapshot, causal, read-atomic, monotonic-view, read-committed, read-uncommitted
+The status is 0 if there is an order, or all that is asked for holds, 1 if not, 3 if that is not known or there is nothing to judge, and 4 after a fault of the log."#,
     arguments: &[
         ArgumentText {
             name: "FILE",
@@ -154,7 +156,26 @@ The status is 0 if there is an order, 1 if there is none, 3 if that is not known
             form: Form::Word,
         },
         EXPLAIN,
-        LEVEL,
+        ArgumentText {
+            name: "level",
+            help: "judges all transactions at a level: serializable, repeatable, snapshot, parallel-snapshot, causal, read-atomic, monotonic-view, read-committed or read-uncommitted; or asks for a guarantee of sessions: monotonic-reads, read-your-writes, monotonic-writes, writes-follow-reads, or guarantees for all four",
+            form: Form::Value("L"),
+        },
+        ArgumentText {
+            name: "levels",
+            help: "says of each level whether the log satisfies it, from read-uncommitted to serializable",
+            form: Form::Flag,
+        },
+        ArgumentText {
+            name: "sessions",
+            help: "has sessions bind at the level, or at each with --levels: a transaction comes after those before it in its session, and sees them",
+            form: Form::Flag,
+        },
+        ArgumentText {
+            name: "guarantees",
+            help: "says of each guarantee of sessions whether the log satisfies it; after the levels, if they are asked for too",
+            form: Form::Flag,
+        },
         ArgumentText {
             name: "order",
             help: "asks for an order of a kind: any, versions, commit or real",
