@@ -2,7 +2,7 @@
 //! do.
 use crate::lists::{NONE, at};
 use crate::problem::Reading;
-use crate::saturating::State;
+use crate::state::State;
 use hek_levels::Own;
 use hek_rules::NoMemory;
 
@@ -18,7 +18,10 @@ impl State<'_> {
     /// The last of the writers of a key, before one and not before another, that was seen; one more than its place there.
     fn last_seen(&self, key: usize, from: usize, to: usize) -> usize {
         for n in (from..to).rev() {
-            if self.walk.has_seen(self.problem.transaction_at(self.written_at(key, n))) {
+            if self
+                .walk
+                .has_seen(self.problem.transaction_at(self.written_at(key, n)))
+            {
                 return n.saturating_add(1);
             }
         }
@@ -149,11 +152,7 @@ impl State<'_> {
     /// Chooses the source of a reading.
     fn choose(&mut self, u: usize) -> Result<bool, NoMemory> {
         let latest = self.latest(u)?;
-        let place = if latest == NONE {
-            self.any(u)
-        } else {
-            latest
-        };
+        let place = if latest == NONE { self.any(u) } else { latest };
         if place == NONE {
             self.is_stuck = true;
             return Ok(false);

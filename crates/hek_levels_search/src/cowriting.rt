@@ -1,7 +1,7 @@
 //! An order of the writers of each key, as the present order has them.
 use crate::graph::Reason;
 use crate::lists::{NONE, at};
-use crate::saturating::State;
+use crate::state::State;
 use hek_rules::NoMemory;
 
 impl State<'_> {

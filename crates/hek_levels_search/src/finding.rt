@@ -3,8 +3,9 @@ use crate::explaining::certificate;
 use crate::lists::{NONE, at};
 use crate::losing::tell_lost;
 use crate::problem::Problem;
-use crate::saturating::{Outcome, State};
+use crate::saturating::Outcome;
 use crate::sources::Plain;
+use crate::state::State;
 use crate::telling::Telling;
 use hek_levels::{Certificate, Log, Rules};
 use hek_levels_refutation::Step;
@@ -72,11 +73,7 @@ fn turn(state: &mut State<'_>, chosen: &[usize]) -> Result<bool, NoMemory> {
 }
 
 /// The last sources are chosen, and the order is an explanation.
-fn finish(
-    alloc: Global,
-    state: &mut State<'_>,
-    effort: usize,
-) -> Result<Found, NoMemory> {
+fn finish(alloc: Global, state: &mut State<'_>, effort: usize) -> Result<Found, NoMemory> {
     let rules = state.problem.rules;
     if rules.first.writers || rules.next.writers {
         state.order_writers()?;

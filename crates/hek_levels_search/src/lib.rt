@@ -21,6 +21,7 @@ mod seeing;
 mod sorting;
 mod sources;
 mod sourcing;
+mod state;
 mod table;
 mod telling;
 mod trying;

@@ -1,7 +1,7 @@
 //! An update that is lost, as steps: two found the same, and both write over it; whichever is first, the other sees it.
 use crate::lists::NONE;
 use crate::problem::Reading;
-use crate::saturating::State;
+use crate::state::State;
 use crate::telling::Telling;
 use hek_levels::Writer;
 use hek_levels_refutation::{Link, Step};

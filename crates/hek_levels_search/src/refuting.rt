@@ -3,7 +3,7 @@ use crate::cycle::short_cycle;
 use crate::graph::Reason;
 use crate::lists::{NONE, add, at};
 use crate::looking::{By, Ground, Kind, Stop};
-use crate::saturating::State;
+use crate::state::State;
 use crate::telling::Telling;
 use hek_levels_refutation::{Link, Step};
 use hek_rules::NoMemory;

@@ -1,13 +1,11 @@
 //! Edges follow from what readings see, until an order agrees with all that they see in it.
-use crate::graph::{Graph, Reason};
-use crate::lists::{NONE, add, at, fill, put};
-use crate::looking::{Ground, Walk};
-use crate::problem::{Problem, Turned};
-use crate::sorting::Sorting;
-use crate::sources::{Plain, Sources};
-use hek_levels::{Log, Own};
+use crate::graph::Reason;
+use crate::lists::{NONE, add, at};
+use crate::looking::Ground;
+use crate::sources::Plain;
+use crate::state::{Between, State};
+use hek_levels::Own;
 use hek_rules::NoMemory;
-use std::alloc::Global;
 
 /// How far it came.
 #[derive(Clone, Copy)]
@@ -24,141 +22,10 @@ pub(crate) enum Outcome {
     GivenUp,
 }
 
-/// A reading, and where it stands what somebody leaves at its key.
-#[derive(Clone, Copy)]
-struct Between {
-    reading: usize,
-    place: usize,
-}
-
-/// The search's state.
-#[derive(Drop)]
-pub(crate) struct State<'a> {
-    pub problem: &'a Problem,
-    pub log: &'a Log,
-    pub sources: Sources,
-    pub graph: Graph,
-    pub sorting: Sorting,
-    pub walk: Walk,
-    /// Who is before each transaction in its session.
-    pub before: Vec<usize>,
-    /// What is not to be chosen again as the source of a reading.
-    banned: Vec<Between>,
-    /// Whether a reading was left without a source.
-    pub is_stuck: bool,
-    between: Vec<Between>,
-    /// The first place of one of these in the order.
-    low: usize,
-}
-
 /// For each of the effort so many stops of walks are made.
 const STOPS: usize = 1000;
 
-/// Nobody in a session.
-const NOBODY: Turned = Turned {
-    session: NONE,
-    number: 0,
-    transaction: NONE,
-};
-
-impl<'a> State<'a> {
-    pub(crate) fn new(
-        alloc: Global,
-        problem: &'a Problem,
-        log: &'a Log,
-    ) -> Result<State<'a>, NoMemory> {
-        let sources = Sources::new(alloc, problem)?;
-        let walk = Walk::new(alloc, problem.count)?;
-        Ok(State {
-            problem,
-            log,
-            sources,
-            graph: Graph::new(alloc),
-            sorting: Sorting::new(alloc),
-            walk,
-            before: Vec::new(alloc),
-            banned: Vec::new(alloc),
-            is_stuck: false,
-            between: Vec::new(alloc),
-            low: 0,
-        })
-    }
-
-    /// The source of each reading of a transaction is before it.
-    fn link_readings(&mut self, t: usize) -> Result<(), NoMemory> {
-        let span = self.problem.readings_of(t);
-        for u in span.from..span.to {
-            let x = self.sources.writer_of(u);
-            if x != NONE {
-                self.graph.link(x, t, Reason::Read(u))?;
-            }
-        }
-        Ok(())
-    }
-
-    /// Who is before each in its session.
-    fn find_turns(&mut self) -> Result<(), NoMemory> {
-        fill(&mut self.before, self.problem.count, NONE)?;
-        let mut last = NOBODY;
-        let mut earlier = NONE;
-        for one in self.problem.turns() {
-            if !self.sources.is_member(one.transaction) {
-                continue;
-            }
-            if one.session != last.session {
-                earlier = NONE;
-            } else if last.number < one.number {
-                earlier = last.transaction;
-            }
-            put(&mut self.before, one.transaction, earlier);
-            last = *one;
-        }
-        Ok(())
-    }
-
-    /// Where sessions bind, turns are kept.
-    fn link_turns(&mut self) -> Result<(), NoMemory> {
-        if !self.problem.rules.sessions {
-            return Ok(());
-        }
-        for t in 0..self.problem.count {
-            let x = at(self.before.as_slice(), t, NONE);
-            if x != NONE {
-                self.graph.link(x, t, Reason::Turn)?;
-            }
-        }
-        Ok(())
-    }
-
-    /// All edges that follow from the sources.
-    fn link_all(&mut self) -> Result<Option<Plain>, NoMemory> {
-        if let Some(plain) = self.sources.gather(self.problem, self.log)? {
-            return Ok(Some(plain));
-        }
-        self.graph.begin(self.problem.count)?;
-        for n in 0..self.sources.members.len() {
-            let t = at(self.sources.members.as_slice(), n, NONE);
-            self.link_readings(t)?;
-        }
-        self.find_turns()?;
-        self.link_turns()?;
-        Ok(None)
-    }
-
-    /// Sorts those who take place. Answers whether the edges let all be sorted.
-    pub(crate) fn sort(&mut self) -> Result<bool, NoMemory> {
-        self.sorting.sort(self.problem, &self.sources, &self.graph)
-    }
-
-    /// What comes after a source in the order.
-    pub(crate) fn after_source(&self, u: usize) -> usize {
-        let x = self.sources.writer_of(u);
-        if x == NONE {
-            return 0;
-        }
-        self.sorting.place_of(x).saturating_add(1)
-    }
-
+impl State<'_> {
     /// What is left at the key of a reading between its source and its reader.
     fn find_between(&mut self, u: usize) -> Result<(), NoMemory> {
         if self.sources.of(u) == NONE {
@@ -177,28 +44,6 @@ impl<'a> State<'a> {
             add(&mut self.between, Between { reading: u, place })?;
         }
         Ok(())
-    }
-
-    /// The place in the order of the writer of what stands at a place.
-    pub(crate) fn rank_at(&self, place: usize) -> usize {
-        self.sorting.place_of(self.problem.transaction_at(place))
-    }
-
-    /// How many writers of a key take place.
-    fn written(&self, key: usize) -> usize {
-        self.sorting.written(self.problem, key).len()
-    }
-
-    /// What the n-th writer of a key in order left.
-    pub(crate) fn written_at(&self, key: usize, n: usize) -> usize {
-        at(self.sorting.written(self.problem, key), n, NONE)
-    }
-
-    /// How many writers of a key are below a place of the order.
-    pub(crate) fn count_below(&self, key: usize, low: usize) -> usize {
-        self.sorting
-            .written(self.problem, key)
-            .partition_point(|place| self.rank_at(*place) < low)
     }
 
     /// Walks back from a reading to all from a place of the order on.
@@ -371,21 +216,6 @@ impl<'a> State<'a> {
             q = self.sorting.next(q);
         }
         q
-    }
-
-    /// Whether it is not to be chosen as the source of a reading.
-    pub(crate) fn is_banned(&self, u: usize, place: usize) -> bool {
-        self.banned
-            .iter()
-            .any(|one| one.reading == u && one.place == place)
-    }
-
-    /// The source of a reading is not to be chosen again.
-    pub(crate) fn ban(&mut self, u: usize) -> Result<(), NoMemory> {
-        let place = self.sources.of(u);
-        add(&mut self.banned, Between { reading: u, place })?;
-        self.sources.leave_open(u);
-        Ok(())
     }
 
     /// Round after round.

@@ -160,9 +160,7 @@ fn see_before(facts: &mut Facts, u: usize, y: usize, x: usize) -> Result<(), NoM
         return Ok(());
     };
     match facts.before.at(x.saturating_add(1), y.saturating_add(1)) {
-        Some(before) => {
-            facts.add(Step::ShowsBefore { visible, before }, Fact::Visible(u, x))
-        }
+        Some(before) => { facts.add(Step::ShowsBefore { visible, before }, Fact::Visible(u, x)) }
         None => Ok(()),
     }
 }

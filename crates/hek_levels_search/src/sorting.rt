@@ -113,11 +113,7 @@ impl Sorting {
     }
 
     /// Counts what keeps each back.
-    pub(crate) fn begin(
-        &mut self,
-        problem: &Problem,
-        sources: &Sources,
-    ) -> Result<(), NoMemory> {
+    pub(crate) fn begin(&mut self, problem: &Problem, sources: &Sources) -> Result<(), NoMemory> {
         let all = problem.writers.all().len();
         fill(&mut self.waits, problem.count, 0)?;
         fill(&mut self.readers, all, 0)?;

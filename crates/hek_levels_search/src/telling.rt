@@ -2,7 +2,7 @@
 use crate::graph::{Edge, Reason};
 use crate::lists::{NONE, add, at};
 use crate::problem::Reading;
-use crate::saturating::State;
+use crate::state::State;
 use hek_levels::is_committed;
 use hek_levels_refutation::Step;
 use hek_rules::NoMemory;
@@ -26,7 +26,6 @@ pub(crate) struct Telling {
     /// Whether something rests on more than the readings.
     pub is_open: bool,
 }
-
 
 impl Telling {
     pub(crate) fn new(alloc: Global) -> Telling {

@@ -86,12 +86,7 @@ fn add_opening(left: &mut Vec<Left>, keys: &[u64], log: &Log) -> Result<(), NoMe
 }
 
 /// Adds what a transaction leaves.
-fn add_changes(
-    left: &mut Vec<Left>,
-    keys: &[u64],
-    log: &Log,
-    t: usize,
-) -> Result<(), NoMemory> {
+fn add_changes(left: &mut Vec<Left>, keys: &[u64], log: &Log, t: usize) -> Result<(), NoMemory> {
     for change in writes_of(log, t) {
         left.push(Left {
             key: place_of(keys, change.key),
@@ -141,11 +136,7 @@ impl Writers {
             raise(&mut starts, one.key);
         }
         sum_up(&mut starts);
-        Ok(Writers {
-            keys,
-            left,
-            starts,
-        })
+        Ok(Writers { keys, left, starts })
     }
 
     /// How many keys there are.

@@ -1,0 +1,181 @@
+//! The state of the search: sources, who takes place, edges and an order.
+use crate::graph::{Graph, Reason};
+use crate::lists::{NONE, add, at, fill, put};
+use crate::looking::Walk;
+use crate::problem::{Problem, Turned};
+use crate::sorting::Sorting;
+use crate::sources::{Plain, Sources};
+use hek_levels::Log;
+use hek_rules::NoMemory;
+use std::alloc::Global;
+
+/// A reading, and where it stands what somebody leaves at its key.
+#[derive(Clone, Copy)]
+pub(crate) struct Between {
+    pub reading: usize,
+    pub place: usize,
+}
+
+/// The search's state.
+#[derive(Drop)]
+pub(crate) struct State<'a> {
+    pub problem: &'a Problem,
+    pub log: &'a Log,
+    pub sources: Sources,
+    pub graph: Graph,
+    pub sorting: Sorting,
+    pub walk: Walk,
+    /// Who is before each transaction in its session.
+    pub before: Vec<usize>,
+    /// What is not to be chosen again as the source of a reading.
+    banned: Vec<Between>,
+    /// Whether a reading was left without a source.
+    pub is_stuck: bool,
+    /// What stands between the source of a reading and its reader, as it is looked at.
+    pub between: Vec<Between>,
+    /// The first place of one of these in the order.
+    pub low: usize,
+}
+
+/// Nobody in a session.
+const NOBODY: Turned = Turned {
+    session: NONE,
+    number: 0,
+    transaction: NONE,
+};
+
+impl<'a> State<'a> {
+    pub(crate) fn new(
+        alloc: Global,
+        problem: &'a Problem,
+        log: &'a Log,
+    ) -> Result<State<'a>, NoMemory> {
+        let sources = Sources::new(alloc, problem)?;
+        let walk = Walk::new(alloc, problem.count)?;
+        Ok(State {
+            problem,
+            log,
+            sources,
+            graph: Graph::new(alloc),
+            sorting: Sorting::new(alloc),
+            walk,
+            before: Vec::new(alloc),
+            banned: Vec::new(alloc),
+            is_stuck: false,
+            between: Vec::new(alloc),
+            low: 0,
+        })
+    }
+
+    /// The source of each reading of a transaction is before it.
+    fn link_readings(&mut self, t: usize) -> Result<(), NoMemory> {
+        let span = self.problem.readings_of(t);
+        for u in span.from..span.to {
+            let x = self.sources.writer_of(u);
+            if x != NONE {
+                self.graph.link(x, t, Reason::Read(u))?;
+            }
+        }
+        Ok(())
+    }
+
+    /// Who is before each in its session.
+    fn find_turns(&mut self) -> Result<(), NoMemory> {
+        fill(&mut self.before, self.problem.count, NONE)?;
+        let mut last = NOBODY;
+        let mut earlier = NONE;
+        for one in self.problem.turns() {
+            if !self.sources.is_member(one.transaction) {
+                continue;
+            }
+            if one.session != last.session {
+                earlier = NONE;
+            } else if last.number < one.number {
+                earlier = last.transaction;
+            }
+            put(&mut self.before, one.transaction, earlier);
+            last = *one;
+        }
+        Ok(())
+    }
+
+    /// Where sessions bind, turns are kept.
+    fn link_turns(&mut self) -> Result<(), NoMemory> {
+        if !self.problem.rules.sessions {
+            return Ok(());
+        }
+        for t in 0..self.problem.count {
+            let x = at(self.before.as_slice(), t, NONE);
+            if x != NONE {
+                self.graph.link(x, t, Reason::Turn)?;
+            }
+        }
+        Ok(())
+    }
+
+    /// All edges that follow from the sources.
+    pub(crate) fn link_all(&mut self) -> Result<Option<Plain>, NoMemory> {
+        if let Some(plain) = self.sources.gather(self.problem, self.log)? {
+            return Ok(Some(plain));
+        }
+        self.graph.begin(self.problem.count)?;
+        for n in 0..self.sources.members.len() {
+            let t = at(self.sources.members.as_slice(), n, NONE);
+            self.link_readings(t)?;
+        }
+        self.find_turns()?;
+        self.link_turns()?;
+        Ok(None)
+    }
+
+    /// Sorts those who take place. Answers whether the edges let all be sorted.
+    pub(crate) fn sort(&mut self) -> Result<bool, NoMemory> {
+        self.sorting.sort(self.problem, &self.sources, &self.graph)
+    }
+
+    /// What comes after a source in the order.
+    pub(crate) fn after_source(&self, u: usize) -> usize {
+        let x = self.sources.writer_of(u);
+        if x == NONE {
+            return 0;
+        }
+        self.sorting.place_of(x).saturating_add(1)
+    }
+
+    /// The place in the order of the writer of what stands at a place.
+    pub(crate) fn rank_at(&self, place: usize) -> usize {
+        self.sorting.place_of(self.problem.transaction_at(place))
+    }
+
+    /// How many writers of a key take place.
+    pub(crate) fn written(&self, key: usize) -> usize {
+        self.sorting.written(self.problem, key).len()
+    }
+
+    /// What the n-th writer of a key in order left.
+    pub(crate) fn written_at(&self, key: usize, n: usize) -> usize {
+        at(self.sorting.written(self.problem, key), n, NONE)
+    }
+
+    /// How many writers of a key are below a place of the order.
+    pub(crate) fn count_below(&self, key: usize, low: usize) -> usize {
+        self.sorting
+            .written(self.problem, key)
+            .partition_point(|place| self.rank_at(*place) < low)
+    }
+
+    /// Whether it is not to be chosen as the source of a reading.
+    pub(crate) fn is_banned(&self, u: usize, place: usize) -> bool {
+        self.banned
+            .iter()
+            .any(|one| one.reading == u && one.place == place)
+    }
+
+    /// The source of a reading is not to be chosen again.
+    pub(crate) fn ban(&mut self, u: usize) -> Result<(), NoMemory> {
+        let place = self.sources.of(u);
+        add(&mut self.banned, Between { reading: u, place })?;
+        self.sources.leave_open(u);
+        Ok(())
+    }
+}
