@@ -1,6 +1,6 @@
-//! The source of a reading that has several candidates: the latest writer of its key that it sees, or the earliest later one that will
-//! do.
-use crate::lists::{NONE, at};
+//! The source of a reading that has several candidates: the latest writer of its key that it sees, or the earliest later one with which
+//! the readings of its transaction see none that is newer than their sources.
+use crate::lists::{NONE, add, at};
 use crate::problem::Reading;
 use crate::state::State;
 use hek_levels::Own;
@@ -8,6 +8,9 @@ use hek_rules::NoMemory;
 
 /// Of the last writer of a key is asked at first whether a reading sees it, and of so many times as many next.
 const TIMES: usize = 4;
+
+/// So many of the writers of a key are tried as the source of a reading.
+const TRIES: usize = 50;
 
 impl State<'_> {
     /// How many writers of the key of a reading are before its reader.
@@ -83,7 +86,7 @@ impl State<'_> {
     /// Whether a reading has to find the last before its reader in the order.
     fn finds_last(&self, reading: Reading) -> bool {
         let rules = self.problem.rules;
-        rules.whole || rules.first.writers && reading.overwrites || !self.sees_any()
+        rules.whole || rules.first.writers && reading.overwrites
     }
 
     /// How many writers of its key, of those before its reader, are not after its source.
@@ -112,30 +115,89 @@ impl State<'_> {
         self.problem.is_candidate(self.problem.reading(u), place) && !self.is_banned(u, place)
     }
 
-    /// The source of a reading, by what it sees: none if nothing before its reader will do.
-    fn latest(&mut self, u: usize) -> Result<usize, NoMemory> {
-        let reading = self.problem.reading(u);
-        if let Own::All = self.problem.rules.own {
-            let same = self.same_key(reading);
-            if same != NONE && self.is_open(u, same) {
-                return Ok(same);
-            }
-        }
-        let count = self.count_before(reading);
-        let least = self.least(u, count)?;
-        if least == 0 {
-            let opening = self.opening(u);
-            if opening != NONE {
-                return Ok(opening);
-            }
-        }
-        for n in least.saturating_sub(1)..count {
-            let place = self.written_at(reading.key, n);
+    /// The last of so many writers of its key that may be the source of a reading; else the opening.
+    fn last_open(&self, u: usize, count: usize) -> usize {
+        let key = self.problem.reading(u).key;
+        for n in (0..count).rev() {
+            let place = self.written_at(key, n);
             if self.is_open(u, place) {
+                return place;
+            }
+        }
+        self.opening(u)
+    }
+
+    /// The first writer of its key that may be the source of a reading, from one on and before another.
+    fn first_fitting(&mut self, u: usize, from: usize, to: usize) -> Result<usize, NoMemory> {
+        let key = self.problem.reading(u).key;
+        let mut tries: usize = 0;
+        for n in from..to {
+            let place = self.written_at(key, n);
+            if self.fits(u, place)? {
                 return Ok(place);
+            }
+            tries = tries.saturating_add(1);
+            if tries >= TRIES {
+                break;
             }
         }
         Ok(NONE)
+    }
+
+    /// Whether what stands at a place may be chosen, and agrees with what the readings of the transaction see then.
+    fn fits(&mut self, u: usize, place: usize) -> Result<bool, NoMemory> {
+        if !self.is_open(u, place) {
+            return Ok(false);
+        }
+        self.sources.choose(self.problem, u, place);
+        let agrees = self.agrees(u)?;
+        self.sources.leave_open(u);
+        Ok(agrees)
+    }
+
+    /// The source of a reading, by what it sees: none if nothing before its reader will do.
+    fn latest(&mut self, u: usize) -> Result<usize, NoMemory> {
+        let reading = self.problem.reading(u);
+        let count = self.count_before(reading);
+        if !self.sees_any() && !self.problem.rules.whole {
+            return Ok(self.last_open(u, count));
+        }
+        if let Own::All = self.problem.rules.own {
+            let same = self.same_key(reading);
+            if self.fits(u, same)? {
+                return Ok(same);
+            }
+        }
+        let least = self.least(u, count)?;
+        let opening = self.opening(u);
+        if least == 0 && self.fits(u, opening)? {
+            return Ok(opening);
+        }
+        self.first_fitting(u, least.saturating_sub(1), count)
+    }
+
+    /// One of unknown status that may be the source of a reading, from before its reader in the log.
+    fn outsider(&self, u: usize) -> usize {
+        let reading = self.problem.reading(u);
+        for place in reading.candidates.from..reading.candidates.to {
+            let t = self.problem.transaction_at(place);
+            if t < reading.reader && !self.sources.is_member(t) && self.is_open(u, place) {
+                return place;
+            }
+        }
+        NONE
+    }
+
+    /// The first writer of its key that may be the source of a reading, after so many.
+    fn first_later(&self, u: usize, count: usize) -> usize {
+        let key = self.problem.reading(u).key;
+        for n in count..self.written(key) {
+            let place = self.written_at(key, n);
+            if self.is_open(u, place) {
+                return place;
+            }
+        }
+        NONE
     }
 
     /// Any source of a reading.
@@ -149,40 +211,63 @@ impl State<'_> {
         NONE
     }
 
+    /// A source of a reading that isn't before its reader in the order: the nearest.
+    fn nearest(&self, u: usize) -> usize {
+        let outsider = self.outsider(u);
+        if outsider != NONE {
+            return outsider;
+        }
+        let later = self.first_later(u, self.count_before(self.problem.reading(u)));
+        if later != NONE {
+            return later;
+        }
+        self.any(u)
+    }
+
     /// Chooses the source of a reading.
-    fn choose(&mut self, u: usize) -> Result<bool, NoMemory> {
+    fn choose(&mut self, u: usize) -> Result<(), NoMemory> {
         let latest = self.latest(u)?;
-        let place = if latest == NONE { self.any(u) } else { latest };
+        if latest != NONE {
+            self.sources.choose(self.problem, u, latest);
+            return add(&mut self.forward, u);
+        }
+        let place = self.nearest(u);
         if place == NONE {
             self.is_stuck = true;
-            return Ok(false);
+            return Ok(());
         }
+        self.is_turned = true;
         self.sources.choose(self.problem, u, place);
-        Ok(true)
+        Ok(())
     }
 
-    /// Chooses the sources of those readings of a transaction that have none, all or none of whose writers will do. Answers whether it
-    /// chose one.
-    fn choose_of(&mut self, t: usize, is_free: bool) -> Result<bool, NoMemory> {
+    /// Chooses the sources of those readings of a transaction that have none, all or none of whose writers will do.
+    fn choose_of(&mut self, t: usize, is_free: bool) -> Result<(), NoMemory> {
         let span = self.problem.readings_of(t);
-        let mut any = false;
         for u in span.from..span.to {
             if self.sources.of(u) == NONE && self.problem.reading(u).is_free == is_free {
-                let chosen = self.choose(u)?;
-                any = any || chosen;
+                self.choose(u)?;
             }
         }
-        Ok(any)
+        Ok(())
     }
 
-    /// The same of all who take place, in order.
+    /// The same of all who take place, in order. Answers whether it chose one. Where the order is to change, only those are chosen that
+    /// change it.
     pub(crate) fn choose_all(&mut self, is_free: bool) -> Result<bool, NoMemory> {
-        let mut any = false;
+        self.forward.clear();
+        self.is_turned = false;
         for n in 0..self.sorting.order.len() {
             let t = at(self.sorting.order.as_slice(), n, NONE);
-            let chosen = self.choose_of(t, is_free)?;
-            any = any || chosen;
+            self.choose_of(t, is_free)?;
         }
-        Ok(any)
+        if !self.is_turned {
+            return Ok(!self.forward.is_empty());
+        }
+        for n in 0..self.forward.len() {
+            self.sources
+                .leave_open(at(self.forward.as_slice(), n, NONE));
+        }
+        Ok(true)
     }
 }

@@ -12,8 +12,12 @@ use hek_levels_refutation::Step;
 use hek_rules::NoMemory;
 use std::alloc::Global;
 
-/// How often other sources are chosen.
-const TURNS: usize = 60;
+/// How often other sources are chosen, at least and at most; and for each of the effort so many readings and transactions are gone over.
+const LEAST: usize = 30;
+
+const MOST: usize = 300;
+
+const GONE_OVER: usize = 20;
 
 /// What was found.
 #[derive(Drop)]
@@ -53,22 +57,31 @@ fn tell(
     }
 }
 
-/// Another source for the last reading that was chosen on which a contradiction rests. Answers whether there was one.
+/// How far the source of a reading was after its reader in the last order of all; and else its reader's place, below that.
+fn weight(state: &State<'_>, u: usize) -> (usize, usize) {
+    let here = state.sorting.hint(state.problem.reading(u).reader);
+    let there = state.sorting.hint(state.sources.writer_of(u));
+    if there == NONE {
+        return (0, here);
+    }
+    (there.saturating_sub(here), here)
+}
+
+/// Another source for the chosen reading that weighs most of those on which a contradiction rests. Answers whether there was one.
 fn turn(state: &mut State<'_>, chosen: &[usize]) -> Result<bool, NoMemory> {
-    let mut last = NONE;
+    let mut heaviest = NONE;
+    let mut most = (0, 0);
     for u in chosen {
-        let u = *u;
-        if last == NONE
-            || state.sorting.place_of(state.problem.reading(last).reader)
-                < state.sorting.place_of(state.problem.reading(u).reader)
-        {
-            last = u;
+        let here = weight(state, *u);
+        if heaviest == NONE || most < here {
+            heaviest = *u;
+            most = here;
         }
     }
-    if last == NONE {
+    if heaviest == NONE {
         return Ok(false);
     }
-    state.ban(last)?;
+    state.ban(heaviest)?;
     Ok(true)
 }
 
@@ -107,7 +120,7 @@ fn take_turn(
 ) -> Result<Option<Found>, NoMemory> {
     let outcome = go(state, effort)?;
     if let Outcome::Settled = outcome {
-        if state.choose_all(false)? {
+        if state.choose_all(false)? || state.is_stuck {
             return Ok(None);
         }
         return Ok(Some(finish(alloc, state, effort)?));
@@ -124,6 +137,13 @@ fn take_turn(
     Ok(Some(Found::Nothing))
 }
 
+/// How often other sources are chosen.
+fn turns(problem: &Problem, effort: usize) -> usize {
+    let size = problem.count.saturating_add(problem.readings());
+    let turns = effort.saturating_mul(GONE_OVER) / size.saturating_add(1);
+    turns.min(MOST).max(LEAST).min(effort)
+}
+
 /// Searches a log of any size.
 pub(crate) fn find(
     alloc: Global,
@@ -133,13 +153,11 @@ pub(crate) fn find(
 ) -> Result<Found, NoMemory> {
     let problem = Problem::new(alloc, log, rules)?;
     let mut state = State::new(alloc, &problem, log)?;
-    for _turn in 0..effort.min(TURNS) {
+    for _turn in 0..turns(&problem, effort) {
         if let Some(found) = take_turn(alloc, &mut state, effort)? {
             return Ok(found);
         }
-        if state.is_stuck {
-            break;
-        }
+        state.free_stuck();
     }
     Ok(Found::Nothing)
 }

@@ -98,6 +98,41 @@ impl State<'_> {
         Ok(None)
     }
 
+    /// Whether one that was between is seen.
+    fn sees_between(&self) -> bool {
+        self.between
+            .iter()
+            .any(|one| self.walk.has_seen(self.problem.transaction_at(one.place)))
+    }
+
+    /// Whether none of these that are between a source and its reader is seen, by the last of the readings.
+    fn agree(&mut self, from: usize, to: usize, by: usize) -> Result<bool, NoMemory> {
+        self.clear();
+        for u in from..to {
+            self.find_between(u)?;
+        }
+        if self.between.is_empty() {
+            return Ok(true);
+        }
+        let low = self.low;
+        self.look(by, low)?;
+        Ok(!self.sees_between())
+    }
+
+    /// Whether the readings of the transaction of one see nobody that is newer than their sources.
+    pub(crate) fn agrees(&mut self, u: usize) -> Result<bool, NoMemory> {
+        let span = self.problem.readings_of(self.problem.reading(u).reader);
+        let Own::Earlier = self.problem.rules.own else {
+            return self.agree(span.from, span.to, u);
+        };
+        for q in span.from..span.to {
+            if !self.agree(q, q.saturating_add(1), q)? {
+                return Ok(false);
+            }
+        }
+        Ok(true)
+    }
+
     /// Forgets who was between.
     fn clear(&mut self) {
         self.between.clear();

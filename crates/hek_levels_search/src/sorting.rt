@@ -1,5 +1,5 @@
 //! An order of those who take place that agrees with all edges, if there is one: who reads what another writes over is before it
-//! where the edges let it, and else the order of the log is kept.
+//! where the edges let it, and else the order before is kept, the first time that of the log.
 use crate::graph::Graph;
 use crate::lists::{NONE, Span, add, at, fill, lower, part, put, raise};
 use crate::problem::Problem;
@@ -13,9 +13,11 @@ use std::collections::BinaryHeap;
 #[derive(Drop)]
 pub(crate) struct Sorting {
     /// Those that nothing keeps back.
-    free: BinaryHeap<Reverse<usize>>,
+    free: BinaryHeap<Reverse<(usize, usize)>>,
     /// Those that no edge keeps back.
-    ready: BinaryHeap<Reverse<usize>>,
+    ready: BinaryHeap<Reverse<(usize, usize)>>,
+    /// The place of each in the last order of all, or in the log.
+    hints: Vec<usize>,
     /// How many edges keep each transaction back.
     held: Vec<usize>,
     /// How many of its readings, whose key it writes, others have that don't.
@@ -39,6 +41,7 @@ impl Sorting {
         Sorting {
             free: BinaryHeap::new(alloc),
             ready: BinaryHeap::new(alloc),
+            hints: Vec::new(alloc),
             held: Vec::new(alloc),
             waits: Vec::new(alloc),
             readers: Vec::new(alloc),
@@ -54,6 +57,22 @@ impl Sorting {
     /// The place of a transaction.
     pub(crate) fn place_of(&self, t: usize) -> usize {
         at(self.places.as_slice(), t, NONE)
+    }
+
+    /// Where a transaction is expected in the order.
+    pub(crate) fn hint(&self, t: usize) -> usize {
+        at(self.hints.as_slice(), t, t)
+    }
+
+    /// The order is expected again.
+    fn keep(&mut self) -> Result<(), NoMemory> {
+        for t in self.hints.len()..self.places.len() {
+            add(&mut self.hints, t)?;
+        }
+        for (place, t) in self.order.iter().enumerate() {
+            put(&mut self.hints, *t, place);
+        }
+        Ok(())
     }
 
     /// How many edges keep a transaction back still.
@@ -81,7 +100,7 @@ impl Sorting {
     /// Counts a reading.
     fn count_reading(&mut self, problem: &Problem, sources: &Sources, u: usize) {
         let place = sources.of(u);
-        if place == NONE {
+        if place == NONE || sources.is_chosen(u) {
             return;
         }
         let reading = problem.reading(u);
@@ -133,20 +152,21 @@ impl Sorting {
 
     /// Those that no edge keeps back are ready.
     fn take_ready(&mut self, t: usize) -> Result<(), NoMemory> {
+        let hint = self.hint(t);
         if at(self.waits.as_slice(), t, 0) == 0 {
-            self.free.push(Reverse(t))?;
+            self.free.push(Reverse((hint, t)))?;
         } else {
-            self.ready.push(Reverse(t))?;
+            self.ready.push(Reverse((hint, t)))?;
         }
         Ok(())
     }
 
     /// The next in order.
     fn next_one(&mut self) -> usize {
-        if let Some(Reverse(t)) = self.free.pop() {
+        if let Some(Reverse((_, t))) = self.free.pop() {
             return t;
         }
-        if let Some(Reverse(t)) = self.ready.pop() {
+        if let Some(Reverse((_, t))) = self.ready.pop() {
             return t;
         }
         NONE
@@ -164,7 +184,8 @@ impl Sorting {
             }
             let x = problem.reading(u).reader;
             if lower(&mut self.waits, x) == 0 && self.held(x) == 0 {
-                self.free.push(Reverse(x))?;
+                let hint = self.hint(x);
+                self.free.push(Reverse((hint, x)))?;
             }
             u = self.next(u);
         }
@@ -181,7 +202,7 @@ impl Sorting {
         let span = problem.readings_of(t);
         for u in span.from..span.to {
             let place = sources.of(u);
-            if place != NONE && !problem.reading(u).overwrites {
+            if place != NONE && !sources.is_chosen(u) && !problem.reading(u).overwrites {
                 self.release(problem, place)?;
             }
         }
@@ -263,6 +284,10 @@ impl Sorting {
                 self.release_later(graph, t)?;
             }
         }
-        Ok(self.order.len() == sources.members.len())
+        let is_whole = self.order.len() == sources.members.len();
+        if is_whole {
+            self.keep()?;
+        }
+        Ok(is_whole)
     }
 }

@@ -87,6 +87,7 @@ impl Sources {
     pub(crate) fn leave_open(&mut self, u: usize) {
         put(&mut self.found, u, NONE);
         put(&mut self.writers, u, NONE);
+        put(&mut self.is_chosen, u, false);
     }
 
     /// One more takes place.

@@ -31,6 +31,9 @@ pub(crate) struct State<'a> {
     banned: Vec<Between>,
     /// Whether a reading was left without a source.
     pub is_stuck: bool,
+    /// The readings whose sources were chosen before them in the order; whether one was chosen after it.
+    pub forward: Vec<usize>,
+    pub is_turned: bool,
     /// What stands between the source of a reading and its reader, as it is looked at.
     pub between: Vec<Between>,
     /// The first place of one of these in the order.
@@ -62,6 +65,8 @@ impl<'a> State<'a> {
             before: Vec::new(alloc),
             banned: Vec::new(alloc),
             is_stuck: false,
+            forward: Vec::new(alloc),
+            is_turned: false,
             between: Vec::new(alloc),
             low: 0,
         })
@@ -169,6 +174,14 @@ impl<'a> State<'a> {
         self.banned
             .iter()
             .any(|one| one.reading == u && one.place == place)
+    }
+
+    /// Where a reading was left without a source, all may be chosen again.
+    pub(crate) fn free_stuck(&mut self) {
+        if self.is_stuck {
+            self.banned.clear();
+            self.is_stuck = false;
+        }
     }
 
     /// The source of a reading is not to be chosen again.
