@@ -1,4 +1,7 @@
 //! Whether a log satisfies one level or guarantee.
+ghost use Rattle.std.specs.Prelude.{IfOk};
+ghost use Rattle.hek_levels_command.specs.Findings.{IsFinding};
+
 use crate::entries::proof_of;
 use crate::naming::story_of;
 use crate::orders::{certificate_of, have_both};
@@ -9,7 +12,7 @@ use crate::unread::uncommitted_story;
 use hek_history::{Level, Order, Point, Step};
 use hek_history_report::turn;
 use hek_history_search::{Cause, anomalies_shown, cause_by_answers};
-use hek_levels::{Rules, explains, is_read_uncommitted};
+use hek_levels::{Certificate, Rules, explains, is_read_uncommitted};
 use hek_levels_search::judge;
 use hek_rules::NoMemory;
 use std::alloc::Global;
@@ -53,7 +56,9 @@ fn ask_uncommitted(alloc: Global, scene: &Scene) -> Result<Finding, NoMemory> {
 }
 
 /// Asks by rules.
-fn ask_rules(alloc: Global, scene: &Scene, rules: Rules) -> Result<Finding, NoMemory> {
+fn ask_rules(alloc: Global, scene: &Scene, rules: Rules) -> Result<Finding, NoMemory>
+    ensures { IfOk result (λ finding. IsFinding rules scene.now.seen finding) }
+{
     match judge(alloc, rules, &scene.seen, EFFORT)? {
         hek_levels_search::Verdict::Holds(certificate) => {
             let order = certificate.order.as_slice();
@@ -116,11 +121,22 @@ fn found_order(
     if has_both(alloc, scene, certificate.order.as_slice())? {
         return Ok(Finding::Unknown);
     }
-    let is_explained = match promise.rules(false) {
-        Some(rules) => explains(alloc, rules, &scene.seen, &certificate)?,
-        None => false,
-    };
-    if is_explained {
+    match promise.rules(false) {
+        Some(rules) => explained(alloc, rules, &scene.seen, &certificate),
+        None => Ok(Finding::Holds),
+    }
+}
+
+/// Whether an order that was found explains the log by the rules too.
+fn explained(
+    alloc: Global,
+    rules: Rules,
+    seen: &hek_levels::Log,
+    certificate: &Certificate,
+) -> Result<Finding, NoMemory>
+    ensures { IfOk result (λ finding. IsFinding rules seen.now finding) }
+{
+    if explains(alloc, rules, seen, certificate)? {
         Ok(Finding::Explained)
     } else {
         Ok(Finding::Holds)

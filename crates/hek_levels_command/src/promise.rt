@@ -1,4 +1,8 @@
 //! What a log can be asked for.
+ghost use Rattle.std.specs.Prelude.{◌≡◌};
+ghost use Rattle.hek_levels.specs.Levels.{rules_for};
+ghost use Rattle.hek_levels_command.specs.Promises.{guarantees, rules_at};
+
 use hek_levels::{Guarantees, Level, Rules};
 
 /// A level, or a guarantee of sessions.
@@ -93,66 +97,42 @@ impl Promise {
         None
     }
 
-    /// The level, if it is one that has rules.
-    fn level(self) -> Option<Level> {
-        match self {
-            Promise::ReadCommitted => Some(Level::ReadCommitted),
-            Promise::MonotonicView => Some(Level::MonotonicView),
-            Promise::ReadAtomic => Some(Level::ReadAtomic),
-            Promise::Causal => Some(Level::Causal),
-            Promise::ParallelSnapshot => Some(Level::ParallelSnapshot),
-            Promise::Snapshot => Some(Level::Snapshot),
-            Promise::Serializable => Some(Level::Serializable),
-            _ => None,
-        }
-    }
-
-    /// The guarantees, if it is one, or all.
-    fn guarantees(self) -> Option<Guarantees> {
-        let none = Guarantees {
-            monotonic_reads: false,
-            read_your_writes: false,
-            monotonic_writes: false,
-            writes_follow_reads: false,
-        };
-        match self {
-            Promise::MonotonicReads => Some(Guarantees {
-                monotonic_reads: true,
-                ..none
-            }),
-            Promise::ReadYourWrites => Some(Guarantees {
-                read_your_writes: true,
-                ..none
-            }),
-            Promise::MonotonicWrites => Some(Guarantees {
-                monotonic_writes: true,
-                ..none
-            }),
-            Promise::WritesFollowReads => Some(Guarantees {
-                writes_follow_reads: true,
-                ..none
-            }),
-            Promise::AllGuarantees => Some(Guarantees {
-                monotonic_reads: true,
-                read_your_writes: true,
-                monotonic_writes: true,
-                writes_follow_reads: true,
-            }),
-            _ => None,
-        }
-    }
-
     /// The rules, where sessions bind or do not; read uncommitted has none.
-    pub fn rules(self, sessions: bool) -> Option<Rules> {
-        match (self.level(), self.guarantees()) {
-            (Some(level), _) => Some(level.rules(sessions)),
-            (None, Some(guarantees)) => Some(guarantees.rules()),
-            (None, None) => None,
+    pub fn rules(self, sessions: bool) -> Option<Rules>
+        ensures { result ≡ rules_at self sessions }
+    {
+        match self {
+            Promise::ReadUncommitted => None,
+            Promise::ReadCommitted => Some(Level::ReadCommitted.rules(sessions)),
+            Promise::MonotonicView => Some(Level::MonotonicView.rules(sessions)),
+            Promise::ReadAtomic => Some(Level::ReadAtomic.rules(sessions)),
+            Promise::Causal => Some(Level::Causal.rules(sessions)),
+            Promise::ParallelSnapshot => Some(Level::ParallelSnapshot.rules(sessions)),
+            Promise::Snapshot => Some(Level::Snapshot.rules(sessions)),
+            Promise::Serializable => Some(Level::Serializable.rules(sessions)),
+            Promise::MonotonicReads => Some(asked(true, false, false, false)),
+            Promise::ReadYourWrites => Some(asked(false, true, false, false)),
+            Promise::MonotonicWrites => Some(asked(false, false, true, false)),
+            Promise::WritesFollowReads => Some(asked(false, false, false, true)),
+            Promise::AllGuarantees => Some(asked(true, true, true, true)),
         }
     }
 
     /// Whether it is about sessions alone.
     pub fn is_guarantee(self) -> bool {
-        self.guarantees().is_some()
+        Promise::GUARANTEES.contains(&self)
     }
+}
+
+/// The rules of these guarantees together.
+fn asked(reads: bool, own: bool, writes: bool, follow: bool) -> Rules
+    ensures { result ≡ rules_for (guarantees reads own writes follow) }
+{
+    Guarantees {
+        monotonic_reads: reads,
+        read_your_writes: own,
+        monotonic_writes: writes,
+        writes_follow_reads: follow,
+    }
+    .rules()
 }
