@@ -1,5 +1,6 @@
 //! A stored log with its verdicts.
 use crate::fault::Fault;
+use crate::forging::{Asked, Forged, forge};
 use crate::reading::Reader;
 use crate::tally::Tally;
 use hek_levels::{Guarantees, Level, Log, Rules, Status, Transaction, is_read_uncommitted};
@@ -9,11 +10,12 @@ use std::alloc::Global;
 /// How many cases and rounds the search tries.
 const EFFORT: usize = 100_000;
 
-/// A log, and what it is called.
+/// A log, what it is called, and what it is by the rules that were asked.
 #[derive(Drop)]
 pub(crate) struct Case {
     title: String,
     log: Log,
+    asked: Vec<Asked>,
 }
 
 /// The status that a word names.
@@ -39,6 +41,7 @@ impl Case {
                 rows: Vec::new(alloc),
                 transactions: Vec::new(alloc),
             },
+            asked: Vec::new(alloc),
         })
     }
 
@@ -96,6 +99,34 @@ impl Case {
             Some(status) => self.begin(alloc, status, reader),
             None => self.add(word, reader),
         }
+    }
+
+    /// What the log is by some rules, as a word. It is kept.
+    fn ask(&mut self, alloc: Global, rules: Rules) -> Result<&'static str, Fault> {
+        let verdict = judge(alloc, rules, &self.log, EFFORT)?;
+        let word = word_of(&verdict);
+        self.asked.push(Asked { rules, verdict })?;
+        Ok(word)
+    }
+
+    /// The verdict at the level or for the guarantees of this name, as a word.
+    fn verdict(&mut self, alloc: Global, name: &str) -> Result<&'static str, Fault> {
+        if name == "read-uncommitted" {
+            return Ok(if is_read_uncommitted(alloc, &self.log)? {
+                "holds"
+            } else {
+                "fails"
+            });
+        }
+        match rules_of(name) {
+            Some(rules) => self.ask(alloc, rules),
+            None => Err(Fault::NoLine),
+        }
+    }
+
+    /// Holds forged certificates against the rules that were asked.
+    pub(crate) fn forge(&self, alloc: Global, forged: &mut Forged) -> Result<(), Fault> {
+        forge(alloc, &self.log, self.asked.as_slice(), forged)
     }
 }
 
@@ -158,30 +189,15 @@ fn word_of(verdict: &Verdict) -> &'static str {
     }
 }
 
-/// The verdict on a log at the level or for the guarantees of this name, as a word.
-fn verdict_of(alloc: Global, log: &Log, name: &str) -> Result<&'static str, Fault> {
-    if name == "read-uncommitted" {
-        return Ok(if is_read_uncommitted(alloc, log)? {
-            "holds"
-        } else {
-            "fails"
-        });
-    }
-    match rules_of(name) {
-        Some(rules) => Ok(word_of(&judge(alloc, rules, log, EFFORT)?)),
-        None => Err(Fault::NoLine),
-    }
-}
-
 /// Judges a log by the rules of this name, and prints a line if the verdict is another.
 pub(crate) fn compare<R: AllocGlobal + Print>(
     rt: &R,
-    case: &Case,
+    case: &mut Case,
     name: &str,
     wanted: &str,
     tally: &mut Tally,
 ) -> Result<(), Fault> {
-    let found = verdict_of(rt.alloc(), &case.log, name)?;
+    let found = case.verdict(rt.alloc(), name)?;
     tally.note(found == wanted, found == "unknown");
     if found != wanted {
         let title = case.title.as_str();
