@@ -14,7 +14,7 @@ use hek_permute::{Form, moves_of, schedule_with};
 use hek_permute_command::{Given, leveled, program_in};
 use hek_program::Program;
 use hek_report::{HekFault, ScheduleFile, schedule_in};
-use hek_rules::{Level, NoMemory};
+use hek_rules::{Level, NoMemory, Schedule};
 use serde_json::Value;
 use std::alloc::Global;
 use std::io::{Read, Write};
@@ -43,9 +43,25 @@ pub fn explorer_command<'a, R: Read + Drop, W: Write, E: Write>(
 {
     let comments = comments_in(alloc, &file)?;
     let schedule = schedule_in(alloc, file)?;
+    write_plain(alloc, schedule, extent, &heading, &comments, out, faults)
+}
+
+/// Writes the explorer of a schedule.
+fn write_plain<'a, W: Write, E: Write>(
+    alloc: Global,
+    schedule: Schedule,
+    extent: Extent,
+    heading: &Heading<'_>,
+    comments: &Comments,
+    out: &mut W,
+    faults: &mut E,
+) -> Result<u8, HekFault<'a>>
+    ensures answer { IfOk result (λ status. IsExplored status (W.contents out.old) (W.contents out.new)) }
+    ensures stops { IfErr result IsExploreStop }
+{
     let program = Program::plain(alloc, schedule);
     let given = Given::of(&program);
-    write_explorer(alloc, &given, &[], extent, &heading, &comments, out, faults)
+    write_explorer(alloc, &given, &[], extent, heading, comments, out, faults)
 }
 
 fn write_explorer<'a, W: Write, E: Write>(
@@ -134,9 +150,25 @@ pub fn levels_command<'a, R: Read + Drop, W: Write, E: Write>(
 {
     let comments = comments_in(alloc, &file)?;
     let schedule = schedule_in(alloc, file)?;
+    write_plain_levels(alloc, schedule, extent, &heading, &comments, out, faults)
+}
+
+/// Writes the explorers of a schedule at all levels.
+fn write_plain_levels<'a, W: Write, E: Write>(
+    alloc: Global,
+    schedule: Schedule,
+    extent: Extent,
+    heading: &Heading<'_>,
+    comments: &Comments,
+    out: &mut W,
+    faults: &mut E,
+) -> Result<u8, HekFault<'a>>
+    ensures answer { IfOk result (λ status. IsExplored status (W.contents out.old) (W.contents out.new)) }
+    ensures stops { IfErr result IsExploreStop }
+{
     let program = Program::plain(alloc, schedule);
     let given = Given::of(&program);
-    write_levels(alloc, &given, &[], extent, &heading, &comments, out, faults)
+    write_levels(alloc, &given, &[], extent, heading, comments, out, faults)
 }
 
 /// Which explorer is shown.

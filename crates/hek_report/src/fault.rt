@@ -47,7 +47,7 @@ pub enum HekFault<'a> {
     Wanted {
         line: u64,
         column: u64,
-        wanted: &'static str,
+        wanted: &'a str,
     },
     /// A worker's thread cannot be started.
     #[error("hek: threads: no worker")]
