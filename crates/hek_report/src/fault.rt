@@ -40,7 +40,7 @@ pub enum HekFault<'a> {
     #[error("hek: line {line}: {what} wants --auto")]
     Computed {
         line: u64,
-        what: &'static str,
+        what: &'a str,
     },
     /// What is wanted at a place of a program: the number of the line, and that of the byte in it, from 1.
     #[error("hek: line {line}, column {column}: {wanted} is wanted")]
