@@ -63,7 +63,7 @@ function setLog(said) {
 
 // The run of the schedule as a log.
 async function logOfSchedule() {
-  const got = await hek(["run", ...($("auto").checked ? ["--auto"] : []), "--history", "--explain", NAME], {[NAME]: text.value});
+  const got = await hek(["run", ...(isAuto() ? ["--auto"] : []), "--history", "--explain", NAME], {[NAME]: text.value});
   if (got.isEnded) return;
   if (got.status === 0) setLog(got.out);
   else showFaults(got.err);
