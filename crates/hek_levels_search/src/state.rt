@@ -28,7 +28,7 @@ pub(crate) struct State<'a> {
     /// Who is before each transaction in its session.
     pub before: Vec<usize>,
     /// What is not to be chosen again as the source of a reading.
-    banned: Vec<Between>,
+    pub banned: Vec<Between>,
     /// Whether a reading was left without a source.
     pub is_stuck: bool,
     /// The readings whose sources were chosen before them in the order; whether one was chosen after it.
@@ -38,7 +38,12 @@ pub(crate) struct State<'a> {
     pub between: Vec<Between>,
     /// The first place of one of these in the order.
     pub low: usize,
+    /// So many stops of walks are made.
+    most: usize,
 }
+
+/// For each of the effort so many.
+const STOPS: usize = 1000;
 
 /// Nobody in a session.
 const NOBODY: Turned = Turned {
@@ -52,6 +57,7 @@ impl<'a> State<'a> {
         alloc: Global,
         problem: &'a Problem,
         log: &'a Log,
+        effort: usize,
     ) -> Result<State<'a>, NoMemory> {
         let sources = Sources::new(alloc, problem)?;
         let walk = Walk::new(alloc, problem.count)?;
@@ -69,6 +75,7 @@ impl<'a> State<'a> {
             is_turned: false,
             between: Vec::new(alloc),
             low: 0,
+            most: effort.saturating_mul(STOPS),
         })
     }
 
@@ -136,6 +143,11 @@ impl<'a> State<'a> {
     /// Sorts those who take place. Answers whether the edges let all be sorted.
     pub(crate) fn sort(&mut self) -> Result<bool, NoMemory> {
         self.sorting.sort(self.problem, &self.sources, &self.graph)
+    }
+
+    /// Whether all stops of walks are made.
+    pub(crate) fn is_worn(&self) -> bool {
+        self.walk.looked_at > self.most
     }
 
     /// What comes after a source in the order.
