@@ -140,6 +140,8 @@ enum Wrong<'a> {
     NoOrder,
     /// No order of a history has this name, but maybe one that is near.
     NoKind(Option<&'a str>),
+    /// Levels below a serial order take no order by commits.
+    NoBinding,
     /// No form of moves has this name, but maybe one that is near.
     NoGrain(Option<&'a str>),
 }
@@ -188,10 +190,18 @@ pub fn advice_of<'a>(alloc: Global, command: &str, found: &ArgMatches<'a>) -> Op
         _ => {}
     }
     let value = found.get_str("order")?;
-    let wrong = if command == "history" {
-        Wrong::NoKind(nearest_word(alloc, value, KINDS))
-    } else {
-        Wrong::NoOrder
+    if command == "history" {
+        return kind_advice(alloc, value);
+    }
+    Some(Advice::new("order", value, Wrong::NoOrder))
+}
+
+/// What is wrong with an order of a history. One that has its name goes with no level that is asked for.
+fn kind_advice(alloc: Global, value: &str) -> Option<Advice<'_>> {
+    let wrong = match value {
+        "any" | "real" => return None,
+        "versions" | "commit" => Wrong::NoBinding,
+        _ => Wrong::NoKind(nearest_word(alloc, value, KINDS)),
     };
     Some(Advice::new("order", value, wrong))
 }
@@ -272,6 +282,7 @@ impl<'a> Advice<'a> {
             Wrong::NoPortion(_) => write!(f, "no part is called `{value}`"),
             Wrong::NoOrder => write!(f, "`{value}` is not an order of the moves"),
             Wrong::NoKind(_) => write!(f, "no order is called `{value}`"),
+            Wrong::NoBinding => write!(f, "`{value}` goes with a serial order alone"),
             Wrong::NoGrain(_) => write!(f, "no grain is called `{value}`"),
         }
     }
@@ -292,6 +303,7 @@ impl<'a> Advice<'a> {
             Wrong::NoPortion(_) => f.write_str("lanes versions waits words"),
             Wrong::NoOrder => f.write_str("the name of its transaction for each move"),
             Wrong::NoKind(_) => f.write_str("any versions commit real"),
+            Wrong::NoBinding => f.write_str("any real"),
             Wrong::NoGrain(_) => f.write_str("move split event"),
         }
     }

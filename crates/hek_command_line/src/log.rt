@@ -5,7 +5,7 @@ use crate::refused::{OUTPUT, refuse_same};
 use clap::ArgMatches;
 use hek_history::{Level, Order};
 use hek_history_command::{Choice, Extent, history_command};
-use hek_levels_command::{Asked, LevelsChoice, Promise, levels_command};
+use hek_levels_command::{Asked, Binding, LevelsChoice, Promise, levels_command};
 use hek_report::{HekFault, send};
 use std::alloc::Global;
 use std::io::{Read, Write};
@@ -22,10 +22,10 @@ pub fn history<'a, D: Disk, I: Read + Drop, W: Write, E: Write>(
 ) -> Result<u8, HekFault<'a>> {
     let name = found.get_str("FILE").ok_or(HekFault::BadArgument)?;
     if let Some(asked) = asked_of(found)? {
-        refuse_order(found)?;
+        refuse_order(found, asked)?;
         let choice = LevelsChoice {
             asked,
-            sessions: found.get_flag("sessions"),
+            binding: binding_of(found)?,
             explains,
             printing: printing_of(found),
         };
@@ -81,14 +81,33 @@ fn asked_of<'a>(found: &ArgMatches<'a>) -> Result<Option<Asked>, HekFault<'a>> {
     }
 }
 
-/// Refuses what goes with a serial order alone.
-fn refuse_order<'a>(found: &ArgMatches<'a>) -> Result<(), HekFault<'a>> {
-    for name in ["order", "all", "order-out"] {
+/// Refuses what goes with a serial order alone, and an order of guarantees: they are about sessions.
+fn refuse_order<'a>(found: &ArgMatches<'a>, asked: Asked) -> Result<(), HekFault<'a>> {
+    let is_level = match asked {
+        Asked::One(promise) => !promise.is_guarantee(),
+        _ => true,
+    };
+    if !is_level && found.get_str("order").is_some() {
+        return Err(HekFault::BadArgument);
+    }
+    for name in ["all", "order-out"] {
         if found.get_str(name).is_some() {
             return Err(HekFault::BadArgument);
         }
     }
     Ok(())
+}
+
+/// What binds at the levels that the words ask for.
+fn binding_of<'a>(found: &ArgMatches<'a>) -> Result<Binding, HekFault<'a>> {
+    if found.get_flag("sessions") {
+        return Ok(Binding::Sessions);
+    }
+    match order_of(found)? {
+        None | Some(Order::Any) => Ok(Binding::Nothing),
+        Some(Order::Real) => Ok(Binding::RealTime),
+        Some(Order::Versions | Order::Times) => Err(HekFault::BadArgument),
+    }
 }
 
 /// Judges the log of this name.

@@ -178,7 +178,7 @@ The status is 0 if there is an order, or all that is asked for holds, 1 if not, 
         },
         ArgumentText {
             name: "order",
-            help: "asks for an order of a kind: any, versions, commit or real",
+            help: "asks for an order of a kind: any, versions, commit or real; of these levels take any and real",
             form: Form::Value("KIND"),
         },
         ArgumentText {

@@ -38,7 +38,8 @@ pub struct Change {
 #[derive(Clone, Copy)]
 pub struct Turn {
     pub session: usize,
-    pub number: u64,
+    pub first: u64,
+    pub last: u64,
 }
 
 /// A transaction.

@@ -91,7 +91,7 @@ pub fn is_earlier(log: &Log, x: usize, t: usize) -> bool
     let Some(second) = turn_of(log, t) else {
         return false;
     };
-    first.session == second.session && first.number < second.number
+    first.session == second.session && first.last < second.first
 }
 
 /// Whether a value, or its absence, meets the need.

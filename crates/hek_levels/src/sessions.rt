@@ -17,7 +17,7 @@ use std::collections::HashMap;
 fn mark(latest: &mut HashMap<usize, u64>, turn: Turn) -> Result<(), NoMemory>
     ensures { OnOk result ((k : ℕ) → get_in ◌==◌ latest.new k ≡ (if turn.session == k then Some turn.number else get_in ◌==◌ latest.old k)) }
 {
-    let _before = latest.insert(turn.session, turn.number)?;
+    let _before = latest.insert(turn.session, turn.first)?;
     Ok(())
 }
 
@@ -26,7 +26,7 @@ fn is_next(latest: &HashMap<usize, u64>, turn: Turn) -> bool
     ensures { IsTrue result → (n : ℕ) → get_in ◌==◌ latest.now turn.session ≡ Some n → n < turn.number + 1 }
 {
     match latest.get(&turn.session).copied() {
-        Some(n) => n <= turn.number,
+        Some(n) => n <= turn.last,
         None => true,
     }
 }

@@ -9,7 +9,7 @@ use crate::promise::Promise;
 use crate::scene::Scene;
 use crate::story::Story;
 use crate::unread::uncommitted_story;
-use hek_history::{Level, Order, Point, Step};
+use hek_history::{Level, Point, Step};
 use hek_history_report::turn;
 use hek_history_search::{Cause, anomalies_shown, cause_by_answers};
 use hek_levels::{Certificate, Rules, explains, is_read_uncommitted};
@@ -32,16 +32,11 @@ pub(crate) enum Finding {
 }
 
 /// Asks whether a level or guarantee holds, by its rules.
-pub(crate) fn ask(
-    alloc: Global,
-    scene: &Scene,
-    promise: Promise,
-    sessions: bool,
-) -> Result<Finding, NoMemory> {
+pub(crate) fn ask(alloc: Global, scene: &Scene, promise: Promise) -> Result<Finding, NoMemory> {
     if promise == Promise::ReadUncommitted {
         return ask_uncommitted(alloc, scene);
     }
-    match promise.rules(sessions) {
+    match promise.rules(scene.binding.binds()) {
         Some(rules) => ask_rules(alloc, scene, rules),
         None => Ok(Finding::Unknown),
     }
@@ -95,7 +90,7 @@ pub(crate) fn in_series(
     for transaction in scene.log.history.transactions.iter_mut() {
         transaction.level = level;
     }
-    match hek_history_search::judge(alloc, &scene.log.history, Order::Any, EFFORT)? {
+    match hek_history_search::judge(alloc, &scene.log.history, scene.order(), EFFORT)? {
         hek_history_search::Verdict::Serial(points) => {
             found_order(alloc, scene, promise, points.as_slice())
         }
@@ -121,7 +116,7 @@ fn found_order(
     if has_both(alloc, scene, certificate.order.as_slice())? {
         return Ok(Finding::Unknown);
     }
-    match promise.rules(false) {
+    match promise.rules(scene.binding.binds()) {
         Some(rules) => explained(alloc, rules, &scene.seen, &certificate),
         None => Ok(Finding::Holds),
     }
@@ -151,9 +146,9 @@ fn told_cause(
     cause: Cause,
 ) -> Result<Cause, NoMemory> {
     let history = &scene.log.history;
-    let shown = anomalies_shown(alloc, history, Order::Any, false)?;
+    let shown = anomalies_shown(alloc, history, scene.order(), false)?;
     for first in shown {
         return Ok(first);
     }
-    cause_by_answers(alloc, history, Order::Any, steps, cause)
+    cause_by_answers(alloc, history, scene.order(), steps, cause)
 }

@@ -1,21 +1,27 @@
 //! All levels of a log: what holds at one holds at each weaker one, and what fails at one fails at each stronger one.
 use crate::answers::{Answer, Answers, Standing};
 use crate::asking::{Finding, ask, in_series};
+use crate::choice::Binding;
 use crate::promise::Promise;
 use crate::scene::Scene;
 use hek_rules::NoMemory;
 use std::alloc::Global;
 
 /// What is known of a log at each level.
-pub(crate) fn climb(alloc: Global, scene: &mut Scene, sessions: bool) -> Result<Answers, NoMemory> {
+pub(crate) fn climb(alloc: Global, scene: &mut Scene) -> Result<Answers, NoMemory> {
     let mut answers = Answers::new(alloc);
     answers.ask(&Promise::LEVELS)?;
-    if !sessions && try_series(alloc, scene, &mut answers)? {
+    if has_series(scene) && try_series(alloc, scene, &mut answers)? {
         return Ok(answers);
     }
-    let low = go_up(alloc, scene, sessions, &mut answers)?;
-    go_down(alloc, scene, sessions, low, &mut answers)?;
+    let low = go_up(alloc, scene, &mut answers)?;
+    go_down(alloc, scene, low, &mut answers)?;
     Ok(answers)
+}
+
+/// Whether the search for a serial order knows what binds: it knows no sessions.
+fn has_series(scene: &Scene) -> bool {
+    scene.binding != Binding::Sessions
 }
 
 /// The guarantees of sessions, each alone and all together.
@@ -23,7 +29,7 @@ pub(crate) fn guarantees(alloc: Global, scene: &Scene) -> Result<Answers, NoMemo
     let mut answers = Answers::new(alloc);
     answers.ask(&Promise::GUARANTEES)?;
     for (place, promise) in Promise::GUARANTEES.iter().enumerate() {
-        let found = ask(alloc, scene, *promise, true)?;
+        let found = ask(alloc, scene, *promise)?;
         let _ = learn(&mut answers, place, found);
     }
     Ok(answers)
@@ -66,15 +72,10 @@ fn learn(answers: &mut Answers, place: usize, found: Finding) -> bool {
 }
 
 /// Asks from the weakest up, to the first that fails or is not known: how many hold.
-fn go_up(
-    alloc: Global,
-    scene: &Scene,
-    sessions: bool,
-    answers: &mut Answers,
-) -> Result<usize, NoMemory> {
+fn go_up(alloc: Global, scene: &Scene, answers: &mut Answers) -> Result<usize, NoMemory> {
     for (place, promise) in Promise::LEVELS.iter().enumerate() {
         if answers.standing(place) == Standing::Unknown {
-            let found = ask(alloc, scene, *promise, sessions)?;
+            let found = ask(alloc, scene, *promise)?;
             let _ = learn(answers, place, found);
         }
         match answers.standing(place) {
@@ -93,7 +94,6 @@ fn go_up(
 fn go_down(
     alloc: Global,
     scene: &Scene,
-    sessions: bool,
     low: usize,
     answers: &mut Answers,
 ) -> Result<(), NoMemory> {
@@ -104,7 +104,7 @@ fn go_down(
             .saturating_sub(1);
         if place > low && answers.standing(place) == Standing::Unknown {
             if let Some(promise) = Promise::LEVELS.get(place) {
-                let found = ask(alloc, scene, *promise, sessions)?;
+                let found = ask(alloc, scene, *promise)?;
                 if learn(answers, place, found) {
                     answers.hold_below(place);
                     return Ok(());
@@ -123,20 +123,19 @@ pub(crate) fn answer_one(
     alloc: Global,
     scene: &mut Scene,
     promise: Promise,
-    sessions: bool,
 ) -> Result<Answers, NoMemory> {
     let mut answers = Answers::new(alloc);
     answers.ask(&[promise])?;
-    if !sessions {
+    if has_series(scene) {
         let found = in_series(alloc, scene, promise)?;
         let _ = learn(&mut answers, 0, found);
     }
     if answers.standing(0) == Standing::Unknown {
-        let found = ask(alloc, scene, promise, sessions)?;
+        let found = ask(alloc, scene, promise)?;
         let _ = learn(&mut answers, 0, found);
     }
     let is_open = answers.standing(0) == Standing::Unknown;
-    if is_open && !sessions && !promise.is_guarantee() {
+    if is_open && has_series(scene) && !promise.is_guarantee() {
         match in_series(alloc, scene, Promise::Serializable)? {
             Finding::Explained => answers.know(0, Answer::Holds),
             Finding::Holds | Finding::Fails(_) | Finding::Unknown => {}

@@ -80,14 +80,14 @@ fn answer<'a, W: Write>(
         write_nothing(alloc, choice, out)?;
         return Ok(NOT_KNOWN);
     }
-    let mut scene = Scene::new(alloc, log)?;
+    let mut scene = Scene::new(alloc, log, choice.binding)?;
     match choice.asked {
         Asked::One(promise) => {
-            let answers = answer_one(alloc, &mut scene, promise, choice.sessions)?;
+            let answers = answer_one(alloc, &mut scene, promise)?;
             write(alloc, &scene, choice, &answers, out)
         }
         Asked::Levels => {
-            let answers = climb(alloc, &mut scene, choice.sessions)?;
+            let answers = climb(alloc, &mut scene)?;
             write(alloc, &scene, choice, &answers, out)
         }
         Asked::Guarantees => {
@@ -95,7 +95,7 @@ fn answer<'a, W: Write>(
             write(alloc, &scene, choice, &answers, out)
         }
         Asked::Both => {
-            let answers = climb(alloc, &mut scene, choice.sessions)?;
+            let answers = climb(alloc, &mut scene)?;
             let first = write(alloc, &scene, choice, &answers, out)?;
             let answers = guarantees(alloc, &scene)?;
             let second = write(alloc, &scene, choice, &answers, out)?;
@@ -166,7 +166,7 @@ fn lines_of(
         Printing::Text => text::put_answers(alloc, scene, answers, &mut lines)?,
         Printing::Json => {
             let mut objects = Lines::after(alloc, &mut lines);
-            verdict_json::put_answers(alloc, scene, choice.sessions, answers, &mut objects)?;
+            verdict_json::put_answers(alloc, scene, answers, &mut objects)?;
             objects.put_back(&mut lines)?;
         }
     }

@@ -19,6 +19,6 @@ mod unread;
 mod verdict_json;
 mod words;
 
-pub use choice::{Asked, LevelsChoice};
+pub use choice::{Asked, Binding, LevelsChoice};
 pub use command::levels_command;
 pub use promise::Promise;

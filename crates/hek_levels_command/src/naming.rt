@@ -181,21 +181,34 @@ fn cycle_name(
     let entries = proof.entries.as_slice();
     let mut ways = NO_WAYS;
     let mut is_read = true;
+    let mut is_timed = false;
     for edge in edges_of(alloc, entries, premise)? {
         match step_at(entries, edge) {
             Some(Step::Newest { visible, source }) => {
                 ways.newest = ways.newest.saturating_add(1);
                 note_ways(scene, entries, visible, source, &mut ways);
             }
-            Some(Step::Read { .. } | Step::Session { .. }) => {}
+            Some(Step::Read { .. }) => {}
+            Some(Step::Session { .. }) => is_timed = scene.is_timed(),
             _ => is_read = false,
         }
     }
-    Ok(if ways.newest == 0 && is_read {
+    Ok(if scene.is_timed() && (is_timed || ways.turns || ways.shown_turns) {
+        anomaly_name(timed_anomaly(ways))
+    } else if ways.newest == 0 && is_read {
         anomaly_name(Anomaly::CircularInformationFlow)
     } else {
         name_of(ways)
     })
+}
+
+/// The name of a cycle with an edge by real time.
+fn timed_anomaly(ways: Ways) -> Anomaly {
+    if ways.newest == 0 {
+        Anomaly::AgainstRealTime
+    } else {
+        Anomaly::StaleRead
+    }
 }
 
 /// The name of a cycle by the ways in which its reads see.

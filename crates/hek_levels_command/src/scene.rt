@@ -1,5 +1,6 @@
 //! A log as it was read, and as levels see it.
-use hek_history::Writer;
+use crate::choice::Binding;
+use hek_history::{Order, Transaction, Writer};
 use hek_history_levels::log_of;
 use hek_history_log::{Label, Log};
 use hek_levels::Turn;
@@ -12,14 +13,34 @@ use std::fmt;
 pub(crate) struct Scene {
     pub log: Log,
     pub seen: hek_levels::Log,
+    pub binding: Binding,
 }
 
 impl Scene {
-    /// The scene of a log.
-    pub(crate) fn new(alloc: Global, log: Log) -> Result<Scene, NoMemory> {
-        let turns = turns_of(alloc, &log)?;
+    /// The scene of a log. Real time has one session of all its transactions; else they are of the sessions that the log
+    /// gives.
+    pub(crate) fn new(alloc: Global, log: Log, binding: Binding) -> Result<Scene, NoMemory> {
+        let turns = if binding == Binding::RealTime {
+            times_of(alloc, &log)?
+        } else {
+            turns_of(alloc, &log)?
+        };
         let seen = log_of(alloc, &log.history, turns.as_slice())?;
-        Ok(Scene { log, seen })
+        Ok(Scene { log, seen, binding })
+    }
+
+    /// Whether real time binds.
+    pub(crate) fn is_timed(&self) -> bool {
+        self.binding == Binding::RealTime
+    }
+
+    /// The serial orders that are asked for.
+    pub(crate) fn order(&self) -> Order {
+        if self.is_timed() {
+            Order::Real
+        } else {
+            Order::Any
+        }
     }
 
     /// A writer by its name.
@@ -46,9 +67,28 @@ fn turn_of(log: &Log, t: usize) -> Option<Turn> {
     match log.turn(t) {
         Some(turn) => Some(Turn {
             session: turn.session as usize,
-            number: turn.number,
+            first: turn.number,
+            last: turn.number,
         }),
         None => None,
+    }
+}
+
+/// When each transaction was invoked and answered, as turns of one session.
+fn times_of(alloc: Global, log: &Log) -> Result<Vec<Option<Turn>>, NoMemory> {
+    let mut turns = Vec::new(alloc);
+    for transaction in log.history.transactions.iter() {
+        turns.push(Some(time_of(transaction)))?;
+    }
+    Ok(turns)
+}
+
+/// A transaction without a time is before nobody, and after nobody.
+fn time_of(transaction: &Transaction) -> Turn {
+    Turn {
+        session: 0,
+        first: transaction.invoked.unwrap_or(0),
+        last: transaction.answered.unwrap_or(u64::MAX),
     }
 }
 

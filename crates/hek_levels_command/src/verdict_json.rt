@@ -1,5 +1,6 @@
 //! Answers as JSON, one object on each line. The members of an object are in the order of their names.
 use crate::answers::{Answer, Answers, Standing};
+use crate::choice::Binding;
 use crate::promise::Promise;
 use crate::scene::Scene;
 use crate::story::{Story, StoryLine};
@@ -15,12 +16,11 @@ use std::alloc::Global;
 pub(crate) fn put_answers(
     alloc: Global,
     scene: &Scene,
-    sessions: bool,
     answers: &Answers,
     out: &mut Lines,
 ) -> Result<(), NoMemory> {
     for (promise, answer) in answers.promises.iter().zip(answers.known.iter()) {
-        put_answer(alloc, scene, sessions, *promise, answer, out)?;
+        put_answer(alloc, scene, *promise, answer, out)?;
     }
     if answers.promises.len() > 1 {
         put_sum(answers, out);
@@ -38,7 +38,6 @@ pub(crate) fn put_nothing(out: &mut Lines) {
 fn put_answer(
     alloc: Global,
     scene: &Scene,
-    sessions: bool,
     promise: Promise,
     answer: &Answer,
     out: &mut Lines,
@@ -54,13 +53,19 @@ fn put_answer(
         Answer::Holds | Answer::Unknown => {}
     }
     out.put_text("level", promise.word());
+    out.put_text("order", scene.order().word());
     if let Answer::Fails(Story::Lines(_, told)) = answer {
         put_story(scene, told.as_slice(), out);
     }
-    out.put_flag("sessions", sessions || promise.is_guarantee());
+    out.put_flag("sessions", has_sessions(scene, promise));
     out.put_text("verdict", verb_of(answer.standing()));
     out.end_line();
     Ok(())
+}
+
+/// Whether sessions bind at a level, or for a guarantee.
+fn has_sessions(scene: &Scene, promise: Promise) -> bool {
+    scene.binding == Binding::Sessions || promise.is_guarantee()
 }
 
 /// The member `reasons`: each line with its depth, and who is before whom where it says so.

@@ -129,9 +129,7 @@ fn before_words(
             Some((reader, place, writer)) => read_words(alloc, scene, reader, place, writer),
             None => String::from_str(alloc, ""),
         },
-        Some(Step::Session { .. }) => {
-            format!(in alloc; "{one} is before {other} in their session")
-        }
+        Some(Step::Session { .. }) => { earlier_words(alloc, scene, one, other) }
         Some(Step::Newest { visible, source }) => {
             newest_words(alloc, scene, entries, visible, source)
         }
@@ -209,6 +207,20 @@ fn visible_words(
     }
 }
 
+/// That a transaction is before another in their session, or by real time.
+fn earlier_words(
+    alloc: Global,
+    scene: &Scene,
+    one: Who<'_>,
+    other: Who<'_>,
+) -> Result<String, AllocError> {
+    if scene.is_timed() {
+        format!(in alloc; "{one} was answered before {other} was invoked")
+    } else {
+        format!(in alloc; "{one} is before {other} in their session")
+    }
+}
+
 /// How a transaction sees another by writes or by its session.
 fn link_words(
     alloc: Global,
@@ -224,7 +236,12 @@ fn link_words(
             let key = scene.log.key(key);
             format!(in alloc; "{name} wrote {key} before {seer} did")
         }
-        Link::Session { .. } => format!(in alloc; "{name} is before {seer} in their session"),
+        Link::Session { .. } => earlier_words(
+            alloc,
+            scene,
+            Who::Transaction(name),
+            Who::Transaction(seer),
+        ),
         Link::Reads { through, .. } => {
             let through = scene.log.name(through);
             format!(in alloc; "{through}, which is before {seer} in their session, read of {name}")
