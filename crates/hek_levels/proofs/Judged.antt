@@ -109,13 +109,6 @@ newest_by_sweep rules log e o i t r read low a there le from other x there' s w 
 
 -- ---- the turns of sessions
 
-not_self : (a : Option Turn) → is_before_turn a a ≡ true → ⊥
-not_self None e = cc
-not_self (Some x) e = absurd (falls x.session x.number e)
-  where
-    falls : (s n : ℕ) → ((s == s) && nat_lt n n) ≡ true → ⊥
-    falls s n e = grind (arith, nat_tests)
-
 pub in_turn : (log : Log) (e : Explanation) → ((i j t : ℕ) → At e.order i t → At e.order j t → i ≡ j) → AreInTurn log e.order (length e.order) → (x t : ℕ) → is_earlier log x t ≡ true →
     TakesPlace e x → TakesPlace e t → IsBefore e x t
 in_turn log e once turns x t earlier px pt =
@@ -123,12 +116,11 @@ in_turn log e once turns x t earlier px pt =
     let second = placed e.order once pt.0 t pt.1 in
     elim (cases_order px.0 pt.0) [
       | inl same ↦
-          let one : x ≡ t = same_at e.order pt.0 x t (subst (λ (n : ℕ). At e.order n x) same px.1) pt.1 in
-          absurd (not_self (turn_of log t) (subst (λ (y : ℕ). is_earlier log y t ≡ true) one earlier))
+          absurd (both_ways _ (turns px.0 pt.0 x t (slice_get_within e.order px.0 x px.1) (omega arith) px.1 pt.1) earlier)
       | inr differ ↦
           elim differ [
             | inl less ↦ omega arith
-            | inr more ↦ absurd (both_ways _ (turns px.0 pt.0 x t (slice_get_within e.order px.0 x px.1) more px.1 pt.1) earlier)
+            | inr more ↦ absurd (both_ways _ (turns px.0 pt.0 x t (slice_get_within e.order px.0 x px.1) (omega arith) px.1 pt.1) earlier)
           ]
     ]
 

@@ -46,7 +46,8 @@ fn turn_of(log: &Log, t: usize) -> Option<Turn> {
     match log.turn(t) {
         Some(turn) => Some(Turn {
             session: turn.session as usize,
-            number: turn.number,
+            first: turn.number,
+            last: turn.number,
         }),
         None => None,
     }

@@ -18,7 +18,7 @@ impl State<'_> {
             sources: &self.sources,
             graph: &self.graph,
             sorting: &self.sorting,
-            before: self.before.as_slice(),
+            turns: &self.turns,
             limit,
         };
         self.walk.walk(ground, u, 0, x)
