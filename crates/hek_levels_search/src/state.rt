@@ -1,10 +1,11 @@
 //! The state of the search: sources, who takes place, edges and an order.
 use crate::graph::{Graph, Reason};
-use crate::lists::{NONE, add, at, fill, put};
+use crate::lists::{NONE, add, at};
 use crate::looking::Walk;
-use crate::problem::{Problem, Turned};
+use crate::problem::Problem;
 use crate::sorting::Sorting;
 use crate::sources::{Plain, Sources};
+use crate::turns::Turns;
 use hek_levels::Log;
 use hek_rules::NoMemory;
 use std::alloc::Global;
@@ -25,8 +26,8 @@ pub(crate) struct State<'a> {
     pub graph: Graph,
     pub sorting: Sorting,
     pub walk: Walk,
-    /// Who is before each transaction in its session.
-    pub before: Vec<usize>,
+    /// Who is just before whom in their sessions, where they bind.
+    pub turns: Turns,
     /// What is not to be chosen again as the source of a reading.
     pub banned: Vec<Between>,
     /// Whether a reading was left without a source.
@@ -45,13 +46,6 @@ pub(crate) struct State<'a> {
 /// For each of the effort so many.
 const STOPS: usize = 1000;
 
-/// Nobody in a session.
-const NOBODY: Turned = Turned {
-    session: NONE,
-    number: 0,
-    transaction: NONE,
-};
-
 impl<'a> State<'a> {
     pub(crate) fn new(
         alloc: Global,
@@ -68,7 +62,7 @@ impl<'a> State<'a> {
             graph: Graph::new(alloc),
             sorting: Sorting::new(alloc),
             walk,
-            before: Vec::new(alloc),
+            turns: Turns::new(alloc),
             banned: Vec::new(alloc),
             is_stuck: false,
             forward: Vec::new(alloc),
@@ -91,22 +85,10 @@ impl<'a> State<'a> {
         Ok(())
     }
 
-    /// Who is before each in its session.
-    fn find_turns(&mut self) -> Result<(), NoMemory> {
-        fill(&mut self.before, self.problem.count, NONE)?;
-        let mut last = NOBODY;
-        let mut earlier = NONE;
-        for one in self.problem.turns() {
-            if !self.sources.is_member(one.transaction) {
-                continue;
-            }
-            if one.session != last.session {
-                earlier = NONE;
-            } else if last.number < one.number {
-                earlier = last.transaction;
-            }
-            put(&mut self.before, one.transaction, earlier);
-            last = *one;
+    /// Those just before a transaction in its session are before it.
+    fn link_turn(&mut self, t: usize) -> Result<(), NoMemory> {
+        for x in self.turns.before(t) {
+            self.graph.link(*x, t, Reason::Turn)?;
         }
         Ok(())
     }
@@ -116,11 +98,9 @@ impl<'a> State<'a> {
         if !self.problem.rules.sessions {
             return Ok(());
         }
+        self.turns.find(self.problem, &self.sources)?;
         for t in 0..self.problem.count {
-            let x = at(self.before.as_slice(), t, NONE);
-            if x != NONE {
-                self.graph.link(x, t, Reason::Turn)?;
-            }
+            self.link_turn(t)?;
         }
         Ok(())
     }
@@ -135,7 +115,6 @@ impl<'a> State<'a> {
             let t = at(self.sources.members.as_slice(), n, NONE);
             self.link_readings(t)?;
         }
-        self.find_turns()?;
         self.link_turns()?;
         Ok(None)
     }
