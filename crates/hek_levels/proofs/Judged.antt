@@ -1,18 +1,16 @@
 -- What the passes of the checker show together.
 use Rattle.std.proofs.Common.{◌≡◌, ℕ, ◌+◌, ◌<◌, ◌≤◌, true, cond, List, Option, Some, None, Result, Ok, Err, refl, sym, ap, ◌∙◌, subst, inl, inr, length, arith}
 use Rattle.std.proofs.lemmas.Bool.{cases_Bool, cases_order, cases_lt, both_ways, eqb-true}
-use Rattle.std.proofs.lemmas.Bool.Decides.{nat_tests}
 use Rattle.std.proofs.lemmas.Option.{slice_get_within}
-use Rattle.std.specs.Prelude.{nat_lt, ◌==◌, ◌&&◌, IfOk}
+use Rattle.std.specs.Prelude.{◌==◌, IfOk}
 use Rattle.hek_levels.specs.declared.log.Log.{Log}
 use Rattle.hek_levels.specs.declared.log.Read.{Read}
-use Rattle.hek_levels.specs.declared.log.Turn.{Turn}
 use Rattle.hek_levels.specs.declared.rules.Rules.{Rules}
 use Rattle.hek_levels.specs.declared.certificate.Writer.{Writer}
 use Rattle.hek_levels.specs.declared.certificate.Writer.TheVariants as writer
 use Rattle.hek_levels.specs.declared.certificate.Certificate.{Certificate}
 use Rattle.hek_levels.specs.declared.certificate.Sources.{Sources}
-use Rattle.hek_levels.specs.Logs.{read_at, does_write, is_earlier, is_before_turn, turn_of, is_committed, is_possible}
+use Rattle.hek_levels.specs.Logs.{read_at, does_write, is_earlier, is_committed, is_possible}
 use Rattle.hek_levels.specs.Seen.{Explanation, At, TakesPlace, place, rank, IsBefore, Sees, IsOrdered}
 use Rattle.hek_levels.specs.Explanations.{Explains, source_in, explanation}
 use Rattle.hek_levels.specs.Places.{IsPlacing, IsPlacedBefore, AreSourced, AreInTurn, AreLast}
