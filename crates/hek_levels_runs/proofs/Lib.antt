@@ -5,3 +5,4 @@ pub mod Logged
 pub mod Commits
 pub mod Sources
 pub mod Explained
+pub mod Runs
