@@ -1,5 +1,5 @@
 -- The places of commits, among points and in the order of commits.
-use Rattle.std.proofs.Common.{◌≡◌, ℕ, zero, suc, ◌<◌, ◌≤◌, List, [], ◌∷◌, Option, Some, None, refl, sym, ap, ◌∙◌, subst, inl, inr, arith}
+use Rattle.std.proofs.Common.{◌≡◌, ℕ, zero, suc, ◌<◌, ◌≤◌, List, [], ◌∷◌, Option, Some, None, refl, sym, ap, ◌∙◌, inl, inr, arith}
 use Rattle.std.proofs.lemmas.Bool.{cases_lt}
 use Rattle.std.specs.Prelude.{slice_get}
 use Rattle.hek_history.specs.declared.history.History.{History}
@@ -108,8 +108,7 @@ module _ (h : History) (points : List Point) (x : IsExplanation h points) where
       let stands : TakesPlace e w = takes e w t b (spot points k, at_spot points k t a) in
       let c = commit_at points stands.0 w stands.1 in
       let first = place_is c.at w c.there in
-      let second = place_is k t a in
-      (
+      let second = place_is k t a in (
         c.at,
         elim (cases_lt c.at k) [
           | inl less ↦ less

@@ -1,5 +1,5 @@
 -- What explains a history explains its log: in the order of commits, by the last writers before each begin.
-use Rattle.std.proofs.Common.{◌≡◌, ℕ, suc, ◌<◌, ◌≤◌, Bool, true, false, List, [], ◌∷◌, Option, Some, None, refl, sym, ap, ◌∙◌, subst, inl, inr, take, arith}
+use Rattle.std.proofs.Common.{◌≡◌, ℕ, suc, ◌<◌, Bool, true, false, List, [], ◌∷◌, Option, Some, None, refl, sym, ap, ◌∙◌, subst, inl, inr, take, arith}
 use Rattle.std.proofs.lemmas.Bool.{cases_order}
 use Rattle.std.specs.Prelude.{slice_get}
 use Rattle.hek_rules.specs.Listing.{value_of}
@@ -28,7 +28,6 @@ use Rattle.hek_levels.specs.Seen.{Explanation, TakesPlace, rank, IsBefore, Reads
 use Rattle.hek_levels.specs.Explanations.{IsSource, Explains}
 use Rattle.hek_levels.specs.Levels.{rules_of}
 use Rattle.hek_levels.proofs.Earlier.{seen-earlier, shows-earlier}
-use Rattle.hek_history_levels.specs.Reads.{reads_of}
 use Rattle.hek_history_levels.specs.Steps.{IsLogOf}
 use Rattle.hek_levels_runs.specs.Laws.{commits_of, level_in, SerialExplanationsExplain, SnapshotExplanationsExplain}
 use Rattle.hek_levels_runs.proofs.Needs.{are_met}
@@ -231,8 +230,7 @@ strict_by (Some y) e = ap lenient_at (one_level y.level Serializable e)
 
 pub serial_explanations_explain : SerialExplanationsExplain
 serial_explanations_explain h points turns log x level l =
-    let strict : (t : ℕ) → Occurs points t → is_lenient h t ≡ false = λ t o. strict_by (transaction h t) (level t o) in
-    (
+    let strict : (t : ℕ) → Occurs points t → is_lenient h t ≡ false = λ t o. strict_by (transaction h t) (level t o) in (
       explanation h points turns log x strict l,
       refl,
       serial_explains h points turns log x strict l (λ t o. serializable_by (transaction h t) (level t o)),

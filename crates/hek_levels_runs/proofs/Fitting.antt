@@ -1,12 +1,12 @@
 -- Answers that are right over some rows agree with one another.
-use Rattle.std.proofs.Common.{◌≡◌, ◌==◌, ℕ, zero, suc, Bool, true, false, cond, Vec, Global, List, [], ◌∷◌, Option, Some, None, refl, sym, ap, ◌∙◌, subst, inl, inr, take}
+use Rattle.std.proofs.Common.{◌≡◌, ◌==◌, ℕ, zero, suc, Bool, true, false, Vec, Global, List, [], ◌∷◌, Option, Some, None, refl, ap, ◌∙◌, subst, inl, inr, take}
 use Rattle.std.proofs.lemmas.Bool.{cases_Bool, eq-eqb}
 use Rattle.std.specs.Prelude.{not, is_some, slice_get}
 use Rattle.hek_rules.specs.Listing.{value_of}
 use Rattle.hek_history.specs.declared.history.Operation.{Operation}
 use Rattle.hek_history.specs.declared.history.Operation.TheVariants.{Read, Put, Insert, Update, Delete, Scan}
 use Rattle.hek_history.specs.declared.history.Scope.{Scope}
-use Rattle.hek_history.specs.Answers.{covers, same_found, after, last_change, lay_all, tells, IsRight, AreRight}
+use Rattle.hek_history.specs.Answers.{covers, after, last_change, lay_all, tells, AreRight}
 use Rattle.hek_history.proofs.Rows.{value_of-lay_all, after-change}
 use Rattle.hek_history_levels.specs.Reads.{changes}
 use Rattle.hek_history_levels.specs.Fits.{AreCovered, IsOfScope, AgreesWith, AreFitting}

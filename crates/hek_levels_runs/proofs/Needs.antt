@@ -1,18 +1,18 @@
 -- What answers that are right need of keys that their transaction had not changed is met by the rows.
-use Rattle.std.proofs.Common.{◌≡◌, ◌==◌, ℕ, zero, suc, Bool, true, false, cond, Vec, Global, List, [], ◌∷◌, ◌++◌, Option, Some, None, refl, sym, ap, ◌∙◌, subst, inl, inr, ◌⊎◌, take, length}
-use Rattle.std.proofs.lemmas.Bool.{cases_Bool, eqb-true, eq-eqb, and_parts}
+use Rattle.std.proofs.Common.{◌≡◌, ◌==◌, ℕ, zero, suc, Bool, true, false, cond, Vec, Global, List, [], ◌∷◌, ◌++◌, Option, Some, None, refl, sym, ◌∙◌, subst, take, length}
+use Rattle.std.proofs.lemmas.Bool.{eqb-true, eq-eqb, and_parts}
 use Rattle.std.specs.Prelude.{◌&&◌, not, is_some, slice_get}
 use Rattle.hek_rules.specs.Listing.{value_of}
 use Rattle.hek_history.specs.declared.history.Operation.{Operation}
 use Rattle.hek_history.specs.declared.history.Operation.TheVariants.{Read, Put, Insert, Update, Delete, Scan}
 use Rattle.hek_history.specs.declared.history.Scope.{Scope}
-use Rattle.hek_history.specs.Answers.{covers, same_found, is_change, last_change, lay_all, tells, IsRight, AreRight}
+use Rattle.hek_history.specs.Answers.{covers, same_found, last_change, lay_all, tells, AreRight}
 use Rattle.hek_history.proofs.Rows.{value_of-lay_all, after-kept}
 use Rattle.hek_levels.specs.declared.log.Need.{Need}
 use Rattle.hek_levels.specs.declared.log.Need.TheVariants.{Absent, Present}
 use Rattle.hek_levels.specs.declared.log.Read.{Read as TheRead}
 use Rattle.hek_levels.specs.Logs.{meets}
-use Rattle.hek_history_levels.specs.Reads.{changes, need_of, need_at, read_of, own_read, scan_reads, reads_in, reads_if, reads_to, reads_of}
+use Rattle.hek_history_levels.specs.Reads.{changes, need_of, read_of, own_read, scan_reads, reads_in, reads_if, reads_to, reads_of}
 
 -- ---- each read of a list is met by the rows
 

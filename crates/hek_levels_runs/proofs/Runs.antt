@@ -1,11 +1,7 @@
 -- Where a transcript is serial, the log of a history that records it holds at each level.
-use Rattle.std.proofs.Common.{◌≡◌, ℕ, ◌<◌, false, List, Option, Some, ap, ◌∙◌, subst}
-use Rattle.hek_rules.specs.declared.event.Level.TheVariants as engine
-use Rattle.hek_rules.specs.declared.serial.Verdict.TheVariants.{Serial}
+use Rattle.std.proofs.Common.{◌≡◌, ℕ, false, List, Some, ap, ◌∙◌, subst}
 use Rattle.hek_rules.specs.Recorded.{Recorded}
 use Rattle.hek_rules.specs.Serial.{serial_order}
-use Rattle.hek_rules.specs.Faults.{IsVerdict}
-use Rattle.hek_serial.specs.Leveled.{at_level}
 use Rattle.hek_history.specs.declared.history.History.{History}
 use Rattle.hek_history.specs.declared.history.Level.{Level as TheLevel}
 use Rattle.hek_history.specs.declared.history.Level.TheVariants.{Serializable}
@@ -18,7 +14,6 @@ use Rattle.hek_history_laws.proofs.NoFault.{ender_of}
 use Rattle.hek_history_laws.proofs.Points.{turn_committed}
 use Rattle.hek_history_laws.proofs.Explained.{serial_runs_have_explanations}
 use Rattle.hek_levels.specs.declared.log.Log.{Log}
-use Rattle.hek_levels.specs.declared.log.Turn.{Turn}
 use Rattle.hek_levels.specs.declared.rules.Level.{Level}
 use Rattle.hek_levels.specs.declared.rules.Level.TheVariants as level
 use Rattle.hek_levels.specs.Seen.{Explanation}
@@ -26,7 +21,6 @@ use Rattle.hek_levels.specs.Explanations.{Explains}
 use Rattle.hek_levels.specs.Levels.{rules_of}
 use Rattle.hek_levels_laws.proofs.Implied.{levels_imply}
 use Rattle.hek_levels_laws.proofs.Uncommitted.{says, explained_is_so}
-use Rattle.hek_history_levels.specs.Steps.{IsLogOf}
 use Rattle.hek_levels_runs.specs.Laws.{commits_of, level_in, HoldsAt, SerialRunsHold}
 use Rattle.hek_levels_runs.proofs.Explained.{serial_explanations_explain}
 

@@ -1,11 +1,10 @@
 -- Of whom a key has its value at a place: the last writer of the key that commits before, or the opening.
-use Rattle.std.proofs.Common.{◌≡◌, ℕ, ◌<◌, ◌≤◌, true, List, Option, Some, None, sym, ap, ◌∙◌, subst, inl, inr, take}
+use Rattle.std.proofs.Common.{◌≡◌, ℕ, ◌<◌, ◌≤◌, true, List, Option, Some, sym, ap, ◌∙◌, subst, inl, inr, take}
 use Rattle.hek_rules.specs.Listing.{value_of}
 use Rattle.hek_history.specs.declared.history.History.{History}
 use Rattle.hek_history.specs.declared.history.Point.{Point}
 use Rattle.hek_history.specs.declared.history.Point.TheVariants.{Commit}
-use Rattle.hek_history.specs.Answers.{after, last_change}
-use Rattle.hek_history.specs.Histories.{operations_of, writes, rows_after}
+use Rattle.hek_history.specs.Histories.{writes, rows_after}
 use Rattle.hek_history.specs.Explanation.{At, IsExplanation}
 use Rattle.hek_history.proofs.Origins.{IsUntouched, IsLeftBy, HasSource, source}
 use Rattle.hek_levels.specs.declared.log.Log.{Log}

@@ -1,4 +1,4 @@
--- The laws of explanations and levels, each in a sentence.
+-- What explanations of a history and serial transcripts say of levels, each in a sentence.
 use Rattle.std.specs.Prelude.{ℕ, ◌≡◌, ◌<◌, false, List, [], ◌∷◌, Option, Some, None}
 use Rattle.hek_rules.specs.declared.event.Level.TheVariants as engine
 use Rattle.hek_rules.specs.declared.serial.Verdict.TheVariants.{Serial}
@@ -37,12 +37,12 @@ abbrev pub level_in : Option Transaction → Option TheLevel
 level_in None = None
 level_in (Some x) = Some x.level
 
--- a log has an explanation at a level, without sessions, with this order of commits
+-- a log holds at a level, without sessions: it has an explanation there, with this order of commits
 abbrev pub HoldsAt : Level → Log → List ℕ → Type 0
 HoldsAt level log order = (e : Explanation) × (e.order ≡ order) × Explains (rules_of level false) log e
 
--- What explains a history whose transactions are serializable explains, by the order of its commits, the log that levels see as
--- serializable.
+-- Where points explain a history, and whoever takes place is serializable, the history's log holds at the level serializable, by
+-- the order of the commits.
 abbrev pub SerialExplanationsExplain : Type 0
 SerialExplanationsExplain =
     (h : History) (points : List Point) (turns : List (Option Turn)) (log : Log) →
@@ -51,8 +51,8 @@ SerialExplanationsExplain =
     IsLogOf h turns log →
     HoldsAt level.Serializable log (commits_of points)
 
--- What explains a history of which none is lenient, so that each is serializable or a snapshot, explains the log in the same
--- way as snapshot.
+-- Where points explain a history, and whoever takes place is serializable or a snapshot, so that its answers of absence are
+-- judged, the history's log holds at the level snapshot, by the order of the commits.
 abbrev pub SnapshotExplanationsExplain : Type 0
 SnapshotExplanationsExplain =
     (h : History) (points : List Point) (turns : List (Option Turn)) (log : Log) →

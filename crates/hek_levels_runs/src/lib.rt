@@ -1,4 +1,5 @@
-//! What an explanation of a history says of the levels of its log, as contracts of functions with empty bodies.
+//! Which levels the log of a history holds at, where the history is explained or records a serial transcript, as contracts of
+//! functions with empty bodies.
 #![tactic(auto)]
 
 mod laws;
