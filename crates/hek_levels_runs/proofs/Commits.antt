@@ -1,6 +1,7 @@
 -- The places of commits, among points and in the order of commits.
-use Rattle.std.proofs.Common.{◌≡◌, ℕ, zero, suc, ◌<◌, ◌≤◌, List, [], ◌∷◌, Option, Some, None, refl, sym, ap, ◌∙◌, inl, inr, arith}
+use Rattle.std.proofs.Common.{◌≡◌, ℕ, zero, suc, ◌<◌, ◌≤◌, List, [], ◌∷◌, Some, refl, sym, ap, ◌∙◌, inl, inr, arith}
 use Rattle.std.proofs.lemmas.Bool.{cases_lt}
+use Rattle.std.proofs.lemmas.Option.{none-some, same_Some}
 use Rattle.std.specs.Prelude.{slice_get}
 use Rattle.hek_history.specs.declared.history.History.{History}
 use Rattle.hek_history.specs.declared.history.Point.{Point}
@@ -21,18 +22,12 @@ spot [] (suc i) = zero
 spot (Begin t ∷ points) (suc i) = spot points i
 spot (Commit t ∷ points) (suc i) = suc (spot points i)
 
-one_point : (p q : Point) → Some p ≡ Some q → p ≡ q
-one_point p q e = cc
-
-not_before_zero : {A : Type 0} (i : ℕ) → i < zero → A
-not_before_zero i l = absurd (omega (arith, l))
-
 -- a commit at a place stands in the order after those before it
 pub at_spot : (points : List Point) (i t : ℕ) → At points i (Commit t) → slice_get (commits_of points) (spot points i) ≡ Some t
 at_spot [] i t a = absurd (no_point (Commit t) a)
-at_spot (Begin x ∷ points) zero t a = absurd (kinds_apart x t (one_point (Begin x) (Commit t) a))
+at_spot (Begin x ∷ points) zero t a = absurd (kinds_apart x t (same_Some (Begin x) (Commit t) a))
 at_spot (Begin x ∷ points) (suc i) t a = at_spot points i t a
-at_spot (Commit x ∷ points) zero t a = ap (λ (n : ℕ). Some n) (commits_apart x t (one_point (Commit x) (Commit t) a))
+at_spot (Commit x ∷ points) zero t a = ap (λ (n : ℕ). Some n) (commits_apart x t (same_Some (Commit x) (Commit t) a))
 at_spot (Commit x ∷ points) (suc i) t a = at_spot points i t a
 
 -- the commit of a transaction of the order
@@ -41,24 +36,18 @@ pub record IsCommitAt (points : List Point) (n t : ℕ) : Type 0 where
   pub there : At points at (Commit t)
   pub spot_is : spot points at ≡ n
 
-one_number : (m n : ℕ) → ◌≡◌ {A = Option ℕ} (Some m) (Some n) → m ≡ n
-one_number m n e = cc
-
-no_number : (n : ℕ) → ◌≡◌ {A = Option ℕ} None (Some n) → ⊥
-no_number n e = cc
-
 -- each transaction of the order has a commit
 pub commit_at : (points : List Point) (n t : ℕ) → slice_get (commits_of points) n ≡ Some t → IsCommitAt points n t
-commit_at [] n t e = absurd (no_number t e)
+commit_at [] n t e = absurd (none-some t e)
 commit_at (Begin x ∷ points) n t e =
     let r = commit_at points n t e in
     record { at = suc r.at; there = r.there; spot_is = r.spot_is }
-commit_at (Commit x ∷ points) zero t e = record { at = zero; there = ap (λ (m : ℕ). Some (Commit m)) (one_number x t e); spot_is = refl }
+commit_at (Commit x ∷ points) zero t e = record { at = zero; there = ap (λ (m : ℕ). Some (Commit m)) (same_Some x t e); spot_is = refl }
 commit_at (Commit x ∷ points) (suc n) t e =
     let r = commit_at points n t e in
     record { at = suc r.at; there = r.there; spot_is = ap suc r.spot_is }
 
--- more commit before a later place
+-- no fewer commit before a later place
 pub spot_upto : (points : List Point) (i j : ℕ) → i ≤ j → spot points i ≤ spot points j
 spot_upto points zero j l = omega arith
 spot_upto points (suc i) zero l = absurd (omega (arith, l))
@@ -66,10 +55,11 @@ spot_upto [] (suc i) (suc j) l = omega arith
 spot_upto (Begin x ∷ points) (suc i) (suc j) l = spot_upto points i j (omega (arith, l))
 spot_upto (Commit x ∷ points) (suc i) (suc j) l = let rest = spot_upto points i j (omega (arith, l)) in omega (arith, rest)
 
+-- and still more before a place after a commit
 pub spot_before : (points : List Point) (i j t : ℕ) → At points i (Commit t) → i < j → spot points i < spot points j
-spot_before points i zero t a l = not_before_zero i l
+spot_before points i zero t a l = absurd (omega (arith, l))
 spot_before [] i (suc j) t a l = absurd (no_point (Commit t) a)
-spot_before (Begin x ∷ points) zero (suc j) t a l = absurd (kinds_apart x t (one_point (Begin x) (Commit t) a))
+spot_before (Begin x ∷ points) zero (suc j) t a l = absurd (kinds_apart x t (same_Some (Begin x) (Commit t) a))
 spot_before (Begin x ∷ points) (suc i) (suc j) t a l = spot_before points i j t a (omega (arith, l))
 spot_before (Commit x ∷ points) zero (suc j) t a l = omega arith
 spot_before (Commit x ∷ points) (suc i) (suc j) t a l = let rest = spot_before points i j t a (omega (arith, l)) in omega (arith, rest)
@@ -86,7 +76,7 @@ module _ (h : History) (points : List Point) (x : IsExplanation h points) where
   pub place_is : (k t : ℕ) → At points k (Commit t) → place (commits_of points) t ≡ spot points k
   place_is k t a = placed (commits_of points) commits_once (spot points k) t (at_spot points k t a)
 
-  -- of two commits the first is before the other in the order, or not after it
+  -- a commit before another is before it in the order, and one not after it not after it
   pub rank_before : (j k w t : ℕ) → At points j (Commit w) → At points k (Commit t) → j < k → rank (commits_of points) (writer.Transaction w) < rank (commits_of points) (writer.Transaction t)
   rank_before j k w t a b l =
       let first = place_is j w a in

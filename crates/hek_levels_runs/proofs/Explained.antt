@@ -1,11 +1,11 @@
 -- What explains a history explains its log: in the order of commits, by the last writers before each begin.
 use Rattle.std.proofs.Common.{◌≡◌, ℕ, suc, ◌<◌, Bool, true, false, List, [], ◌∷◌, Option, Some, None, refl, sym, ap, ◌∙◌, subst, inl, inr, take, arith}
 use Rattle.std.proofs.lemmas.Bool.{cases_order}
+use Rattle.std.proofs.lemmas.Option.{same_Some}
 use Rattle.std.specs.Prelude.{slice_get}
 use Rattle.hek_rules.specs.Listing.{value_of}
 use Rattle.hek_history.specs.declared.history.History.{History}
 use Rattle.hek_history.specs.declared.history.Transaction.{Transaction}
-use Rattle.hek_history.specs.declared.history.Level.{Level as TheLevel}
 use Rattle.hek_history.specs.declared.history.Level.TheVariants.{Serializable}
 use Rattle.hek_history.specs.declared.history.Point.{Point}
 use Rattle.hek_history.specs.declared.history.Point.TheVariants.{Begin, Commit}
@@ -41,6 +41,7 @@ abbrev key_in : Option Read → ℕ
 key_in None = 0
 key_in (Some read) = read.key
 
+-- false is not true
 never : {A : Type 0} → false ≡ true → A
 never e = absurd (let f : ⊥ = cc in f)
 
@@ -65,12 +66,14 @@ module _ (h : History) (points : List Point) (turns : List (Option Turn)) (log :
     commits : At points commit (Commit t)
     before : begin < commit
 
+  -- whoever takes place begins and commits
   run : (t : ℕ) → TakesPlace explanation t → IsRun t
   run t p =
       let c = commit_at points p.0 t p.1 in
       let b = (x.commits c.at t c.there).begun in
       record { begin = b.0; commit = c.at; begins = b.2; commits = c.there; before = b.1 }
 
+  -- whoever commits takes place
   takes_place : (m t : ℕ) → At points m (Commit t) → TakesPlace explanation t
   takes_place m t a = (spot points m, at_spot points m t a)
 
@@ -81,6 +84,7 @@ module _ (h : History) (points : List Point) (turns : List (Option Turn)) (log :
 
   -- ---- sources
 
+  -- its source is the last writer of its key before the place where its transaction begins
   source_is : (t r : ℕ) (read : Read) (g : IsRun t) → read_at log t r ≡ Some read → source_of t r ≡ source_at h points read.key g.begin
   source_is t r read g there =
       ap (λ (o : Option Read). source_at h points (key_in o) (moments.place points (Begin t))) there
@@ -90,11 +94,13 @@ module _ (h : History) (points : List Point) (turns : List (Option Turn)) (log :
   is_source t r read g there =
       subst (λ (w : Writer). IsSourceAt h points log read.key g.begin w) (sym (source_is t r read g there)) (is_source_at h points x turns log l read.key g.begin)
 
+  -- what the read found is what the key has there
   met : (t r : ℕ) (read : Read) (g : IsRun t) → read_at log t r ≡ Some read → meets read.need (value_of (rows_after h (take g.begin points)) read.key) ≡ true
   met t r read g there =
       are_met (rows_after h (take g.begin points)) l.keys (operations_of h t) (right t g) r read
       (sym (ap (λ (reads : List Read). slice_get reads r) (reads_are h turns log l t)) ∙ there)
 
+  -- whoever commits before a transaction begins is before it in the order, and so is the source of its read
   early_rank : (t y : ℕ) (g : IsRun t) → IsEarly points g.begin y → rank (commits_of points) (writer.Transaction y) < rank (commits_of points) (writer.Transaction t)
   early_rank t y g b =
       let first = b.1 in
@@ -105,6 +111,7 @@ module _ (h : History) (points : List Point) (turns : List (Option Turn)) (log :
   before_reader t key g writer.Opening s = omega arith
   before_reader t key g (writer.Transaction y) s = early_rank t y g (s.before y refl)
 
+  -- each read has a source
   sourced : (t r : ℕ) (read : Read) → TakesPlace explanation t → read_at log t r ≡ Some read → IsSource log explanation t read (source_of t r)
   sourced t r read p there =
       let g = run t p in
@@ -114,6 +121,7 @@ module _ (h : History) (points : List Point) (turns : List (Option Turn)) (log :
         before = before_reader t read.key g (source_of t r) s;
       }
 
+  -- each transaction stands once, after the sources of its reads
   ordered : IsOrdered log explanation
   ordered = record {
     once = commits_once h points x;
@@ -121,14 +129,15 @@ module _ (h : History) (points : List Point) (turns : List (Option Turn)) (log :
         subst (λ (w : Writer). rank (commits_of points) w < rank (commits_of points) (writer.Transaction t)) is (sourced t r read p there).before);
   }
 
-  -- ---- what holds by any rules that bind no sessions
+  -- ---- what any rules ask for
 
+  -- whoever takes place did not abort, and does not contradict itself
   may_take_place : (t : ℕ) → TakesPlace explanation t → is_possible log t ≡ true
   may_take_place t p =
       let g = run t p in
       possible_is h turns log l t (possible h points x g.commit t g.commits) (are_fitting (operations_of h t) (rows_after h (take g.begin points)) (right t g))
 
-  -- where whoever is seen and writes a key commits before the reader begins
+  -- by any rules without sessions, where whoever is seen commits before the reader begins
   explains : (rules : Rules) → rules.sessions ≡ false →
       ((t r : ℕ) (read : Read) (y : ℕ) (g : IsRun t) → read_at log t r ≡ Some read → Sees rules log explanation t r read y → IsEarly points g.begin y) →
       Explains rules log explanation
@@ -156,6 +165,7 @@ module _ (h : History) (points : List Point) (turns : List (Option Turn)) (log :
         | inr other ↦ elim other [ inl early ↦ (c.0, early, c.2) | inr late ↦ absurd (omega (arith, beside, less, late)) ]
       ]
 
+  -- so it explains as serializable, where whoever takes place is so
   serial_explains : ((t : ℕ) → Occurs points t → is_serializable h t ≡ true) → Explains (rules_of level.Serializable false) log explanation
   serial_explains serial =
       explains (rules_of level.Serializable false) refl
@@ -168,6 +178,7 @@ module _ (h : History) (points : List Point) (turns : List (Option Turn)) (log :
   by_read : (t y : ℕ) (g : IsRun t) → ReadsFrom log explanation t y → IsEarly points g.begin y
   by_read t y g s = (is_source t s.0 s.1 g s.2).before y s.3
 
+  -- who writes a key in the log does so in the history
   does : (t key : ℕ) → does_write log t key ≡ true → writes h t key ≡ true
   does t key w = sym (does_write_is h turns log l t key) ∙ w
 
@@ -184,6 +195,7 @@ module _ (h : History) (points : List Point) (turns : List (Option Turn)) (log :
             ]
       ]
 
+  -- all of these together
   at_once : (t r : ℕ) (read : Read) (y : ℕ) (g : IsRun t) → SeesFirst (rules_of level.Snapshot false) log explanation t r read y → IsEarly points g.begin y
   at_once t r read y g s =
       elim s [
@@ -208,25 +220,27 @@ module _ (h : History) (points : List Point) (turns : List (Option Turn)) (log :
       let more = early.1 in
       (c.0, omega (arith, less, more), c.2)
 
+  -- whom it sees by some chain of these
   by_all : (t r : ℕ) (read : Read) (g : IsRun t) (ys : List ℕ) (y : ℕ) → SeesBy (rules_of level.Snapshot false) log explanation t r read ys y → IsEarly points g.begin y
   by_all t r read g [] y s = at_once t r read y g s
   by_all t r read g (z ∷ ys) y s = shown z y g.begin (by_all t r read g ys z s.1) s.0
 
+  -- so it explains as snapshot
   snapshot_explains : Explains (rules_of level.Snapshot false) log explanation
   snapshot_explains = explains (rules_of level.Snapshot false) refl (λ t r read y g there sees. by_all t r read g sees.0 y sees.1)
 
 -- ---- levels of transactions
 
-one_level : (a b : TheLevel) → Some a ≡ Some b → a ≡ b
-one_level a b e = cc
-
+-- who is serializable reads and commits at one point, and its answers of absence are judged
 serializable_by : (o : Option Transaction) → level_in o ≡ Some Serializable → serializable_in o ≡ true
 serializable_by None e = cc
-serializable_by (Some y) e = ap serializable_at (one_level y.level Serializable e)
+serializable_by (Some y) e = ap serializable_at (same_Some y.level Serializable e)
 
 strict_by : (o : Option Transaction) → level_in o ≡ Some Serializable → lenient_in o ≡ false
 strict_by None e = cc
-strict_by (Some y) e = ap lenient_at (one_level y.level Serializable e)
+strict_by (Some y) e = ap lenient_at (same_Some y.level Serializable e)
+
+-- ---- the laws
 
 pub serial_explanations_explain : SerialExplanationsExplain
 serial_explanations_explain h points turns log x level l =

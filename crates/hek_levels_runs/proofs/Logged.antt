@@ -40,11 +40,13 @@ not_aborted status.Committed e = refl
 not_aborted status.Aborted e = cc
 not_aborted status.Unknown e = refl
 
+-- who committed there did so here
 did_commit : (s : Status) → log.committed_by (status_of s) ≡ true → committed_by s ≡ true
 did_commit status.Committed e = refl
 did_commit status.Aborted e = cc
 did_commit status.Unknown e = cc
 
+-- a number that names no transaction names none that may have committed, and none that did
 none_possible : (o : Option Transaction) → o ≡ None → possible_in o ≡ true → ⊥
 none_possible None is e = cc
 none_possible (Some x) is e = cc
@@ -58,6 +60,7 @@ possible_so : (y : TheTransaction) → log.aborted_by y.status ≡ false → y.f
 possible_so y off fits = cond-false (log.aborted_by y.status) false y.fits off ∙ fits
 
 module _ (h : History) (turns : List (Option Turn)) (the_log : Log) (l : IsLogOf h turns the_log) where
+  -- each number names a transaction of both, or of neither
   either : (t : ℕ) → IsEither l.keys (turn_at turns t) (transaction h t) (log.transaction the_log t)
   either t =
       let count : length the_log.transactions.items ≡ length h.transactions.items = l.count in
@@ -90,6 +93,7 @@ module _ (h : History) (turns : List (Option Turn)) (the_log : Log) (l : IsLogOf
         | inr n ↦ ap log.writes_in n.1 ∙ ap (λ (o : Option Transaction). writes_of (operations_in o)) (sym n.0)
       ]
 
+  -- its writes leave at a key what its last change of the key leaves
   left_in_log : (t key : ℕ) → log.left_in (log.writes_of the_log t) key ≡ left_after (last_change key (operations_of h t))
   left_in_log t key = ap (λ (cs : List Change). log.left_in cs key) (writes_are t) ∙ left_in-writes_of key (operations_of h t)
 
@@ -97,7 +101,7 @@ module _ (h : History) (turns : List (Option Turn)) (the_log : Log) (l : IsLogOf
   pub does_write_is : (t key : ℕ) → log.does_write the_log t key ≡ writes h t key
   does_write_is t key = ap is_some (left_in_log t key) ∙ is_some-left_after (last_change key (operations_of h t))
 
-  -- and leaves there what its last change of the key leaves
+  -- and then leaves there the value after its last change of the key
   pub left_is : (t key : ℕ) → writes h t key ≡ true → log.left_by the_log key (writer.Transaction t) ≡ Some (after (last_change key (operations_of h t)) None)
   left_is t key does = left_in_log t key ∙ left_after-change (last_change key (operations_of h t)) does
 

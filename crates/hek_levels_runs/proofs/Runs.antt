@@ -27,6 +27,7 @@ use Rattle.hek_levels_runs.proofs.Explained.{serial_explanations_explain}
 -- ---- what explains a log as serializable explains it at each level
 
 module _ (log : Log) (e : Explanation) (x : Explains (rules_of level.Serializable false) log e) where
+  -- level by level
   as_snapshot : Explains (rules_of level.Snapshot false) log e
   as_snapshot = levels_imply.serializable false log e x
 
@@ -45,6 +46,7 @@ module _ (log : Log) (e : Explanation) (x : Explains (rules_of level.Serializabl
   as_committed : Explains (rules_of level.ReadCommitted false) log e
   as_committed = levels_imply.monotonic_view false log e as_view
 
+  -- and so at each
   at_each : (weaker : Level) → Explains (rules_of weaker false) log e
   at_each level.ReadCommitted = as_committed
   at_each level.MonotonicView = as_view
@@ -57,6 +59,7 @@ module _ (log : Log) (e : Explanation) (x : Explains (rules_of level.Serializabl
 -- ---- each transaction of the serial order is serializable
 
 module _ (s : Recorded) (h : History) (place : ℕ → ℕ) (rec : Records h place s) where
+  -- it is a committed transaction of the transcript, which a history records as serializable
   is_level : (t : ℕ) → Occurs (points_of place (serial_order s.history)) t → level_in (transaction h t) ≡ Some Serializable
   is_level t o =
       let r = turn_committed place (serial_order s.history) o.0 t o.1 in
@@ -64,6 +67,8 @@ module _ (s : Recorded) (h : History) (place : ℕ → ℕ) (rec : Records h pla
       let end = ender_of s r.0 turn.entry turn.there in
       let found = rec.committed turn.entry.1 end.committed in
       subst (λ (p : ℕ). level_in (transaction h p) ≡ Some Serializable) turn.named (ap level_in found.at ∙ ap (λ (v : TheLevel). Some v) found.run.level)
+
+-- ---- the law
 
 pub serial_runs_hold : SerialRunsHold
 serial_runs_hold s h place turns log some serial rec l =

@@ -23,6 +23,7 @@ abbrev writer_of : (h : History) (key : ℕ) (rows : List (ℕ × ℕ)) (points 
 writer_of h key rows points i (inl u) = writer.Opening
 writer_of h key rows points i (inr s) = writer.Transaction s.1
 
+-- the last writer of a key before a place
 abbrev pub source_at : History → List Point → ℕ → ℕ → Writer
 source_at h points key i = writer_of h key h.rows.items points i (source h key h.rows.items points i)
 
@@ -35,6 +36,7 @@ pub record IsSourceAt (h : History) (points : List Point) (log : Log) (key i : �
   -- no writer of the key that commits before is after it
   pub last : (m x : ℕ) → m < i → At points m (Commit x) → does_write log x key ≡ true → rank (commits_of points) (writer.Transaction x) ≤ rank (commits_of points) w
 
+-- the opening is no transaction, and two transactions are two writers
 opening_apart : (x : ℕ) → writer.Opening ≡ writer.Transaction x → ⊥
 opening_apart x e = cc
 
@@ -42,9 +44,11 @@ one_transaction : (x y : ℕ) → writer.Transaction x ≡ writer.Transaction y 
 one_transaction x y e = cc
 
 module _ (h : History) (points : List Point) (e : IsExplanation h points) (turns : List (Option Turn)) (log : Log) (l : IsLogOf h turns log) where
+  -- who writes a key in the log does so in the history
   does : (x key : ℕ) → does_write log x key ≡ true → writes h x key ≡ true
   does x key w = sym (does_write_is h turns log l x key) ∙ w
 
+  -- where nobody has written the key, where somebody has, and in either case
   of_opening : (key i : ℕ) → IsUntouched h key h.rows.items points i → IsSourceAt h points log key i writer.Opening
   of_opening key i u = record {
     leaves = opening_is h turns log l key ∙ ap (λ (v : Option ℕ). Some v) (sym u.same);
@@ -63,5 +67,6 @@ module _ (h : History) (points : List Point) (e : IsExplanation h points) (turns
   of_source key i (inl u) = of_opening key i u
   of_source key i (inr s) = of_writer key i s.0 s.1 s.2
 
+  -- it has left the key as it is
   pub is_source_at : (key i : ℕ) → IsSourceAt h points log key i (source_at h points key i)
   is_source_at key i = of_source key i (source h key h.rows.items points i)
