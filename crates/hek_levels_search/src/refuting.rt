@@ -263,7 +263,7 @@ impl State<'_> {
 
     /// The edges of a short cycle, in which no two by turns follow one on the other.
     fn cycle(&mut self, alloc: Global) -> Result<Vec<usize>, NoMemory> {
-        let cycle = short_cycle(alloc, &self.graph, &self.sorting, self.problem.count)?;
+        let cycle = short_cycle(alloc, &self.graph, &self.sorting)?;
         let edges = cycle.as_slice();
         let first = self.turns_at_first(edges);
         let to = edges.len();

@@ -1,6 +1,6 @@
 //! The state of the search: sources, who takes place, edges and an order.
 use crate::graph::{Graph, Reason};
-use crate::lists::{NONE, add, at};
+use crate::lists::{NONE, Span, add, at, fill, put};
 use crate::looking::Walk;
 use crate::problem::Problem;
 use crate::sorting::Sorting;
@@ -28,6 +28,8 @@ pub(crate) struct State<'a> {
     pub walk: Walk,
     /// Who is just before whom in their sessions, where they bind.
     pub turns: Turns,
+    /// The moment after so many of these.
+    moments: Vec<usize>,
     /// What is not to be chosen again as the source of a reading.
     pub banned: Vec<Between>,
     /// Whether a reading was left without a source.
@@ -42,6 +44,9 @@ pub(crate) struct State<'a> {
     /// So many stops of walks are made.
     most: usize,
 }
+
+/// Between more than so many and those after them is a moment, so that there are as many edges as transactions.
+const FEW: usize = 4;
 
 /// For each of the effort so many.
 const STOPS: usize = 1000;
@@ -63,6 +68,7 @@ impl<'a> State<'a> {
             sorting: Sorting::new(alloc),
             walk,
             turns: Turns::new(alloc),
+            moments: Vec::new(alloc),
             banned: Vec::new(alloc),
             is_stuck: false,
             forward: Vec::new(alloc),
@@ -85,12 +91,34 @@ impl<'a> State<'a> {
         Ok(())
     }
 
-    /// Those just before a transaction in its session are before it.
-    fn link_turn(&mut self, t: usize) -> Result<(), NoMemory> {
-        for x in self.turns.before(t) {
-            self.graph.link(*x, t, Reason::Turn)?;
+    /// Those who stand there are before a transaction or a moment.
+    fn link_part(&mut self, span: Span, to: usize) -> Result<(), NoMemory> {
+        for x in self.turns.part(span) {
+            self.graph.link(*x, to, Reason::Turn)?;
         }
         Ok(())
+    }
+
+    /// The moment after those who stand there.
+    fn moment_after(&mut self, span: Span) -> Result<usize, NoMemory> {
+        let known = at(self.moments.as_slice(), span.to, NONE);
+        if known != NONE {
+            return Ok(known);
+        }
+        let moment = self.graph.add_moment()?;
+        put(&mut self.moments, span.to, moment);
+        self.link_part(span, moment)?;
+        Ok(moment)
+    }
+
+    /// Those just before a transaction in its session are before it.
+    fn link_turn(&mut self, t: usize) -> Result<(), NoMemory> {
+        let span = self.turns.span(t);
+        if span.to.saturating_sub(span.from) <= FEW {
+            return self.link_part(span, t);
+        }
+        let moment = self.moment_after(span)?;
+        self.graph.link(moment, t, Reason::Turn)
     }
 
     /// Where sessions bind, turns are kept.
@@ -99,6 +127,7 @@ impl<'a> State<'a> {
             return Ok(());
         }
         self.turns.find(self.problem, &self.sources)?;
+        fill(&mut self.moments, self.turns.len().saturating_add(1), NONE)?;
         for t in 0..self.problem.count {
             self.link_turn(t)?;
         }

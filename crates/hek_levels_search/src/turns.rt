@@ -44,12 +44,24 @@ impl Turns {
         }
     }
 
+    /// How many take place.
+    pub(crate) fn len(&self) -> usize {
+        self.members.len()
+    }
+
+    /// Where those stand who are just before a transaction. Of two such parts that end at one place both are one.
+    pub(crate) fn span(&self, t: usize) -> Span {
+        at(self.before.as_slice(), t, NOWHERE)
+    }
+
+    /// Those who stand there.
+    pub(crate) fn part(&self, span: Span) -> &[usize] {
+        part(self.members.as_slice(), span)
+    }
+
     /// Who is just before a transaction.
     pub(crate) fn before(&self, t: usize) -> &[usize] {
-        part(
-            self.members.as_slice(),
-            at(self.before.as_slice(), t, NOWHERE),
-        )
+        self.part(self.span(t))
     }
 
     /// One more, who stands after all others so far.
