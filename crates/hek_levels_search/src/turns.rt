@@ -124,8 +124,9 @@ impl Turns {
     pub(crate) fn find(&mut self, problem: &Problem, sources: &Sources) -> Result<(), NoMemory> {
         self.gather(problem, sources)?;
         fill(&mut self.before, problem.count, NOWHERE)?;
-        for one in &self.turned {
-            let span = self.span_before(*one);
+        for n in 0..self.turned.len() {
+            let one = at(self.turned.as_slice(), n, NOBODY);
+            let span = self.span_before(one);
             put(&mut self.before, one.transaction, span);
         }
         self.add_turned_back(problem, sources)
