@@ -10,7 +10,7 @@ use Rattle.hek_history.specs.declared.history.Level.TheVariants.{Serializable}
 use Rattle.hek_history.specs.declared.history.Point.{Point}
 use Rattle.hek_history.specs.declared.history.Point.TheVariants.{Begin, Commit}
 use Rattle.hek_history.specs.Answers.{AreRight}
-use Rattle.hek_history.specs.Histories.{transaction, operations_of, serializable_at, serializable_in, is_serializable, lenient_at, lenient_in, is_lenient, rows_after, writes}
+use Rattle.hek_history.specs.Histories.{transaction, operations_of, serializable_at, serializable_in, is_serializable, lenient_at, lenient_in, is_lenient, rows_after}
 use Rattle.hek_history.specs.Explanation.{At, Occurs, IsExplanation}
 use Rattle.hek_history.specs.Moments as moments
 use Rattle.hek_history.proofs.Places.{same_point, possible}
@@ -23,7 +23,7 @@ use Rattle.hek_levels.specs.declared.rules.Rules.{Rules}
 use Rattle.hek_levels.specs.declared.rules.Level.TheVariants as level
 use Rattle.hek_levels.specs.declared.certificate.Writer.{Writer}
 use Rattle.hek_levels.specs.declared.certificate.Writer.TheVariants as writer
-use Rattle.hek_levels.specs.Logs.{meets, meets_in, read_at, is_possible, does_write}
+use Rattle.hek_levels.specs.Logs.{meets, meets_in, read_at, is_possible}
 use Rattle.hek_levels.specs.Seen.{Explanation, TakesPlace, rank, IsBefore, ReadsFrom, IsOverwritten, SeesFirst, Shows, SeesBy, Sees, IsOrdered}
 use Rattle.hek_levels.specs.Explanations.{IsSource, Explains}
 use Rattle.hek_levels.specs.Levels.{rules_of}
@@ -32,7 +32,7 @@ use Rattle.hek_history_levels.specs.Steps.{IsLogOf}
 use Rattle.hek_levels_runs.specs.Laws.{commits_of, level_in, SerialExplanationsExplain, SnapshotExplanationsExplain}
 use Rattle.hek_levels_runs.proofs.Needs.{are_met}
 use Rattle.hek_levels_runs.proofs.Fitting.{are_fitting}
-use Rattle.hek_levels_runs.proofs.Logged.{reads_are, does_write_is, possible_is, committed_is}
+use Rattle.hek_levels_runs.proofs.Logged.{reads_are, so_writes, possible_is, committed_is}
 use Rattle.hek_levels_runs.proofs.Commits.{spot, at_spot, commit_at, commits_once, rank_before, before_commits}
 use Rattle.hek_levels_runs.proofs.Sources.{source_at, IsSourceAt, is_source_at}
 
@@ -55,6 +55,7 @@ module _ (h : History) (points : List Point) (turns : List (Option Turn)) (log :
   abbrev source_of : ℕ → ℕ → Writer
   source_of t r = source_at h points (key_in (read_at log t r)) (moments.place points (Begin t))
 
+  -- the order of commits, with these sources
   abbrev explanation : Explanation
   explanation = record { order = commits_of points; source = source_of }
 
@@ -90,6 +91,7 @@ module _ (h : History) (points : List Point) (turns : List (Option Turn)) (log :
       ap (λ (o : Option Read). source_at h points (key_in o) (moments.place points (Begin t))) there
       ∙ ap (λ (i : ℕ). source_at h points read.key i) (place-is h points x g.begin (Begin t) g.begins)
 
+  -- so it has left the key as it is there
   is_source : (t r : ℕ) (read : Read) (g : IsRun t) → read_at log t r ≡ Some read → IsSourceAt h points log read.key g.begin (source_of t r)
   is_source t r read g there =
       subst (λ (w : Writer). IsSourceAt h points log read.key g.begin w) (sym (source_is t r read g there)) (is_source_at h points x turns log l read.key g.begin)
@@ -155,6 +157,7 @@ module _ (h : History) (points : List Point) (turns : List (Option Turn)) (log :
 
   -- ---- serializable: all that are before a transaction commit before it begins
 
+  -- nobody commits between the begin and the commit of one that is serializable
   before_begin : (t y : ℕ) (g : IsRun t) → is_serializable h t ≡ true → IsBefore explanation y t → IsEarly points g.begin y
   before_begin t y g serial b =
       let c = before_commits h points x source_of g.commit y t g.commits b in
@@ -178,10 +181,6 @@ module _ (h : History) (points : List Point) (turns : List (Option Turn)) (log :
   by_read : (t y : ℕ) (g : IsRun t) → ReadsFrom log explanation t y → IsEarly points g.begin y
   by_read t y g s = (is_source t s.0 s.1 g s.2).before y s.3
 
-  -- who writes a key in the log does so in the history
-  does : (t key : ℕ) → does_write log t key ≡ true → writes h t key ≡ true
-  does t key w = sym (does_write_is h turns log l t key) ∙ w
-
   -- an earlier writer of a key that it writes: the first committer wins
   by_write : (t y : ℕ) (g : IsRun t) → IsOverwritten log explanation y t → IsEarly points g.begin y
   by_write t y g o =
@@ -191,7 +190,7 @@ module _ (h : History) (points : List Point) (turns : List (Option Turn)) (log :
         | inr other ↦
             elim other [
               | inl early ↦ (c.0, early, c.2)
-              | inr late ↦ absurd ((x.commits g.commit t g.commits).first g.begin c.0 y o.0 g.begins c.2 late c.1 (does t o.0 o.2) (does y o.0 o.1))
+              | inr late ↦ absurd ((x.commits g.commit t g.commits).first g.begin c.0 y o.0 g.begins c.2 late c.1 (so_writes h turns log l t o.0 o.2) (so_writes h turns log l y o.0 o.1))
             ]
       ]
 

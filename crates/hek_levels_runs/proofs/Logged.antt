@@ -101,6 +101,9 @@ module _ (h : History) (turns : List (Option Turn)) (the_log : Log) (l : IsLogOf
   pub does_write_is : (t key : ℕ) → log.does_write the_log t key ≡ writes h t key
   does_write_is t key = ap is_some (left_in_log t key) ∙ is_some-left_after (last_change key (operations_of h t))
 
+  pub so_writes : (t key : ℕ) → log.does_write the_log t key ≡ true → writes h t key ≡ true
+  so_writes t key does = sym (does_write_is t key) ∙ does
+
   -- and then leaves there the value after its last change of the key
   pub left_is : (t key : ℕ) → writes h t key ≡ true → log.left_by the_log key (writer.Transaction t) ≡ Some (after (last_change key (operations_of h t)) None)
   left_is t key does = left_in_log t key ∙ left_after-change (last_change key (operations_of h t)) does

@@ -4,7 +4,7 @@ use Rattle.hek_rules.specs.Listing.{value_of}
 use Rattle.hek_history.specs.declared.history.History.{History}
 use Rattle.hek_history.specs.declared.history.Point.{Point}
 use Rattle.hek_history.specs.declared.history.Point.TheVariants.{Commit}
-use Rattle.hek_history.specs.Histories.{writes, rows_after}
+use Rattle.hek_history.specs.Histories.{rows_after}
 use Rattle.hek_history.specs.Explanation.{At, IsExplanation}
 use Rattle.hek_history.proofs.Origins.{IsUntouched, IsLeftBy, HasSource, source}
 use Rattle.hek_levels.specs.declared.log.Log.{Log}
@@ -15,7 +15,7 @@ use Rattle.hek_levels.specs.Logs.{does_write, left_by}
 use Rattle.hek_levels.specs.Seen.{rank}
 use Rattle.hek_history_levels.specs.Steps.{IsLogOf}
 use Rattle.hek_levels_runs.specs.Laws.{commits_of}
-use Rattle.hek_levels_runs.proofs.Logged.{does_write_is, left_is, opening_is}
+use Rattle.hek_levels_runs.proofs.Logged.{so_writes, left_is, opening_is}
 use Rattle.hek_levels_runs.proofs.Commits.{rank_upto}
 
 -- the writer that a source names
@@ -44,23 +44,19 @@ one_transaction : (x y : ℕ) → writer.Transaction x ≡ writer.Transaction y 
 one_transaction x y e = cc
 
 module _ (h : History) (points : List Point) (e : IsExplanation h points) (turns : List (Option Turn)) (log : Log) (l : IsLogOf h turns log) where
-  -- who writes a key in the log does so in the history
-  does : (x key : ℕ) → does_write log x key ≡ true → writes h x key ≡ true
-  does x key w = sym (does_write_is h turns log l x key) ∙ w
-
   -- where nobody has written the key, where somebody has, and in either case
   of_opening : (key i : ℕ) → IsUntouched h key h.rows.items points i → IsSourceAt h points log key i writer.Opening
   of_opening key i u = record {
     leaves = opening_is h turns log l key ∙ ap (λ (v : Option ℕ). Some v) (sym u.same);
     before = λ x is. absurd (opening_apart x is);
-    last = λ m x less there w. absurd (u.none m x less there (does x key w));
+    last = λ m x less there w. absurd (u.none m x less there (so_writes h turns log l x key w));
   }
 
   of_writer : (key i j w : ℕ) → IsLeftBy h key h.rows.items points i j w → IsSourceAt h points log key i (writer.Transaction w)
   of_writer key i j w b = record {
     leaves = left_is h turns log l w key b.writes_it ∙ ap (λ (v : Option ℕ). Some v) (sym b.value);
     before = λ x is. (j, b.before, subst (λ (y : ℕ). At points j (Commit y)) (one_transaction w x is) b.there);
-    last = λ m x less there writes_it. rank_upto h points e m j x w there b.there (b.last m x less there (does x key writes_it));
+    last = λ m x less there writes_it. rank_upto h points e m j x w there b.there (b.last m x less there (so_writes h turns log l x key writes_it));
   }
 
   of_source : (key i : ℕ) (s : HasSource h key h.rows.items points i) → IsSourceAt h points log key i (writer_of h key h.rows.items points i s)

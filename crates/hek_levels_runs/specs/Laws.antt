@@ -51,7 +51,7 @@ SerialExplanationsExplain =
     IsLogOf h turns log →
     HoldsAt level.Serializable log (commits_of points)
 
--- Where points explain a history, and whoever takes place is serializable or a snapshot, so that its answers of absence are
+-- Where points explain a history, and whoever takes place is serializable or at snapshot, so that its answers of absence are
 -- judged, the history's log holds at the level snapshot, by the order of the commits.
 abbrev pub SnapshotExplanationsExplain : Type 0
 SnapshotExplanationsExplain =

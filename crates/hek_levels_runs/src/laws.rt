@@ -7,7 +7,7 @@ pub fn serial_explanations_explain()
     ensures { SerialExplanationsExplain }
 {}
 
-/// Where points explain a history, and whoever takes place is serializable or a snapshot, the order of the commits explains
+/// Where points explain a history, and whoever takes place is serializable or at snapshot, the order of the commits explains
 /// the history's log at the level snapshot.
 pub fn snapshot_explanations_explain()
     ensures { SnapshotExplanationsExplain }
