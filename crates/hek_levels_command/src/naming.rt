@@ -8,7 +8,7 @@ use crate::unread::unread_story;
 use crate::words::{both_words, found_words};
 use hek_history_report::anomaly_name;
 use hek_history_search::Anomaly;
-use hek_levels::{Need, read_at, reads_of};
+use hek_levels::{Need, Read, read_at, reads_of};
 use hek_levels_refutation::{Link, Step};
 use hek_rules::NoMemory;
 use std::alloc::Global;
@@ -29,6 +29,10 @@ pub(crate) fn story_of(alloc: Global, scene: &Scene, proof: &Proof) -> Result<St
     }
 }
 
+/// How many edges the cycle of a lost update has at most: one, where both read of the opening, and two, where they read of a
+/// transaction.
+const LOST: usize = 2;
+
 /// The story of two transactions that found one value of a key and both wrote the key, if that is the cycle.
 fn lost_story(
     alloc: Global,
@@ -38,32 +42,52 @@ fn lost_story(
 ) -> Result<Option<Story>, NoMemory> {
     let entries = proof.entries.as_slice();
     let edges = edges_of(alloc, entries, premise)?;
-    let [edge] = edges.as_slice() else {
-        return Ok(None);
-    };
-    let Some((reader, place, other, key)) = rival_at(entries, *edge) else {
-        return Ok(None);
-    };
-    let Some(read) = read_at(&scene.seen, reader, place) else {
-        return Ok(None);
-    };
-    if read.key != key {
+    if edges.len() > LOST {
         return Ok(None);
     }
-    let is_lost = reads_of(&scene.seen, other)
-        .iter()
-        .any(|one| one.key == read.key && is_same(one.need, read.need));
+    for edge in edges {
+        if let Some(lost) = lost_at(scene, entries, edge) {
+            return Ok(Some(lost_lines(alloc, scene, lost)?));
+        }
+    }
+    Ok(None)
+}
+
+/// Two transactions, the one with the lower number first, and what both read of a key that both wrote.
+#[derive(Clone, Copy)]
+struct Lost {
+    first: usize,
+    second: usize,
+    read: Read,
+}
+
+/// The update that is lost by an edge.
+fn lost_at(scene: &Scene, entries: &[Entry], edge: usize) -> Option<Lost> {
+    let (reader, place, other, key) = rival_at(entries, edge)?;
+    let read = read_at(&scene.seen, reader, place)?;
+    let is_lost = read.key == key
+        && reads_of(&scene.seen, other)
+            .iter()
+            .any(|one| one.key == key && is_same(one.need, read.need));
     if !is_lost {
-        return Ok(None);
+        return None;
     }
-    let (first, second) = (reader.min(other), reader.max(other));
+    Some(Lost {
+        first: reader.min(other),
+        second: reader.max(other),
+        read,
+    })
+}
+
+/// The story of an update that is lost.
+fn lost_lines(alloc: Global, scene: &Scene, lost: Lost) -> Result<Story, NoMemory> {
     let mut lines = Vec::new(alloc);
     lines.push(StoryLine {
-        words: both_words(alloc, scene, first, second, read)?,
+        words: both_words(alloc, scene, lost.first, lost.second, lost.read)?,
         depth: 0,
         before: None,
     })?;
-    Ok(Some(Story::Lines(anomaly_name(Anomaly::LostUpdate), lines)))
+    Ok(Story::Lines(anomaly_name(Anomaly::LostUpdate), lines))
 }
 
 /// Whether two answers say the same of a key.

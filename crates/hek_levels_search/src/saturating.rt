@@ -51,7 +51,7 @@ impl State<'_> {
             sources: &self.sources,
             graph: &self.graph,
             sorting: &self.sorting,
-            before: self.before.as_slice(),
+            turns: &self.turns,
             limit: NONE,
         };
         self.walk.walk(ground, u, low, NONE)

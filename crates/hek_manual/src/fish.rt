@@ -106,8 +106,11 @@ complete -c hek -n '__fish_seen_subcommand_from check' -l json -d 'prints JSON, 
 complete -c hek -n '__fish_seen_subcommand_from check' -s h -l help -d 'Print help'
 complete -c hek -n '__fish_seen_subcommand_from check' -F
 complete -c hek -n '__fish_seen_subcommand_from history' -l explain -a 'always never' -d 'says of each fault what is wrong, what is wanted and what is meant, as at a terminal; =never only names it'
-complete -c hek -n '__fish_seen_subcommand_from history' -l level -x -a 'serializable repeatable snapshot' -d 'judges or runs all transactions as serializable, repeatable or snapshot'
-complete -c hek -n '__fish_seen_subcommand_from history' -l order -x -a 'any versions commit real' -d 'asks for an order of a kind: any, versions, commit or real'
+complete -c hek -n '__fish_seen_subcommand_from history' -l level -x -a 'serializable repeatable snapshot' -d 'judges all transactions at a level: serializable, repeatable, snapshot, parallel-snapshot, causal, read-atomic, monotonic-view, read-committed or read-uncommitted; or asks for a guarantee of sessions: monotonic-reads, read-your-writes, monotonic-writes, writes-follow-reads, or guarantees for all four'
+complete -c hek -n '__fish_seen_subcommand_from history' -l levels -d 'says of each level whether the log satisfies it, from read-uncommitted to serializable'
+complete -c hek -n '__fish_seen_subcommand_from history' -l sessions -d 'has sessions bind at the level, or at each with --levels: a transaction comes after those before it in its session, and sees them'
+complete -c hek -n '__fish_seen_subcommand_from history' -l guarantees -d 'says of each guarantee of sessions whether the log satisfies it; after the levels, if they are asked for too'
+complete -c hek -n '__fish_seen_subcommand_from history' -l order -x -a 'any versions commit real' -d 'asks for an order of a kind: any, versions, commit or real; of these levels take any and real'
 complete -c hek -n '__fish_seen_subcommand_from history' -l all -a 'each counts' -d 'goes on after an anomaly, without the answers on which it rests, and counts them by name; =counts prints the counts alone'
 complete -c hek -n '__fish_seen_subcommand_from history' -l order-out -r -F -d 'writes the order that was found, a line for each transaction; - is standard output, after the verdict'
 complete -c hek -n '__fish_seen_subcommand_from history' -l json -d 'writes the verdict as JSON, one object on each line'

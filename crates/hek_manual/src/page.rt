@@ -427,10 +427,19 @@ a log, or \- for standard input
 says of each fault what is wrong, what is wanted and what is meant, as at a terminal; =never only names it (always, never)
 .TP
 \fB\-\-level\fR \fIL\fR
-judges or runs all transactions as serializable, repeatable or snapshot
+judges all transactions at a level: serializable, repeatable, snapshot, parallel\-snapshot, causal, read\-atomic, monotonic\-view, read\-committed or read\-uncommitted; or asks for a guarantee of sessions: monotonic\-reads, read\-your\-writes, monotonic\-writes, writes\-follow\-reads, or guarantees for all four
+.TP
+\fB\-\-levels\fR
+says of each level whether the log satisfies it, from read\-uncommitted to serializable
+.TP
+\fB\-\-sessions\fR
+has sessions bind at the level, or at each with \-\-levels: a transaction comes after those before it in its session, and sees them
+.TP
+\fB\-\-guarantees\fR
+says of each guarantee of sessions whether the log satisfies it; after the levels, if they are asked for too
 .TP
 \fB\-\-order\fR \fIKIND\fR
-asks for an order of a kind: any, versions, commit or real
+asks for an order of a kind: any, versions, commit or real; of these levels take any and real
 .TP
 \fB\-\-all\fR[=\fIHOW\fR]
 goes on after an anomaly, without the answers on which it rests, and counts them by name; =counts prints the counts alone (each, counts)
@@ -465,7 +474,13 @@ not serial: write skew (G2\-item)
   b read y = 1, which a overwrote with 0    b before a
 .fi
 .RE
-The status is 0 if there is an order, 1 if there is none, 3 if that is not known or there is nothing to judge, and 4 after a fault of the log.
+With \-\-levels it says of each level whether the log satisfies it: the last line is
+.RS 4
+.nf
+fails at serializable; holds at snapshot, parallel\-snapshot, causal, read\-atomic, monotonic\-view, read\-committed, read\-uncommitted
+.fi
+.RE
+The status is 0 if there is an order, or all that is asked for holds, 1 if not, 3 if that is not known or there is nothing to judge, and 4 after a fault of the log.
 .SS drive
 Runs events as they are typed, one a line, and answers each at once.
 .PP

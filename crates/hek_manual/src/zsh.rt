@@ -139,8 +139,11 @@ _hek() {
         history)
             _arguments \
                 '--explain=-[says of each fault what is wrong, what is wanted and what is meant, as at a terminal; =never only names it]::HOW:(always never)' \
-                '--level[judges or runs all transactions as serializable, repeatable or snapshot]:L:(serializable repeatable snapshot)' \
-                '--order[asks for an order of a kind\: any, versions, commit or real]:KIND:(any versions commit real)' \
+                '--level[judges all transactions at a level\: serializable, repeatable, snapshot, parallel-snapshot, causal, read-atomic, monotonic-view, read-committed or read-uncommitted; or asks for a guarantee of sessions\: monotonic-reads, read-your-writes, monotonic-writes, writes-follow-reads, or guarantees for all four]:L:(serializable repeatable snapshot)' \
+                '--levels[says of each level whether the log satisfies it, from read-uncommitted to serializable]' \
+                '--sessions[has sessions bind at the level, or at each with --levels\: a transaction comes after those before it in its session, and sees them]' \
+                '--guarantees[says of each guarantee of sessions whether the log satisfies it; after the levels, if they are asked for too]' \
+                '--order[asks for an order of a kind\: any, versions, commit or real; of these levels take any and real]:KIND:(any versions commit real)' \
                 '--all=-[goes on after an anomaly, without the answers on which it rests, and counts them by name; =counts prints the counts alone]::HOW:(each counts)' \
                 '--order-out[writes the order that was found, a line for each transaction; - is standard output, after the verdict]:OUT:_files' \
                 '--json[writes the verdict as JSON, one object on each line]' \
