@@ -99,13 +99,22 @@ impl<'a> Reader<'a> {
         self.word() == "fits"
     }
 
-    /// A turn, if there is one.
+    /// A turn, if there is one. Of one number that is the first and the last.
     pub(crate) fn turn(&mut self) -> Result<Option<Turn>, Fault> {
         if self.rest.is_empty() {
             return Ok(None);
         }
         let session = self.place()?;
-        let number = self.number()?;
-        Ok(Some(Turn { session, number }))
+        let first = self.number()?;
+        let last = if self.rest.is_empty() {
+            first
+        } else {
+            self.number()?
+        };
+        Ok(Some(Turn {
+            session,
+            first,
+            last,
+        }))
     }
 }

@@ -1,18 +1,16 @@
 -- What the passes of the checker show together.
 use Rattle.std.proofs.Common.{◌≡◌, ℕ, ◌+◌, ◌<◌, ◌≤◌, true, cond, List, Option, Some, None, Result, Ok, Err, refl, sym, ap, ◌∙◌, subst, inl, inr, length, arith}
 use Rattle.std.proofs.lemmas.Bool.{cases_Bool, cases_order, cases_lt, both_ways, eqb-true}
-use Rattle.std.proofs.lemmas.Bool.Decides.{nat_tests}
 use Rattle.std.proofs.lemmas.Option.{slice_get_within}
-use Rattle.std.specs.Prelude.{nat_lt, ◌==◌, ◌&&◌, IfOk}
+use Rattle.std.specs.Prelude.{◌==◌, IfOk}
 use Rattle.hek_levels.specs.declared.log.Log.{Log}
 use Rattle.hek_levels.specs.declared.log.Read.{Read}
-use Rattle.hek_levels.specs.declared.log.Turn.{Turn}
 use Rattle.hek_levels.specs.declared.rules.Rules.{Rules}
 use Rattle.hek_levels.specs.declared.certificate.Writer.{Writer}
 use Rattle.hek_levels.specs.declared.certificate.Writer.TheVariants as writer
 use Rattle.hek_levels.specs.declared.certificate.Certificate.{Certificate}
 use Rattle.hek_levels.specs.declared.certificate.Sources.{Sources}
-use Rattle.hek_levels.specs.Logs.{read_at, does_write, is_earlier, is_before_turn, turn_of, is_committed, is_possible}
+use Rattle.hek_levels.specs.Logs.{read_at, does_write, is_earlier, is_committed, is_possible}
 use Rattle.hek_levels.specs.Seen.{Explanation, At, TakesPlace, place, rank, IsBefore, Sees, IsOrdered}
 use Rattle.hek_levels.specs.Explanations.{Explains, source_in, explanation}
 use Rattle.hek_levels.specs.Places.{IsPlacing, IsPlacedBefore, AreSourced, AreInTurn, AreLast}
@@ -109,13 +107,6 @@ newest_by_sweep rules log e o i t r read low a there le from other x there' s w 
 
 -- ---- the turns of sessions
 
-not_self : (a : Option Turn) → is_before_turn a a ≡ true → ⊥
-not_self None e = cc
-not_self (Some x) e = absurd (falls x.session x.number e)
-  where
-    falls : (s n : ℕ) → ((s == s) && nat_lt n n) ≡ true → ⊥
-    falls s n e = grind (arith, nat_tests)
-
 pub in_turn : (log : Log) (e : Explanation) → ((i j t : ℕ) → At e.order i t → At e.order j t → i ≡ j) → AreInTurn log e.order (length e.order) → (x t : ℕ) → is_earlier log x t ≡ true →
     TakesPlace e x → TakesPlace e t → IsBefore e x t
 in_turn log e once turns x t earlier px pt =
@@ -123,12 +114,11 @@ in_turn log e once turns x t earlier px pt =
     let second = placed e.order once pt.0 t pt.1 in
     elim (cases_order px.0 pt.0) [
       | inl same ↦
-          let one : x ≡ t = same_at e.order pt.0 x t (subst (λ (n : ℕ). At e.order n x) same px.1) pt.1 in
-          absurd (not_self (turn_of log t) (subst (λ (y : ℕ). is_earlier log y t ≡ true) one earlier))
+          absurd (both_ways _ (turns px.0 pt.0 x t (slice_get_within e.order px.0 x px.1) (omega arith) px.1 pt.1) earlier)
       | inr differ ↦
           elim differ [
             | inl less ↦ omega arith
-            | inr more ↦ absurd (both_ways _ (turns px.0 pt.0 x t (slice_get_within e.order px.0 x px.1) more px.1 pt.1) earlier)
+            | inr more ↦ absurd (both_ways _ (turns px.0 pt.0 x t (slice_get_within e.order px.0 x px.1) (omega arith) px.1 pt.1) earlier)
           ]
     ]
 

@@ -85,7 +85,7 @@ is_possible log t = possible_in (transaction log t)
 abbrev pub is_before_turn : Option Turn → Option Turn → Bool
 is_before_turn None b = false
 is_before_turn (Some x) None = false
-is_before_turn (Some x) (Some y) = (x.session == y.session) && nat_lt x.number y.number
+is_before_turn (Some x) (Some y) = (x.session == y.session) && nat_lt x.last y.first
 
 abbrev pub is_earlier : Log → ℕ → ℕ → Bool
 is_earlier log x t = is_before_turn (turn_of log x) (turn_of log t)

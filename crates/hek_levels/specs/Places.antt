@@ -27,9 +27,9 @@ IsSourcedAt log source places i t r = (read : Read) → read_at log t r ≡ Some
 abbrev pub AreSourced : Log → List ℕ → (ℕ → ℕ → Writer) → (ℕ → Option ℕ) → Type 0
 AreSourced log order source places = (i t r : ℕ) → At order i t → IsSourcedAt log source places i t r
 
--- turns are kept among the first n
+-- turns are kept among the first n, and none of them is before itself
 abbrev pub AreInTurn : Log → List ℕ → ℕ → Type 0
-AreInTurn log order n = (i j t x : ℕ) → i < n → j < i → At order i t → At order j x → is_earlier log t x ≡ false
+AreInTurn log order n = (i j t x : ℕ) → i < n → j ≤ i → At order i t → At order j x → is_earlier log t x ≡ false
 
 -- the last place among the first n of a writer of each key
 pub record AreLast (log : Log) (order : List ℕ) (n : ℕ) (last : ℕ → Option ℕ) : Type 0 where

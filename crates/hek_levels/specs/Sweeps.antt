@@ -9,9 +9,9 @@ use Rattle.hek_levels.specs.declared.certificate.Writer.TheVariants as writer
 use Rattle.hek_levels.specs.Logs.{read_at, turn_of, does_write, is_earlier}
 use Rattle.hek_levels.specs.Seen.{Explanation, At, rank, SeesByOwn, Sees, ReadsFrom, Precedes}
 
--- the latest number of each session among the first n
+-- the latest first number of a turn of each session among the first n, or a later one
 abbrev pub AreLatest : Log → List ℕ → ℕ → (ℕ → Option ℕ) → Type 0
-AreLatest log order n latest = (i x : ℕ) (turn : Turn) → i < n → At order i x → turn_of log x ≡ Some turn → (m : ℕ) × (latest turn.session ≡ Some m) × (turn.number ≤ m)
+AreLatest log order n latest = (i x : ℕ) (turn : Turn) → i < n → At order i x → turn_of log x ≡ Some turn → (m : ℕ) × (latest turn.session ≡ Some m) × (turn.first ≤ m)
 
 -- x is marked
 abbrev pub IsMarked : (ℕ → Option ℕ) → ℕ → Type 0

@@ -34,11 +34,13 @@ pub struct Change {
     pub value: Option<u64>,
 }
 
-/// A place in a session.
+/// The part of a session that a transaction has, from its first number to its last. Of two turns of one session that one is before
+/// whose last number is below the first of the other. Those whose numbers overlap have no order.
 #[derive(Clone, Copy)]
 pub struct Turn {
     pub session: usize,
-    pub number: u64,
+    pub first: u64,
+    pub last: u64,
 }
 
 /// A transaction.

@@ -85,13 +85,13 @@ pub fn is_possible(log: &Log, t: usize) -> bool
 pub fn is_earlier(log: &Log, x: usize, t: usize) -> bool
     ensures { result ≡ earlier_there log.now x t }
 {
-    let Some(first) = turn_of(log, x) else {
+    let Some(its) = turn_of(log, x) else {
         return false;
     };
-    let Some(second) = turn_of(log, t) else {
+    let Some(other) = turn_of(log, t) else {
         return false;
     };
-    first.session == second.session && first.number < second.number
+    its.session == other.session && its.last < other.first
 }
 
 /// Whether a value, or its absence, meets the need.

@@ -1,5 +1,5 @@
 //! Whether an order keeps the turns of sessions.
-ghost use Rattle.std.specs.Prelude.{◌≡◌, ◌==◌, ◌<◌, ◌+◌, ℕ, Option, Some, None, length, IsTrue, OnOk, IfOk, if◌then◌else◌};
+ghost use Rattle.std.specs.Prelude.{◌≡◌, ◌==◌, ◌<◌, ◌≤◌, ◌+◌, ℕ, Option, Some, None, length, IsTrue, OnOk, IfOk, if◌then◌else◌};
 ghost use Rattle.std.specs.HashMap.{get as get_in};
 ghost use Rattle.hek_levels.specs.declared.log.Turn.{Turn as TheTurn};
 ghost use Rattle.hek_levels.specs.Logs.{turn_of as turn_there};
@@ -13,21 +13,22 @@ use hek_rules::NoMemory;
 use std::alloc::Global;
 use std::collections::HashMap;
 
-/// The latest number of a session is this from now on.
-fn mark(latest: &mut HashMap<usize, u64>, turn: Turn) -> Result<(), NoMemory>
-    ensures { OnOk result ((k : ℕ) → get_in ◌==◌ latest.new k ≡ (if turn.session == k then Some turn.number else get_in ◌==◌ latest.old k)) }
+/// The latest first number of a session is this from now on.
+fn mark(latest: &mut HashMap<usize, u64>, session: usize, first: u64) -> Result<(), NoMemory>
+    ensures { OnOk result ((k : ℕ) → get_in ◌==◌ latest.new k ≡ (if session == k then Some first else get_in ◌==◌ latest.old k)) }
 {
-    let _before = latest.insert(turn.session, turn.number)?;
+    let _before = latest.insert(session, first)?;
     Ok(())
 }
 
-/// Whether the latest number of a turn's session is not above it.
-fn is_next(latest: &HashMap<usize, u64>, turn: Turn) -> bool
-    ensures { IsTrue result → (n : ℕ) → get_in ◌==◌ latest.now turn.session ≡ Some n → n < turn.number + 1 }
+/// The latest first number of a turn's session, the turn's own among them.
+fn latest_with(latest: &HashMap<usize, u64>, turn: Turn) -> u64
+    ensures own { turn.first ≤ result }
+    ensures others { (n : ℕ) → get_in ◌==◌ latest.now turn.session ≡ Some n → n ≤ result }
 {
     match latest.get(&turn.session).copied() {
-        Some(n) => n <= turn.number,
-        None => true,
+        Some(n) => n.max(turn.first),
+        None => turn.first,
     }
 }
 
@@ -49,10 +50,11 @@ fn take_turn(
     let Some(turn) = turn_of(log, t) else {
         return Ok(true);
     };
-    if !is_next(latest, turn) {
+    let first = latest_with(latest, turn);
+    if turn.last < first {
         return Ok(false);
     }
-    mark(latest, turn)?;
+    mark(latest, turn.session, first)?;
     Ok(true)
 }
 

@@ -171,6 +171,7 @@ fn is_found(log: &Log, rows: &HashMap<u64, u64>, changers: &Changers, t: usize, 
     requires index { IsIndex log.now changers.now }
     ensures { result ≡ is_found_there log.now t read }
 {
+    // The proof counts the transactions, and a length that was asked for is in range.
     let _count = log.transactions.len();
     meets(read.need, row_of(rows, read.key))
         || is_other(who_leaves(changers, read.key, read.need), t)

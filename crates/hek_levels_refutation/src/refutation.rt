@@ -126,6 +126,7 @@ struct Case {
 fn before_case(context: &Context<'_>, first: Writer, second: Writer) -> Option<Case>
     ensures { IfSome result (λ case. IsContraryIn context.now case.claim case.contrary) }
 {
+    // The proof counts the claims, and a length that was asked for is in range.
     let _shown = context.shown.len();
     if is_same(first, second) {
         return None;
@@ -143,6 +144,7 @@ fn before_case(context: &Context<'_>, first: Writer, second: Writer) -> Option<C
 fn source_case(context: &Context<'_>, reader: usize, place: usize, writer: Writer) -> Option<Case>
     ensures { IfSome result (λ case. IsContraryIn context.now case.claim case.contrary) }
 {
+    // The proof counts the claims, and a length that was asked for is in range.
     let _shown = context.shown.len();
     Some(Case {
         claim: Claim::Source {

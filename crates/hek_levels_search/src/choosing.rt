@@ -5,12 +5,15 @@ use crate::problem::Reading;
 use crate::state::State;
 use hek_levels::Own;
 use hek_rules::NoMemory;
+use std::ops::Range;
 
 /// Of the last writer of a key is asked at first whether a reading sees it, and of so many times as many next.
 const TIMES: usize = 4;
 
-/// So many of the writers of a key are tried as the source of a reading.
-const TRIES: usize = 50;
+/// So many of the writers of a key are tried as the source of a reading, and so many are looked at.
+const TRIES: usize = 30;
+
+const LOOKED_AT: usize = 1000;
 
 impl State<'_> {
     /// How many writers of the key of a reading are before its reader.
@@ -62,7 +65,7 @@ impl State<'_> {
             let low = self.rank_at(self.written_at(key, from));
             self.look(u, low)?;
             let found = self.last_seen(key, from, to);
-            if found > 0 || from == 0 {
+            if found > 0 || from == 0 || self.is_worn() {
                 return Ok(found);
             }
             to = from;
@@ -100,14 +103,8 @@ impl State<'_> {
 
     /// The opening, if it may be the source.
     fn opening(&self, u: usize) -> usize {
-        let reading = self.problem.reading(u);
-        let first = self.problem.writers.of_key(reading.key);
-        for place in first.from..first.to {
-            if self.problem.left_at(place).writer == 0 && self.is_open(u, place) {
-                return place;
-            }
-        }
-        NONE
+        let place = self.problem.writers.opening_of(self.problem.reading(u).key);
+        if self.is_open(u, place) { place } else { NONE }
     }
 
     /// Whether what stands at a place may be chosen.
@@ -118,7 +115,7 @@ impl State<'_> {
     /// The last of so many writers of its key that may be the source of a reading; else the opening.
     fn last_open(&self, u: usize, count: usize) -> usize {
         let key = self.problem.reading(u).key;
-        for n in (0..count).rev() {
+        for n in (count.saturating_sub(LOOKED_AT)..count).rev() {
             let place = self.written_at(key, n);
             if self.is_open(u, place) {
                 return place;
@@ -131,14 +128,13 @@ impl State<'_> {
     fn first_fitting(&mut self, u: usize, from: usize, to: usize) -> Result<usize, NoMemory> {
         let key = self.problem.reading(u).key;
         let mut tries: usize = 0;
-        for n in from..to {
+        for n in from..to.min(from.saturating_add(LOOKED_AT)) {
             let place = self.written_at(key, n);
-            if self.fits(u, place)? {
-                return Ok(place);
-            }
-            tries = tries.saturating_add(1);
-            if tries >= TRIES {
-                break;
+            if tries < TRIES && self.is_open(u, place) {
+                if self.fits(u, place)? {
+                    return Ok(place);
+                }
+                tries = tries.saturating_add(1);
             }
         }
         Ok(NONE)
@@ -176,10 +172,19 @@ impl State<'_> {
         self.first_fitting(u, least.saturating_sub(1), count)
     }
 
+    /// The candidates of a reading that are looked at.
+    fn looked_at(&self, reading: Reading) -> Range<usize> {
+        let from = reading.candidates.from;
+        let most = from
+            .saturating_add(LOOKED_AT)
+            .saturating_add(self.banned.len());
+        from..reading.candidates.to.min(most)
+    }
+
     /// One of unknown status that may be the source of a reading, from before its reader in the log.
     fn outsider(&self, u: usize) -> usize {
         let reading = self.problem.reading(u);
-        for place in reading.candidates.from..reading.candidates.to {
+        for place in self.looked_at(reading) {
             let t = self.problem.transaction_at(place);
             if t < reading.reader && !self.sources.is_member(t) && self.is_open(u, place) {
                 return place;
@@ -191,7 +196,7 @@ impl State<'_> {
     /// The first writer of its key that may be the source of a reading, after so many.
     fn first_later(&self, u: usize, count: usize) -> usize {
         let key = self.problem.reading(u).key;
-        for n in count..self.written(key) {
+        for n in count..self.written(key).min(count.saturating_add(LOOKED_AT)) {
             let place = self.written_at(key, n);
             if self.is_open(u, place) {
                 return place;
@@ -203,7 +208,7 @@ impl State<'_> {
     /// Any source of a reading.
     fn any(&self, u: usize) -> usize {
         let reading = self.problem.reading(u);
-        for place in reading.candidates.from..reading.candidates.to {
+        for place in self.looked_at(reading) {
             if self.is_open(u, place) {
                 return place;
             }

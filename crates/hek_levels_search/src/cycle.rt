@@ -209,8 +209,8 @@ pub(crate) fn short_cycle(
     alloc: Global,
     graph: &Graph,
     sorting: &Sorting,
-    count: usize,
 ) -> Result<Vec<usize>, NoMemory> {
+    let count = graph.nodes();
     let mut hunt = Hunt::new(alloc);
     hunt.narrow(graph, sorting, count)?;
     for t in 0..count {

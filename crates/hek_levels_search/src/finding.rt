@@ -152,10 +152,13 @@ pub(crate) fn find(
     effort: usize,
 ) -> Result<Found, NoMemory> {
     let problem = Problem::new(alloc, log, rules)?;
-    let mut state = State::new(alloc, &problem, log)?;
+    let mut state = State::new(alloc, &problem, log, effort)?;
     for _turn in 0..turns(&problem, effort) {
         if let Some(found) = take_turn(alloc, &mut state, effort)? {
             return Ok(found);
+        }
+        if state.is_worn() {
+            break;
         }
         state.free_stuck();
     }

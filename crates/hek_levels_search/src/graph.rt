@@ -8,7 +8,7 @@ use std::alloc::Global;
 pub(crate) enum Reason {
     /// The second found by this reading what the first left.
     Read(usize),
-    /// It is before the other in its session.
+    /// It is before the other in its session. One of the two may be a moment.
     Turn,
     /// This reading, whose source the second is, sees the first, which writes the key too.
     Newest(usize),
@@ -36,7 +36,7 @@ const NO_EDGE: Edge = Edge {
     out: NONE,
 };
 
-/// All edges; of each transaction the last one into it and the last one out of it.
+/// All edges; of each transaction, and of each moment, the last one into it and the last one out of it.
 #[derive(Drop)]
 pub(crate) struct Graph {
     edges: Vec<Edge>,
@@ -58,6 +58,19 @@ impl Graph {
         self.edges.clear();
         fill(&mut self.into, count, NONE)?;
         fill(&mut self.out, count, NONE)
+    }
+
+    /// One moment more: some are before it, and it is before others. Its number is above those of all transactions.
+    pub(crate) fn add_moment(&mut self) -> Result<usize, NoMemory> {
+        let moment = self.into.len();
+        add(&mut self.into, NONE)?;
+        add(&mut self.out, NONE)?;
+        Ok(moment)
+    }
+
+    /// How many transactions and moments there are.
+    pub(crate) fn nodes(&self) -> usize {
+        self.into.len()
     }
 
     /// How many edges there are.

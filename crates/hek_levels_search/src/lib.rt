@@ -25,6 +25,7 @@ mod state;
 mod table;
 mod telling;
 mod trying;
+mod turns;
 mod writers;
 
 pub use judging::{Verdict, judge};

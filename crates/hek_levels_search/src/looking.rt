@@ -4,6 +4,7 @@ use crate::lists::{NONE, add, at, fill, put};
 use crate::problem::Problem;
 use crate::sorting::Sorting;
 use crate::sources::Sources;
+use crate::turns::Turns;
 use hek_levels::{Links, Own};
 use hek_rules::NoMemory;
 use std::alloc::Global;
@@ -55,8 +56,7 @@ pub(crate) struct Ground<'a> {
     pub sources: &'a Sources,
     pub graph: &'a Graph,
     pub sorting: &'a Sorting,
-    /// Who is before each transaction in its session.
-    pub before: &'a [usize],
+    pub turns: &'a Turns,
     /// Edges from this one on are not gone.
     pub limit: usize,
 }
@@ -192,6 +192,20 @@ impl Walk {
         Ok(())
     }
 
+    /// Comes to those just before a transaction in its session.
+    fn come_by_turn(
+        &mut self,
+        ground: Ground<'_>,
+        kind: Kind,
+        t: usize,
+        from: usize,
+    ) -> Result<(), NoMemory> {
+        for x in ground.turns.before(t) {
+            self.come(ground, kind, *x, from, By::Turn)?;
+        }
+        Ok(())
+    }
+
     /// Comes to those that a transaction sees by writes or by its session.
     fn come_by_links(
         &mut self,
@@ -200,12 +214,11 @@ impl Walk {
         t: usize,
         from: usize,
     ) -> Result<(), NoMemory> {
-        let before = at(ground.before, t, NONE);
         if links.session {
-            self.come(ground, Kind::Session, before, from, By::Turn)?;
+            self.come_by_turn(ground, Kind::Session, t, from)?;
         }
         if links.session_reads {
-            self.come(ground, Kind::Sources, before, from, By::Turn)?;
+            self.come_by_turn(ground, Kind::Sources, t, from)?;
         }
         if links.writers {
             self.come_to_writers(ground, t, from)?;
@@ -231,7 +244,6 @@ impl Walk {
     fn go_on(&mut self, ground: Ground<'_>, n: usize) -> Result<(), NoMemory> {
         let stop = self.stop(n);
         let t = stop.transaction;
-        let before = at(ground.before, t, NONE);
         match stop.kind {
             Kind::Seen => {
                 if ground.problem.rules.causes {
@@ -241,11 +253,11 @@ impl Walk {
             }
             Kind::Session => {
                 self.come(ground, Kind::Seen, t, n, By::Turn)?;
-                self.come(ground, Kind::Session, before, n, By::Turn)
+                self.come_by_turn(ground, Kind::Session, t, n)
             }
             Kind::Sources => {
                 self.come_to_sources(ground, t, n)?;
-                self.come(ground, Kind::Sources, before, n, By::Turn)
+                self.come_by_turn(ground, Kind::Sources, t, n)
             }
         }
     }

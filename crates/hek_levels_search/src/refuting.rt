@@ -1,7 +1,7 @@
 //! A contradiction of edges as steps: each edge on which it rests, those that rest on none first.
 use crate::cycle::short_cycle;
 use crate::graph::Reason;
-use crate::lists::{NONE, add, at};
+use crate::lists::{NONE, Span, add, at, part};
 use crate::looking::{By, Ground, Kind, Stop};
 use crate::state::State;
 use crate::telling::Telling;
@@ -18,7 +18,7 @@ impl State<'_> {
             sources: &self.sources,
             graph: &self.graph,
             sorting: &self.sorting,
-            before: self.before.as_slice(),
+            turns: &self.turns,
             limit,
         };
         self.walk.walk(ground, u, 0, x)
@@ -221,10 +221,62 @@ impl State<'_> {
         telling.say(step)
     }
 
+    /// Whether an edge is by a turn.
+    fn is_turn(&self, e: usize) -> bool {
+        match self.graph.edge(e).reason {
+            Reason::Turn => true,
+            Reason::Read(_) | Reason::Newest(_) | Reason::Chosen => false,
+        }
+    }
+
+    /// How many of the first edges of a cycle are by turns.
+    fn turns_at_first(&self, cycle: &[usize]) -> usize {
+        for (n, e) in cycle.iter().enumerate() {
+            if !self.is_turn(*e) {
+                return n;
+            }
+        }
+        0
+    }
+
+    /// One edge more. Two by turns, one after the other, become one.
+    fn join(&mut self, joined: &mut Vec<usize>, e: usize) -> Result<(), NoMemory> {
+        let last = at(joined.as_slice(), joined.len().wrapping_sub(1), NONE);
+        if last == NONE || !self.is_turn(last) || !self.is_turn(e) {
+            return add(joined, e);
+        }
+        let both = self.graph.len();
+        let from = self.graph.edge(last).from;
+        let to = self.graph.edge(e).to;
+        self.graph.link(from, to, Reason::Turn)?;
+        let _last = joined.pop();
+        add(joined, both)
+    }
+
+    /// The same of each edge.
+    fn join_all(&mut self, joined: &mut Vec<usize>, edges: &[usize]) -> Result<(), NoMemory> {
+        for e in edges {
+            self.join(joined, *e)?;
+        }
+        Ok(())
+    }
+
+    /// The edges of a short cycle, in which no two by turns follow one on the other.
+    fn cycle(&mut self, alloc: Global) -> Result<Vec<usize>, NoMemory> {
+        let cycle = short_cycle(alloc, &self.graph, &self.sorting)?;
+        let edges = cycle.as_slice();
+        let first = self.turns_at_first(edges);
+        let to = edges.len();
+        let mut joined = Vec::new(alloc);
+        self.join_all(&mut joined, part(edges, Span { from: first, to }))?;
+        self.join_all(&mut joined, part(edges, Span { from: 0, to: first }))?;
+        Ok(joined)
+    }
+
     /// Tells a cycle of edges.
     pub(crate) fn tell_cycle(&mut self, alloc: Global) -> Result<Telling, NoMemory> {
         let mut telling = Telling::new(alloc);
-        let cycle = short_cycle(alloc, &self.graph, &self.sorting, self.problem.count)?;
+        let cycle = self.cycle(alloc)?;
         for e in &self.all_needed(alloc, cycle.as_slice())? {
             self.tell_edge(alloc, &mut telling, *e)?;
         }

@@ -22,9 +22,6 @@ pub(crate) enum Outcome {
     GivenUp,
 }
 
-/// For each of the effort so many stops of walks are made.
-const STOPS: usize = 1000;
-
 impl State<'_> {
     /// What is left at the key of a reading between its source and its reader.
     fn find_between(&mut self, u: usize) -> Result<(), NoMemory> {
@@ -41,6 +38,7 @@ impl State<'_> {
                 break;
             }
             self.low = self.low.min(there);
+            self.walk.looked_at = self.walk.looked_at.saturating_add(1);
             add(&mut self.between, Between { reading: u, place })?;
         }
         Ok(())
@@ -53,7 +51,7 @@ impl State<'_> {
             sources: &self.sources,
             graph: &self.graph,
             sorting: &self.sorting,
-            before: self.before.as_slice(),
+            turns: &self.turns,
             limit: NONE,
         };
         self.walk.walk(ground, u, low, NONE)
@@ -172,7 +170,7 @@ impl State<'_> {
     }
 
     /// What follows in the present order.
-    fn derive_all(&mut self, effort: usize) -> Result<Option<Outcome>, NoMemory> {
+    fn derive_all(&mut self) -> Result<Option<Outcome>, NoMemory> {
         let fresh = self.graph.len();
         for n in 0..self.sources.members.len() {
             let t = at(self.sources.members.as_slice(), n, NONE);
@@ -183,7 +181,7 @@ impl State<'_> {
             if outcome.is_some() {
                 return Ok(outcome);
             }
-            if self.walk.looked_at > effort.saturating_mul(STOPS) {
+            if self.is_worn() {
                 return Ok(Some(Outcome::GivenUp));
             }
         }
@@ -191,7 +189,7 @@ impl State<'_> {
     }
 
     /// One round: an order, and what follows in it.
-    fn round(&mut self, effort: usize) -> Result<Option<Outcome>, NoMemory> {
+    fn round(&mut self) -> Result<Option<Outcome>, NoMemory> {
         if !self.sort()? {
             return Ok(Some(Outcome::Cyclic));
         }
@@ -199,7 +197,7 @@ impl State<'_> {
             return Ok(Some(Outcome::Settled));
         }
         let fresh = self.graph.len();
-        let outcome = self.derive_all(effort)?;
+        let outcome = self.derive_all()?;
         if outcome.is_some() {
             return Ok(outcome);
         }
@@ -254,7 +252,7 @@ impl State<'_> {
     /// Round after round.
     pub(crate) fn saturate(&mut self, effort: usize) -> Result<Outcome, NoMemory> {
         for _round in 0..effort {
-            if let Some(outcome) = self.round(effort)? {
+            if let Some(outcome) = self.round()? {
                 return Ok(outcome);
             }
         }

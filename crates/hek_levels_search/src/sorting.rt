@@ -18,7 +18,7 @@ pub(crate) struct Sorting {
     ready: BinaryHeap<Reverse<(usize, usize)>>,
     /// The place of each in the last order of all, or in the log.
     hints: Vec<usize>,
-    /// How many edges keep each transaction back.
+    /// How many edges keep each transaction and each moment back.
     held: Vec<usize>,
     /// How many of its readings, whose key it writes, others have that don't.
     waits: Vec<usize>,
@@ -152,7 +152,11 @@ impl Sorting {
 
     /// Those that no edge keeps back are ready.
     fn take_ready(&mut self, t: usize) -> Result<(), NoMemory> {
-        let hint = self.hint(t);
+        let hint = if t < self.places.len() {
+            self.hint(t)
+        } else {
+            0
+        };
         if at(self.waits.as_slice(), t, 0) == 0 {
             self.free.push(Reverse((hint, t)))?;
         } else {
@@ -246,7 +250,7 @@ impl Sorting {
         self.free.clear();
         self.ready.clear();
         self.order.clear();
-        fill(&mut self.held, problem.count, 0)?;
+        fill(&mut self.held, graph.nodes(), 0)?;
         fill(&mut self.places, problem.count, NONE)?;
         fill(&mut self.counts, problem.writers.keys(), 0)?;
         fill(&mut self.written, problem.writers.all().len(), NONE)?;
@@ -261,6 +265,15 @@ impl Sorting {
         Ok(())
     }
 
+    /// A transaction is the next in order.
+    fn place(&mut self, problem: &Problem, sources: &Sources, t: usize) -> Result<(), NoMemory> {
+        let place = self.order.len();
+        put(&mut self.places, t, place);
+        add(&mut self.order, t)?;
+        self.write(problem, t);
+        self.release_readings(problem, sources, t)
+    }
+
     /// Sorts all that the edges let. Answers whether that is all.
     pub(crate) fn sort(
         &mut self,
@@ -270,17 +283,15 @@ impl Sorting {
     ) -> Result<bool, NoMemory> {
         self.begin(problem, sources)?;
         self.restart(problem, sources, graph)?;
-        for _n in 0..sources.members.len().saturating_mul(2) {
+        for _n in 0..graph.nodes().saturating_mul(2) {
             let t = self.next_one();
             if t == NONE {
                 break;
             }
             if self.place_of(t) == NONE {
-                let place = self.order.len();
-                put(&mut self.places, t, place);
-                add(&mut self.order, t)?;
-                self.write(problem, t);
-                self.release_readings(problem, sources, t)?;
+                if t < problem.count {
+                    self.place(problem, sources, t)?;
+                }
                 self.release_later(graph, t)?;
             }
         }

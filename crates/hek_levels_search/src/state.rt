@@ -1,10 +1,11 @@
 //! The state of the search: sources, who takes place, edges and an order.
 use crate::graph::{Graph, Reason};
-use crate::lists::{NONE, add, at, fill, put};
+use crate::lists::{NONE, Span, add, at, fill, put};
 use crate::looking::Walk;
-use crate::problem::{Problem, Turned};
+use crate::problem::Problem;
 use crate::sorting::Sorting;
 use crate::sources::{Plain, Sources};
+use crate::turns::Turns;
 use hek_levels::Log;
 use hek_rules::NoMemory;
 use std::alloc::Global;
@@ -25,10 +26,12 @@ pub(crate) struct State<'a> {
     pub graph: Graph,
     pub sorting: Sorting,
     pub walk: Walk,
-    /// Who is before each transaction in its session.
-    pub before: Vec<usize>,
+    /// Who is just before whom in their sessions, where they bind.
+    pub turns: Turns,
+    /// The moment after so many of these.
+    moments: Vec<usize>,
     /// What is not to be chosen again as the source of a reading.
-    banned: Vec<Between>,
+    pub banned: Vec<Between>,
     /// Whether a reading was left without a source.
     pub is_stuck: bool,
     /// The readings whose sources were chosen before them in the order; whether one was chosen after it.
@@ -38,20 +41,22 @@ pub(crate) struct State<'a> {
     pub between: Vec<Between>,
     /// The first place of one of these in the order.
     pub low: usize,
+    /// So many stops of walks are made.
+    most: usize,
 }
 
-/// Nobody in a session.
-const NOBODY: Turned = Turned {
-    session: NONE,
-    number: 0,
-    transaction: NONE,
-};
+/// Between more than so many and those after them is a moment, so that there are as many edges as transactions.
+const FEW: usize = 4;
+
+/// For each of the effort so many.
+const STOPS: usize = 1000;
 
 impl<'a> State<'a> {
     pub(crate) fn new(
         alloc: Global,
         problem: &'a Problem,
         log: &'a Log,
+        effort: usize,
     ) -> Result<State<'a>, NoMemory> {
         let sources = Sources::new(alloc, problem)?;
         let walk = Walk::new(alloc, problem.count)?;
@@ -62,13 +67,15 @@ impl<'a> State<'a> {
             graph: Graph::new(alloc),
             sorting: Sorting::new(alloc),
             walk,
-            before: Vec::new(alloc),
+            turns: Turns::new(alloc),
+            moments: Vec::new(alloc),
             banned: Vec::new(alloc),
             is_stuck: false,
             forward: Vec::new(alloc),
             is_turned: false,
             between: Vec::new(alloc),
             low: 0,
+            most: effort.saturating_mul(STOPS),
         })
     }
 
@@ -84,24 +91,34 @@ impl<'a> State<'a> {
         Ok(())
     }
 
-    /// Who is before each in its session.
-    fn find_turns(&mut self) -> Result<(), NoMemory> {
-        fill(&mut self.before, self.problem.count, NONE)?;
-        let mut last = NOBODY;
-        let mut earlier = NONE;
-        for one in self.problem.turns() {
-            if !self.sources.is_member(one.transaction) {
-                continue;
-            }
-            if one.session != last.session {
-                earlier = NONE;
-            } else if last.number < one.number {
-                earlier = last.transaction;
-            }
-            put(&mut self.before, one.transaction, earlier);
-            last = *one;
+    /// Those who stand there are before a transaction or a moment.
+    fn link_part(&mut self, span: Span, to: usize) -> Result<(), NoMemory> {
+        for x in self.turns.part(span) {
+            self.graph.link(*x, to, Reason::Turn)?;
         }
         Ok(())
+    }
+
+    /// The moment after those who stand there.
+    fn moment_after(&mut self, span: Span) -> Result<usize, NoMemory> {
+        let known = at(self.moments.as_slice(), span.to, NONE);
+        if known != NONE {
+            return Ok(known);
+        }
+        let moment = self.graph.add_moment()?;
+        put(&mut self.moments, span.to, moment);
+        self.link_part(span, moment)?;
+        Ok(moment)
+    }
+
+    /// Those just before a transaction in its session are before it.
+    fn link_turn(&mut self, t: usize) -> Result<(), NoMemory> {
+        let span = self.turns.span(t);
+        if span.to.saturating_sub(span.from) <= FEW {
+            return self.link_part(span, t);
+        }
+        let moment = self.moment_after(span)?;
+        self.graph.link(moment, t, Reason::Turn)
     }
 
     /// Where sessions bind, turns are kept.
@@ -109,11 +126,10 @@ impl<'a> State<'a> {
         if !self.problem.rules.sessions {
             return Ok(());
         }
+        self.turns.find(self.problem, &self.sources)?;
+        fill(&mut self.moments, self.turns.len().saturating_add(1), NONE)?;
         for t in 0..self.problem.count {
-            let x = at(self.before.as_slice(), t, NONE);
-            if x != NONE {
-                self.graph.link(x, t, Reason::Turn)?;
-            }
+            self.link_turn(t)?;
         }
         Ok(())
     }
@@ -128,7 +144,6 @@ impl<'a> State<'a> {
             let t = at(self.sources.members.as_slice(), n, NONE);
             self.link_readings(t)?;
         }
-        self.find_turns()?;
         self.link_turns()?;
         Ok(None)
     }
@@ -136,6 +151,11 @@ impl<'a> State<'a> {
     /// Sorts those who take place. Answers whether the edges let all be sorted.
     pub(crate) fn sort(&mut self) -> Result<bool, NoMemory> {
         self.sorting.sort(self.problem, &self.sources, &self.graph)
+    }
+
+    /// Whether all stops of walks are made.
+    pub(crate) fn is_worn(&self) -> bool {
+        self.walk.looked_at > self.most
     }
 
     /// What comes after a source in the order.

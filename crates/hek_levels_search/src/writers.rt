@@ -1,5 +1,5 @@
 //! All writers of each key, by what they leave.
-use crate::lists::{Span, add, at, fill, part, put, raise, span_at, sum_up};
+use crate::lists::{NONE, Span, add, at, fill, part, put, raise, span_at, sum_up};
 use hek_levels::{Log, Need, is_possible, reads_of, writes_of};
 use hek_rules::NoMemory;
 use std::alloc::Global;
@@ -28,6 +28,8 @@ pub(crate) struct Writers {
     left: Vec<Left>,
     /// Where each key begins in that.
     starts: Vec<usize>,
+    /// Where it stands what the opening leaves at each key.
+    openings: Vec<usize>,
 }
 
 /// Each key of a log once, rising.
@@ -110,6 +112,18 @@ fn all_left(alloc: Global, keys: &[u64], log: &Log) -> Result<Vec<Left>, NoMemor
     Ok(left)
 }
 
+/// Where it stands what the opening leaves at each key.
+fn all_openings(alloc: Global, keys: usize, left: &[Left]) -> Result<Vec<usize>, NoMemory> {
+    let mut openings = Vec::new(alloc);
+    fill(&mut openings, keys, NONE)?;
+    for (place, one) in left.iter().enumerate() {
+        if one.writer == 0 {
+            put(&mut openings, one.key, place);
+        }
+    }
+    Ok(openings)
+}
+
 /// Whether a value is below another. Absence is below all.
 fn is_below(value: Option<u64>, other: u64) -> bool {
     match value {
@@ -136,7 +150,13 @@ impl Writers {
             raise(&mut starts, one.key);
         }
         sum_up(&mut starts);
-        Ok(Writers { keys, left, starts })
+        let openings = all_openings(alloc, keys.len(), left.as_slice())?;
+        Ok(Writers {
+            keys,
+            left,
+            starts,
+            openings,
+        })
     }
 
     /// How many keys there are.
@@ -160,6 +180,11 @@ impl Writers {
 
     pub(crate) fn left_at(&self, place: usize) -> Left {
         at(self.left.as_slice(), place, NO_LEFT)
+    }
+
+    /// Where it stands what the opening leaves at a key.
+    pub(crate) fn opening_of(&self, key: usize) -> usize {
+        at(self.openings.as_slice(), key, NONE)
     }
 
     /// What is left at a key.
