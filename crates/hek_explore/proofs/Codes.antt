@@ -11,6 +11,7 @@ use Rattle.hek_rules.specs.declared.event.Level.{Level}
 use Rattle.hek_rules.specs.declared.event.Level.TheVariants as level
 use Rattle.hek_rules.specs.declared.event.State.{State}
 use Rattle.hek_rules.specs.declared.event.State.TheVariants as state
+use Rattle.hek_rules.specs.declared.event.WriteEntry.{WriteEntry}
 use Rattle.hek_rules.specs.declared.event.WriteEntry.TheVariants.{BeginOf, EndOf}
 use Rattle.hek_rules.specs.declared.kind.EventKind.{EventKind}
 use Rattle.hek_rules.specs.declared.kind.EventKind.TheVariants as kind
@@ -18,11 +19,14 @@ use Rattle.hek_rules.specs.declared.reply.Refusal.{Refusal}
 use Rattle.hek_rules.specs.declared.reply.Refusal.TheVariants as refusal
 use Rattle.hek_rules.specs.declared.reply.Reply.{Reply}
 use Rattle.hek_rules.specs.declared.reply.Reply.TheVariants as reply
+use Rattle.hek_rules.specs.declared.word.BeginRecord.{BeginRecord}
 use Rattle.hek_rules.specs.declared.word.BeginRecord.TheVariants.{At, By}
+use Rattle.hek_rules.specs.declared.word.EndRecord.{EndRecord}
 use Rattle.hek_rules.specs.declared.word.EndRecord.TheVariants.{Until, Lock}
 use Rattle.hek_rules.specs.Events.{event_of, kind_of, kind_coded, opcode_of, txn_of, first_of, second_of}
 use Rattle.hek_rules.specs.Names.{refusal_number}
 use Rattle.hek_rules.specs.Plan.{Plan}
+use Rattle.hek_similar.specs.Forms.{After}
 use Rattle.hek_worker.specs.declared.entry.Entry.{Entry}
 use Rattle.hek_worker.specs.declared.stage.Stage.{Stage}
 use Rattle.hek_worker.specs.declared.stage.Stage.TheVariants as stage
@@ -30,6 +34,7 @@ use Rattle.hek_permute.specs.declared.outcome.Ending.{Ending}
 use Rattle.hek_permute.specs.declared.outcome.Ending.TheVariants as ending
 use Rattle.hek_permute.specs.declared.play.Place.{Place}
 use Rattle.hek_explore.specs.Codes.{digits, number, flag, listed, optional, pair, begin_code, end_code, version_code, cause_number, event_code, reply_kind, reply_number, reply_pairs, reply_members, reply_writer, reply_code, level_number, state_number, ending_number, entry_code, look_code, words_code, lists_code, txn_code, stage_kind, stage_step, place_code, shape_code, code_of}
+use Rattle.hek_explore.specs.declared.key.VersionKey.{VersionKey}
 use Rattle.hek_explore.specs.Keys.{TxnShape, shape_of}
 
 -- values with equal codes are equal, and so is what follows
@@ -120,9 +125,9 @@ two-apart f g one two a b c d r s e =
     (first.0, second.0, second.1)
 
 pub pair-apart : {X Y : Type 0} (f : X → List ℕ) (g : Y → List ℕ) → IsApart f → IsApart g → IsApart (pair f g)
-pair-apart f g one two p q r s e =
+pair-apart {X} {Y} f g one two p q r s e =
     let all : (p.0 ≡ q.0) × (p.1 ≡ q.1) × (r ≡ s) = two-apart f g one two p.0 q.0 p.1 q.1 r s e in
-    let same : p ≡ q = cc in
+    let same : p ≡ q = ap (λ (x : X). (x, p.1)) all.0 ∙ ap (λ (y : Y). (q.0, y)) all.1 in
     (same, all.2)
 
 pub option-apart : {X : Type 0} (f : X → List ℕ) → IsApart f → IsApart (optional f)
@@ -290,8 +295,9 @@ place-apart a b r s e =
     let step = number-apart (stage_step a.stage) (stage_step b.stage) ((number a.moves ++ flag a.waits) ++ r) ((number b.moves ++ flag b.waits) ++ s)
     (regroup (number (stage_step a.stage)) (number a.moves ++ flag a.waits) (number (stage_step b.stage)) (number b.moves ++ flag b.waits) r s rest) in
     let all : (a.moves ≡ b.moves) × (a.waits ≡ b.waits) × (r ≡ s) = two-apart number flag number-apart flag-apart a.moves b.moves a.waits b.waits r s step.1 in
-    let stage : a.stage ≡ b.stage = stage-same a.stage b.stage kind step.0 in
-    let same : a ≡ b = cc in
+    let here : a.stage ≡ b.stage = stage-same a.stage b.stage kind step.0 in
+    let same : a ≡ b =
+    ap (λ (z : Stage). record a { stage = z }) here ∙ ap (λ (n : ℕ). record a { stage = b.stage; moves = n }) all.0 ∙ ap (λ (z : Bool). record b { waits = z }) all.1 in
     (same, all.2)
 
 -- ---- versions and write sets
@@ -326,9 +332,11 @@ version-apart a b r s e =
     let value = number-apart a.value b.value ((begin_code a.begin ++ end_code a.end) ++ r) ((begin_code b.begin ++ end_code b.end) ++ s)
     (regroup (number a.value) (begin_code a.begin ++ end_code a.end) (number b.value) (begin_code b.begin ++ end_code b.end) r s key.1) in
     let all : (a.begin ≡ b.begin) × (a.end ≡ b.end) × (r ≡ s) = two-apart begin_code end_code begin-apart end-apart a.begin b.begin a.end b.end r s value.1 in
-    let one : a.key ≡ b.key = key.0 in
-    let two : a.value ≡ b.value = value.0 in
-    let same : a ≡ b = cc in
+    let same : a ≡ b =
+    ap (λ (n : ℕ). record a { key = n }) key.0
+    ∙ ap (λ (n : ℕ). record a { key = b.key; value = n }) value.0
+    ∙ ap (λ (z : BeginRecord). record b { begin = z; end = a.end }) all.0
+    ∙ ap (λ (z : EndRecord). record b { end = z }) all.1 in
     (same, all.2)
 
 -- ---- events and replies
@@ -474,8 +482,10 @@ look-apart a b r s e =
     (regroup (listed flag a.made) (listed flag a.ended ++ listed flag a.prepared) (listed flag b.made) (listed flag b.ended ++ listed flag b.prepared) r s e) in
     let all : (a.ended ≡ b.ended) × (a.prepared ≡ b.prepared) × (r ≡ s) =
     two-apart (listed flag) (listed flag) (list-apart flag flag-apart) (list-apart flag flag-apart) a.ended b.ended a.prepared b.prepared r s made.1 in
-    let one : a.made ≡ b.made = made.0 in
-    let same : a ≡ b = cc in
+    let same : a ≡ b =
+    ap (λ (l : List Bool). record a { made = l }) made.0
+    ∙ ap (λ (l : List Bool). record b { ended = l; prepared = a.prepared }) all.0
+    ∙ ap (λ (l : List Bool). record b { prepared = l }) all.1 in
     (same, all.2)
 
 -- the words of two transactions are equal
@@ -549,7 +559,19 @@ txn-apart a b r s e =
     (regroup (lists_code a) (optional look_code a.look ++ steps_code a.part) (lists_code b) (optional look_code b.look ++ steps_code b.part) r s words.rest) in
     let all : (a.look ≡ b.look) × (a.part ≡ b.part) × (r ≡ s) =
     two-apart (optional look_code) steps_code (option-apart look_code look-apart) steps-apart a.look b.look a.part b.part r s lists.rest in
-    let same : a ≡ b = cc in
+    let same : a ≡ b =
+    ap (λ (z : Level). record a { level = z }) words.level
+    ∙ ap (λ (z : State). record a { level = b.level; state = z }) words.state
+    ∙ ap (λ (z : Bool). record a { level = b.level; state = b.state; no_more_waits = z }) words.no_more_waits
+    ∙ ap (λ (z : Bool). record a { level = b.level; state = b.state; no_more_waits = b.no_more_waits; abort_now = z }) words.abort_now
+    ∙ ap (λ (z : Ending). record a { level = b.level; state = b.state; no_more_waits = b.no_more_waits; abort_now = b.abort_now; ending = z }) words.ending
+    ∙ ap (λ (l : List ℕ). record b { reads = l; writes = a.writes; buckets = a.buckets; waiters = a.waiters; dependents = a.dependents; look = a.look; part = a.part }) lists.reads
+    ∙ ap (λ (l : List WriteEntry). record b { writes = l; buckets = a.buckets; waiters = a.waiters; dependents = a.dependents; look = a.look; part = a.part }) lists.writes
+    ∙ ap (λ (l : List ℕ). record b { buckets = l; waiters = a.waiters; dependents = a.dependents; look = a.look; part = a.part }) lists.buckets
+    ∙ ap (λ (l : List ℕ). record b { waiters = l; dependents = a.dependents; look = a.look; part = a.part }) lists.waiters
+    ∙ ap (λ (l : List ℕ). record b { dependents = l; look = a.look; part = a.part }) lists.dependents
+    ∙ ap (λ (o : Option After). record b { look = o; part = a.part }) all.0
+    ∙ ap (λ (l : List (Event × Reply)). record b { part = l }) all.1 in
     (same, all.2)
 
 -- ---- the whole key
@@ -565,10 +587,12 @@ shape-apart a b r s e =
     let places = list-apart place_code place-apart a.places b.places ((numbers a.drawn ++ flag a.waited) ++ r) ((numbers b.drawn ++ flag b.waited) ++ s)
     (regroup (listed place_code a.places) (numbers a.drawn ++ flag a.waited) (listed place_code b.places) (numbers b.drawn ++ flag b.waited) r s txns.1) in
     let all : (a.drawn ≡ b.drawn) × (a.waited ≡ b.waited) × (r ≡ s) = two-apart numbers flag numbers-apart flag-apart a.drawn b.drawn a.waited b.waited r s places.1 in
-    let one : a.versions ≡ b.versions = versions.0 in
-    let two : a.txns ≡ b.txns = txns.0 in
-    let three : a.places ≡ b.places = places.0 in
-    let same : a ≡ b = cc in
+    let same : a ≡ b =
+    ap (λ (l : List VersionKey). record a { versions = l }) versions.0
+    ∙ ap (λ (l : List TxnShape). record a { versions = b.versions; txns = l }) txns.0
+    ∙ ap (λ (l : List Place). record b { places = l; drawn = a.drawn; waited = a.waited }) places.0
+    ∙ ap (λ (l : List ℕ). record b { drawn = l; waited = a.waited }) all.0
+    ∙ ap (λ (z : Bool). record b { waited = z }) all.1 in
     (same, all.2)
 
 pub same-shapes : (p : Plan) (places seats : List Place) (h k : List Entry) → code_of p places h ≡ code_of p seats k → shape_of p places h ≡ shape_of p seats k
