@@ -82,7 +82,8 @@ written-more start code new value counter next rest left after down high is was 
 
 pub written-all : (start code new : List ℕ) (value counter rest last : ℕ) → counter ≡ 9 → last ≡ rest → new ≡ code ++ last ∷ [] → IsWritten start value code counter rest → new ≡ start ++ number value
 written-all start code new value counter rest last full same is was =
-    is ∙ ap (λ (n : ℕ). code ++ n ∷ []) same ∙ ap (λ (l : List ℕ). code ++ l) (sym (digits-last rest)) ∙ was 0 full
+    let none : 0 + counter ≡ 9 = omega (arith, full) in
+    is ∙ ap (λ (n : ℕ). code ++ n ∷ []) same ∙ ap (λ (l : List ℕ). code ++ l) (sym (digits-last rest)) ∙ was 0 none
 
 step-apart : (more : ℕ) (few fewer : Bool) (m n : ℕ) (r s : List ℕ) → IsApart (digits more) → nat_lt m 128 ≡ few → nat_lt n 128 ≡ fewer
     → (if few then m ∷ [] else (128 + m % 128) ∷ digits more (m / 128)) ++ r ≡ (if fewer then n ∷ [] else (128 + n % 128) ∷ digits more (n / 128)) ++ s → (m ≡ n) × (r ≡ s)
