@@ -93,8 +93,10 @@ Where first.img is the image of a schedule with one bucket and nothing else, it 
 
 pub(crate) const IMPORT: CommandText = CommandText {
     name: "import",
-    about: "Makes schedules of a spec of PostgreSQL's isolation tests",
-    example: r#"Rows of a table with a primary key become rows; select, insert, update and delete become steps: reads where a condition names the key, otherwise scans. Serializable stays so, repeatable read becomes snapshot, and read committed isn't there: --level says which level to take. What can't be translated is left out and named, in comments too, with status 1; with status 4 if nothing is left. Without --permutation the sessions follow one another: `hek permute` plays all their orders.
+    about: "Makes schedules of a spec of PostgreSQL's isolation tests, or a log of a history of Jepsen",
+    example: r#"`hek import elle FILE` makes a log for `hek history` of a history of Jepsen or Elle, in EDN or JSON: reads and writes of registers, or appends to lists.
+
+Of a spec: rows of a table with a primary key become rows; select, insert, update and delete become steps: reads where a condition names the key, otherwise scans. Serializable stays so, repeatable read becomes snapshot, and read committed isn't there: --level says which level to take. What can't be translated is left out and named, in comments too, with status 1; with status 4 if nothing is left. Without --permutation the sessions follow one another: `hek permute` plays all their orders.
 
 Example:
   hek import spec skew.spec
@@ -115,11 +117,11 @@ it prints a schedule whose first lines are
         ArgumentText {
             name: "FORM",
             help: "what FILE is",
-            form: Form::OneOf(&["spec"]),
+            form: Form::OneOf(&["spec", "elle"]),
         },
         ArgumentText {
             name: "FILE",
-            help: "a spec, or - for standard input",
+            help: "a spec or a history, or - for standard input",
             form: Form::Word,
         },
         EXPLAIN,
@@ -135,7 +137,7 @@ it prints a schedule whose first lines are
         },
         ArgumentText {
             name: "output",
-            help: "writes the schedule to a file; where OUT ends with /, a file for each permutation to this folder",
+            help: "writes the schedule or the log to a file; where OUT ends with /, a file for each permutation to this folder",
             form: Form::Output,
         },
     ],

@@ -12,6 +12,7 @@ mod explain;
 mod explaining;
 mod file_texts;
 mod import;
+mod import_elle;
 mod kept;
 mod log;
 mod notes;
