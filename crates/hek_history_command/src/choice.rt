@@ -27,6 +27,9 @@ impl Extent {
     }
 }
 
+/// How many repairs of an order a search tries where the words don't say.
+pub const EFFORT: usize = 100_000;
+
 /// What the words of the command line ask for.
 #[derive(Clone, Copy)]
 pub struct Choice {
@@ -36,6 +39,8 @@ pub struct Choice {
     pub order: Option<Order>,
     /// Which anomalies are told.
     pub extent: Extent,
+    /// How many repairs of an order a search tries before it gives up.
+    pub effort: usize,
     /// Whether faults of the log are explained.
     pub explains: bool,
     pub printing: Printing,

@@ -217,7 +217,7 @@ fn is_label(bytes: &[u8]) -> bool {
 /// Whether these bytes are a value of a log.
 fn is_value(bytes: &[u8]) -> bool {
     match bytes {
-        [b'-', digits @ ..] => matches!(number(digits), Some(size) if size <= 1 << 63),
+        [b'-', digits @ ..] => matches!(number(digits), Some(size) if size > 0 && size <= 1 << 63),
         _ => is_label(bytes),
     }
 }

@@ -37,6 +37,8 @@ impl Binding {
 pub struct LevelsChoice {
     pub asked: Asked,
     pub binding: Binding,
+    /// How many repairs of an order a search tries before it gives up.
+    pub effort: usize,
     /// Whether faults of the log are explained.
     pub explains: bool,
     pub printing: Printing,

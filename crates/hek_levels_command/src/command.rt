@@ -62,6 +62,7 @@ fn explain<'a, W: Write, E: Write>(
         level: None,
         order: None,
         extent: Extent::First,
+        effort: choice.effort,
         explains: true,
         printing: choice.printing,
     };
@@ -80,7 +81,7 @@ fn answer<'a, W: Write>(
         write_nothing(alloc, choice, out)?;
         return Ok(NOT_KNOWN);
     }
-    let mut scene = Scene::new(alloc, log, choice.binding)?;
+    let mut scene = Scene::new(alloc, log, choice.binding, choice.effort)?;
     match choice.asked {
         Asked::One(promise) => {
             let answers = answer_one(alloc, &mut scene, promise)?;

@@ -14,19 +14,31 @@ pub(crate) struct Scene {
     pub log: Log,
     pub seen: hek_levels::Log,
     pub binding: Binding,
+    /// How many repairs of an order a search tries.
+    pub effort: usize,
 }
 
 impl Scene {
     /// The scene of a log. Real time has one session of all its transactions; else they are of the sessions that the log
     /// gives.
-    pub(crate) fn new(alloc: Global, log: Log, binding: Binding) -> Result<Scene, NoMemory> {
+    pub(crate) fn new(
+        alloc: Global,
+        log: Log,
+        binding: Binding,
+        effort: usize,
+    ) -> Result<Scene, NoMemory> {
         let turns = if binding == Binding::RealTime {
             times_of(alloc, &log)?
         } else {
             turns_of(alloc, &log)?
         };
         let seen = log_of(alloc, &log.history, turns.as_slice())?;
-        Ok(Scene { log, seen, binding })
+        Ok(Scene {
+            log,
+            seen,
+            binding,
+            effort,
+        })
     }
 
     /// Whether real time binds.
