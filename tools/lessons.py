@@ -13,6 +13,8 @@ PLACE = re.compile(r"\blesson (\d+)|(?<![\w-])[a-z]+(?:-[a-z]+)+(?![\w-])")
 MARKED = re.compile(r"(`[^`]+`|\[[^\]]+\]\([^)]+\)|\*\*[^*]+\*\*)")
 # The line of a lesson or an anomaly that links to this page.
 HERE = re.compile(r"(?m)^In a browser: (.*)$\n?")
+# The lines of a program that link to this page.
+IN_BROWSER = re.compile(r"(?ms)^In a browser: .*?\n\n")
 # What tools/examples reads, and no reader of the page sees.
 COMMENT = re.compile(r"(?m)^<!-- .* -->\n")
 # Heads of a narrow column.
@@ -198,10 +200,13 @@ class Pages:
     def __init__(self, root):
         self.root, self.schedules, self.proses = root, [], []
         self.lessons, self.anomalies = read(f"{root}/docs/LESSONS.md"), read(f"{root}/docs/ANOMALIES.md")
+        self.lessons, *programs = re.split(r"(?m)^## Programs: .*\n", self.lessons)
+        self.programs = "".join(programs)
         heads = LESSON.findall(self.lessons)
         self.numbered = {number: names.split(", ")[0] for number, _, names in heads}
         self.names = {name: name for _, _, names in heads for name in names.split(", ")}
         self.add_lessons()
+        self.add_programs()
         self.add_anomalies()
 
     def keep(self, prose):
@@ -225,12 +230,25 @@ class Pages:
             for name in names:
                 self.add("Lessons", name, f"{number}. {title_of(name)}", name, prose, about)
 
+    def add_programs(self):
+        intro, *sections = re.split(r"(?m)^(?=### [a-z-]+: )", self.programs)
+        names = [re.match(r"### ([a-z-]+): ", it)[1] for it in sections]
+        prose = Prose({**self.names, **{it: "program-" + it for it in names}}, self.numbered)
+        about = self.keep(prose.html(intro))
+        for name, section in zip(names, sections):
+            head, _, body = section.partition("\n")
+            other = Prose({it: to for it, to in prose.names.items() if it != name}, self.numbered)
+            text = f"<h1>{title_of(name)}: {escaped(head.partition(': ')[2])}</h1>\n{other.html(IN_BROWSER.sub('', body))}"
+            its = self.counts(name)
+            self.add("Programs", "program-" + name, title_of(name), f"programs/{name}", self.keep(text + (prose.table(its) if its else "")), about)
+
     def add_anomalies(self):
         files = sorted(it[:-4] for it in os.listdir(f"{self.root}/examples/anomalies") if it.endswith(".hek"))
         own = dict(re.findall(r"(?ms)^### ([a-z-]+): .*?\n(.*?)(?=^##|\Z)", self.anomalies))
         heads = dict(re.findall(r"(?m)^### ([a-z-]+): (.*)$", self.anomalies))
         common = re.sub(r"(?ms)^## Each example\n.*?(?=^## )", "", re.sub(r"^# .*\n", "", self.anomalies))
-        prose = Prose({it: "anomaly-" + it for it in files}, self.numbered)
+        programs = {it["name"].removeprefix("program-"): it["name"] for it in self.schedules if it["group"] == "Programs"}
+        prose = Prose({**programs, **{it: "anomaly-" + it for it in files}}, self.numbered)
         about = self.keep(prose.html(common))
         for name in files:
             other = Prose({it: to for it, to in prose.names.items() if it != name}, self.numbered)

@@ -122,7 +122,7 @@ class Answers:
 
     def same_logs(self):
         for path in sorted(glob.glob(f"{self.root}/examples/histories/*.jsonl")):
-            for words in ([], ["--level", "serializable"], ["--order", "any"], ["--all"]):
+            for words in ([], ["--level", "serializable"], ["--order", "any"], ["--all"], ["--levels"], ["--levels", "--order", "real"]):
                 self.same(os.path.basename(path), ["history", *words, LOG], {LOG: read(path)})
         self.same("words", ["word", "8040000000000002", "7FFFFFFFFFFFFFFF", "0000000000000004", "BADBADBADBADBADB"], {})
 

@@ -4,7 +4,14 @@ const text = $("text");
 const LINE = 20;
 const isHead = line => /^\s*(buckets|row|txn)\b/.test(line);
 const isComment = line => /^\s*#/.test(line);
-const isStep = line => /^\s*[^\s#]/.test(line) && !isHead(line);
+// What is to hold at the end of a program; a transaction may be called `always`.
+const isInvariant = line => /^\s*always\s+(?!(begin|read|scan|insert|update|delete|finish|precommit|release|commit|stamp|end|fail)\b)/.test(line);
+const isStep = line => /^\s*[^\s#]/.test(line) && !isHead(line) && !isInvariant(line);
+// A step with a value or a condition that is computed.
+const isComputed = line => isStep(line) && /^\s*\S+\s+\S+.*?([@+*=<>!-]|\sif\s)/.test(line.replace(/#.*/, ""));
+// A program is played from beginning to end: it is a schedule once its values are known.
+const isProgram = schedule => schedule.split("\n").some(line => isInvariant(line) || isComputed(line));
+const isAuto = () => $("auto").checked || isProgram(text.value);
 const lines = () => text.value.split("\n");
 const escaped = said => said.replace(/[&<>]/g, char => ({"&": "&amp;", "<": "&lt;", ">": "&gt;"})[char]);
 
@@ -55,7 +62,7 @@ function scrolled() {
 
 // Marks the line of the step that is shown, and brings it into sight unless the text is being typed.
 function markStep(step) {
-  here = ($("auto").checked ? madeBy : stepLines())[step - 1] ?? null;
+  here = (isAuto() ? madeBy : stepLines())[step - 1] ?? null;
   drawLines();
   if (here === null || document.activeElement === text) return;
   const top = here * LINE;
@@ -251,8 +258,14 @@ function withEvents(schedule, events) {
   const words = line => line.replace(/#.*/, "").trim().split(/\s+/).join(" ");
   const made = [...all.slice(0, first).filter(line => isHead(line) || isComment(line)), ...all.slice(first).filter(isHead)];
   const left = Map.groupBy(steps, at => words(all[at])), madeBy = [];
+  // Of what is computed the words before it are those of the event.
+  const computed = steps.filter(at => isComputed(all[at])).map(at => ({at, front: words(all[at]).replace(/ (if .*|\S*[@+*-].*)$/, "")}));
+  const computedBy = event => {
+    const index = computed.findIndex(({front}) => event === front || event.startsWith(`${front} `));
+    return index < 0 ? undefined : computed.splice(index, 1)[0].at;
+  };
   for (const event of events) {
-    const at = left.get(event)?.shift();
+    const at = left.get(event)?.shift() ?? computedBy(event);
     madeBy.push(at);
     if (at > first) {
       let from = at;

@@ -1,6 +1,9 @@
 // ---- histories: a log, and whether it has a serial order
 
 const LOG = "log.jsonl";
+// The levels at which a serial order is asked for, that of each transaction among them. The others take no order by commits, and say one anomaly.
+const IN_SERIES = ["", "serializable", "repeatable", "snapshot"];
+const BY_COMMITS = ["versions", "commit"];
 const log = $("log");
 
 async function showHistory() {
@@ -9,18 +12,29 @@ async function showHistory() {
     answer.replaceChildren();
     return;
   }
-  const words = logWords($("log-level").value), got = await hek(words, {[LOG]: log.value});
+  const level = $("log-level").value;
+  offerOrders(IN_SERIES.includes(level));
+  const got = await hek(logWords(level), {[LOG]: log.value});
   if (got.isEnded) return;
-  const [first, ...rest] = (got.out || got.err).replace(/^hek: history: /gm, "").trimEnd().split("\n");
+  const lines = (got.out || got.err).replace(/^hek: history: /gm, "").trimEnd().split("\n");
+  const [first, ...rest] = got.out && level === "levels" ? [lines.pop(), ...lines] : lines;
   answer.replaceChildren(...verdictOf(first, rest.join("\n") + (got.out && got.err ? "\n" + got.err : ""), got.status === 0));
   const place = !got.out && got.err.match(/line (\d+), column (\d+)/);
   if (place) answer.append(placeButton(place[1] - 1, place[2] - 1));
-  if (got.status === 0 && !$("log-level").value) await showStrict(answer);
+  if (got.status === 0 && !level) await showStrict(answer);
+}
+
+// What a level does not take can't be chosen with it.
+function offerOrders(isSerial) {
+  $("log-all").disabled = !isSerial;
+  for (const option of $("log-order").options) option.disabled = !isSerial && BY_COMMITS.includes(option.value);
 }
 
 function logWords(level) {
-  const order = $("log-order").value;
-  return ["history", "--explain", ...(level ? ["--level", level] : []), ...(order ? ["--order", order] : []), ...($("log-all").checked ? ["--all"] : []), LOG];
+  const isSerial = IN_SERIES.includes(level), order = $("log-order").value;
+  const asked = level === "levels" ? ["--levels"] : level ? ["--level", level] : [];
+  const ordered = order && (isSerial || !BY_COMMITS.includes(order)) ? ["--order", order] : [];
+  return ["history", "--explain", ...asked, ...ordered, ...(isSerial && $("log-all").checked ? ["--all"] : []), LOG];
 }
 
 function verdictOf(said, why, isGood) {
@@ -63,7 +77,7 @@ function setLog(said) {
 
 // The run of the schedule as a log.
 async function logOfSchedule() {
-  const got = await hek(["run", ...($("auto").checked ? ["--auto"] : []), "--history", "--explain", NAME], {[NAME]: text.value});
+  const got = await hek(["run", ...(isAuto() ? ["--auto"] : []), "--history", "--explain", NAME], {[NAME]: text.value});
   if (got.isEnded) return;
   if (got.status === 0) setLog(got.out);
   else showFaults(got.err);

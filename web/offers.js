@@ -2,7 +2,7 @@
 
 const EVENTS = {__proto__: null, begin: "", read: "KEY", scan: "BUCKET", insert: "KEY VALUE", update: "KEY VALUE", delete: "KEY", finish: "", precommit: "",
   release: "", commit: "", stamp: "", end: "", fail: ""};
-const HEADS = {__proto__: null, buckets: "NUMBER", row: "KEY VALUE", txn: "NAME LEVEL", detect: ""};
+const HEADS = {__proto__: null, buckets: "NUMBER", row: "KEY VALUE", txn: "NAME LEVEL", detect: "", always: "CONDITION"};
 const LEVELS = ["serializable", "repeatable", "snapshot"];
 let offered = [], chosen = 0;
 
@@ -18,6 +18,7 @@ function wordsAfter(words) {
   if (first === "txn") return words.length === 2 ? LEVELS.map(it => [it, ""]) : [];
   if (first in HEADS) return [];
   if (words.length === 1) return namesIn().includes(first) ? Object.entries(EVENTS) : [];
+  if (words.length === 3 && EVENTS[second] === "KEY VALUE") return keysIn().map(key => [`@${key}`, "what was found there"]);
   if (second === "scan" && words.length === 2) return bucketsIn().map(bucket => [bucket, "bucket"]);
   return words.length === 2 && EVENTS[second]?.startsWith("KEY") ? keysIn().map(key => [key, "key"]) : [];
 }

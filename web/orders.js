@@ -30,15 +30,15 @@ function unbroken(said) {
 
 function outcome(row, counts, parts) {
   for (const count of counts) cell(row, BigInt(count).toLocaleString("en")).className = count === "0" ? "n none" : "n";
-  const verdict = parts.pop(), left = parts.pop();
+  const breaks = /^breaks /.test(parts.at(-1)) ? `; ${parts.pop()}` : "", verdict = parts.pop(), left = parts.pop();
   cell(row, "").append(...parts.flatMap((it, at) => at ? ["; ", unbroken(it)] : [unbroken(it)]));
   cell(row, (left ?? "").replace(/^rows ?/, ""));
-  cell(row, verdict).className = verdict === "not serial" ? "bad" : "";
+  cell(row, verdict + breaks).className = verdict === "not serial" || breaks ? "bad" : "";
   return row;
 }
 
 // A row of `permute` is a count, the ends, the rows, the verdict, how many waited, the first order, and in which other order it is serial or
-// who comes before whom; of `permute --levels` a count for each level, and an outcome.
+// who comes before whom; of `permute --levels` a count for each level, and an outcome. The verdict on a program may name the line of an invariant that it breaks.
 async function showOrders(out, schedule, isStill) {
   const [head, ...rows] = out.trimEnd().split("\n");
   const [, orders] = head.match(/^orders (\d+)/);

@@ -70,6 +70,7 @@ function openSchedule(name, at = 0) {
 
 const OWN_PROSE = `<p>It is under <b>Text</b>: rows and transactions first, then steps. The story beside it follows as you type.</p>
   <p>With <b>finish by itself</b> write reads and writes alone. Without it write each step: <code>begin</code>, reads and writes, <code>finish</code>, <code>precommit</code>, <code>release</code> for each lock, <code>commit</code>, <code>stamp</code> for each word, <code>end</code>.</p>
+  <p>A value may use what was read, as in <code>a update 10 @10+5</code>, a step may have a condition, as in <code>b fail if @10 = 0</code>, and <code>always @10 &gt; 0</code> says what is to hold at the end. Such a program is finished by itself.</p>
   <p>The tab <b>Orders</b> counts what comes of all orders of the moves, and shows one of each.</p>`;
 
 // The prose of a schedule, with what its group has in common folded.

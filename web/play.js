@@ -138,7 +138,7 @@ function listen() {
 }
 
 async function start() {
-  for (const group of ["Lessons", "Anomalies"]) {
+  for (const group of ["Lessons", "Programs", "Anomalies"]) {
     const options = document.createElement("optgroup");
     options.label = group;
     options.append(...SCHEDULES.filter(it => it.group === group).map(it => new Option(it.title, it.name)));

@@ -11,10 +11,10 @@ let shownTab = null, isOld = false;
 // With "finish by itself", the line of the text that each step comes from, or undefined.
 let madeBy = [];
 
-// The schedule that is run: with "finish by itself" it has the events that `hek run --auto` makes.
+// The schedule that is run: with "finish by itself", and of a program, it has the events that `hek run --auto` makes.
 async function whole(schedule) {
   madeBy = [];
-  if (!$("auto").checked) return {schedule};
+  if (!isAuto()) return {schedule};
   const got = await hek(["run", "--auto", "--explain", NAME], {[NAME]: schedule});
   if (got.status !== 0) return {got};
   const made = withEvents(schedule, got.out.trimEnd().split("\n").filter(Boolean).map(line => line.replace(/^\d+ (.*?) -> .*$/, "$1")));
@@ -60,7 +60,7 @@ async function showSchedule(schedule, isStill) {
   if (!isStill() || got.isEnded) return;
   isOld = got.status !== 0 && shownTab === tab;
   // Faults of what "finish by itself" has made have no place in the text.
-  showFaults(made.got || !$("auto").checked || !isRun ? got.err : got.err.replace(/^  schedule\.hek/gm, "  made"));
+  showFaults(made.got || !isAuto() || !isRun ? got.err : got.err.replace(/^  schedule\.hek/gm, "  made"));
   if (got.status !== 0) {
     if (!isOld) showNothing(got.err);
     return;
@@ -69,7 +69,7 @@ async function showSchedule(schedule, isStill) {
   if (tab === "story" || tab === "explorer") showPage(got.out);
   else if (tab === "orders") await showOrders(got.out, made.schedule, isStill);
   else showTrace(got.out);
-  if (tab === "story" && !$("auto").checked && stepLines().length <= MOST_STEPS) {
+  if (tab === "story" && !isAuto() && stepLines().length <= MOST_STEPS) {
     const run = await hek(["run", "--why", NAME], {[NAME]: made.schedule});
     if (isStill() && run.status === 0) showRefused(run.out);
   }
@@ -148,7 +148,7 @@ function showPlace(place, guesses) {
   if (!part) sayGuesses(guesses, position >= lastStep());
 }
 
-const lastStep = () => $("auto").checked ? madeBy.length : stepLines().length;
+const lastStep = () => isAuto() ? madeBy.length : stepLines().length;
 
 // What the guesses came to, at the end of the run.
 function sayGuesses(guesses, isEnd) {
@@ -195,7 +195,7 @@ function goTo(step) {
 
 // Moves the story to the step of a line of the text.
 function goToLine(at) {
-  const step = ($("auto").checked ? madeBy : stepLines()).indexOf(at);
+  const step = (isAuto() ? madeBy : stepLines()).indexOf(at);
   if (step >= 0) goTo(step + 1);
 }
 

@@ -26,6 +26,17 @@ See step 3, steps 4 to 6 and lesson 2.
 ## 2. Two texts: second-lesson, third-lesson
 
 In a browser: [second-lesson](play.html#second-lesson), [third-lesson](play.html#third-lesson).
+
+## Programs: values that are used
+
+Hints for programs.
+
+### no-loss: nothing is lost
+
+In a browser: [no-loss](play.html#program-no-loss), its
+[orders](play.html#program-no-loss/orders).
+
+As in first-lesson.
 """
 ANOMALIES = """# Anomalies
 
@@ -37,6 +48,7 @@ ANOMALIES = """# Anomalies
 |---|---|---|---|---|
 | bad-read | 1 | 2 | 3 | serial |
 | | 4 | 5 | 6 | not serial |
+| no-loss | 7 | 8 | 9 | serial; breaks line 2 |
 
 ## Each example
 
@@ -57,7 +69,7 @@ class Lessons(Tree):
         super().setUp()
         self.write("docs/LESSONS.md", LESSONS)
         self.write("docs/ANOMALIES.md", ANOMALIES)
-        for name in ("first-lesson", "second-lesson", "third-lesson", "anomalies/bad-read"):
+        for name in ("first-lesson", "second-lesson", "third-lesson", "programs/no-loss", "anomalies/bad-read"):
             self.write(f"examples/{name}.hek", f"# {name}\n")
         self.pages = lessons.Pages(self.root)
 
@@ -67,8 +79,8 @@ class Lessons(Tree):
 
     def test_each_schedule_has_its_text_and_prose(self):
         names = [it["name"] for it in self.pages.schedules]
-        self.assertEqual(names, ["first-lesson", "second-lesson", "third-lesson", "anomaly-bad-read"])
-        self.assertEqual(self.pages.schedules[3]["text"], "# anomalies/bad-read\n")
+        self.assertEqual(names, ["first-lesson", "second-lesson", "third-lesson", "program-no-loss", "anomaly-bad-read"])
+        self.assertEqual(self.pages.schedules[4]["text"], "# anomalies/bad-read\n")
         self.assertEqual(self.prose("second-lesson"), self.prose("third-lesson"))
         self.assertIn("Hints for all.", self.pages.proses[self.pages.schedules[0]["about"]])
 
@@ -93,6 +105,15 @@ class Lessons(Tree):
         self.assertIn("<h1>Bad read: a row too early</h1>", prose)
         self.assertIn('<a href="#first-lesson">lesson 1</a> and there (<code>docs/RULES.md</code>)', prose)
         self.assertIn('<td class="n">6</td><td>not serial</td>', prose)
-        about = self.pages.proses[self.pages.schedules[3]["about"]]
+        about = self.pages.proses[self.pages.schedules[4]["about"]]
         self.assertIn("The end.", about)
         self.assertNotIn("a row too early", about)
+
+    def test_a_program_has_its_own_prose_and_counts(self):
+        prose = self.prose("program-no-loss")
+        self.assertIn("<h1>No loss: nothing is lost</h1>", prose)
+        self.assertIn('As in <a href="#first-lesson">first-lesson</a>', prose)
+        self.assertIn('<td class="n">9</td><td>serial; breaks line 2</td>', prose)
+        self.assertNotIn("In a browser", prose)
+        self.assertIn("Hints for programs.", self.pages.proses[self.pages.schedules[3]["about"]])
+        self.assertNotIn("Hints for programs.", self.prose("third-lesson"))

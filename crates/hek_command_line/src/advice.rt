@@ -2,6 +2,7 @@
 use clap::ArgMatches;
 use hek_diagnostics::nearest_word;
 use hek_figure_command::Portion;
+use hek_levels_command::Promise;
 use hek_permute::Form;
 use hek_permute_command::part_of;
 use hek_rules::{Level, number};
@@ -131,12 +132,16 @@ enum Wrong<'a> {
     TooLarge(&'a Count),
     /// No level has this name, but maybe one that is near.
     NoLevel(Option<&'a str>),
+    /// The same of what a log can be asked for.
+    NoPromise(Option<&'a str>),
     NoPart,
     /// No part of a figure has this name, but maybe one that is near.
     NoPortion(Option<&'a str>),
     NoOrder,
     /// No order of a history has this name, but maybe one that is near.
     NoKind(Option<&'a str>),
+    /// Levels below a serial order take no order by commits.
+    NoBinding,
     /// No form of moves has this name, but maybe one that is near.
     NoGrain(Option<&'a str>),
 }
@@ -159,8 +164,14 @@ pub fn advice_of<'a>(alloc: Global, command: &str, found: &ArgMatches<'a>) -> Op
     }
     match found.get_str("level") {
         Some(value) if Level::named(value.as_bytes()).is_none() => {
-            let wrong = Wrong::NoLevel(nearest_word(alloc, value, LEVELS));
-            return Some(Advice::new("level", value, wrong));
+            if command != "history" {
+                let wrong = Wrong::NoLevel(nearest_word(alloc, value, LEVELS));
+                return Some(Advice::new("level", value, wrong));
+            }
+            if Promise::named(value).is_none() {
+                let wrong = Wrong::NoPromise(nearest_word(alloc, value, Promise::WORDS));
+                return Some(Advice::new("level", value, wrong));
+            }
         }
         _ => {}
     }
@@ -179,18 +190,26 @@ pub fn advice_of<'a>(alloc: Global, command: &str, found: &ArgMatches<'a>) -> Op
         _ => {}
     }
     let value = found.get_str("order")?;
-    let wrong = if command == "history" {
-        Wrong::NoKind(nearest_word(alloc, value, KINDS))
-    } else {
-        Wrong::NoOrder
+    if command == "history" {
+        return kind_advice(alloc, value);
+    }
+    Some(Advice::new("order", value, Wrong::NoOrder))
+}
+
+/// What is wrong with an order of a history. One that has its name goes with no level that is asked for.
+fn kind_advice(alloc: Global, value: &str) -> Option<Advice<'_>> {
+    let wrong = match value {
+        "any" | "real" => return None,
+        "versions" | "commit" => Wrong::NoBinding,
+        _ => Wrong::NoKind(nearest_of(alloc, value, KINDS)),
     };
     Some(Advice::new("order", value, wrong))
 }
 
-/// The part of a figure that a word may mean.
-fn nearest_portion(alloc: Global, value: &str) -> Option<&'static str> {
+/// The word of these that another may mean.
+fn nearest_of(alloc: Global, value: &str, known: &'static [&'static str]) -> Option<&'static str> {
     let mut words: Vec<&'static str> = Vec::new(alloc);
-    for word in PORTIONS {
+    for word in known {
         words.push(*word).ok()?;
     }
     nearest_word(alloc, value, words.as_slice())
@@ -201,7 +220,7 @@ fn portion_advice(alloc: Global, value: &str) -> Option<Advice<'_>> {
     if Portion::named(value).is_some() {
         return None;
     }
-    let wrong = Wrong::NoPortion(nearest_portion(alloc, value));
+    let wrong = Wrong::NoPortion(nearest_of(alloc, value, PORTIONS));
     Some(Advice::new("part", value, wrong))
 }
 
@@ -256,11 +275,12 @@ impl<'a> Advice<'a> {
                 write!(f, "`{value}` is too small for `--{option}`{}", count.below)
             }
             Wrong::TooLarge(_) => write!(f, "`{value}` is too large for `--{option}`"),
-            Wrong::NoLevel(_) => write!(f, "no level is called `{value}`"),
+            Wrong::NoLevel(_) | Wrong::NoPromise(_) => { write!(f, "no level is called `{value}`") }
             Wrong::NoPart => write!(f, "`{value}` is not a part"),
             Wrong::NoPortion(_) => write!(f, "no part is called `{value}`"),
             Wrong::NoOrder => write!(f, "`{value}` is not an order of the moves"),
             Wrong::NoKind(_) => write!(f, "no order is called `{value}`"),
+            Wrong::NoBinding => write!(f, "`{value}` goes with a serial order alone"),
             Wrong::NoGrain(_) => write!(f, "no grain is called `{value}`"),
         }
     }
@@ -271,10 +291,17 @@ impl<'a> Advice<'a> {
                 write!(f, "{}, {} to {}", count.what, count.least, count.most)
             }
             Wrong::NoLevel(_) => f.write_str("serializable repeatable snapshot"),
+            Wrong::NoPromise(_) => {
+                for word in Promise::WORDS {
+                    write!(f, "{word} ")?;
+                }
+                f.write_str("repeatable")
+            }
             Wrong::NoPart => f.write_str("K/N, as in `1/3`, K from 1 to N"),
             Wrong::NoPortion(_) => f.write_str("lanes versions waits words"),
             Wrong::NoOrder => f.write_str("the name of its transaction for each move"),
             Wrong::NoKind(_) => f.write_str("any versions commit real"),
+            Wrong::NoBinding => f.write_str("any real"),
             Wrong::NoGrain(_) => f.write_str("move split event"),
         }
     }
@@ -292,6 +319,7 @@ impl Display for Advice<'_> {
         self.write_wanted(f)?;
         match self.wrong {
             Wrong::NoLevel(Some(meant))
+            | Wrong::NoPromise(Some(meant))
             | Wrong::NoKind(Some(meant))
             | Wrong::NoPortion(Some(meant))
             | Wrong::NoGrain(Some(meant)) => { write!(f, "\n  | did you mean `{meant}`?\n") }

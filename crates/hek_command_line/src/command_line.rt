@@ -1,23 +1,21 @@
 //! The command line: its words, and what the program does for them.
-use crate::arguments::{RULES, meant_command, read_words};
+use crate::arguments::{meant_command, read_words};
 use crate::colour::{Paint, Painted};
 use crate::convert::{asm, dis, release, word};
-use crate::disk::{Disk, LateFile, open};
+use crate::disk::{Disk, open};
 use crate::explain::finish;
 use crate::explaining::{Colouring, CommandWords, Explaining, Wishes};
 use crate::import::import;
 use crate::kept::{Kept, KeptDisk, KeptReader};
 use crate::log::history;
 use crate::opening::without_mark;
-use crate::options::{
-    count_from, form_of, level_of, number_of, portion_of, printing_of, step_of, text,
-};
+use crate::options::{count_from, level_of, number_of, printing_of, text};
 use crate::output::NotedOutput;
-use crate::page_data::write_data;
+use crate::pages::{Document, write_document};
 use crate::permute::{permute_alone, permute_jobs};
-use crate::refused::{OUTPUT, refuse_page, refuse_picture, refuse_same};
-use crate::schedule::{schedule_file, schedule_to_run};
+use crate::schedule::{plain_schedule, plain_to_run, schedule_to_run};
 use crate::sources::SourceFiles;
+use crate::texts::RULES;
 use crate::told;
 use crate::words::advise_sign;
 use clap::error::ErrorKind as ClapKind;
@@ -26,13 +24,8 @@ use hek_check_command::{Asked, check_command, note_nothing, reported_command};
 use hek_debug_command::{
     CommandFile, Manner, debug_command, debug_session, explained_command, put_words,
 };
-use hek_figure_command::figure_command;
 use hek_history_command::run_log_command;
 use hek_manual::{Shell, manual_page};
-use hek_page_command::{
-    Extent, Heading, MOST_NODES, Making, Part, explorer_command, levels_command, made_file,
-    page_command,
-};
 use hek_report::{HekFault, INPUT, Printing, ScheduleFile, read_text, report, send};
 use hek_rules::Level;
 use hek_run_command::{Driving, Steps, drive_command, run_command, state_command, steps_command};
@@ -423,8 +416,8 @@ fn run_noting<
         "drive" => drive(alloc, found, explains, disk, input, out, faults),
         "check" => check(alloc, found, disk, input, out, faults),
         "permute" => permute_alone(alloc, found, disk, input, out, faults),
-        "page" => page(alloc, found, disk, input, out, faults),
-        "figure" => figure(alloc, found, disk, input, out, faults),
+        "page" => write_document(alloc, Document::Page, found, disk, input, out, faults),
+        "figure" => write_document(alloc, Document::Figure, found, disk, input, out, faults),
         "threads" => Err(HekFault::NoWorker),
         _ => Err(HekFault::BadArgument),
     }
@@ -500,7 +493,7 @@ fn drive<'a, D: Disk, I: Read + IsTerminal + Drop, W: Write, E: Write>(
         explains,
         printing,
     };
-    let file = schedule_to_run(alloc, found, disk, input)?;
+    let file = plain_to_run(alloc, found, disk, input)?;
     let events = open(disk, input, INPUT)?;
     drive_command(alloc, file, events, driving, out, faults)
 }
@@ -557,151 +550,6 @@ fn debug_file<'a, R: Read + Drop, W: Write, E: Write>(
     }
 }
 
-/// Answers `page`: the page goes to standard output, or with `-o` to a file.
-fn page<'a, D: Disk, I: Read + Drop, W: Write + IsTerminal, E: Write>(
-    alloc: Global,
-    found: &ArgMatches<'a>,
-    disk: &D,
-    input: &mut Option<I>,
-    out: &mut W,
-    faults: &mut E,
-) -> Result<u8, HekFault<'a>> {
-    let name = text(found, "FILE")?;
-    match found.get_str("output") {
-        Some(page) if page != OUTPUT => {
-            if refuse_same(disk, name, page, faults) {
-                return Ok(2);
-            }
-            let mut file = LateFile::new(disk, page);
-            let ran = write_page(alloc, found, disk, input, &mut file, faults);
-            let is_whole = matches!(ran, Ok(0));
-            file.settle(is_whole, ran)
-        }
-        None if !found.get_flag("json") && refuse_page(out, faults) => Ok(2),
-        _ => write_page(alloc, found, disk, input, out, faults),
-    }
-}
-
-/// Answers `figure`: the picture goes to standard output, or with `-o` to a file.
-fn figure<'a, D: Disk, I: Read + Drop, W: Write + IsTerminal, E: Write>(
-    alloc: Global,
-    found: &ArgMatches<'a>,
-    disk: &D,
-    input: &mut Option<I>,
-    out: &mut W,
-    faults: &mut E,
-) -> Result<u8, HekFault<'a>> {
-    let name = text(found, "FILE")?;
-    match found.get_str("output") {
-        Some(picture) if picture != OUTPUT => {
-            if refuse_same(disk, name, picture, faults) {
-                return Ok(2);
-            }
-            let mut file = LateFile::new(disk, picture);
-            let ran = write_figure(alloc, found, disk, input, &mut file, faults);
-            let is_whole = matches!(ran, Ok(0));
-            file.settle(is_whole, ran)
-        }
-        None if refuse_picture(out, faults) => Ok(2),
-        _ => write_figure(alloc, found, disk, input, out, faults),
-    }
-}
-
-/// Writes the picture that the words ask for.
-fn write_figure<'a, D: Disk, I: Read + Drop, W: Write, E: Write>(
-    alloc: Global,
-    found: &ArgMatches<'a>,
-    disk: &D,
-    input: &mut Option<I>,
-    out: &mut W,
-    faults: &mut E,
-) -> Result<u8, HekFault<'a>> {
-    let step = number_of(found, "step")?;
-    let portion = portion_of(found)?;
-    let heading = title_of(found)?;
-    let file = schedule_file(alloc, found, disk, input)?;
-    let file = made_file(alloc, file, making_of(found)?)?;
-    figure_command(alloc, file, step, portion, heading, out, faults)
-}
-
-/// What the words say of a picture's title.
-fn title_of<'a>(found: &ArgMatches<'a>) -> Result<Heading<'a>, HekFault<'a>> {
-    Ok(Heading {
-        file: text(found, "FILE")?,
-        title: found.get_str("title"),
-        lesson: None,
-        previous: None,
-        next: None,
-    })
-}
-
-/// Writes the page that the words ask for, or its data alone.
-fn write_page<'a, D: Disk, I: Read + Drop, W: Write, E: Write>(
-    alloc: Global,
-    found: &ArgMatches<'a>,
-    disk: &D,
-    input: &mut Option<I>,
-    out: &mut W,
-    faults: &mut E,
-) -> Result<u8, HekFault<'a>> {
-    if !found.get_flag("json") {
-        return write_whole_page(alloc, found, disk, input, out, faults);
-    }
-    let mut page = Vec::new(alloc);
-    match write_whole_page(alloc, found, disk, input, &mut page, faults)? {
-        0 => write_data(page.as_slice(), out),
-        status => Ok(status),
-    }
-}
-
-/// Writes the page that the words ask for.
-fn write_whole_page<'a, D: Disk, I: Read + Drop, W: Write, E: Write>(
-    alloc: Global,
-    found: &ArgMatches<'a>,
-    disk: &D,
-    input: &mut Option<I>,
-    out: &mut W,
-    faults: &mut E,
-) -> Result<u8, HekFault<'a>> {
-    let part = Part {
-        from: step_of(found, "from")?,
-        to: step_of(found, "to")?,
-    };
-    let extent = Extent {
-        form: form_of(found)?,
-        limit: number_of(found, "limit")?.unwrap_or(MOST_NODES),
-    };
-    let heading = heading_of(found)?;
-    let file = schedule_file(alloc, found, disk, input)?;
-    let file = made_file(alloc, file, making_of(found)?)?;
-    if found.get_flag("levels") {
-        return levels_command(alloc, file, extent, heading, out, faults);
-    }
-    if found.get_flag("orders") {
-        return explorer_command(alloc, file, extent, heading, out, faults);
-    }
-    page_command(alloc, file, part, heading, out, faults)
-}
-
-/// What the words make of a schedule before its page.
-fn making_of<'a>(found: &ArgMatches<'a>) -> Result<Making, HekFault<'a>> {
-    Ok(Making {
-        level: level_of(found)?,
-        auto: found.get_flag("auto"),
-    })
-}
-
-/// What the words say of a page's title and links.
-fn heading_of<'a>(found: &ArgMatches<'a>) -> Result<Heading<'a>, HekFault<'a>> {
-    Ok(Heading {
-        file: text(found, "FILE")?,
-        title: found.get_str("title"),
-        lesson: number_of(found, "lesson")?,
-        previous: found.get_str("previous"),
-        next: found.get_str("next"),
-    })
-}
-
 fn check<'a, D: Disk, I: Read + Drop, W: Write, E: Write + IsTerminal>(
     alloc: Global,
     found: &ArgMatches<'a>,
@@ -711,7 +559,7 @@ fn check<'a, D: Disk, I: Read + Drop, W: Write, E: Write + IsTerminal>(
     faults: &mut E,
 ) -> Result<u8, HekFault<'a>> {
     let level = level_of(found)?;
-    let file = schedule_file(alloc, found, disk, input)?;
+    let file = plain_schedule(alloc, found, disk, input)?;
     let name = text(found, "TRACE")?;
     let trace = read_text(alloc, open(disk, input, name)?, name)?;
     let trace = without_mark(trace.as_slice());
@@ -771,7 +619,7 @@ fn threads<'a, T: Threads + Wait + Sync, D: Disk, I: Read + Drop, W: Write, E: W
         None => None,
         Some(text) => Some(count_from(text, 1)?),
     };
-    let file = schedule_to_run(alloc, found, disk, input)?;
+    let file = plain_to_run(alloc, found, disk, input)?;
     run_in_threads(
         system,
         alloc,

@@ -5,11 +5,12 @@ use crate::kept::Kept;
 use crate::notes::note;
 use crate::opening::without_mark;
 use crate::output::NotedOutput;
+use crate::programs::{explain_computed, explain_line, explain_place};
 use crate::reasons::{why_not_read, why_not_written};
 use crate::sought::advise_sought;
 use crate::words::advise_words;
 use clap::ArgMatches;
-use hek_diagnostics::{explain_bytes, explain_image, explain_text, explain_trace};
+use hek_diagnostics::{explain_bytes, explain_image, explain_trace};
 use hek_image::LoadFault;
 use hek_report::{HekFault, INPUT, ScheduleFile, report, schedule_in};
 use hek_rules::Schedule;
@@ -66,10 +67,21 @@ fn explain<E: Write>(
         HekFault::Line { line, kind } => {
             let bytes = kept.file_bytes(alloc);
             let name = kept.file.unwrap_or("");
-            let text = without_mark(bytes.as_slice());
-            if let Ok(Some(found)) = explain_text(alloc, name, text, line, kind) {
-                let _ = write!(faults, "{found}");
-            }
+            explain_line(alloc, matches, name, bytes.as_slice(), line, kind, faults);
+        }
+        HekFault::Wanted {
+            line,
+            column,
+            wanted,
+        } => {
+            let bytes = kept.file_bytes(alloc);
+            let name = kept.file.unwrap_or("");
+            explain_place(name, bytes.as_slice(), line, column, wanted, faults);
+        }
+        HekFault::Computed { line, what } => {
+            let bytes = kept.file_bytes(alloc);
+            let name = kept.file.unwrap_or("");
+            explain_computed(name, bytes.as_slice(), line, what, faults);
         }
         HekFault::Image(fault) => image(alloc, fault, kept, faults),
         HekFault::TraceLine(line) => trace(alloc, line, kept, faults),

@@ -1,5 +1,6 @@
 //! The words of `hek import`, and the files that it reads and writes.
 use crate::disk::{Disk, LateFile, open};
+use crate::import_elle::import_elle;
 use crate::options::{level_of, step_of, text};
 use crate::refused::{OUTPUT, refuse_same};
 use clap::ArgMatches;
@@ -33,8 +34,24 @@ struct Asked<'a> {
     explains: bool,
 }
 
-/// Answers `import`: a spec's schedule goes to standard output, with `-o` to a file; or those of all permutations to a folder.
+/// Answers `import`: writes the schedules of a spec, or the log of a history.
 pub fn import<'a, D: Disk, I: Read + Drop, W: Write, E: Write>(
+    alloc: Global,
+    found: &ArgMatches<'a>,
+    explains: bool,
+    disk: &D,
+    input: &mut Option<I>,
+    out: &mut W,
+    faults: &mut E,
+) -> Result<u8, HekFault<'a>> {
+    if text(found, "FORM")? == "elle" {
+        return import_elle(alloc, found, explains, disk, input, out, faults);
+    }
+    import_spec(alloc, found, explains, disk, input, out, faults)
+}
+
+/// Answers `import spec`: a spec's schedule goes to standard output, with `-o` to a file; or those of all permutations to a folder.
+fn import_spec<'a, D: Disk, I: Read + Drop, W: Write, E: Write>(
     alloc: Global,
     found: &ArgMatches<'a>,
     explains: bool,

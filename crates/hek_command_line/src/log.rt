@@ -5,6 +5,7 @@ use crate::refused::{OUTPUT, refuse_same};
 use clap::ArgMatches;
 use hek_history::{Level, Order};
 use hek_history_command::{Choice, Extent, history_command};
+use hek_levels_command::{Asked, Binding, LevelsChoice, Promise, levels_command};
 use hek_report::{HekFault, send};
 use std::alloc::Global;
 use std::io::{Read, Write};
@@ -19,8 +20,19 @@ pub fn history<'a, D: Disk, I: Read + Drop, W: Write, E: Write>(
     out: &mut W,
     faults: &mut E,
 ) -> Result<u8, HekFault<'a>> {
-    let choice = choice_of(found, explains)?;
     let name = found.get_str("FILE").ok_or(HekFault::BadArgument)?;
+    if let Some(asked) = asked_of(found)? {
+        refuse_order(found, asked)?;
+        let choice = LevelsChoice {
+            asked,
+            binding: binding_of(found)?,
+            explains,
+            printing: printing_of(found),
+        };
+        let file = open(disk, input, name)?;
+        return levels_command(alloc, file, name, choice, out, faults);
+    }
+    let choice = choice_of(found, explains)?;
     match found.get_str("order-out") {
         None => {
             let mut none: Option<Vec<u8>> = None;
@@ -45,6 +57,56 @@ pub fn history<'a, D: Disk, I: Read + Drop, W: Write, E: Write>(
                 None => ran,
             }
         }
+    }
+}
+
+/// Which levels and guarantees the words ask for: none, where they ask for a serial order alone.
+fn asked_of<'a>(found: &ArgMatches<'a>) -> Result<Option<Asked>, HekFault<'a>> {
+    let sessions = found.get_flag("sessions");
+    match (found.get_flag("levels"), found.get_flag("guarantees")) {
+        (true, true) => return Ok(Some(Asked::Both)),
+        (true, false) => return Ok(Some(Asked::Levels)),
+        (false, true) => return Ok(Some(Asked::Guarantees)),
+        (false, false) => {}
+    }
+    let Some(word) = found.get_str("level") else {
+        return Ok(if sessions { Some(Asked::Levels) } else { None });
+    };
+    if Level::named(word).is_some() && !sessions {
+        return Ok(None);
+    }
+    match Promise::named(word) {
+        Some(promise) => Ok(Some(Asked::One(promise))),
+        None => Err(HekFault::BadArgument),
+    }
+}
+
+/// Refuses what goes with a serial order alone, and an order of guarantees: they are about sessions.
+fn refuse_order<'a>(found: &ArgMatches<'a>, asked: Asked) -> Result<(), HekFault<'a>> {
+    let is_level = match asked {
+        Asked::One(promise) => !promise.is_guarantee(),
+        _ => true,
+    };
+    if !is_level && found.get_str("order").is_some() {
+        return Err(HekFault::BadArgument);
+    }
+    for name in ["all", "order-out"] {
+        if found.get_str(name).is_some() {
+            return Err(HekFault::BadArgument);
+        }
+    }
+    Ok(())
+}
+
+/// What binds at the levels that the words ask for.
+fn binding_of<'a>(found: &ArgMatches<'a>) -> Result<Binding, HekFault<'a>> {
+    if found.get_flag("sessions") {
+        return Ok(Binding::Sessions);
+    }
+    match order_of(found)? {
+        None | Some(Order::Any) => Ok(Binding::Nothing),
+        Some(Order::Real) => Ok(Binding::RealTime),
+        Some(Order::Versions | Order::Times) => Err(HekFault::BadArgument),
     }
 }
 

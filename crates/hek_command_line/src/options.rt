@@ -27,7 +27,10 @@ pub fn step_of<'a>(found: &ArgMatches<'a>, name: &str) -> Result<Option<u64>, He
 /// How a transaction is cut into moves.
 pub fn form_of<'a>(found: &ArgMatches<'a>) -> Result<Form, HekFault<'a>> {
     match found.get_str("grain") {
-        Some(word) => Form::named(word).ok_or(HekFault::BadArgument),
+        Some(word) => match Form::named(word) {
+            Some(form) => Ok(form),
+            None => Err(HekFault::BadArgument),
+        },
         None if found.get_flag("split") => Ok(Form::Split),
         None => Ok(Form::Whole),
     }
@@ -36,7 +39,10 @@ pub fn form_of<'a>(found: &ArgMatches<'a>) -> Result<Form, HekFault<'a>> {
 /// What of a step the words ask to show.
 pub fn portion_of<'a>(found: &ArgMatches<'a>) -> Result<Portion, HekFault<'a>> {
     match found.get_str("part") {
-        Some(word) => Portion::named(word).ok_or(HekFault::BadArgument),
+        Some(word) => match Portion::named(word) {
+            Some(portion) => Ok(portion),
+            None => Err(HekFault::BadArgument),
+        },
         None => Ok(Portion::Whole),
     }
 }

@@ -139,7 +139,10 @@ fn choice_of<'a>(found: &ArgMatches<'a>, progress: bool) -> Result<Choice<'a>, H
 fn parts_of<'a>(found: &ArgMatches<'a>) -> Result<(u64, u64), HekFault<'a>> {
     match found.get_str("part") {
         None => Ok((1, 1)),
-        Some(word) => part_of(word).ok_or(HekFault::BadArgument),
+        Some(word) => match part_of(word) {
+            Some(part) => Ok(part),
+            None => Err(HekFault::BadArgument),
+        },
     }
 }
 

@@ -5,9 +5,11 @@ ghost use Rattle.hek_report.specs.Files.{ReadFails};
 use crate::disk::{Disk, InputFile, open};
 use crate::opening::{BYTE_ORDER_MARK, Opening, read_opening};
 use crate::options::level_of;
+use crate::programs::plain_file;
 use clap::ArgMatches;
 use hek_permute_command::{auto_file, level_file};
 use hek_report::{HekFault, ScheduleFile, buffered, read_fault, read_text};
+use hek_rules::Level;
 use std::alloc::Global;
 use std::io::{BufReader, Chain, Cursor, Read};
 
@@ -61,8 +63,20 @@ pub fn schedule_file<'a, D: Disk, I: Read + Drop>(
     file_of(alloc, is_text, from_front(front, file), name)
 }
 
+/// The schedule file that the words name, where a program is a fault.
+pub fn plain_schedule<'a, D: Disk, I: Read + Drop>(
+    alloc: Global,
+    found: &ArgMatches<'a>,
+    disk: &D,
+    input: &mut Option<I>,
+) -> Result<ScheduleFile<BufReader<FromFront<I, D::Reader>>>, HekFault<'a>> {
+    let file = schedule_file(alloc, found, disk, input)?;
+    plain_file(alloc, file)
+}
+
 /// The schedule file that the words name, as they ask for it to run: with `--level` all transactions at one level, with
-/// `--auto` with its reads and writes alone, and the steps that begin and end each transaction.
+/// `--auto` with its reads and writes alone, and the steps that begin and end each transaction. Of a program `--auto` makes
+/// a schedule; without it a program is a fault.
 pub fn schedule_to_run<'a, D: Disk, I: Read + Drop>(
     alloc: Global,
     found: &ArgMatches<'a>,
@@ -71,14 +85,36 @@ pub fn schedule_to_run<'a, D: Disk, I: Read + Drop>(
 ) -> Result<ScheduleFile<BufReader<FromFront<I, D::Reader>>>, HekFault<'a>> {
     let level = level_of(found)?;
     let file = schedule_file(alloc, found, disk, input)?;
-    let file = match level {
-        Some(level) => level_file(alloc, file, level)?,
-        None => file,
-    };
     if found.get_flag("auto") {
-        auto_file(alloc, file)
-    } else {
-        Ok(file)
+        return auto_file(alloc, file, level);
+    }
+    level_plain(alloc, plain_file(alloc, file)?, level)
+}
+
+/// As `schedule_to_run`, where a program is always a fault.
+pub fn plain_to_run<'a, D: Disk, I: Read + Drop>(
+    alloc: Global,
+    found: &ArgMatches<'a>,
+    disk: &D,
+    input: &mut Option<I>,
+) -> Result<ScheduleFile<BufReader<FromFront<I, D::Reader>>>, HekFault<'a>> {
+    let level = level_of(found)?;
+    let file = plain_schedule(alloc, found, disk, input)?;
+    if found.get_flag("auto") {
+        return auto_file(alloc, file, level);
+    }
+    level_plain(alloc, file, level)
+}
+
+/// The schedule of a file with all transactions at this level, or at their own.
+fn level_plain<'a, R: Read + Drop>(
+    alloc: Global,
+    file: ScheduleFile<R>,
+    level: Option<Level>,
+) -> Result<ScheduleFile<R>, HekFault<'a>> {
+    match level {
+        Some(level) => level_file(alloc, file, level),
+        None => Ok(file),
     }
 }
 

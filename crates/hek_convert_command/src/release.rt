@@ -17,7 +17,9 @@ pub fn release_command<'a, W: Write>(
 ) -> Result<u8, HekFault<'a>> {
     let word = hex_number(word).ok_or(HekFault::BadArgument)?;
     let waits = number(waits.as_bytes()).ok_or(HekFault::BadArgument)?;
-    let word = EndWord::read(word).ok_or(HekFault::NotAWord)?;
+    let Some(word) = EndWord::read(word) else {
+        return Err(HekFault::NotAWord);
+    };
     let (left, waits) = release_word(word, waits)?;
     let bits = left.bits();
     writeln!(out, "{bits:016X} {waits}").map_err(|_| HekFault::CannotWrite)?;

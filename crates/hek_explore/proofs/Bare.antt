@@ -1,7 +1,7 @@
 -- What of a history does not depend on the times and places in its replies.
-use Rattle.std.proofs.Common.{◌≡◌, ℕ, ◌+◌, true, List, [], ◌∷◌, Option, Some, None, refl, ap, sym, subst, ◌∙◌, map}
+use Rattle.std.proofs.Common.{◌≡◌, ℕ, ◌+◌, true, List, [], ◌∷◌, ◌++◌, Option, Some, None, refl, ap, sym, subst, ◌∙◌, map}
 use Rattle.std.proofs.lemmas.List.Elements.{All-cons, All-head, All-tail}
-use Rattle.std.specs.Prelude.{◌==◌, ◌||◌, not, if◌then◌else◌, option_and_then, option_map}
+use Rattle.std.specs.Prelude.{◌==◌, ◌||◌, nat_lt, not, slice_get, if◌then◌else◌, option_and_then, option_map}
 use Rattle.hek_rules.specs.declared.event.Event.{Event}
 use Rattle.hek_rules.specs.declared.event.Event.TheVariants as event
 use Rattle.hek_rules.specs.declared.reply.Reply.{Reply}
@@ -19,8 +19,9 @@ use Rattle.hek_permute.specs.Outcomes.{is_wait, ends_with, end_in, has_wait}
 use Rattle.hek_permute.specs.declared.play.Place.{Place}
 use Rattle.hek_permute.specs.declared.play.Turn.{Turn}
 use Rattle.hek_permute.specs.declared.play.Turn.TheVariants.{Goes, Asks, Looks, Rests}
-use Rattle.hek_permute.specs.Plays.{Scene, Reaches, seat, due, went, answered, noted, come_to, after_own, after_by}
+use Rattle.hek_permute.specs.Plays.{Scene, Shown, Reaches, seat, due, went, answered, noted, come_to, after_own, after_by, after_step, stage_after, stage_of, step_event}
 use Rattle.hek_explore.specs.Twins.{bare_entry}
+use Rattle.hek_explore.proofs.Known.{KnowAlike, know-more, next-same, after-same}
 
 -- ---- one reply
 wait-bare : (r : Reply) → is_wait (bare_reply r) ≡ is_wait r
@@ -53,49 +54,76 @@ position-bare t work (stage.Stamping cut) n (Left v) = refl
 position-bare t work stage.Ending n Over = refl
 position-bare t work s n r = refl
 
+-- the stage after a reply
+step-bare : (e : Event) (i count : ℕ) (r : Reply) → after_step e i count (bare_reply r) ≡ after_step e i count r
+step-bare e i count (Aborted cause) = refl
+step-bare e i count r = ap (λ c. if c then (if nat_lt i count then Some (stage.Working (i + 1)) else Some stage.Preparing) else None) (answers-bare e r)
+
+stage-bare : (t : ℕ) (s : Shown) (g : Stage) (r : Reply) → stage_after t s g (bare_reply r) ≡ stage_after t s g r
+stage-bare t s (stage.Working i) r = step-bare (step_event t (slice_get s.acts i)) i s.count r
+stage-bare t s stage.Start r = ap (option_map stage_of) (position-bare t [] stage.Start 0 r)
+stage-bare t s stage.Preparing r = ap (option_map stage_of) (position-bare t [] stage.Preparing 0 r)
+stage-bare t s stage.Looking r = ap (option_map stage_of) (position-bare t [] stage.Looking 0 r)
+stage-bare t s stage.GivingUp r = ap (option_map stage_of) (position-bare t [] stage.GivingUp 0 r)
+stage-bare t s (stage.Releasing cut) r = ap (option_map stage_of) (position-bare t [] (stage.Releasing cut) 0 r)
+stage-bare t s stage.Committing r = ap (option_map stage_of) (position-bare t [] stage.Committing 0 r)
+stage-bare t s (stage.Stamping cut) r = ap (option_map stage_of) (position-bare t [] (stage.Stamping cut) 0 r)
+stage-bare t s stage.Ending r = ap (option_map stage_of) (position-bare t [] stage.Ending 0 r)
+stage-bare t s stage.Ended r = refl
+
 -- where a transaction is after a reply
-answered-bare : (form : Form) (i : ℕ) (w : Work) (p : Place) (r : Reply) → answered form i w p (bare_reply r) ≡ answered form i w p r
-answered-bare form i w p r =
-    ap (λ b. if b then Some (record p { waits = true }) else went p (position_after (i + 1) w.events (due form w p) 0 (bare_reply r))) (wait-bare r)
-    ∙ ap (λ o. if is_wait r then Some (record p { waits = true }) else went p o) (position-bare (i + 1) w.events (due form w p) 0 r)
+answered-bare : (form : Form) (i : ℕ) (s : Shown) (p : Place) (r : Reply) → answered form i s p (bare_reply r) ≡ answered form i s p r
+answered-bare form i s p r =
+    ap (λ b. if b then Some (record p { waits = true }) else option_map (went p) (stage_after (i + 1) s (due form s p) (bare_reply r))) (wait-bare r)
+    ∙ ap (λ o. if is_wait r then Some (record p { waits = true }) else option_map (went p) o) (stage-bare (i + 1) s (due form s p) r)
 
-own-by : (form : Form) (i : ℕ) (places : List Place) (turn : Turn) (o : Option (Work × Place)) (r : Reply)
-    → option_and_then (λ (x : Work × Place). option_map (come_to form i places turn x.0) (answered form i x.0 x.1 (bare_reply r))) o
-    ≡ option_and_then (λ (x : Work × Place). option_map (come_to form i places turn x.0) (answered form i x.0 x.1 r)) o
-own-by form i places turn None r = refl
-own-by form i places turn (Some x) r = ap (option_map (come_to form i places turn x.0)) (answered-bare form i x.0 x.1 r)
+here-by : (form : Form) (i : ℕ) (places : List Place) (turn : Turn) (x : Shown × Place) (q : Option (Shown × Place)) (r : Reply)
+    → option_and_then (λ (y : Shown × Place). option_map (come_to form i places turn y.0) (answered form i x.0 x.1 (bare_reply r))) q
+    ≡ option_and_then (λ (y : Shown × Place). option_map (come_to form i places turn y.0) (answered form i x.0 x.1 r)) q
+here-by form i places turn x None r = refl
+here-by form i places turn x (Some y) r = ap (option_map (come_to form i places turn y.0)) (answered-bare form i x.0 x.1 r)
 
-own-bare : (form : Form) (works : List Work) (places : List Place) (i : ℕ) (turn : Turn) (r : Reply) → after_own form works places i turn (bare_reply r) ≡ after_own form works places i turn r
-own-bare form works places i turn r = own-by form i places turn (seat works places i) r
+own-by : (form : Form) (i : ℕ) (places : List Place) (turn : Turn) (o q : Option (Shown × Place)) (r : Reply)
+    → option_and_then (λ (x : Shown × Place). option_and_then (λ (y : Shown × Place). option_map (come_to form i places turn y.0) (answered form i x.0 x.1 (bare_reply r))) q) o
+    ≡ option_and_then (λ (x : Shown × Place). option_and_then (λ (y : Shown × Place). option_map (come_to form i places turn y.0) (answered form i x.0 x.1 r)) q) o
+own-by form i places turn None q r = refl
+own-by form i places turn (Some x) q r = here-by form i places turn x q r
 
-looked-bare : (form : Form) (works : List Work) (places : List Place) (r : Reply) → after_by form works places Looks (bare_reply r) ≡ after_by form works places Looks r
-looked-bare form works places (Began time) = refl
-looked-bare form works places r = refl
+own-bare : (form : Form) (works : List Work) (old new : List Entry) (places : List Place) (i : ℕ) (turn : Turn) (r : Reply)
+    → after_own form works old new places i turn (bare_reply r) ≡ after_own form works old new places i turn r
+own-bare form works old new places i turn r = own-by form i places turn (seat works old places i) (seat works new places i) r
 
-by-bare : (form : Form) (works : List Work) (places : List Place) (turn : Turn) (r : Reply) → after_by form works places turn (bare_reply r) ≡ after_by form works places turn r
-by-bare form works places (Goes i) r = own-bare form works places i (Goes i) r
-by-bare form works places (Asks i but got_on) r =
-    own-bare form works places i (noted (Asks i but got_on) (bare_reply r)) r
-    ∙ ap (λ b. after_own form works places i (Asks i but (got_on || not b)) r) (wait-bare r)
-by-bare form works places Looks r = looked-bare form works places r
-by-bare form works places Rests r = refl
+looked-bare : (form : Form) (works : List Work) (old new : List Entry) (places : List Place) (r : Reply) → after_by form works old new places Looks (bare_reply r) ≡ after_by form works old new places Looks r
+looked-bare form works old new places (Began time) = refl
+looked-bare form works old new places r = refl
+
+by-bare : (form : Form) (works : List Work) (old new : List Entry) (places : List Place) (turn : Turn) (r : Reply) → after_by form works old new places turn (bare_reply r) ≡ after_by form works old new places turn r
+by-bare form works old new places (Goes i) r = own-bare form works old new places i (Goes i) r
+by-bare form works old new places (Asks i but got_on) r =
+    own-bare form works old new places i (noted (Asks i but got_on) (bare_reply r)) r
+    ∙ ap (λ b. after_own form works old new places i (Asks i but (got_on || not b)) r) (wait-bare r)
+by-bare form works old new places Looks r = looked-bare form works old new places r
+by-bare form works old new places Rests r = refl
 
 -- ---- histories without times and places
--- entries that are equal but for times and places lead the same way
-pub reach-same : (form : Form) (works : List Work) (t : ℕ) (s z : Scene) (xs ys : List Entry) → map bare_entry xs ≡ map bare_entry ys → Reaches form works t s xs z
-    → Reaches form works t s ys z
-reach-same form works t s z [] [] e h = h
-reach-same form works t s z [] (y ∷ ys) e h = absurd (cc)
-reach-same form works t s z (x ∷ xs) [] e h = absurd (cc)
-reach-same form works t s z (x ∷ xs) (y ∷ ys) e h =
+-- entries that are equal but for times and places lead the same way, if the transactions know the same before
+pub reach-same : (form : Form) (works : List Work) (t : ℕ) (h k : List Entry) (s z : Scene) (xs ys : List Entry) → map bare_entry xs ≡ map bare_entry ys → KnowAlike h k
+    → Reaches form works t h s xs z → Reaches form works t k s ys z
+reach-same form works t h k s z [] [] e know so = so
+reach-same form works t h k s z [] (y ∷ ys) e know so = absurd (cc)
+reach-same form works t h k s z (x ∷ xs) [] e know so = absurd (cc)
+reach-same form works t h k s z (x ∷ xs) (y ∷ ys) e know so =
     let head : bare_entry x ≡ bare_entry y = cc in
     let tail : map bare_entry xs ≡ map bare_entry ys = cc in
     let made : ◌≡◌ {A = ℕ × Event} (x.worker, x.event) (y.worker, y.event) = ap (λ (q : Entry). (q.worker, q.event)) head in
-    let bare : bare_reply x.reply ≡ bare_reply y.reply = ap (λ (q : Entry). q.reply) head in (
-      h.0 ∙ ap (λ (q : ℕ × Event). Some q) made,
-      h.1,
-      sym (by-bare form works s.places s.turn y.reply) ∙ sym (ap (after_by form works s.places s.turn) bare) ∙ by-bare form works s.places s.turn x.reply ∙ h.2,
-      reach-same form works t h.1 z xs ys tail h.3,
+    let bare : bare_reply x.reply ≡ bare_reply y.reply = ap (λ (q : Entry). q.reply) head in
+    let now_alike : KnowAlike (h ++ x ∷ []) (k ++ y ∷ []) = know-more h k x y know head in (
+      sym (next-same form works t h k s.places s.turn know) ∙ so.0 ∙ ap (λ (q : ℕ × Event). Some q) made,
+      so.1,
+      sym (by-bare form works k (k ++ y ∷ []) s.places s.turn y.reply) ∙ sym (ap (after_by form works k (k ++ y ∷ []) s.places s.turn) bare)
+          ∙ by-bare form works k (k ++ y ∷ []) s.places s.turn x.reply
+          ∙ sym (after-same form works h k (h ++ x ∷ []) (k ++ y ∷ []) s.places s.turn x.reply know now_alike) ∙ so.2,
+      reach-same form works t (h ++ x ∷ []) (k ++ y ∷ []) so.1 z xs ys tail now_alike so.3,
     )
 
 end-bare : (t : ℕ) (xs : List Entry) → end_in t (map bare_entry xs) ≡ end_in t xs

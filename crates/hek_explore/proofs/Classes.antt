@@ -14,7 +14,7 @@ use Rattle.hek_worker.specs.History.{Replays}
 use Rattle.hek_permute.specs.declared.moves.Form.{Form}
 use Rattle.hek_permute.specs.declared.play.Place.{Place}
 use Rattle.hek_permute.specs.Found.{Found}
-use Rattle.hek_permute.specs.Moves.{Work, AreMoves}
+use Rattle.hek_permute.specs.Moves.{Work}
 use Rattle.hek_permute.specs.Numbers.{orders_of}
 use Rattle.hek_permute.specs.Orders.{IsAmong, IsBelow}
 use Rattle.hek_permute.specs.Outcomes.{IsOutcomeOf}
@@ -22,7 +22,7 @@ use Rattle.hek_permute.specs.Plays.{HasMoved, first_place}
 use Rattle.hek_explore.specs.Counts.{AreLike, Group, HasLike, IsBefore, IsGrown, IsJoined, IsPut, IsReplayed, IsStart, IsTried, joined}
 use Rattle.hek_explore.specs.Deals.{DealsClasses, FitsClass, IsExtended, IsNextLayer, Measure, left_of, weigh}
 use Rattle.hek_explore.specs.Keys.{Shape, shape_of}
-use Rattle.hek_explore.specs.Steps.{EndsWith, HasKey, LeadsBy}
+use Rattle.hek_explore.specs.Steps.{AreRuled, EndsWith, HasKey, LeadsBy}
 use Rattle.hek_permute.proofs.Begun.{among_append}
 use Rattle.hek_explore.proofs.Counting.{deals-alike, deals-push, deals-set, HasExtended, extended-none, extended-skip, extended-more, IsDealt, IsPassed, passed-none, passed-more, passed-all}
 use Rattle.hek_explore.proofs.Steps.{first-key, last-key, leads}
@@ -246,7 +246,7 @@ put-in (Ok x) old items c place was now is like at made =
 put-in (Err e) old items c place was now is like at made = tt
 
 -- a move of a class's first beginning leads from its key to another
-pub grown-leads : (p q r : Plan) (form : Form) (works : List Work) (g : Group) (t : ℕ) (places later : List Place) (h now : List Entry) (m : Engine) (key : Shape) → AreMoves p works
+pub grown-leads : (p q r : Plan) (form : Form) (works : List Work) (g : Group) (t : ℕ) (places later : List Place) (h now : List Entry) (m : Engine) (key : Shape) → AreRuled p works
     → IsReplayed p form works g q places h → r ≡ q → HasMoved form works t places h later now → key ≡ shape_of r later now → Replays r m now
     → LeadsBy p form works t g.key key (length now)
 grown-leads p q r form works g t places later h now m key are so same moved is replays =
@@ -257,7 +257,7 @@ grown-leads p q r form works g t places later h now m key are so same moved is r
     subst (λ (k : Shape). LeadsBy p form works t k key (length now)) so.key (subst (λ (k : Shape). LeadsBy p form works t (shape_of p places h) k (length now)) (sym here) one)
 
 -- the key of the play without moves
-pub start-key : (p q : Plan) (form : Form) (works : List Work) (places : List Place) (h : List Entry) (m : Engine) (key : Shape) → AreMoves p works → q ≡ p
+pub start-key : (p q : Plan) (form : Form) (works : List Work) (places : List Place) (h : List Entry) (m : Engine) (key : Shape) → AreRuled p works → q ≡ p
     → places ≡ replicate (length works) first_place → h ≡ [] → key ≡ shape_of q places h → Replays q m h → HasKey p form works [] key 0
 start-key p q form works places h m key are own first none is replays =
     let one : HasKey p form works [] (shape_of p places h) 0 =
@@ -265,7 +265,7 @@ start-key p q form works places h m key are own first none is replays =
     subst (λ (k : Shape). HasKey p form works [] k 0) (sym (is ∙ ap (λ (x : Plan). shape_of x places h) own)) one
 
 -- the outcome of a class's orders
-pub class-ends : (p q : Plan) (form : Form) (works : List Work) (g : Group) (places : List Place) (h now : List Entry) (m : Engine) (o : Found) → AreMoves p works
+pub class-ends : (p q : Plan) (form : Form) (works : List Work) (g : Group) (places : List Place) (h now : List Entry) (m : Engine) (o : Found) → AreRuled p works
     → IsReplayed p form works g q places h → Replays q m h → now ≡ h → IsOutcomeOf p now o → EndsWith p form works g.key o
 class-ends p q form works g places h now m o are so replays same outcome =
     let one : EndsWith p form works (shape_of p places h) o =

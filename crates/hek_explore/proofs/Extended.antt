@@ -25,6 +25,7 @@ use Rattle.hek_permute.specs.Plays.{HasMoved, SetsOff}
 use Rattle.hek_explore.specs.Groups.{group_in}
 use Rattle.hek_explore.specs.Twins.{world_after, steps_in, bare_entry, HasPlayed, AreTwins}
 use Rattle.hek_explore.specs.Laws.{PlaysExtendAlike}
+use Rattle.hek_explore.proofs.Known.{KnowAlike, know-told, next-same, comes-same}
 use Rattle.hek_explore.proofs.Bare.{reach-same, ends-same, waits-same, formed-same}
 use Rattle.hek_permute.proofs.RunReplies.{events-append, told, told-after}
 use Rattle.hek_explore.proofs.Grown.{ends-grow, waits-grow, steps-append, All-right, run-on, steps-told, told-both, retold, retold-events, retold-length, retold-replies, retold-same, clock-run}
@@ -119,10 +120,22 @@ module _ (p : Plan) (form : Form) (works : List Work) (past others : List ℕ) (
       (told-go_on_alike (group_in p) (world_after p h) (world_after p k) (steps_in h) (steps_in k) (history_events moved.more) twins.worlds (world-reachable p h plan first.placed)
       (world-reachable p k plan other.placed) placed-now scans-now some-left left-anew twins.told))
 
-  sets-off-anew : SetsOff form works t places anew later
+  know : KnowAlike h k
+  know = know-told h k twins.told
+
+  know-now : KnowAlike (h ++ moved.more) (k ++ anew)
+  know-now = know-told (h ++ moved.more) (k ++ anew) told-anew
+
+  sets-off-anew : SetsOff form works t k places anew later
   sets-off-anew =
-      let o : SetsOff form works t places moved.more later = moved.set_off in
-      (o.0, o.1, o.2, reach-same form works t o.0 o.1 moved.more anew same-more o.3, o.4, o.5)
+      let o : SetsOff form works t h places moved.more later = moved.set_off in (
+        o.0,
+        o.1,
+        sym (comes-same form works h k places t know) ∙ o.2,
+        reach-same form works t h k o.0 o.1 moved.more anew same-more know o.3,
+        sym (next-same form works t (h ++ moved.more) (k ++ anew) o.1.places o.1.turn know-now) ∙ o.4,
+        o.5,
+      )
 
   played-anew : HasPlayed p form works (t ∷ others) later (k ++ anew)
   played-anew = record {

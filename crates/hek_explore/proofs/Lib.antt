@@ -1,3 +1,4 @@
+pub mod Known
 pub mod Bare
 pub mod Equal
 pub mod Grown

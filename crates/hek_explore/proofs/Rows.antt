@@ -9,12 +9,12 @@ use Rattle.std.specs.Prelude.{◌⊎◌, cond, count_by, if◌then◌else◌, sl
 use Rattle.hek_rules.specs.Plan.{Plan}
 use Rattle.hek_permute.specs.declared.moves.Form.{Form}
 use Rattle.hek_permute.specs.Found.{Found, IsSame, Line}
-use Rattle.hek_permute.specs.Moves.{Work, AreMoves, counts_of}
+use Rattle.hek_permute.specs.Moves.{Work, counts_of}
 use Rattle.hek_permute.specs.Numbers.{all_orders, orders_of}
 use Rattle.hek_permute.specs.Orders.{IsAmong, IsBelow}
 use Rattle.hek_permute.proofs.Begun.{among_append}
 use Rattle.hek_permute.specs.Tallies.{AreNoted, many_more, row_for, total}
-use Rattle.hek_explore.specs.Counts.{AreApart, AreCountedOut, AreOf, Group, HasOutcome, IsAhead, IsBefore, IsCensus, IsStart, orders_in, weight_in}
+use Rattle.hek_explore.specs.Counts.{AreApart, AreCountedOut, AreOf, Group, HasOutcome, IsAhead, IsBefore, IsCensusOf, IsStart, orders_in, weight_in}
 use Rattle.hek_explore.specs.Deals.{DealsClasses, DealsRows, FitsClass, FitsRow, IsTallied, Measure, left_of, no_moves, weigh}
 use Rattle.hek_explore.specs.Keys.{Shape}
 use Rattle.hek_explore.specs.Steps.{EndsWith, HasKey}
@@ -323,11 +323,9 @@ walked-first p form works most done left g layer counts all none start is n e =
     (deals-alike left_of (FitsClass p form works) n (g ∷ []) (λ f. weigh f (orders_of n left) ([] ∷ [])) (λ f. weigh f (all_orders (counts_of form works)) ([] ∷ [])) one
     (λ f. ap (λ (m : ℕ). weigh f (orders_of m (counts_of form works)) ([] ∷ [])) (sym moves) ∙ ap (λ (l : List ℕ). weigh f (orders_of n l) ([] ∷ [])) (sym counts)))
 
-pub walked-all : (p : Plan) (form : Form) (works : List Work) (most done : ℕ) (layer : List Group) (rows : List Line) → AreMoves p works → done ≡ most → IsWalked p form works most done layer
-    → IsTallied p form works layer rows → IsCensus p form rows
-walked-all p form works most done layer rows are over was tallied = record {
-  moves = works;
-  are = are;
+pub walked-all : (p : Plan) (form : Form) (works : List Work) (most done : ℕ) (layer : List Group) (rows : List Line) → done ≡ most → IsWalked p form works most done layer
+    → IsTallied p form works layer rows → IsCensusOf p form works rows
+walked-all p form works most done layer rows over was tallied = record {
   counted = counted-out p form works (all_orders (counts_of form works)) rows
       (tallied.dealt (λ f. weigh f (all_orders (counts_of form works)) ([] ∷ [])) (was 0 (omega (arith, over))));
   count = count-out p form works (all_orders (counts_of form works)) rows

@@ -3,6 +3,7 @@ use Rattle.std.specs.List.{All}
 use Rattle.std.specs.Prelude.{ℕ, suc, ◌≡◌, ◌+◌, ◌<◌, ◌⊎◌, nat_lt, if◌then◌else◌, List, [], ◌∷◌, ◌++◌, Some, count_by, length, map, reverse, slice_get, slice_set, slice_index, sum_by}
 use Rattle.hek_rules.specs.Checks.{clock_end}
 use Rattle.hek_rules.specs.Plan.{Plan}
+use Rattle.hek_program.specs.declared.rule.Rule.{Rule}
 use Rattle.hek_worker.specs.declared.entry.Entry.{Entry}
 use Rattle.hek_permute.specs.declared.moves.Form.{Form}
 use Rattle.hek_permute.specs.declared.play.Place.{Place}
@@ -49,13 +50,17 @@ pub record AreCountedOut (p : Plan) (form : Form) (works : List Work) (orders : 
 abbrev pub AreApart : List Line → Type 0
 AreApart rows = (i j : ℕ) (r s : Line) → i < j → slice_get rows i ≡ Some r → slice_get rows j ≡ Some s → IsSame r.outcome s.outcome → ⊥
 
--- all orders of a schedule's moves, counted by their outcomes
-pub record IsCensus (p : Plan) (form : Form) (rows : List Line) : Type 0 where
-  pub moves : List Work
-  pub are : AreMoves p moves
+-- all orders of these moves, counted by their outcomes
+pub record IsCensusOf (p : Plan) (form : Form) (moves : List Work) (rows : List Line) : Type 0 where
   pub counted : AreCountedOut p form moves (all_orders (counts_of form moves)) rows
   pub count : total rows ≡ order_total (counts_of form moves)
   pub apart : AreApart rows
+
+-- all orders of the moves of a schedule whose steps have these rules, counted by their outcomes
+pub record IsCensus (p : Plan) (rules : List Rule) (form : Form) (rows : List Line) : Type 0 where
+  pub moves : List Work
+  pub are : AreMoves p rules moves
+  pub all : IsCensusOf p form moves rows
 
 -- ---- how it is counted
 

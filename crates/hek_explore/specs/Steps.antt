@@ -2,14 +2,20 @@
 use Rattle.std.specs.Prelude.{ℕ, ◌≡◌, ◌+◌, ◌<◌, ◌≤◌, List, ◌∷◌, length, reverse}
 use Rattle.hek_rules.specs.Checks.{clock_end}
 use Rattle.hek_rules.specs.Plan.{Plan}
+use Rattle.hek_program.specs.declared.rule.Rule.{Rule}
 use Rattle.hek_worker.specs.declared.entry.Entry.{Entry}
 use Rattle.hek_permute.specs.declared.moves.Form.{Form}
 use Rattle.hek_permute.specs.declared.play.Place.{Place}
 use Rattle.hek_permute.specs.Found.{Found}
-use Rattle.hek_permute.specs.Moves.{Work}
+use Rattle.hek_permute.specs.Moves.{Work, AreMoves}
 use Rattle.hek_permute.specs.Tallies.{IsPlayed}
 use Rattle.hek_explore.specs.Keys.{Shape, shape_of}
 use Rattle.hek_explore.specs.Twins.{HasPlayed}
+
+-- the moves are those of a schedule's transactions, by some rules of its steps
+pub record AreRuled (p : Plan) (works : List Work) : Type 0 where
+  pub rules : List Rule
+  pub are : AreMoves p rules works
 
 -- a play of these moves has the key, and no more events than this
 pub record HasKey (p : Plan) (form : Form) (works : List Work) (past : List ℕ) (key : Shape) (longest : ℕ) : Type 0 where

@@ -1,9 +1,9 @@
 //! All orders of a schedule's moves at once: beginnings whose plays go on alike are merged.
 ghost use Rattle.std.specs.Prelude.{◌≡◌, ◌+◌, ◌<◌, [], ◌∷◌, IfOk, IfSome, OnOk, length, reverse, slice_index};
-ghost use Rattle.hek_explore.specs.Counts.{Group, IsCensus, IsFewer, IsGrown, IsReplayed, IsStart, IsTried};
+ghost use Rattle.hek_explore.specs.Counts.{Group, IsCensus, IsCensusOf, IsFewer, IsGrown, IsReplayed, IsStart, IsTried};
 ghost use Rattle.hek_explore.specs.Deals.{IsExtended, IsNextLayer, IsTallied};
-ghost use Rattle.hek_explore.specs.Steps.{EndsWith, HasKey, LeadsBy};
-ghost use Rattle.hek_permute.specs.Moves.{AreMoves, counts_of};
+ghost use Rattle.hek_explore.specs.Steps.{AreRuled, EndsWith, HasKey, LeadsBy};
+ghost use Rattle.hek_permute.specs.Moves.{counts_of};
 ghost use Rattle.hek_permute.specs.Plays.{HasMoved, Plays};
 
 use crate::class::{Class, Layer};
@@ -14,6 +14,7 @@ use hek_permute::{
     Form, Moves, OrderFault, Outcome, Place, Play, Tally, first_places, make_move, move_count,
     moves_of, outcome_of,
 };
+use hek_program::Rule;
 use hek_rules::{Schedule, TxnId};
 use hek_worker::Book;
 use std::alloc::Global;
@@ -27,14 +28,15 @@ const MOST_EVENTS: u64 = 1 << 60;
 pub fn explore<S: Survey>(
     alloc: Global,
     schedule: &Schedule,
+    rules: &[Rule],
     form: Form,
     limit: u64,
     survey: &mut S,
 ) -> Result<Option<Tally>, OrderFault>
-    ensures { IfOk result (λ found. IfSome found (IsCensus schedule.now form)) }
+    ensures { IfOk result (λ found. IfSome found (IsCensus schedule.now rules.now form)) }
 {
     let grouped = Grouped::of(alloc, schedule)?;
-    let moves = moves_of(alloc, schedule)?;
+    let moves = moves_of(alloc, schedule, rules)?;
     explore_moves(alloc, &grouped, moves.as_slice(), form, limit, survey)
 }
 
@@ -47,8 +49,8 @@ fn explore_moves<S: Survey>(
     limit: u64,
     survey: &mut S,
 ) -> Result<Option<Tally>, OrderFault>
-    requires { AreMoves schedule.now moves.now }
-    ensures { IfOk result (λ found. IfSome found (IsCensus schedule.now form)) }
+    requires { AreRuled schedule.now moves.now }
+    ensures { IfOk result (λ found. IfSome found (IsCensusOf schedule.now form moves.now)) }
 {
     let left = counts_of(alloc, moves, form)?;
     let Some(most) = sum_of(left.as_slice()) else {
@@ -103,7 +105,7 @@ fn first_layer(
     form: Form,
     left: Vec<u64>,
 ) -> Result<Layer, OrderFault>
-    requires { AreMoves schedule.now moves.now }
+    requires { AreRuled schedule.now moves.now }
     ensures { IfOk result (λ layer. (g : Group) × IsStart schedule.now form moves.now left.items g × (layer ≡ g ∷ [])) }
 {
     let mut layer = Layer::new(alloc)?;
@@ -118,7 +120,7 @@ fn start(
     form: Form,
     left: Vec<u64>,
 ) -> Result<Class, OrderFault>
-    requires { AreMoves schedule.now moves.now }
+    requires { AreRuled schedule.now moves.now }
     ensures { IfOk result (IsStart schedule.now form moves.now left.items) }
 {
     let key = first_key(alloc, schedule, moves)?;
@@ -133,7 +135,7 @@ fn start(
 
 /// The key of the play without moves.
 fn first_key(alloc: Global, schedule: &Grouped<'_>, moves: &[Moves]) -> Result<Key, OrderFault>
-    requires { AreMoves schedule.now moves.now }
+    requires { AreRuled schedule.now moves.now }
     ensures { IfOk result (λ key. (form : Form) → HasKey schedule.now form moves.now [] key 0) }
 {
     let book = Book::load(alloc, schedule.schedule())?;
@@ -153,7 +155,7 @@ fn next_layer<S: Survey>(
     room: u64,
     survey: &mut S,
 ) -> Result<Option<Layer>, OrderFault>
-    requires { AreMoves schedule.now moves.now }
+    requires { AreRuled schedule.now moves.now }
     ensures { IfOk result (λ found. IfSome found (IsNextLayer schedule.now form moves.now layer.now)) }
 {
     let mut next = Layer::new(alloc)?;
@@ -178,7 +180,7 @@ fn extend<S: Survey>(
     next: &mut Layer,
     survey: &mut S,
 ) -> Result<(), OrderFault>
-    requires { AreMoves schedule.now moves.now }
+    requires { AreRuled schedule.now moves.now }
     ensures { OnOk result (IsExtended schedule.now form moves.now class.now next.old next.new) }
 {
     let left = class.left();
@@ -199,7 +201,7 @@ fn try_one<S: Survey>(
     next: &mut Layer,
     survey: &mut S,
 ) -> Result<(), OrderFault>
-    requires are { AreMoves schedule.now moves.now }
+    requires are { AreRuled schedule.now moves.now }
     requires place_in { place < length class.now.left }
     ensures { OnOk result (IsTried schedule.now form moves.now class.now place next.old next.new) }
 {
@@ -221,7 +223,7 @@ fn grow(
     class: &Class,
     place: usize,
 ) -> Result<Class, OrderFault>
-    requires are { AreMoves schedule.now moves.now }
+    requires are { AreRuled schedule.now moves.now }
     requires place_in { place < length class.now.left }
     requires has_moves { 0 < slice_index class.now.left place }
     ensures { IfOk result (IsGrown schedule.now form moves.now class.now place) }
@@ -264,7 +266,7 @@ fn lead(
     class: &Class,
     mover: TxnId,
 ) -> Result<(Key, usize), OrderFault>
-    requires { AreMoves schedule.now moves.now }
+    requires { AreRuled schedule.now moves.now }
     ensures { IfOk result (λ r. LeadsBy schedule.now form moves.now mover class.now.key r.0 r.1) }
 {
     let (mut book, mut places) = replay(alloc, schedule, moves, form, class)?;
@@ -295,7 +297,7 @@ fn replay<'a>(
     form: Form,
     class: &Class,
 ) -> Result<(Book<'a>, Vec<Place>), OrderFault>
-    requires { AreMoves schedule.now moves.now }
+    requires { AreRuled schedule.now moves.now }
     ensures { IfOk result (λ r. IsReplayed schedule.now form moves.now class.now r.0.plan r.1.items r.0.history) }
 {
     let (book, places) = play_from(alloc, schedule, moves, form, class.first())?;
@@ -347,7 +349,7 @@ fn tally_of(
     form: Form,
     layer: &Layer,
 ) -> Result<Tally, OrderFault>
-    requires { AreMoves schedule.now moves.now }
+    requires { AreRuled schedule.now moves.now }
     ensures { IfOk result (IsTallied schedule.now form moves.now layer.now) }
 {
     let mut tally = Tally::new(alloc);
@@ -369,7 +371,7 @@ fn outcome_in(
     form: Form,
     class: &Class,
 ) -> Result<Outcome, OrderFault>
-    requires { AreMoves schedule.now moves.now }
+    requires { AreRuled schedule.now moves.now }
     ensures { IfOk result (EndsWith schedule.now form moves.now class.now.key) }
 {
     let (book, _places) = replay(alloc, schedule, moves, form, class)?;

@@ -11,7 +11,7 @@ use crate::forgetting::{forget_answer, forget_answers};
 use crate::order_lines::write_order;
 use crate::twins::have_both;
 use crate::{verdict_json, verdict_text};
-use hek_history::{History, Level, Order, Point, Step, Writer};
+use hek_history::{History, Level, Order, Point, Step, Writer, is_explanation};
 use hek_history_log::{Log, LogFault, read_log_watching};
 use hek_history_report::turn;
 use hek_history_search::{
@@ -153,9 +153,32 @@ fn judged(
     ensures right { IfOk result (λ found. IsStatus history.now order found.1) }
 {
     let found = judge(alloc, history, order, EFFORT)?;
+    let found = by_times(alloc, history, order, found)?;
     let verdict = without_twins(alloc, history, twins, order, found)?;
     let status = status_of(&verdict);
     Ok((verdict, status))
+}
+
+/// A verdict on a history. Where the search in the order of versions ends without an answer, an order by times is looked for:
+/// there are fewer, so one may be found sooner.
+fn by_times(
+    alloc: Global,
+    history: &History,
+    order: Order,
+    verdict: Verdict,
+) -> Result<Verdict, NoMemory>
+    requires right { IsVerdict history.now order verdict }
+    ensures right { IfOk result (λ kept. IsVerdict history.now order kept) }
+{
+    if order != Order::Versions || !matches!(verdict, Verdict::Unknown(_)) {
+        return Ok(verdict);
+    }
+    if let Verdict::Serial(points) = judge(alloc, history, Order::Times, EFFORT)? {
+        if is_explanation(alloc, history, order, points.as_slice())? {
+            return Ok(Verdict::Serial(points));
+        }
+    }
+    Ok(verdict)
 }
 
 /// A verdict on a history; unknown, if two that are one transaction take place both.

@@ -121,6 +121,7 @@ pub enum Wanted {
     EndAfterBegin,
     /// A transaction isn't answered before it is invoked.
     AnsweredAfterInvoked,
+    Session,
     Operations,
     Operation,
     Read,
@@ -147,7 +148,7 @@ impl Wanted {
                 r#""txn", or on the first line "rows", "buckets", "note" or a name that begins with x- alone"#
             }
             Wanted::Member => {
-                r#"one of "txn", "level", "status", "begin", "end", "at", "ops", "note" or a name that begins with x-"#
+                r#"one of "txn", "level", "status", "begin", "end", "at", "session", "ops", "note" or a name that begins with x-"#
             }
             Wanted::Once => "each member once",
             Wanted::EndAfterBegin => r#""end" not before "begin""#,
@@ -163,6 +164,9 @@ impl Wanted {
             Wanted::Status => r#""status", one of "committed", "aborted", "unknown""#,
             Wanted::Time => r#""begin" and "end", numbers below 2^64"#,
             Wanted::Interval => r#""at", an array [INVOKED, ANSWERED] of numbers"#,
+            Wanted::Session => {
+                r#""session", a text or a number below 2^64, or an array [NAME, NUMBER] of such a name and a number below 2^64"#
+            }
             Wanted::Operations => r#""ops", an array of operations"#,
             Wanted::Operation => {
                 r#"an array that begins with "read", "write", "insert", "update", "delete", "scan" or "range""#

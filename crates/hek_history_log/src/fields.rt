@@ -1,6 +1,8 @@
 //! The fields of a line.
 use crate::fault::{LogFault, Wanted};
 use crate::log_line::LogLine;
+use crate::logged::Turn;
+use crate::numbering::Labels;
 use crate::shown::Label;
 use crate::spot::Spot;
 use crate::symbols::{Symbols, label_of};
@@ -18,8 +20,8 @@ const STATUSES: [(&str, Status); 3] = [
 /// them.
 pub const OPENING_MEMBERS: [&str; 3] = ["rows", "buckets", "note"];
 
-pub const MEMBERS: [&str; 8] = [
-    "txn", "level", "status", "begin", "end", "at", "ops", "note",
+pub const MEMBERS: [&str; 9] = [
+    "txn", "level", "status", "begin", "end", "at", "session", "ops", "note",
 ];
 
 /// How the name of a member begins that a log may have beside the others.
@@ -169,6 +171,36 @@ pub(crate) fn interval_of(
         }
     }
     Err(line.wants(Spot::Field("at"), Wanted::Interval))
+}
+
+/// The turn of a transaction in its session, if it is of one: without a number that of its line.
+pub(crate) fn turn_of(
+    alloc: Global,
+    line: LogLine<'_>,
+    object: &Value<'_>,
+    sessions: &mut Labels,
+) -> Result<Option<Turn>, LogFault> {
+    let Some(value) = object.get("session") else {
+        return Ok(None);
+    };
+    match turn_in(line.number, value) {
+        Some((name, number)) => Ok(Some(Turn {
+            session: sessions.number_of(alloc, name)?,
+            number,
+        })),
+        None => Err(line.wants(Spot::Field("session"), Wanted::Session)),
+    }
+}
+
+/// The name of a session, and a number in it: one that is given, or else this one.
+fn turn_in<'a>(number: u64, value: &Value<'a>) -> Option<(Label<'a>, u64)> {
+    if let Value::Array(items) = value {
+        let [name, number] = items.as_slice() else {
+            return None;
+        };
+        return Some((label_of(name)?, number.as_u64()?));
+    }
+    Some((label_of(value)?, number))
 }
 
 /// The number of buckets, if it is given.

@@ -5,6 +5,7 @@ ghost use Rattle.hek_history_log.specs.declared.shown.Label.TheVariants.{Number}
 use crate::numbering::Labels;
 use crate::shown::Label;
 use hek_history::History;
+use hek_rules::NoMemory;
 use std::alloc::Global;
 
 /// A history, with the names, keys and values that its numbers stand for.
@@ -16,13 +17,29 @@ pub struct Log {
     pub(crate) values: Labels,
 }
 
-/// The names of transactions. `named` has the number of each one's name, and `twins` the pairs of transactions that are
-/// one in the log.
+/// A place in a session: the number that stands for its name, and the number of the place.
+#[derive(Clone, Copy, Debug, PartialEq, Eq)]
+pub struct Turn {
+    pub session: u64,
+    pub number: u64,
+}
+
+/// Who a transaction is: the number that stands for its name, and its turn if it is of a session.
+#[derive(Clone, Copy)]
+pub(crate) struct Identity {
+    pub name: u64,
+    pub turn: Option<Turn>,
+}
+
+/// The names of transactions and of sessions. `named` has the number of each transaction's name, and `twins` the pairs of
+/// transactions that are one in the log. `turns` has each one's turn, up to the last that is of a session.
 #[derive(Drop)]
 pub(crate) struct Names {
     pub labels: Labels,
     pub named: Vec<u64>,
     pub twins: Vec<(usize, usize)>,
+    pub sessions: Labels,
+    pub turns: Vec<Option<Turn>>,
 }
 
 impl Names {
@@ -32,7 +49,21 @@ impl Names {
             labels: Labels::new(alloc),
             named: Vec::new(alloc),
             twins: Vec::new(alloc),
+            sessions: Labels::new(alloc),
+            turns: Vec::new(alloc),
         }
+    }
+
+    /// Adds who the next transaction is.
+    pub(crate) fn add(&mut self, who: Identity) -> Result<(), NoMemory> {
+        if who.turn.is_some() {
+            for _ in self.turns.len()..self.named.len() {
+                self.turns.push(None)?;
+            }
+            self.turns.push(who.turn)?;
+        }
+        self.named.push(who.name)?;
+        Ok(())
     }
 }
 
@@ -58,6 +89,25 @@ impl Log {
     /// two has one of the answers. At most one of them takes place.
     pub fn twins(&self) -> &[(usize, usize)] {
         self.names.twins.as_slice()
+    }
+
+    /// Where in a session the transaction at a place of the history is, if it is in one. Its number is that of its line
+    /// where the log gives none.
+    pub fn turn(&self, transaction: usize) -> Option<Turn> {
+        match self.names.turns.get(transaction) {
+            Some(turn) => *turn,
+            None => None,
+        }
+    }
+
+    /// Whether a transaction of the log is in a session.
+    pub fn has_sessions(&self) -> bool {
+        !self.names.turns.is_empty()
+    }
+
+    /// The name of the session that a number of a turn stands for.
+    pub fn session(&self, number: u64) -> Label<'_> {
+        self.names.sessions.label(number)
     }
 
     /// The key with a number of the history.

@@ -2,11 +2,11 @@
 use crate::fault::{LogFault, Wanted};
 use crate::fields::{
     MEMBERS, OPENING_MEMBERS, buckets_of, check_members, interval_of, level_of, name_of, read_rows,
-    status_of, times_of,
+    status_of, times_of, turn_of,
 };
 use crate::finish::finish;
 use crate::log_line::LogLine;
-use crate::logged::{Log, Names};
+use crate::logged::{Identity, Log, Names};
 use crate::operations::{lacks_answer, read_operations};
 use crate::shown::Label;
 use crate::spot::{Spot, column_of};
@@ -169,8 +169,11 @@ fn add_object(
     }
     let name = name_of(line, object)?;
     check_members(line, members, &MEMBERS, Wanted::Member)?;
-    let number = add_name(alloc, line, name, draft)?;
-    add_transaction(alloc, line, object, number, draft)
+    let who = Identity {
+        name: add_name(alloc, line, name, draft)?,
+        turn: turn_of(alloc, line, object, &mut draft.names.sessions)?,
+    };
+    add_transaction(alloc, line, object, who, draft)
 }
 
 /// The object that a line is.
@@ -245,16 +248,16 @@ fn add_transaction(
     alloc: Global,
     line: LogLine<'_>,
     object: &Value<'_>,
-    name: u64,
+    who: Identity,
     draft: &mut Draft,
 ) -> Result<(), LogFault> {
     let status = status_of(line, object)?;
     let is_unknown = status == Status::Unknown;
     let lacking = if is_unknown { Some(true) } else { None };
-    add_one(alloc, line, object, lacking, name, draft)?;
+    add_one(alloc, line, object, lacking, who, draft)?;
     if is_unknown && lacks_answer(object) {
         let place = draft.history.transactions.len();
-        add_one(alloc, line, object, Some(false), name, draft)?;
+        add_one(alloc, line, object, Some(false), who, draft)?;
         draft.names.twins.push((place.saturating_sub(1), place))?;
     }
     Ok(())
@@ -265,13 +268,12 @@ fn add_one(
     line: LogLine<'_>,
     object: &Value<'_>,
     lacking: Option<bool>,
-    name: u64,
+    who: Identity,
     draft: &mut Draft,
 ) -> Result<(), LogFault> {
     let transaction = transaction_in(alloc, line, object, lacking, &mut draft.symbols)?;
     draft.history.transactions.push(transaction)?;
-    draft.names.named.push(name)?;
-    Ok(())
+    Ok(draft.names.add(who)?)
 }
 
 fn transaction_in(

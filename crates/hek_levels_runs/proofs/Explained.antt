@@ -1,16 +1,13 @@
 -- What explains a history explains its log: in the order of commits, by the last writers before each begin.
 use Rattle.std.proofs.Common.{◌≡◌, ℕ, suc, ◌<◌, Bool, true, false, List, [], ◌∷◌, Option, Some, None, refl, sym, ap, ◌∙◌, subst, inl, inr, take, arith}
 use Rattle.std.proofs.lemmas.Bool.{cases_order}
-use Rattle.std.proofs.lemmas.Option.{same_Some}
 use Rattle.std.specs.Prelude.{slice_get}
 use Rattle.hek_rules.specs.Listing.{value_of}
 use Rattle.hek_history.specs.declared.history.History.{History}
-use Rattle.hek_history.specs.declared.history.Transaction.{Transaction}
-use Rattle.hek_history.specs.declared.history.Level.TheVariants.{Serializable}
 use Rattle.hek_history.specs.declared.history.Point.{Point}
 use Rattle.hek_history.specs.declared.history.Point.TheVariants.{Begin, Commit}
 use Rattle.hek_history.specs.Answers.{AreRight}
-use Rattle.hek_history.specs.Histories.{transaction, operations_of, serializable_at, serializable_in, is_serializable, lenient_at, lenient_in, is_lenient, rows_after}
+use Rattle.hek_history.specs.Histories.{operations_of, is_serializable, is_lenient, rows_after}
 use Rattle.hek_history.specs.Explanation.{At, Occurs, IsExplanation}
 use Rattle.hek_history.specs.Moments as moments
 use Rattle.hek_history.proofs.Places.{same_point, possible}
@@ -29,7 +26,7 @@ use Rattle.hek_levels.specs.Explanations.{IsSource, Explains}
 use Rattle.hek_levels.specs.Levels.{rules_of}
 use Rattle.hek_levels.proofs.Earlier.{seen-earlier, shows-earlier}
 use Rattle.hek_history_levels.specs.Steps.{IsLogOf}
-use Rattle.hek_levels_runs.specs.Laws.{commits_of, level_in, SerialExplanationsExplain, SnapshotExplanationsExplain}
+use Rattle.hek_levels_runs.specs.Laws.{commits_of, SerialExplanationsExplain, SnapshotExplanationsExplain}
 use Rattle.hek_levels_runs.proofs.Needs.{are_met}
 use Rattle.hek_levels_runs.proofs.Fitting.{are_fitting}
 use Rattle.hek_levels_runs.proofs.Logged.{reads_are, so_writes, possible_is, committed_is}
@@ -228,25 +225,14 @@ module _ (h : History) (points : List Point) (turns : List (Option Turn)) (log :
   snapshot_explains : Explains (rules_of level.Snapshot false) log explanation
   snapshot_explains = explains (rules_of level.Snapshot false) refl (λ t r read y g there sees. by_all t r read g sees.0 y sees.1)
 
--- ---- levels of transactions
-
--- who is serializable reads and commits at one point, and its answers of absence are judged
-serializable_by : (o : Option Transaction) → level_in o ≡ Some Serializable → serializable_in o ≡ true
-serializable_by None e = cc
-serializable_by (Some y) e = ap serializable_at (same_Some y.level Serializable e)
-
-strict_by : (o : Option Transaction) → level_in o ≡ Some Serializable → lenient_in o ≡ false
-strict_by None e = cc
-strict_by (Some y) e = ap lenient_at (same_Some y.level Serializable e)
-
 -- ---- the laws
 
 pub serial_explanations_explain : SerialExplanationsExplain
 serial_explanations_explain h points turns log x level l =
-    let strict : (t : ℕ) → Occurs points t → is_lenient h t ≡ false = λ t o. strict_by (transaction h t) (level t o) in (
+    let strict : (t : ℕ) → Occurs points t → is_lenient h t ≡ false = λ t o. (level t o).1 in (
       explanation h points turns log x strict l,
       refl,
-      serial_explains h points turns log x strict l (λ t o. serializable_by (transaction h t) (level t o)),
+      serial_explains h points turns log x strict l (λ t o. (level t o).0),
     )
 
 pub snapshot_explanations_explain : SnapshotExplanationsExplain

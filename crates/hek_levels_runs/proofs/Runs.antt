@@ -1,12 +1,10 @@
 -- Where a transcript is serial, the log of a history that records it holds at each level.
-use Rattle.std.proofs.Common.{◌≡◌, ℕ, false, List, Some, ap, ◌∙◌, subst}
+use Rattle.std.proofs.Common.{◌≡◌, ℕ, true, false, List, ap, ◌∙◌, subst}
 use Rattle.hek_rules.specs.Recorded.{Recorded}
 use Rattle.hek_rules.specs.Serial.{serial_order}
 use Rattle.hek_history.specs.declared.history.History.{History}
-use Rattle.hek_history.specs.declared.history.Level.{Level as TheLevel}
-use Rattle.hek_history.specs.declared.history.Level.TheVariants.{Serializable}
 use Rattle.hek_history.specs.declared.history.Point.{Point}
-use Rattle.hek_history.specs.Histories.{transaction}
+use Rattle.hek_history.specs.Histories.{serializable_in, serializable_at, is_serializable, lenient_in, lenient_at, is_lenient}
 use Rattle.hek_history.specs.Explanation.{Occurs, IsExplanation}
 use Rattle.hek_history_laws.specs.Recording.{Records}
 use Rattle.hek_history_laws.specs.Laws.{points_of}
@@ -21,7 +19,7 @@ use Rattle.hek_levels.specs.Explanations.{Explains}
 use Rattle.hek_levels.specs.Levels.{rules_of}
 use Rattle.hek_levels_laws.proofs.Implied.{levels_imply}
 use Rattle.hek_levels_laws.proofs.Uncommitted.{says, explained_is_so}
-use Rattle.hek_levels_runs.specs.Laws.{commits_of, level_in, HoldsAt, SerialRunsHold}
+use Rattle.hek_levels_runs.specs.Laws.{commits_of, HoldsAt, SerialRunsHold}
 use Rattle.hek_levels_runs.proofs.Explained.{serial_explanations_explain}
 
 -- ---- what explains a log as serializable explains it at each level
@@ -60,13 +58,16 @@ module _ (log : Log) (e : Explanation) (x : Explains (rules_of level.Serializabl
 
 module _ (s : Recorded) (h : History) (place : ℕ → ℕ) (rec : Records h place s) where
   -- it is a committed transaction of the transcript, which a history records as serializable
-  is_level : (t : ℕ) → Occurs (points_of place (serial_order s.history)) t → level_in (transaction h t) ≡ Some Serializable
+  is_level : (t : ℕ) → Occurs (points_of place (serial_order s.history)) t → (is_serializable h t ≡ true) × (is_lenient h t ≡ false)
   is_level t o =
       let r = turn_committed place (serial_order s.history) o.0 t o.1 in
       let turn = r.2 in
       let end = ender_of s r.0 turn.entry turn.there in
       let found = rec.committed turn.entry.1 end.committed in
-      subst (λ (p : ℕ). level_in (transaction h p) ≡ Some Serializable) turn.named (ap level_in found.at ∙ ap (λ (v : TheLevel). Some v) found.run.level)
+      subst (λ (p : ℕ). (is_serializable h p ≡ true) × (is_lenient h p ≡ false)) turn.named (
+        ap serializable_in found.at ∙ ap serializable_at found.run.level,
+        ap lenient_in found.at ∙ ap lenient_at found.run.level,
+      )
 
 -- ---- the law
 

@@ -1,5 +1,5 @@
 -- What explanations of a history and serial transcripts say of levels, each in a sentence.
-use Rattle.std.specs.Prelude.{ℕ, ◌≡◌, ◌<◌, false, List, [], ◌∷◌, Option, Some, None}
+use Rattle.std.specs.Prelude.{ℕ, ◌≡◌, ◌<◌, true, false, List, [], ◌∷◌, Option}
 use Rattle.hek_rules.specs.declared.event.Level.TheVariants as engine
 use Rattle.hek_rules.specs.declared.serial.Verdict.TheVariants.{Serial}
 use Rattle.hek_rules.specs.Recorded.{Recorded}
@@ -7,12 +7,9 @@ use Rattle.hek_rules.specs.Serial.{serial_order}
 use Rattle.hek_rules.specs.Faults.{IsVerdict}
 use Rattle.hek_serial.specs.Leveled.{at_level}
 use Rattle.hek_history.specs.declared.history.History.{History}
-use Rattle.hek_history.specs.declared.history.Transaction.{Transaction}
-use Rattle.hek_history.specs.declared.history.Level.{Level as TheLevel}
-use Rattle.hek_history.specs.declared.history.Level.TheVariants.{Serializable}
 use Rattle.hek_history.specs.declared.history.Point.{Point}
 use Rattle.hek_history.specs.declared.history.Point.TheVariants.{Begin, Commit}
-use Rattle.hek_history.specs.Histories.{transaction, is_lenient}
+use Rattle.hek_history.specs.Histories.{is_serializable, is_lenient}
 use Rattle.hek_history.specs.Explanation.{Occurs, IsExplanation}
 use Rattle.hek_history_laws.specs.Recording.{Records}
 use Rattle.hek_history_laws.specs.Laws.{points_of}
@@ -32,22 +29,17 @@ commits_of [] = []
 commits_of (Begin t ∷ points) = commits_of points
 commits_of (Commit t ∷ points) = t ∷ commits_of points
 
--- the level of a transaction of a history
-abbrev pub level_in : Option Transaction → Option TheLevel
-level_in None = None
-level_in (Some x) = Some x.level
-
 -- a log holds at a level, without sessions: it has an explanation there, with this order of commits
 abbrev pub HoldsAt : Level → Log → List ℕ → Type 0
 HoldsAt level log order = (e : Explanation) × (e.order ≡ order) × Explains (rules_of level false) log e
 
--- Where points explain a history, and whoever takes place is serializable, the history's log holds at the level serializable, by
--- the order of the commits.
+-- Where points explain a history, and whoever takes place is serializable, with its answers of absence judged, the history's log
+-- holds at the level serializable, by the order of the commits.
 abbrev pub SerialExplanationsExplain : Type 0
 SerialExplanationsExplain =
     (h : History) (points : List Point) (turns : List (Option Turn)) (log : Log) →
     IsExplanation h points →
-    ((t : ℕ) → Occurs points t → level_in (transaction h t) ≡ Some Serializable) →
+    ((t : ℕ) → Occurs points t → (is_serializable h t ≡ true) × (is_lenient h t ≡ false)) →
     IsLogOf h turns log →
     HoldsAt level.Serializable log (commits_of points)
 

@@ -18,7 +18,7 @@ _hek() {
     fi
     case "$command $before" in
     "help help") words="run debug page figure permute check history drive threads word release asm dis import completions man" ;;
-    "import import") words="spec" ;;
+    "import import") words="spec elle" ;;
     "completions completions") words="bash zsh fish words" ;;
     "run --explain=") words="always never" ;;
     "run --color=") words="always never auto" ;;
@@ -90,7 +90,7 @@ _hek() {
     figure) words="--text --image --explain --level --auto --output --step --part --title --help" files=yes ;;
     permute) words="--text --image --explain --auto --level --split --grain --limit --part --jobs --each --order --levels --find --stats --add --json --help" files=yes ;;
     check) words="--text --image --explain --auto --level --why --summary --all --json --help" files=yes ;;
-    history) words="--explain --level --order --all --order-out --json --help" files=yes ;;
+    history) words="--explain --level --levels --sessions --guarantees --order --all --order-out --json --help" files=yes ;;
     drive) words="--text --image --explain --color --why --changes --state --ends --auto --level --json --help" files=yes ;;
     threads) words="--text --image --explain --turns --repeat --seed --auto --level --json --help" files=yes ;;
     word) words="--changes --clock --txns --readers --json --help" ;;

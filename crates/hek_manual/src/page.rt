@@ -1,6 +1,6 @@
 //! `tools/completions` writes this file.
 pub(crate) const TEXT: &str = r#".\" tools/completions writes this file.
-.TH HEK 1 "" "hek 0.3.0"
+.TH HEK 1 "" "hek 0.4.0"
 .SH NAME
 hek \- the reference machine of pessimistic multiversion locking
 .SH SYNOPSIS
@@ -42,7 +42,7 @@ prints the state of the machine after the trace
 stops after N steps, and prints the state there
 .TP
 \fB\-\-why\fR[=\fIHOW\fR]
-prints the reasons of each reply under its line; =rules also names the definition that decided each (reasons, rules)
+prints the reasons of each reply under its line; =rules also names the definition of each and of the reply (reasons, rules)
 .TP
 \fB\-\-changes\fR
 prints what each step changed under its line
@@ -51,7 +51,7 @@ prints what each step changed under its line
 prints the run as a log for hek history, in place of its trace
 .TP
 \fB\-\-auto\fR
-runs only the reads and writes of FILE, and begins and ends each transaction by itself
+runs only the reads and writes of FILE, which may be a program, and begins and ends each transaction by itself
 .TP
 \fB\-\-level\fR \fIL\fR
 judges or runs all transactions as serializable, repeatable or snapshot
@@ -107,7 +107,7 @@ says of each fault what is wrong, what is wanted and what is meant, as at a term
 colours replies by their kind, and faults: always, never, or at a terminal (auto) (always, never, auto)
 .TP
 \fB\-\-auto\fR
-runs only the reads and writes of FILE, and begins and ends each transaction by itself
+runs only the reads and writes of FILE, which may be a program, and begins and ends each transaction by itself
 .TP
 \fB\-\-level\fR \fIL\fR
 judges or runs all transactions as serializable, repeatable or snapshot
@@ -182,7 +182,7 @@ says of each fault what is wrong, what is wanted and what is meant, as at a term
 judges or runs all transactions as serializable, repeatable or snapshot
 .TP
 \fB\-\-auto\fR
-shows only the reads and writes of FILE, and begins and ends each transaction by itself
+shows only the reads and writes of FILE, which may be a program, and begins and ends each transaction by itself
 .TP
 \fB\-o\fR, \fB\-\-output\fR \fIOUT\fR
 writes the page to a file; \- is standard output, also where that is a terminal
@@ -251,7 +251,7 @@ says of each fault what is wrong, what is wanted and what is meant, as at a term
 judges or runs all transactions as serializable, repeatable or snapshot
 .TP
 \fB\-\-auto\fR
-shows only the reads and writes of FILE, and begins and ends each transaction by itself
+shows only the reads and writes of FILE, which may be a program, and begins and ends each transaction by itself
 .TP
 \fB\-o\fR, \fB\-\-output\fR \fIOUT\fR
 writes the picture to a file; \- is standard output, also where that is a terminal
@@ -323,7 +323,7 @@ prints the events of one order as a schedule: a name for each move
 prints the outcomes at each level, side by side
 .TP
 \fB\-\-find\fR \fITEXT\fR
-prints the shortest beginning of an order in which this comes: \(gaa aborted deadlock\(ga, \(gaaborted\(ga, \(gawaiting\(ga, \(ganot serial\(ga, \(gaanother order\(ga
+prints the shortest beginning of an order in which this comes: \(gaa aborted deadlock\(ga, \(gaaborted\(ga, \(gawaiting\(ga, \(ganot serial\(ga, \(gaanother order\(ga, \(gabreaks\(ga
 .TP
 \fB\-\-stats\fR
 says on standard error how many states the orders lead to
@@ -334,7 +334,7 @@ prints the sum of the tables FILE and TABLE.., which \-\-part printed, as text o
 \fB\-\-json\fR
 prints JSON, one object on each line
 .PP
-A transaction's moves are its reads and writes, in the order of the file, and one last move that ends it. Each order of the moves of all transactions is run from the start.
+A transaction's moves are its reads and writes, in the order of the file, and one last move that ends it. Each order of the moves of all transactions is run from the start. In a program, values and conditions are of what the transaction saw, as in \(gaa update 10 @10+5 if @11 > 0\(ga, and \(gaalways @10 = 100+5*a\(ga is to hold at the end.
 .PP
 Example:
 .RS 4
@@ -427,10 +427,19 @@ a log, or \- for standard input
 says of each fault what is wrong, what is wanted and what is meant, as at a terminal; =never only names it (always, never)
 .TP
 \fB\-\-level\fR \fIL\fR
-judges or runs all transactions as serializable, repeatable or snapshot
+judges all transactions at a level: serializable, repeatable, snapshot, parallel\-snapshot, causal, read\-atomic, monotonic\-view, read\-committed or read\-uncommitted; or asks for a guarantee of sessions: monotonic\-reads, read\-your\-writes, monotonic\-writes, writes\-follow\-reads, or guarantees for all four
+.TP
+\fB\-\-levels\fR
+says of each level whether the log satisfies it, from read\-uncommitted to serializable
+.TP
+\fB\-\-sessions\fR
+has sessions bind at the level, or at each with \-\-levels: a transaction comes after those before it in its session, and sees them
+.TP
+\fB\-\-guarantees\fR
+says of each guarantee of sessions whether the log satisfies it; after the levels, if they are asked for too
 .TP
 \fB\-\-order\fR \fIKIND\fR
-asks for an order of a kind: any, versions, commit or real
+asks for an order of a kind: any, versions, commit or real; of these levels take any and real
 .TP
 \fB\-\-all\fR[=\fIHOW\fR]
 goes on after an anomaly, without the answers on which it rests, and counts them by name; =counts prints the counts alone (each, counts)
@@ -465,7 +474,13 @@ not serial: write skew (G2\-item)
   b read y = 1, which a overwrote with 0    b before a
 .fi
 .RE
-The status is 0 if there is an order, 1 if there is none, 3 if that is not known or there is nothing to judge, and 4 after a fault of the log.
+With \-\-levels it says of each level whether the log satisfies it: the last line is
+.RS 4
+.nf
+fails at serializable; holds at snapshot, parallel\-snapshot, causal, read\-atomic, monotonic\-view, read\-committed, read\-uncommitted
+.fi
+.RE
+The status is 0 if there is an order, or all that is asked for holds, 1 if not, 3 if that is not known or there is nothing to judge, and 4 after a fault of the log.
 .SS drive
 Runs events as they are typed, one a line, and answers each at once.
 .PP
@@ -487,7 +502,7 @@ says of each fault what is wrong, what is wanted and what is meant, as at a term
 colours replies by their kind, and faults: always, never, or at a terminal (auto) (always, never, auto)
 .TP
 \fB\-\-why\fR[=\fIHOW\fR]
-prints the reasons of each reply under its line; =rules also names the definition that decided each (reasons, rules)
+prints the reasons of each reply under its line; =rules also names the definition of each and of the reply (reasons, rules)
 .TP
 \fB\-\-changes\fR
 prints what each step changed under its line
@@ -698,15 +713,15 @@ buckets 1
 .fi
 .RE
 .SS import
-Makes schedules of a spec of PostgreSQL's isolation tests.
+Makes schedules of a spec of PostgreSQL's isolation tests, or a log of a history of Jepsen.
 .PP
 \fBhek import [OPTIONS] <FORM> <FILE>\fR
 .TP
 \fIFORM\fR
-what FILE is [possible values: spec]
+what FILE is [possible values: spec, elle]
 .TP
 \fIFILE\fR
-a spec, or \- for standard input
+a spec or a history, or \- for standard input
 .TP
 \fB\-\-explain\fR[=\fIHOW\fR]
 says of each fault what is wrong, what is wanted and what is meant, as at a terminal; =never only names it (always, never)
@@ -718,9 +733,11 @@ makes the schedule of the Nth permutation, from 1
 takes all transactions as serializable, repeatable or snapshot
 .TP
 \fB\-o\fR, \fB\-\-output\fR \fIOUT\fR
-writes the schedule to a file; where OUT ends with /, a file for each permutation to this folder
+writes the schedule or the log to a file; where OUT ends with /, a file for each permutation to this folder
 .PP
-Rows of a table with a primary key become rows; select, insert, update and delete become steps: reads where a condition names the key, otherwise scans. Serializable stays so, repeatable read becomes snapshot, and read committed isn't there: \-\-level says which level to take. What can't be translated is left out and named, in comments too, with status 1; with status 4 if nothing is left. Without \-\-permutation the sessions follow one another: \(gahek permute\(ga plays all their orders.
+\(gahek import elle FILE\(ga makes a log for \(gahek history\(ga of a history of Jepsen or Elle, in EDN or JSON: reads and writes of registers, or appends to lists.
+.PP
+Of a spec: rows of a table with a primary key become rows; select, insert, update and delete become steps: reads where a condition names the key, otherwise scans. Serializable stays so, repeatable read becomes snapshot, and read committed isn't there: \-\-level says which level to take. What can't be translated is left out and named, in comments too, with status 1; with status 4 if nothing is left. Without \-\-permutation the sessions follow one another: \(gahek permute\(ga plays all their orders.
 .PP
 Example:
 .RS 4

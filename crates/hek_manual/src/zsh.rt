@@ -18,7 +18,7 @@ _hek() {
         'release:Gives up one read lock of an End word'
         'asm:Makes the image of a schedule text'
         'dis:Prints the canonical text of a schedule'
-        'import:Makes schedules of a spec of PostgreSQL'\''s isolation tests'
+        'import:Makes schedules of a spec of PostgreSQL'\''s isolation tests, or a log of a history of Jepsen'
         'completions:Prints what a shell reads to complete the words of a command line'
         'man:Prints the manual page'
         'help:Print this message or the help of the given subcommand(s)'
@@ -40,10 +40,10 @@ _hek() {
                 '--color=-[colours replies by their kind, and faults\: always, never, or at a terminal (auto)]::HOW:(always never auto)' \
                 '--state[prints the state of the machine after the trace]' \
                 '--state-at[stops after N steps, and prints the state there]:N:' \
-                '--why=-[prints the reasons of each reply under its line; =rules also names the definition that decided each]::HOW:(reasons rules)' \
+                '--why=-[prints the reasons of each reply under its line; =rules also names the definition of each and of the reply]::HOW:(reasons rules)' \
                 '--changes[prints what each step changed under its line]' \
                 '--history[prints the run as a log for hek history, in place of its trace]' \
-                '--auto[runs only the reads and writes of FILE, and begins and ends each transaction by itself]' \
+                '--auto[runs only the reads and writes of FILE, which may be a program, and begins and ends each transaction by itself]' \
                 '--level[judges or runs all transactions as serializable, repeatable or snapshot]:L:(serializable repeatable snapshot)' \
                 '--json[prints JSON, one object on each line]' \
                 '(- *)'{-h,--help}'[Print help]' \
@@ -55,7 +55,7 @@ _hek() {
                 '--image[FILE is a schedule image, whatever it holds]' \
                 '--explain=-[says of each fault what is wrong, what is wanted and what is meant, as at a terminal; =never only names it]::HOW:(always never)' \
                 '--color=-[colours replies by their kind, and faults\: always, never, or at a terminal (auto)]::HOW:(always never auto)' \
-                '--auto[runs only the reads and writes of FILE, and begins and ends each transaction by itself]' \
+                '--auto[runs only the reads and writes of FILE, which may be a program, and begins and ends each transaction by itself]' \
                 '--level[judges or runs all transactions as serializable, repeatable or snapshot]:L:(serializable repeatable snapshot)' \
                 '(- *)'{-h,--help}'[Print help]' \
                 '1:FILE:_files' \
@@ -67,7 +67,7 @@ _hek() {
                 '--image[FILE is a schedule image, whatever it holds]' \
                 '--explain=-[says of each fault what is wrong, what is wanted and what is meant, as at a terminal; =never only names it]::HOW:(always never)' \
                 '--level[judges or runs all transactions as serializable, repeatable or snapshot]:L:(serializable repeatable snapshot)' \
-                '--auto[shows only the reads and writes of FILE, and begins and ends each transaction by itself]' \
+                '--auto[shows only the reads and writes of FILE, which may be a program, and begins and ends each transaction by itself]' \
                 {-o,--output}'[writes the page to a file; - is standard output, also where that is a terminal]:OUT:_files' \
                 '--from[begins at step N, by default the first]:N:' \
                 '--to[ends at step N, by default the last]:N:' \
@@ -90,7 +90,7 @@ _hek() {
                 '--image[FILE is a schedule image, whatever it holds]' \
                 '--explain=-[says of each fault what is wrong, what is wanted and what is meant, as at a terminal; =never only names it]::HOW:(always never)' \
                 '--level[judges or runs all transactions as serializable, repeatable or snapshot]:L:(serializable repeatable snapshot)' \
-                '--auto[shows only the reads and writes of FILE, and begins and ends each transaction by itself]' \
+                '--auto[shows only the reads and writes of FILE, which may be a program, and begins and ends each transaction by itself]' \
                 {-o,--output}'[writes the picture to a file; - is standard output, also where that is a terminal]:OUT:_files' \
                 '--step[shows what is so after N steps, by default after the last; 0 is before the first]:N:' \
                 '--part[shows one part\: lanes, versions, waits or words]:PART:' \
@@ -113,7 +113,7 @@ _hek() {
                 '--each[prints a line for each order]' \
                 '--order[prints the events of one order as a schedule\: a name for each move]:NAMES:' \
                 '--levels[prints the outcomes at each level, side by side]' \
-                '--find[prints the shortest beginning of an order in which this comes\: `a aborted deadlock`, `aborted`, `waiting`, `not serial`, `another order`]:TEXT:' \
+                '--find[prints the shortest beginning of an order in which this comes\: `a aborted deadlock`, `aborted`, `waiting`, `not serial`, `another order`, `breaks`]:TEXT:' \
                 '--stats[says on standard error how many states the orders lead to]' \
                 '--add[prints the sum of the tables FILE and TABLE.., which --part printed, as text or as JSON]' \
                 '--json[prints JSON, one object on each line]' \
@@ -139,8 +139,11 @@ _hek() {
         history)
             _arguments \
                 '--explain=-[says of each fault what is wrong, what is wanted and what is meant, as at a terminal; =never only names it]::HOW:(always never)' \
-                '--level[judges or runs all transactions as serializable, repeatable or snapshot]:L:(serializable repeatable snapshot)' \
-                '--order[asks for an order of a kind\: any, versions, commit or real]:KIND:(any versions commit real)' \
+                '--level[judges all transactions at a level\: serializable, repeatable, snapshot, parallel-snapshot, causal, read-atomic, monotonic-view, read-committed or read-uncommitted; or asks for a guarantee of sessions\: monotonic-reads, read-your-writes, monotonic-writes, writes-follow-reads, or guarantees for all four]:L:(serializable repeatable snapshot)' \
+                '--levels[says of each level whether the log satisfies it, from read-uncommitted to serializable]' \
+                '--sessions[has sessions bind at the level, or at each with --levels\: a transaction comes after those before it in its session, and sees them]' \
+                '--guarantees[says of each guarantee of sessions whether the log satisfies it; after the levels, if they are asked for too]' \
+                '--order[asks for an order of a kind\: any, versions, commit or real; of these levels take any and real]:KIND:(any versions commit real)' \
                 '--all=-[goes on after an anomaly, without the answers on which it rests, and counts them by name; =counts prints the counts alone]::HOW:(each counts)' \
                 '--order-out[writes the order that was found, a line for each transaction; - is standard output, after the verdict]:OUT:_files' \
                 '--json[writes the verdict as JSON, one object on each line]' \
@@ -153,7 +156,7 @@ _hek() {
                 '--image[FILE is a schedule image, whatever it holds]' \
                 '--explain=-[says of each fault what is wrong, what is wanted and what is meant, as at a terminal; =never only names it]::HOW:(always never)' \
                 '--color=-[colours replies by their kind, and faults\: always, never, or at a terminal (auto)]::HOW:(always never auto)' \
-                '--why=-[prints the reasons of each reply under its line; =rules also names the definition that decided each]::HOW:(reasons rules)' \
+                '--why=-[prints the reasons of each reply under its line; =rules also names the definition of each and of the reply]::HOW:(reasons rules)' \
                 '--changes[prints what each step changed under its line]' \
                 '--state[prints the state of the machine after each answer]' \
                 '--ends[ends what is printed for each line with an empty line]' \
@@ -213,9 +216,9 @@ _hek() {
                 '--explain=-[says of each fault what is wrong, what is wanted and what is meant, as at a terminal; =never only names it]::HOW:(always never)' \
                 '--permutation[makes the schedule of the Nth permutation, from 1]:N:' \
                 '--level[takes all transactions as serializable, repeatable or snapshot]:L:(serializable repeatable snapshot)' \
-                {-o,--output}'[writes the schedule to a file; where OUT ends with /, a file for each permutation to this folder]:OUT:_files' \
+                {-o,--output}'[writes the schedule or the log to a file; where OUT ends with /, a file for each permutation to this folder]:OUT:_files' \
                 '(- *)'{-h,--help}'[Print help]' \
-                '1:FORM:(spec)' \
+                '1:FORM:(spec elle)' \
                 '2:FILE:_files'
             ;;
         completions)

@@ -158,6 +158,6 @@ fn add_remark(remark: &str, remarks: &mut String) -> Result<(), NoMemory> {
 }
 
 /// Whether a line that begins with this word is no step.
-fn is_declaration(word: &str) -> bool {
+pub(crate) fn is_declaration(word: &str) -> bool {
     matches!(word, "buckets" | "row" | "txn")
 }

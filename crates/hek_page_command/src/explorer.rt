@@ -7,9 +7,12 @@ use crate::comments::{Comments, comments_in};
 use crate::heading::Heading;
 use crate::prefixes::prefixes_of;
 use crate::sheet::write_sheet;
+use crate::texts::{add_invariants, step_texts};
 use crate::tree::tree_of;
 use crate::tree_data::{levels_data, tree_data};
 use hek_permute::{Form, moves_of, schedule_with};
+use hek_permute_command::{Given, leveled, program_in};
+use hek_program::Program;
 use hek_report::{HekFault, ScheduleFile, schedule_in};
 use hek_rules::{Level, NoMemory, Schedule};
 use serde_json::Value;
@@ -40,12 +43,13 @@ pub fn explorer_command<'a, R: Read + Drop, W: Write, E: Write>(
 {
     let comments = comments_in(alloc, &file)?;
     let schedule = schedule_in(alloc, file)?;
-    write_explorer(alloc, &schedule, extent, &heading, &comments, out, faults)
+    write_plain(alloc, schedule, extent, &heading, &comments, out, faults)
 }
 
-fn write_explorer<'a, W: Write, E: Write>(
+/// Writes the explorer of a schedule.
+fn write_plain<'a, W: Write, E: Write>(
     alloc: Global,
-    schedule: &Schedule,
+    schedule: Schedule,
     extent: Extent,
     heading: &Heading<'_>,
     comments: &Comments,
@@ -55,16 +59,33 @@ fn write_explorer<'a, W: Write, E: Write>(
     ensures answer { IfOk result (λ status. IsExplored status (W.contents out.old) (W.contents out.new)) }
     ensures stops { IfErr result IsExploreStop }
 {
-    match explorer_data(alloc, schedule, extent, heading, comments) {
-        Ok(data) => write_data(alloc, extent, heading, data, out, faults),
-        Err(fault) => Err(fault),
-    }
+    let program = Program::plain(alloc, schedule);
+    let given = Given::of(&program);
+    write_explorer(alloc, &given, &[], extent, heading, comments, out, faults)
+}
+
+fn write_explorer<'a, W: Write, E: Write>(
+    alloc: Global,
+    given: &Given<'_>,
+    texts: &[String],
+    extent: Extent,
+    heading: &Heading<'_>,
+    comments: &Comments,
+    out: &mut W,
+    faults: &mut E,
+) -> Result<u8, HekFault<'a>>
+    ensures answer { IfOk result (λ status. IsExplored status (W.contents out.old) (W.contents out.new)) }
+    ensures stops { IfErr result IsExploreStop }
+{
+    let data = explorer_data(alloc, given, texts, extent, heading, comments)?;
+    write_data(alloc, extent, heading, data, out, faults)
 }
 
 /// The data of the explorer of a schedule; none if the tree has more nodes than the limit.
 fn explorer_data<'a>(
     alloc: Global,
-    schedule: &Schedule,
+    given: &Given<'_>,
+    texts: &[String],
     extent: Extent,
     heading: &Heading<'_>,
     comments: &Comments,
@@ -72,15 +93,13 @@ fn explorer_data<'a>(
     ensures stops { IfErr result IsExploreStop }
 {
     let Extent { form, limit } = extent;
-    let moves = moves_of(alloc, schedule)?;
+    let moves = moves_of(alloc, given.schedule, given.rules)?;
     let moves = moves.as_slice();
     let Some(prefixes) = prefixes_of(alloc, moves, form, limit)? else {
         return Ok(None);
     };
-    match tree_of(alloc, schedule, moves, form, prefixes.as_slice()) {
-        Ok(tree) => some_data(tree_data(alloc, schedule, moves, form, &tree, heading, comments)),
-        Err(fault) => Err(fault),
-    }
+    let tree = tree_of(alloc, given, moves, form, prefixes.as_slice())?;
+    some_data(tree_data(alloc, given, texts, moves, form, &tree, heading, comments))
 }
 
 /// These data, if there was memory for them.
@@ -131,12 +150,13 @@ pub fn levels_command<'a, R: Read + Drop, W: Write, E: Write>(
 {
     let comments = comments_in(alloc, &file)?;
     let schedule = schedule_in(alloc, file)?;
-    write_levels(alloc, &schedule, extent, &heading, &comments, out, faults)
+    write_plain_levels(alloc, schedule, extent, &heading, &comments, out, faults)
 }
 
-fn write_levels<'a, W: Write, E: Write>(
+/// Writes the explorers of a schedule at all levels.
+fn write_plain_levels<'a, W: Write, E: Write>(
     alloc: Global,
-    schedule: &Schedule,
+    schedule: Schedule,
     extent: Extent,
     heading: &Heading<'_>,
     comments: &Comments,
@@ -146,16 +166,91 @@ fn write_levels<'a, W: Write, E: Write>(
     ensures answer { IfOk result (λ status. IsExplored status (W.contents out.old) (W.contents out.new)) }
     ensures stops { IfErr result IsExploreStop }
 {
-    match all_levels(alloc, schedule, extent, heading, comments) {
-        Ok(data) => write_data(alloc, extent, heading, data, out, faults),
-        Err(fault) => Err(fault),
+    let program = Program::plain(alloc, schedule);
+    let given = Given::of(&program);
+    write_levels(alloc, &given, &[], extent, heading, comments, out, faults)
+}
+
+/// Which explorer is shown.
+#[derive(Clone, Copy, PartialEq, Eq)]
+pub enum Explored {
+    /// That of all transactions at a level, or at their own.
+    At(Option<Level>),
+    /// Those at all levels.
+    AllLevels,
+}
+
+/// Writes the explorer of the orders of the moves of the program in a file, or the explorers at all levels. A schedule is
+/// the program of its steps. Answers as `explorer_command` does.
+pub fn program_command<'a, R: Read + Drop, W: Write, E: Write>(
+    alloc: Global,
+    file: ScheduleFile<R>,
+    explored: Explored,
+    extent: Extent,
+    heading: Heading<'_>,
+    out: &mut W,
+    faults: &mut E,
+) -> Result<u8, HekFault<'a>>
+    ensures answer { IfOk result (λ status. IsExplored status (W.contents out.old) (W.contents out.new)) }
+{
+    let mut comments = comments_in(alloc, &file)?;
+    add_invariants(alloc, &file, &mut comments.about)?;
+    let texts = step_texts(alloc, &file)?;
+    let program = program_in(alloc, file)?;
+    let given = Given::of(&program);
+    let texts = texts.as_slice();
+    match explored {
+        Explored::At(level) => write_at(
+            alloc, &given, texts, level, extent, &heading, &comments, out, faults,
+        ),
+        Explored::AllLevels => write_levels(
+            alloc, &given, texts, extent, &heading, &comments, out, faults,
+        ),
     }
+}
+
+/// Writes the explorer with all transactions at a level, or at their own.
+fn write_at<'a, W: Write, E: Write>(
+    alloc: Global,
+    given: &Given<'_>,
+    texts: &[String],
+    level: Option<Level>,
+    extent: Extent,
+    heading: &Heading<'_>,
+    comments: &Comments,
+    out: &mut W,
+    faults: &mut E,
+) -> Result<u8, HekFault<'a>>
+    ensures answer { IfOk result (λ status. IsExplored status (W.contents out.old) (W.contents out.new)) }
+{
+    let schedule = given.schedule;
+    let leveled_one = leveled(alloc, schedule, level, schedule.steps())?;
+    let over = given.over(&leveled_one);
+    write_explorer(alloc, &over, texts, extent, heading, comments, out, faults)
+}
+
+fn write_levels<'a, W: Write, E: Write>(
+    alloc: Global,
+    given: &Given<'_>,
+    texts: &[String],
+    extent: Extent,
+    heading: &Heading<'_>,
+    comments: &Comments,
+    out: &mut W,
+    faults: &mut E,
+) -> Result<u8, HekFault<'a>>
+    ensures answer { IfOk result (λ status. IsExplored status (W.contents out.old) (W.contents out.new)) }
+    ensures stops { IfErr result IsExploreStop }
+{
+    let data = all_levels(alloc, given, texts, extent, heading, comments)?;
+    write_data(alloc, extent, heading, data, out, faults)
 }
 
 /// The data of the explorers at all levels; none if a tree has more nodes than the limit.
 fn all_levels<'a>(
     alloc: Global,
-    schedule: &Schedule,
+    given: &Given<'_>,
+    texts: &[String],
     extent: Extent,
     heading: &Heading<'_>,
     comments: &Comments,
@@ -164,7 +259,7 @@ fn all_levels<'a>(
 {
     let mut trees = Vec::new(alloc);
     for level in Level::ALL {
-        match data_at(alloc, schedule, level, extent, heading, comments) {
+        match data_at(alloc, given, texts, level, extent, heading, comments) {
             Ok(Some(tree)) => {
                 if trees.push(tree).is_err() {
                     return Err(HekFault::NoMemory);
@@ -180,7 +275,8 @@ fn all_levels<'a>(
 /// The data of the explorer with all transactions at a level.
 fn data_at<'a>(
     alloc: Global,
-    schedule: &Schedule,
+    given: &Given<'_>,
+    texts: &[String],
     level: Level,
     extent: Extent,
     heading: &Heading<'_>,
@@ -188,8 +284,10 @@ fn data_at<'a>(
 ) -> Result<Option<Value>, HekFault<'a>>
     ensures stops { IfErr result IsExploreStop }
 {
-    match schedule_with(alloc, schedule, Some(level), schedule.steps()) {
-        Ok(schedule) => explorer_data(alloc, &schedule, extent, heading, comments),
-        Err(_) => Err(HekFault::NoMemory),
-    }
+    let schedule = given.schedule;
+    let Ok(leveled_one) = schedule_with(alloc, schedule, Some(level), schedule.steps()) else {
+        return Err(HekFault::NoMemory);
+    };
+    let over = given.over(&leveled_one);
+    explorer_data(alloc, &over, texts, extent, heading, comments)
 }

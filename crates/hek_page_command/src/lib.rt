@@ -18,13 +18,16 @@ mod sheet;
 mod step_text;
 mod story;
 mod style;
+mod texts;
 mod together;
 mod tree;
 mod tree_data;
 mod waits;
 
 pub use comments::{Comments, comments_in};
-pub use explorer::{Extent, MOST_NODES, explorer_command, levels_command};
+pub use explorer::{
+    Explored, Extent, MOST_NODES, explorer_command, levels_command, program_command,
+};
 pub use heading::Heading;
 pub use made::{Making, made_file};
 pub use page::{MOST_STEPS, Part, page_command};

@@ -1,4 +1,5 @@
 //! The schedule of a page at another level, or finished by itself; its comments stay where they were.
+use crate::texts::plain_start;
 use hek_asm::canonical;
 use hek_permute_command::{auto_file, leveled};
 use hek_report::{HekFault, ScheduleFile, schedule_in};
@@ -40,15 +41,13 @@ fn remade<'a, R: Read + Drop>(
     file: ScheduleFile<R>,
     making: Making,
 ) -> Result<ScheduleFile<R>, HekFault<'a>> {
+    if making.auto {
+        return auto_file(alloc, file, making.level);
+    }
     let schedule = schedule_in(alloc, file)?;
     let schedule = at_level(alloc, schedule, making.level)?;
     let text = canonical(alloc, &schedule)?;
-    let made = ScheduleFile::Text(text.into_bytes());
-    if making.auto {
-        auto_file(alloc, made)
-    } else {
-        Ok(made)
-    }
+    Ok(ScheduleFile::Text(text.into_bytes()))
 }
 
 /// The schedule at this level, or at its own levels.
@@ -70,13 +69,25 @@ struct Remarks {
     above: Vec<Remark>,
 }
 
-/// Lines of comments above a step, the words of the step with one space between them, and whether they stand in the new
-/// text.
+/// Lines of comments above a step, the words of the step with one space between them, without what is computed; whether
+/// something is; and whether they stand in the new text.
 #[derive(Drop)]
 struct Remark {
     step: String,
+    is_computed: bool,
     lines: String,
     is_placed: bool,
+}
+
+impl Remark {
+    /// Whether a line of the new text is this step.
+    fn is_of(&self, line: &str) -> bool {
+        match line.strip_prefix(self.step.as_str()) {
+            Some("") => true,
+            Some(rest) => self.is_computed && rest.starts_with(' '),
+            None => false,
+        }
+    }
 }
 
 /// The comments of the schedule in a file: an image has none.
@@ -105,7 +116,7 @@ fn take_line(
     remarks: &mut Remarks,
 ) -> Result<(), NoMemory> {
     let (words, remark) = line.split_once('#').unwrap_or((line, ""));
-    let step = joined(alloc, words)?;
+    let (step, is_computed) = plain_start(alloc, words)?;
     if step.is_empty() {
         return add_remark(remark, block);
     }
@@ -121,6 +132,7 @@ fn take_line(
     }
     remarks.above.push(Remark {
         step,
+        is_computed,
         lines,
         is_placed: false,
     })?;
@@ -139,7 +151,7 @@ fn add_remark(remark: &str, lines: &mut String) -> Result<(), NoMemory> {
 }
 
 /// The words of a text with one space between them.
-fn joined(alloc: Global, text: &str) -> Result<String, NoMemory> {
+pub(crate) fn joined(alloc: Global, text: &str) -> Result<String, NoMemory> {
     let mut words = String::new(alloc);
     for word in text.split_whitespace() {
         if !words.is_empty() {
@@ -164,7 +176,7 @@ fn remarked(alloc: Global, made: &[u8], remarks: &mut Remarks) -> Result<String,
 /// Adds the first comment above such a step that isn't placed yet, if there is one.
 fn place_remark(line: &str, remarks: &mut [Remark], text: &mut String) -> Result<(), NoMemory> {
     for remark in remarks {
-        if !remark.is_placed && remark.step.as_str() == line {
+        if !remark.is_placed && remark.is_of(line) {
             remark.is_placed = true;
             text.push_str(remark.lines.as_str())?;
             return Ok(());

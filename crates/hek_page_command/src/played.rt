@@ -8,7 +8,7 @@ ghost use Rattle.hek_worker.specs.History.{Replays};
 use crate::prefixes::is_whole;
 use crate::story::{StepRange, Story, story_of};
 use hek_permute::{Form, Moves, OrderFault, Play, outcome_of, play_order, schedule_with};
-use hek_permute_command::put_outcome;
+use hek_permute_command::{Given, put_judged};
 use hek_rules::{Event, NoMemory, Schedule, TxnId};
 use std::alloc::Global;
 
@@ -21,20 +21,21 @@ pub struct OrderStory {
 }
 
 /// The play of an order, or of the first moves of one: its events, and the story of those after the first `done` ones. `moves`
-/// are those of the schedule's transactions.
+/// are those of what is given.
 pub fn order_story(
     alloc: Global,
-    schedule: &Schedule,
+    given: &Given<'_>,
     moves: &[Moves],
     form: Form,
     order: &[TxnId],
     done: usize,
 ) -> Result<OrderStory, OrderFault>
-    ensures { IfOk result (λ told. IsOrderStory schedule.now form moves.now order.now done told.events.items told.story.steps.items) }
+    ensures { IfOk result (λ told. IsOrderStory given.now.schedule.now form moves.now order.now done told.events.items told.story.steps.items) }
 {
+    let schedule = given.schedule;
     let play = play_order(alloc, schedule, moves, form, order)?;
     let events = events_of(alloc, &play)?;
-    let outcome = outcome_line(alloc, schedule, moves, form, order, play)?;
+    let outcome = outcome_line(alloc, given, moves, form, order, play)?;
     let story = story_of_events(alloc, schedule, events.as_slice(), done)?;
     Ok(OrderStory {
         events,
@@ -52,20 +53,20 @@ fn events_of(alloc: Global, play: &Play) -> Result<Vec<Event>, NoMemory>
 /// The line of a play's outcome, if the order is whole.
 fn outcome_line(
     alloc: Global,
-    schedule: &Schedule,
+    given: &Given<'_>,
     moves: &[Moves],
     form: Form,
     order: &[TxnId],
     play: Play,
 ) -> Result<Option<Vec<u8>>, OrderFault>
-    requires { Replays schedule.now play.machine play.history.items }
+    requires { Replays given.now.schedule.now play.machine play.history.items }
 {
     if !is_whole(moves, form, order) {
         return Ok(None);
     }
-    let outcome = outcome_of(alloc, schedule, play)?;
+    let outcome = outcome_of(alloc, given.schedule, play)?;
     let mut text = Vec::new(alloc);
-    put_outcome(schedule, &outcome, &mut text)?;
+    put_judged(alloc, given, &outcome, &mut text)?;
     Ok(Some(text))
 }
 

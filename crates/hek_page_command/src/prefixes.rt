@@ -88,7 +88,7 @@ fn times(order: &[TxnId], who: TxnId) -> usize {
 
 /// How many moves a transaction has.
 pub(crate) fn move_count(of_one: &Moves, form: Form) -> usize {
-    of_one.work().len().saturating_add(form.other_moves())
+    of_one.steps().len().saturating_add(form.other_moves())
 }
 
 /// Whether an order has all moves.

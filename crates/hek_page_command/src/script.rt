@@ -1914,16 +1914,23 @@ function eventsOfMove(shown) {
 const total = (counts) => counts.reduce((sum, it) => sum + it, 0);
 const isWhole = () => tree.nodes[tree.path.at(-1)].next.length === 0;
 
+/** The parts of an outcome: its ends and rows, and the verdict, to which the line of an invariant belongs that it breaks. */
+function partsOf(text) {
+  const parts = text.split("; ");
+  const breaks = /^breaks /.test(parts.at(-1)) ? `; ${parts.pop()}` : "";
+  const verdict = parts.pop() + breaks;
+  return { parts, verdict, isGood: !breaks && verdict !== "not serial" };
+}
+
 /** An outcome in few words: of more than two transactions those that don't commit. */
 function outcomeOf(text) {
-  const parts = text.split("; ");
+  const { parts, verdict } = partsOf(text);
   const txns = parts.filter((it) => /(committed|aborted|unended)/.test(it) && !/^rows/.test(it)).map((it) => it.split(" "));
   const rows = parts.find((it) => it.startsWith("rows")) ?? "";
-  const serial = parts.at(-1);
   const telling = txns.length > 2 ? txns.filter(([, state]) => state !== "committed") : txns;
   const endOf = (state, cause) => (state === "committed" ? "commits" : state === "unended" ? "goes on" : `aborts (${cause})`);
   const said = telling.map(([name, state, cause]) => `${tagName(name)} ${endOf(state, cause)}`).join(", ") || "all commit";
-  return `${said}<span class="soft"> \u00b7 ${esc(rows.replace("rows ", ""))}${serial === "serial" ? "" : ` \u00b7 <b>${esc(serial)}</b>`}</span>`;
+  return `${said}<span class="soft"> \u00b7 ${esc(rows.replace("rows ", ""))}${verdict === "serial" ? "" : ` \u00b7 <b>${esc(verdict)}</b>`}</span>`;
 }
 
 const letterOf = (outcome) => "ABCDEFGHIJKLMNOPQRSTUVWXYZ"[outcome] ?? String(outcome);
@@ -1976,7 +1983,7 @@ function showTree() {
     const idle = it.steps.length === 0 ? ' <span class="soft">(has aborted)</span>' : "";
     return `<button type="button" class="choice${isTaken ? " taken" : ""}" data-next="${next}"><kbd>${who + 1}</kbd> <span>${tagName(tree.names[who])} <b>${esc(move)}</b>${idle}</span>${outcomeBar(it.counts)}<span class="count">${isSecret ? "" : countsSaid(it.counts)}</span></button>`;
   }).join("");
-  const found = whole && isAt ? `<p class="whose">This order is complete.</p><p class="final">${outcomeOf(data.outcomes[node.outcome])}</p><p>The checker: <b>${esc(data.outcomes[node.outcome].split("; ").at(-1))}</b>. ${reachSaid(node)}</p>` : "";
+  const found = whole && isAt ? `<p class="whose">This order is complete.</p><p class="final">${outcomeOf(data.outcomes[node.outcome])}</p><p>The checker: <b>${esc(partsOf(data.outcomes[node.outcome]).verdict)}</b>. ${reachSaid(node)}</p>` : "";
   const inside = isAt ? "" : `<p class="whose">In the middle of a move</p><p>\u2192 goes on with it.</p>`;
   $("because").innerHTML = `<div class="moves">${found || inside || `<p class="whose">Who moves next?</p><div class="pick" style="--n:${Math.min(node.next.filter((it) => it !== undefined).length, 3)}">${choices}</div>`}</div>`;
   // the outcomes that can still be reached
@@ -2035,7 +2042,7 @@ const levels = { trees: [], shown: null, order: [] };
 
 function plantLevels() {
   levels.trees = sheet.trees.map(treeOf);
-  const marked = outcomesAtLevels().find(({ text, counts }) => /not serial$/.test(text) && counts.some(Boolean)) ?? outcomesAtLevels()[0];
+  const marked = outcomesAtLevels().find(({ text, counts }) => !partsOf(text).isGood && counts.some(Boolean)) ?? outcomesAtLevels()[0];
   const at = marked.counts.findIndex(Boolean);
   levels.order = orderTo(levels.trees[at], sheet.trees[at].outcomes.indexOf(marked.text));
 }
@@ -2087,9 +2094,8 @@ function isNews() {
 
 /** An outcome in words: how each transaction ends, the rows, and the verdict. */
 function endsSaid(text) {
-  const parts = text.split("; ");
-  const verdict = parts.pop();
-  return `${parts.map(esc).join("; ")}; <b class="${verdict === "not serial" ? "bad" : "good"}">${esc(verdict)}</b>`;
+  const { parts, verdict, isGood } = partsOf(text);
+  return `${parts.map(esc).join("; ")}; <b class="${isGood ? "good" : "bad"}">${esc(verdict)}</b>`;
 }
 
 function showLevels() {
@@ -2316,8 +2322,7 @@ function firstOrder(outcome) {
 function outcomesInPrint() {
   const counts = tree.nodes[0].counts;
   const rows = data.outcomes.map((text, at) => {
-    const parts = text.split("; ");
-    const verdict = parts.pop();
+    const { parts, verdict } = partsOf(text);
     return `<tr><td>${letterOf(at)}</td><td>${counts[at]}</td><td>${parts.map(esc).join("; ")}</td><td><b>${esc(verdict)}</b></td><td>${esc(firstOrder(at))}</td></tr>`;
   });
   return `<caption>${esc(data.title)}. ${esc(data.about ?? "")} ${total(counts)} orders of the moves.</caption><thead><tr><th></th><th>orders</th><th>ends and rows</th><th>verdict</th><th>the first of these orders</th></tr></thead><tbody>${rows.join("")}</tbody>`;

@@ -7,6 +7,7 @@ use crate::prefixes::{Prefix, order_of};
 use crate::step_text::StepText;
 use crate::story::{StepRange, Story, story_of};
 use hek_permute::{Form, Moves, OrderFault};
+use hek_permute_command::Given;
 use hek_report::HekFault;
 use hek_rules::{NoMemory, Schedule, TxnId};
 use indexmap::IndexSet;
@@ -55,7 +56,7 @@ pub(crate) struct StepPlaces {
 /// The tree of these prefixes.
 pub(crate) fn tree_of<'a>(
     alloc: Global,
-    schedule: &Schedule,
+    given: &Given<'_>,
     moves: &[Moves],
     form: Form,
     prefixes: &[Prefix],
@@ -63,13 +64,13 @@ pub(crate) fn tree_of<'a>(
     ensures stops { IfErr result IsExploreStop }
 {
     let mut tree = Tree {
-        opening: opening_of(alloc, schedule)?,
+        opening: opening_of(alloc, given.schedule)?,
         nodes: Vec::new(alloc),
         outcomes: IndexSet::new(alloc),
         steps: IndexSet::new(alloc),
         texts: IndexSet::new(alloc),
     };
-    tree.grow(alloc, schedule, moves, form, prefixes)?;
+    tree.grow(alloc, given, moves, form, prefixes)?;
     Ok(tree)
 }
 
@@ -81,7 +82,7 @@ fn opening_of(alloc: Global, schedule: &Schedule) -> Result<Vec<u8>, NoMemory> {
 /// Plays the prefix at a place. The first `done` events are those of its parent.
 fn played_at<'a>(
     alloc: Global,
-    schedule: &Schedule,
+    given: &Given<'_>,
     moves: &[Moves],
     form: Form,
     prefixes: &[Prefix],
@@ -91,7 +92,7 @@ fn played_at<'a>(
     ensures stops { IfErr result IsExploreStop }
 {
     let order = order_of(alloc, prefixes, place)?;
-    match order_story(alloc, schedule, moves, form, order.as_slice(), done) {
+    match order_story(alloc, given, moves, form, order.as_slice(), done) {
         Ok(played) => Ok(played),
         Err(fault) => Err(fault_of(fault)),
     }
@@ -112,7 +113,7 @@ impl Tree {
     fn grow<'a>(
         &mut self,
         alloc: Global,
-        schedule: &Schedule,
+        given: &Given<'_>,
         moves: &[Moves],
         form: Form,
         prefixes: &[Prefix],
@@ -121,7 +122,7 @@ impl Tree {
     {
         for place in 0..prefixes.len() {
             let done = self.events_of(prefixes[place].parent);
-            let played = played_at(alloc, schedule, moves, form, prefixes, place, done)?;
+            let played = played_at(alloc, given, moves, form, prefixes, place, done)?;
             self.add_node(alloc, prefixes[place], &played)?;
         }
         self.add_counts(alloc)?;

@@ -6,17 +6,39 @@ use crate::members::{
 };
 use crate::tree::{Node, StepPlaces, Tree};
 use hek_permute::{Form, Moves};
+use hek_permute_command::Given;
 use hek_report::put;
 use hek_rules::{Event, NoMemory, Schedule, TxnId};
+use hek_worker::is_work;
 use indexmap::IndexSet;
 use serde_json::{Map, Value};
 use std::alloc::Global;
 use std::io::Write;
 
+/// Whether the step at a place is a move of a transaction that isn't its last.
+fn is_move(given: &Given<'_>, txn: TxnId, place: usize, event: &Event) -> bool {
+    let fails_if = event.txn() == Some(txn) && given.fails_if(place, event);
+    fails_if || is_work(txn, *event)
+}
+
+/// The step at a place, without the name: its words, if there are some.
+fn step_words(
+    alloc: Global,
+    texts: &[String],
+    place: usize,
+    event: &Event,
+) -> Result<Value, NoMemory> {
+    match texts.get(place) {
+        Some(text) => text_value(alloc, text.as_str()),
+        None => work_value(alloc, event),
+    }
+}
+
 /// The data of the page of a tree of orders.
 pub(crate) fn tree_data(
     alloc: Global,
-    schedule: &Schedule,
+    given: &Given<'_>,
+    texts: &[String],
     moves: &[Moves],
     form: Form,
     tree: &Tree,
@@ -26,8 +48,8 @@ pub(crate) fn tree_data(
     let mut members = Map::new(alloc);
     put_text(alloc, "kind", "tree", &mut members)?;
     put_heading(alloc, heading, comments, &mut members)?;
-    put_start(alloc, schedule, tree, &mut members)?;
-    put_moves(alloc, schedule, moves, form, &mut members)?;
+    put_start(alloc, given.schedule, tree, &mut members)?;
+    put_moves(alloc, given, texts, moves, form, &mut members)?;
     put_tree(alloc, tree, &mut members)?;
     Ok(Value::Object(members))
 }
@@ -63,14 +85,15 @@ fn put_start(
 /// Adds the names of the transactions and their moves.
 fn put_moves(
     alloc: Global,
-    schedule: &Schedule,
+    given: &Given<'_>,
+    texts: &[String],
     moves: &[Moves],
     form: Form,
     members: &mut Members,
 ) -> Result<(), NoMemory> {
-    let names = name_values(alloc, schedule)?;
+    let names = name_values(alloc, given.schedule)?;
     put_value(alloc, "names", names, members)?;
-    let moves = move_values(alloc, moves, form)?;
+    let moves = move_values(alloc, given, texts, moves, form)?;
     put_value(alloc, "moves", moves, members)
 }
 
@@ -96,24 +119,40 @@ fn name_values(alloc: Global, schedule: &Schedule) -> Result<Value, NoMemory> {
 }
 
 /// The moves of each transaction.
-fn move_values(alloc: Global, moves: &[Moves], form: Form) -> Result<Value, NoMemory> {
+fn move_values(
+    alloc: Global,
+    given: &Given<'_>,
+    texts: &[String],
+    moves: &[Moves],
+    form: Form,
+) -> Result<Value, NoMemory> {
     let mut values = Vec::new(alloc);
-    for of_one in moves {
-        values.push(moves_of_one(alloc, of_one, form)?)?;
+    for (place, of_one) in moves.iter().enumerate() {
+        let txn = TxnId::new((place as u64).saturating_add(1));
+        values.push(moves_of_one(alloc, given, texts, txn, of_one.fails(), form)?)?;
     }
     Ok(Value::Array(values))
 }
 
 /// The moves of one transaction: its reads and writes, and how it ends.
-fn moves_of_one(alloc: Global, of_one: &Moves, form: Form) -> Result<Value, NoMemory> {
+fn moves_of_one(
+    alloc: Global,
+    given: &Given<'_>,
+    texts: &[String],
+    txn: TxnId,
+    fails: bool,
+    form: Form,
+) -> Result<Value, NoMemory> {
     let mut values = Vec::new(alloc);
     if form == Form::Event {
         values.push(text_value(alloc, "begin")?)?;
     }
-    for event in of_one.work() {
-        values.push(work_value(alloc, event)?)?;
+    for (place, event) in given.schedule.steps().iter().enumerate() {
+        if is_move(given, txn, place, event) {
+            values.push(step_words(alloc, texts, place, event)?)?;
+        }
     }
-    push_last(alloc, form, of_one.fails(), &mut values)?;
+    push_last(alloc, form, fails, &mut values)?;
     Ok(Value::Array(values))
 }
 

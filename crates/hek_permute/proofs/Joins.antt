@@ -4,6 +4,7 @@ use Rattle.std.specs.Prelude.{◌⊎◌, ◌-◌, min, slice_get, Result, Ok, Er
 use Rattle.std.specs.List.{AllByRecursion}
 use Rattle.std.proofs.lemmas.Bool.Decides.{nat_tests}
 use Rattle.hek_rules.specs.Plan.{Plan}
+use Rattle.hek_program.specs.declared.rule.Rule.{Rule}
 use Rattle.hek_permute.specs.declared.moves.Form.{Form}
 use Rattle.hek_permute.specs.Found.{Line}
 use Rattle.hek_permute.specs.Moves.{Work, AreMoves}
@@ -105,8 +106,8 @@ lists_agree (x ∷ xs) (y ∷ ys) long at =
     let tail : xs ≡ ys = lists_agree xs ys (omega arith) (λ i u v here there. at (suc i) u v here there) in
     cc
 
-moves_agree : (p : Plan) (xs ys : List Work) → AreMoves p xs → AreMoves p ys → xs ≡ ys
-moves_agree p xs ys h g = lists_agree xs ys (h.count ∙ sym g.count) (λ i x y here there. h.each i x here ∙ sym (g.each i y there))
+moves_agree : (p : Plan) (rules : List Rule) (xs ys : List Work) → AreMoves p rules xs → AreMoves p rules ys → xs ≡ ys
+moves_agree p rules xs ys h g = lists_agree xs ys (h.count ∙ sym g.count) (λ i x y here there. h.each i x here ∙ sym (g.each i y there))
 
 not_below_self : (a : List ℕ) → IsBelow a a → ⊥
 not_below_self [] h = h
@@ -154,10 +155,10 @@ all_agree first xs ys h g =
     orders_agree xs ys h.falling g.falling (λ o at. g.complete o (of_among (AreAlike first) o xs h.sound at)) (λ o at. h.complete o (of_among (AreAlike first) o ys g.sound at))
 
 -- two parts of the orders, one right behind the other, and the sum of their tallies
-pub whole_joined : (p : Plan) (form : Form) (from mid to : ℕ) (xs ys zs : List Line) → from ≤ mid → mid ≤ to
-    → IsWhole p form from mid xs → IsWhole p form mid to ys → AreAdded xs ys zs → IsWhole p form from to zs
-whole_joined p form from mid to xs ys zs low high a b c =
-    let same_moves : b.moves ≡ a.moves = moves_agree p b.moves a.moves b.are a.are in
+pub whole_joined : (p : Plan) (rules : List Rule) (form : Form) (from mid to : ℕ) (xs ys zs : List Line) → from ≤ mid → mid ≤ to
+    → IsWhole p rules form from mid xs → IsWhole p rules form mid to ys → AreAdded xs ys zs → IsWhole p rules form from to zs
+whole_joined p rules form from mid to xs ys zs low high a b c =
+    let same_moves : b.moves ≡ a.moves = moves_agree p rules b.moves a.moves b.are a.are in
     let also : AreAll (first_in form a.moves) b.orders = subst (λ (ws : List Work). AreAll (first_in form ws) b.orders) same_moves b.all in
     let same_orders : b.orders ≡ a.orders = all_agree (first_in form a.moves) b.orders a.orders also a.all in
     let second : IsTally p form a.moves mid to a.orders ys =
@@ -165,7 +166,7 @@ whole_joined p form from mid to xs ys zs low high a b c =
     let tally : IsTally p form a.moves from to a.orders zs = tally_joined p form a.moves from mid to a.orders low high xs ys zs a.tally second c in
     record { moves = a.moves; are = a.are; orders = a.orders; all = a.all; tally = tally; count = tally_total p form a.moves from to a.orders zs tally }
 
-pub sum_whole : {E : Type 0} (sum : Result (List Line) E) (p : Plan) (form : Form) (from mid to : ℕ) (xs ys : List Line) → from ≤ mid → mid ≤ to
-    → IsWhole p form from mid xs → IsWhole p form mid to ys → IfOk sum (AreAdded xs ys) → IfOk sum (IsWhole p form from to)
-sum_whole (Ok zs) p form from mid to xs ys low high a b c = whole_joined p form from mid to xs ys zs low high a b c
-sum_whole (Err e) p form from mid to xs ys low high a b c = tt
+pub sum_whole : {E : Type 0} (sum : Result (List Line) E) (p : Plan) (rules : List Rule) (form : Form) (from mid to : ℕ) (xs ys : List Line) → from ≤ mid → mid ≤ to
+    → IsWhole p rules form from mid xs → IsWhole p rules form mid to ys → IfOk sum (AreAdded xs ys) → IfOk sum (IsWhole p rules form from to)
+sum_whole (Ok zs) p rules form from mid to xs ys low high a b c = whole_joined p rules form from mid to xs ys zs low high a b c
+sum_whole (Err e) p rules form from mid to xs ys low high a b c = tt

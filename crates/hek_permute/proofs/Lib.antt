@@ -16,3 +16,7 @@ pub mod Joins
 pub mod OneWay
 pub mod RunReplies
 pub mod OnePlay
+pub mod Constant
+pub mod Acts
+pub mod Own
+pub mod Seats

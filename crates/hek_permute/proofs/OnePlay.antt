@@ -22,12 +22,12 @@ use Rattle.hek_permute.proofs.OneWay.{one_way, same_some}
 use Rattle.hek_permute.proofs.RunReplies.{told, told-after, told-before}
 
 -- a move sets off one list of events, after which the transactions are at one list of places
-one_move : (form : Form) (works : List Work) (t : ℕ) (w : World) (was places seats : List Place) (xs ys : List Entry) → SetsOff form works t was xs places → SetsOff form works t was ys seats
+one_move : (form : Form) (works : List Work) (t : ℕ) (w : World) (k : List Entry) (was places seats : List Place) (xs ys : List Entry) → SetsOff form works t k was xs places → SetsOff form works t k was ys seats
     → replies_in xs ≡ told w (history_events xs) → replies_in ys ≡ told w (history_events ys) → (xs ≡ ys) × (places ≡ seats)
-one_move form works t w was places seats xs ys h g a b =
-    let first : g.0 ≡ h.0 = same_some (comes form works was t) g.0 h.0 g.2 h.2 in
+one_move form works t w k was places seats xs ys h g a b =
+    let first : g.0 ≡ h.0 = same_some (comes form works k was t) g.0 h.0 g.2 h.2 in
     let way : (xs ≡ ys) × (h.1 ≡ g.1) =
-    one_way form works t w h.0 h.1 g.1 xs ys h.3 (subst (λ (s : Scene). Reaches form works t s ys g.1) first g.3) h.4 g.4 a b in
+    one_way form works t w k h.0 h.1 g.1 xs ys h.3 (subst (λ (s : Scene). Reaches form works t k s ys g.1) first g.3) h.4 g.4 a b in
     (way.0, sym h.5 ∙ ap (λ (s : Scene). s.places) way.1 ∙ g.5)
 
 one_way_on : (form : Form) (works : List Work) (w : World) (past : List ℕ) (places seats : List Place) (h k : List Entry) → Plays form works past places h → Plays form works past seats k
@@ -41,8 +41,8 @@ one_way_on form works w (t ∷ past) places seats h k so to a b =
     let other : replies_in to.2 ≡ told (run w (history_events so.1)) (history_events to.2) =
     subst (λ (l : List Entry). replies_in to.2 ≡ told (run w (history_events l)) (history_events to.2)) (sym before.0) (told-after w to.1 k to.2 to.5 soon b) in
     let move : (so.2 ≡ to.2) × (places ≡ seats) =
-    one_move form works t (run w (history_events so.1)) so.0 places seats so.2 to.2 so.4
-    (subst (λ (l : List Place). SetsOff form works t l to.2 seats) (sym before.1) to.4) mine other in
+    one_move form works t (run w (history_events so.1)) so.1 so.0 places seats so.2 to.2 so.4
+    (subst (λ (l : List Entry). SetsOff form works t l so.0 to.2 seats) (sym before.0) (subst (λ (l : List Place). SetsOff form works t to.1 l to.2 seats) (sym before.1) to.4)) mine other in
     (so.5 ∙ ap (λ (l : List Entry). l ++ so.2) before.0 ∙ ap (λ (l : List Entry). to.1 ++ l) move.0 ∙ sym to.5, move.1)
 
 pub one_play : EachOrderHasOnePlay

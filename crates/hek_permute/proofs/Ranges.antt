@@ -5,6 +5,7 @@ use Rattle.std.proofs.lemmas.List.{length-reverse, length-take-le, reverse-appen
 use Rattle.std.proofs.lemmas.Option.{slice_get_within}
 use Rattle.std.proofs.lemmas.Bool.Decides.{nat_tests}
 use Rattle.hek_rules.specs.Plan.{Plan}
+use Rattle.hek_program.specs.declared.rule.Rule.{Rule}
 use Rattle.hek_rules.proofs.TakeLemmas.{take_push}
 use Rattle.hek_permute.specs.declared.moves.Form.{Form}
 use Rattle.hek_permute.specs.Found.{Line}
@@ -85,16 +86,16 @@ skips_first p form works from to all k rows low none =
     (skips p form works from to all 0 k rows (λ i from_0 up. before_part from to i (omega arith)) start)
 
 -- the order with the number comes next, and those of the part before it are noted
-pub record IsSoFar (p : Plan) (form : Form) (from to number : ℕ) (moves : List Work) (order : List ℕ) (rows : List Line) : Type 0 where
-  pub are : AreMoves p moves
+pub record IsSoFar (p : Plan) (rules : List Rule) (form : Form) (from to number : ℕ) (moves : List Work) (order : List ℕ) (rows : List Line) : Type 0 where
+  pub are : AreMoves p rules moves
   pub from_on : from ≤ number
   pub at : slice_get (all_orders (counts_of form moves)) number ≡ Some order
   pub tally : IsTally p form moves from to (reverse (take number (all_orders (counts_of form moves)))) rows
   pub total : total rows ≡ min to number - from
 
-pub at_start : (p : Plan) (form : Form) (from to : ℕ) (moves slice : List Work) (order : List ℕ) (rows : List Line) → AreMoves p moves → slice ≡ moves
-    → slice_get (all_orders (counts_of form slice)) from ≡ Some order → rows ≡ [] → IsSoFar p form from to from moves order rows
-at_start p form from to moves slice order rows are same at none = record {
+pub at_start : (p : Plan) (rules : List Rule) (form : Form) (from to : ℕ) (moves slice : List Work) (order : List ℕ) (rows : List Line) → AreMoves p rules moves → slice ≡ moves
+    → slice_get (all_orders (counts_of form slice)) from ≡ Some order → rows ≡ [] → IsSoFar p rules form from to from moves order rows
+at_start p rules form from to moves slice order rows are same at none = record {
   are = are;
   from_on = omega arith;
   at = subst (λ (ws : List Work). slice_get (all_orders (counts_of form ws)) from ≡ Some order) same at;
@@ -108,24 +109,24 @@ pub played_with : (p : Plan) (form : Form) (works slice : List Work) (order give
 played_with p form works slice order given was rows same is g =
     subst (λ (ws : List Work). Goes p form ws true order was rows) same (subst (λ (o : List ℕ). Goes p form slice true o was rows) is g)
 
-played_tally : (p : Plan) (form : Form) (from to number : ℕ) (moves : List Work) (order : List ℕ) (was rows : List Line) → IsSoFar p form from to number moves order was → number < to
+played_tally : (p : Plan) (rules : List Rule) (form : Form) (from to number : ℕ) (moves : List Work) (order : List ℕ) (was rows : List Line) → IsSoFar p rules form from to number moves order was → number < to
     → Goes p form moves true order was rows → IsTally p form moves from to (reverse (take (number + 1) (orders_in form moves))) rows
-played_tally p form from to number moves order was rows h low g =
+played_tally p rules form from to number moves order was rows h low g =
     goes_on p form moves from to (orders_in form moves) number true order was rows h.at (in_part from to number h.from_on low) h.tally g
 
-pub at_next : (p : Plan) (form : Form) (from to number : ℕ) (moves : List Work) (order new : List ℕ) (was rows : List Line) → IsSoFar p form from to number moves order was → number < to
-    → Goes p form moves true order was rows → IsNext order new → IsSoFar p form from to (number + 1) moves new rows
-at_next p form from to number moves order new was rows h low g next = record {
+pub at_next : (p : Plan) (rules : List Rule) (form : Form) (from to number : ℕ) (moves : List Work) (order new : List ℕ) (was rows : List Line) → IsSoFar p rules form from to number moves order was → number < to
+    → Goes p form moves true order was rows → IsNext order new → IsSoFar p rules form from to (number + 1) moves new rows
+at_next p rules form from to number moves order new was rows h low g next = record {
   are = h.are;
   from_on = omega (arith, h.from_on);
   at = next_number (first_in form moves) (orders_in form moves) number order new (numbered (counts_of form moves)) h.at next;
-  tally = played_tally p form from to number moves order was rows h low g;
+  tally = played_tally p rules form from to number moves order was rows h low g;
   total = omega (arith, noted_total was rows g.0 order g.2, h.total, h.from_on);
 }
 
-whole_of : (p : Plan) (form : Form) (from to : ℕ) (moves : List Work) (rows : List Line) → AreMoves p moves → IsTally p form moves from to (reverse (orders_in form moves)) rows
-    → total rows ≡ min to (order_total (counts_of form moves)) - from → IsWhole p form from to rows
-whole_of p form from to moves rows are tally count =
+whole_of : (p : Plan) (rules : List Rule) (form : Form) (from to : ℕ) (moves : List Work) (rows : List Line) → AreMoves p rules moves → IsTally p form moves from to (reverse (orders_in form moves)) rows
+    → total rows ≡ min to (order_total (counts_of form moves)) - from → IsWhole p rules form from to rows
+whole_of p rules form from to moves rows are tally count =
     let many : length (reverse (orders_in form moves)) ≡ order_total (counts_of form moves) = length-reverse (orders_in form moves) in
     record {
       moves = moves;
@@ -136,28 +137,28 @@ whole_of p form from to moves rows are tally count =
       count = omega (arith, count, many);
     }
 
-pub at_last : (p : Plan) (form : Form) (from to number : ℕ) (moves : List Work) (order : List ℕ) (was rows : List Line) → IsSoFar p form from to number moves order was → number < to
-    → Goes p form moves true order was rows → IsLast order → IsWhole p form from to rows
-at_last p form from to number moves order was rows h low g last =
+pub at_last : (p : Plan) (rules : List Rule) (form : Form) (from to number : ℕ) (moves : List Work) (order : List ℕ) (was rows : List Line) → IsSoFar p rules form from to number moves order was → number < to
+    → Goes p form moves true order was rows → IsLast order → IsWhole p rules form from to rows
+at_last p rules form from to number moves order was rows h low g last =
     let many : length (orders_in form moves) ≡ number + 1 = last_number (first_in form moves) (orders_in form moves) number order (numbered (counts_of form moves)) h.at last in
     let all : take (number + 1) (orders_in form moves) ≡ orders_in form moves = take_all (number + 1) (orders_in form moves) (omega arith) in
-    whole_of p form from to moves rows h.are
-    (subst (λ (qs : List (List ℕ)). IsTally p form moves from to (reverse qs) rows) all (played_tally p form from to number moves order was rows h low g))
+    whole_of p rules form from to moves rows h.are
+    (subst (λ (qs : List (List ℕ)). IsTally p form moves from to (reverse qs) rows) all (played_tally p rules form from to number moves order was rows h low g))
     (omega (arith, noted_total was rows g.0 order g.2, h.total, h.from_on))
 
-pub at_end : (p : Plan) (form : Form) (from to number : ℕ) (moves : List Work) (order : List ℕ) (rows : List Line) → IsSoFar p form from to number moves order rows → to ≤ number → IsWhole p form from to rows
-at_end p form from to number moves order rows h over =
-    whole_of p form from to moves rows h.are
+pub at_end : (p : Plan) (rules : List Rule) (form : Form) (from to number : ℕ) (moves : List Work) (order : List ℕ) (rows : List Line) → IsSoFar p rules form from to number moves order rows → to ≤ number → IsWhole p rules form from to rows
+at_end p rules form from to number moves order rows h over =
+    whole_of p rules form from to moves rows h.are
     (skips_rest p form moves from to (orders_in form moves) number rows (λ i low up. after_part from to i (omega arith)) h.tally)
     (omega (arith, h.total, slice_get_within (orders_in form moves) number order h.at))
 
 -- there is no order with the number of the first in the part
-pub at_none : (p : Plan) (form : Form) (from to : ℕ) (moves slice : List Work) (rows : List Line) → AreMoves p moves → slice ≡ moves → order_total (counts_of form slice) ≤ from → rows ≡ []
-    → IsWhole p form from to rows
-at_none p form from to moves slice rows are same few none =
+pub at_none : (p : Plan) (rules : List Rule) (form : Form) (from to : ℕ) (moves slice : List Work) (rows : List Line) → AreMoves p rules moves → slice ≡ moves → order_total (counts_of form slice) ≤ from → rows ≡ []
+    → IsWhole p rules form from to rows
+at_none p rules form from to moves slice rows are same few none =
     let many : length (orders_in form moves) ≡ order_total (counts_of form slice) = ap (λ (ws : List Work). order_total (counts_of form ws)) (sym same) in
     let tally : IsTally p form moves from to (reverse (take (length (orders_in form moves)) (orders_in form moves))) rows =
     skips_first p form moves from to (orders_in form moves) (length (orders_in form moves)) rows (omega arith) none in
-    whole_of p form from to moves rows are
+    whole_of p rules form from to moves rows are
     (subst (λ (qs : List (List ℕ)). IsTally p form moves from to (reverse qs) rows) (take_all (length (orders_in form moves)) (orders_in form moves) (omega arith)) tally)
     (ap total none ∙ omega arith)

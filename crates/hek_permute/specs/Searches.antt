@@ -1,6 +1,7 @@
 -- A search for a reply among the plays of the beginnings of orders.
 use Rattle.std.specs.Prelude.{ℕ, ◌≡◌, ◌+◌, ◌<◌, ◌⊎◌, IsTrue, Option, Some, None, List, [], ◌∷◌, length, map, reverse, take}
 use Rattle.hek_rules.specs.Plan.{Plan}
+use Rattle.hek_program.specs.declared.rule.Rule.{Rule}
 use Rattle.hek_rules.specs.Run.{transcript}
 use Rattle.hek_rules.specs.declared.event.Event.{Event}
 use Rattle.hek_rules.specs.declared.reply.Reply.{Reply}
@@ -69,8 +70,8 @@ abbrev pub IsFound : Plan → Form → List Work → Sought → Option (List ℕ
 IsFound p form works s None = NoneBelow p form works s (length (first_in form works) + 1)
 IsFound p form works s (Some moves) = IsShortest p form works s moves
 
--- the same, for the moves of a schedule's transactions
-pub record IsAnswer (p : Plan) (form : Form) (s : Sought) (found : Option (List ℕ)) : Type 0 where
+-- the same, for the moves of the transactions of a schedule whose steps have these rules
+pub record IsAnswer (p : Plan) (rules : List Rule) (form : Form) (s : Sought) (found : Option (List ℕ)) : Type 0 where
   pub works : List Work
-  pub are : AreMoves p works
+  pub are : AreMoves p rules works
   pub answer : IsFound p form works s found

@@ -8,6 +8,7 @@ use crate::fault::OrderFault;
 use crate::moves::{Form, Moves, first_order, moves_of};
 use crate::order::advance;
 use crate::play::play_order;
+use hek_program::Rule;
 use hek_rules::{Reply, Schedule, TxnId};
 use hek_worker::Entry;
 use std::alloc::Global;
@@ -43,13 +44,14 @@ pub trait Pace {
 pub fn find_order<P: Pace>(
     alloc: Global,
     schedule: &Schedule,
+    rules: &[Rule],
     form: Form,
     sought: &Sought,
     pace: &mut P,
 ) -> Result<Option<Vec<TxnId>>, OrderFault>
-    ensures { IfOk result (λ found. IsAnswer schedule.now form sought.now (option_map (λ v. v.items) found)) }
+    ensures { IfOk result (λ found. IsAnswer schedule.now rules.now form sought.now (option_map (λ v. v.items) found)) }
 {
-    let moves = moves_of(alloc, schedule)?;
+    let moves = moves_of(alloc, schedule, rules)?;
     let first = first_order(alloc, moves.as_slice(), form)?;
     find_shortest(
         alloc,

@@ -1,4 +1,5 @@
-//! Every order of a schedule's moves: each is played on a new machine, and the outcomes are counted.
+//! Every order of a schedule's moves: each is played on a new machine, and the outcomes are counted. A move can be
+//! computed from what its transaction has seen.
 #![tactic(auto)]
 
 mod fault;
@@ -11,15 +12,16 @@ mod order;
 mod outcome;
 mod parts;
 mod play;
+mod seen;
 mod tally;
 mod whole;
 
 pub use fault::OrderFault;
 pub use find::{Pace, Sought, find_order};
 pub use leveled::schedule_with;
-pub use moves::{Form, Moves, first_order, move_count, moves_of};
+pub use moves::{Form, Move, Moves, first_order, move_count, moves_of};
 pub use number::{all_orders_are_numbered, order_at, order_count};
-pub use one_play::{each_order_has_one_outcome, each_order_has_one_play};
+pub use one_play::{each_order_has_one_outcome, each_order_has_one_play, plain_moves_are_constant};
 pub use order::next_order;
 pub use outcome::{Ending, Outcome, end_of, outcome_of, some_waited};
 pub use parts::play_parts;

@@ -8,6 +8,7 @@ use crate::moves::Form;
 use crate::outcome::Outcome;
 use crate::tally::Tally;
 use crate::whole::{Watch, play_all};
+use hek_program::Rule;
 use hek_rules::{Schedule, TxnId};
 use std::alloc::Global;
 use std::thread::{Threads, join};
@@ -29,27 +30,28 @@ pub fn play_parts<R: Threads + Sync>(
     rt: &R,
     alloc: Global,
     schedule: &Schedule,
+    rules: &[Rule],
     form: Form,
     from: u64,
     to: u64,
     jobs: u64,
 ) -> Result<Tally, OrderFault>
-    ensures { IfOk result (IsWhole schedule.now form from to) }
+    ensures { IfOk result (IsWhole schedule.now rules.now form from to) }
 {
     if to <= from || jobs <= 1 {
-        return play_all(alloc, schedule, form, from, to, &mut Unwatched);
+        return play_all(alloc, schedule, rules, form, from, to, &mut Unwatched);
     }
     let left = jobs / 2;
     let right = jobs - left;
     let middle = middle_of(from, to, left, jobs);
     let first = move || -> Result<Tally, OrderFault>
         requires { IsSync R.row }
-        ensures { IfOk result (IsWhole schedule.entry.now form from middle) }
-    { play_parts(rt, alloc, schedule, form, from, middle, left) };
+        ensures { IfOk result (IsWhole schedule.entry.now rules.entry.now form from middle) }
+    { play_parts(rt, alloc, schedule, rules, form, from, middle, left) };
     let second = move || -> Result<Tally, OrderFault>
         requires { IsSync R.row }
-        ensures { IfOk result (IsWhole schedule.entry.now form middle to) }
-    { play_parts(rt, alloc, schedule, form, middle, to, right) };
+        ensures { IfOk result (IsWhole schedule.entry.now rules.entry.now form middle to) }
+    { play_parts(rt, alloc, schedule, rules, form, middle, to, right) };
     let (first, second) = join(rt, first, second);
     first?.plus(second?)
 }

@@ -1,12 +1,15 @@
 //! One order of moves, played on a new machine.
-ghost use Rattle.std.specs.Prelude.{◌≡◌, ◌+◌, IfOk, OnOk, [], length, nat_lt, replicate, reverse};
+ghost use Rattle.std.specs.Prelude.{◌≡◌, ◌+◌, IfOk, OnOk, [], length, nat_lt, replicate, reverse, take};
+ghost use Rattle.hek_worker.specs.Grammar.{answers};
 ghost use Rattle.hek_worker.specs.History.{Replays};
-ghost use Rattle.hek_permute.specs.Plays.{HasMoved, IsPlay, after_by, all_wait, answered, asks, asks_on, before_precommit, before_work, comes, due, first_asked, first_place, gives_up, is_it, is_over, is_running, may_go, next_by, noted, passed, rests, sends, turned};
+ghost use Rattle.hek_permute.specs.Moves.{move_count};
+ghost use Rattle.hek_permute.specs.Plays.{HasMoved, IsPlay, after_by, after_step, all_wait, answered, asks, asks_on, before_precommit, before_work, comes, due, event_by, first_asked, first_place, gives_up, is_it, is_over, is_running, may_go, next_by, noted, passed, rests, sends, shown_to, stage_after, step_event, turned, worked_at};
 
 use crate::fault::OrderFault;
 use crate::moves::{Form, Moves, move_count};
 use crate::outcome::is_wait;
 use hek_machine::Machine;
+use hek_program::Act;
 use hek_rules::{Event, NoMemory, Reply, Schedule, TxnId};
 use hek_worker::{Book, Entry, Position, Stage};
 use std::alloc::Global;
@@ -43,13 +46,16 @@ pub enum Turn {
 impl Place {
     /// Whether the transaction's next event belongs to a move that has come. What an aborted transaction gives back
     /// belongs to any move.
-    fn may_go(&self, of_one: &Moves, form: Form) -> bool
-        ensures { result ≡ may_go form of_one.now self.now.moves self.now.stage }
+    fn may_go(&self, of_one: &Moves, form: Form, txn: TxnId, history: &[Entry]) -> bool
+        ensures { result ≡ may_go form (shown_to of_one.now txn history.now) self.now.moves self.now.stage }
     {
         match self.stage {
             Stage::Start => self.moves > 0,
-            Stage::Working(place) => is_more(self.moves, before_work(form), place),
-            Stage::Preparing => is_more(self.moves, before_precommit(form), of_one.work().len()),
+            Stage::Working(place) => {
+                let ahead = of_one.ahead(place, txn, history);
+                is_more(self.moves, before_work(form), ahead)
+            }
+            Stage::Preparing => is_more(self.moves, before_precommit(form), of_one.steps().len()),
             Stage::Releasing(false) => self.moves >= move_count(of_one, form),
             Stage::Ended => false,
             _ => true,
@@ -58,43 +64,41 @@ impl Place {
 
     /// Whether the transaction fails while it waits: all its moves have come, the last of which is `fail`.
     fn gives_up(&self, of_one: &Moves, form: Form) -> bool
-        ensures { result ≡ gives_up form of_one.now self.now }
+        ensures { result ≡ gives_up (move_count form of_one.now) of_one.now.fails self.now }
     {
         self.waits && of_one.fails() && self.moves >= move_count(of_one, form)
     }
 
     /// Whether the transaction goes no further: it waits and does not fail, or its next event belongs to a later move.
-    fn rests(&self, of_one: &Moves, form: Form) -> bool
-        ensures { result ≡ rests form of_one.now self.now }
+    fn rests(&self, of_one: &Moves, form: Form, txn: TxnId, history: &[Entry]) -> bool
+        ensures { result ≡ rests form (shown_to of_one.now txn history.now) self.now }
     {
         let patient = self.waits && !self.gives_up(of_one, form);
-        patient || !self.may_go(of_one, form)
+        patient || !self.may_go(of_one, form, txn, history)
     }
 
     /// The stage that decides the transaction's next event.
-    fn due(&self, of_one: &Moves, form: Form) -> Stage
-        ensures { result ≡ due form of_one.now self.now }
+    fn due(&self, of_one: &Moves, form: Form, txn: TxnId, history: &[Entry]) -> Stage
+        ensures { result ≡ due form (shown_to of_one.now txn history.now) self.now }
     {
         if self.gives_up(of_one, form) {
             Stage::GivingUp
         } else {
-            self.turned(of_one, form)
+            self.turned(of_one, form, txn, history)
         }
     }
 
-    /// What the transaction does next if it doesn't wait: one that fails does `fail` where its last move is due.
-    fn turned(&self, of_one: &Moves, form: Form) -> Stage
-        ensures { result ≡ turned form of_one.now self.now.stage }
+    /// What the transaction does next if it doesn't wait: steps that are skipped are passed over, and one that fails does
+    /// `fail` where its last move is due.
+    fn turned(&self, of_one: &Moves, form: Form, txn: TxnId, history: &[Entry]) -> Stage
+        ensures { result ≡ turned form (shown_to of_one.now txn history.now) self.now.stage }
     {
         let fails = of_one.fails();
         let stage = self.stage;
         match (form, stage) {
-            (Form::Whole, Stage::Working(place)) => {
-                if fails && place >= of_one.work().len() {
-                    Stage::GivingUp
-                } else {
-                    stage
-                }
+            (_, Stage::Working(place)) => {
+                let ahead = of_one.ahead(place, txn, history);
+                worked_at(form, fails, ahead, of_one.act(ahead, txn, history))
             }
             (Form::Split | Form::Event, Stage::Releasing(false)) => {
                 if fails { Stage::GivingUp } else { stage }
@@ -103,27 +107,30 @@ impl Place {
         }
     }
 
-    /// The stage that decides the transaction's next event, as a position without turns.
-    fn position(&self, of_one: &Moves, form: Form) -> Position
-        ensures { result ≡ record { stage = due form of_one.now self.now; turns = 0 } }
+    /// The transaction's next event.
+    fn event(&self, of_one: &Moves, form: Form, txn: TxnId, history: &[Entry]) -> Event
+        ensures { result ≡ event_by txn (shown_to of_one.now txn history.now) (due form (shown_to of_one.now txn history.now) self.now) }
     {
-        Position {
-            stage: self.due(of_one, form),
-            turns: 0,
+        let stage = self.due(of_one, form, txn, history);
+        match stage {
+            Stage::Working(at) => step_event(txn, of_one.act(at, txn, history)),
+            _ => Position { stage, turns: 0 }.event(txn, &[]),
         }
     }
 
-    /// Where the transaction is after the reply to its next event; None if that cannot have this reply.
+    /// Where the transaction is after the reply to its next event; None if that cannot have this reply. The history is
+    /// the one before the event.
     fn answered(
         &self,
         of_one: &Moves,
         form: Form,
         place: usize,
         txn: TxnId,
+        history: &[Entry],
         reply: &Reply,
     ) -> Option<Place>
         requires { txn ≡ place + 1 }
-        ensures { result ≡ answered form place of_one.now self.now reply.now }
+        ensures { result ≡ answered form place (shown_to of_one.now txn history.now) self.now reply.now }
     {
         if is_wait(reply) {
             return Some(Place {
@@ -132,14 +139,100 @@ impl Place {
                 waits: true,
             });
         }
-        match self.position(of_one, form).after(txn, of_one.work(), reply) {
-            Some(next) => Some(Place {
-                stage: next.stage,
-                moves: self.moves,
-                waits: false,
-            }),
-            None => None,
+        let due = self.due(of_one, form, txn, history);
+        let stage = stage_after(of_one, txn, history, due, reply)?;
+        Some(Place {
+            stage,
+            moves: self.moves,
+            waits: false,
+        })
+    }
+}
+
+/// What a transaction does at the place of a step, by what the step does.
+fn worked_at(form: Form, fails: bool, place: usize, act: Option<Act>) -> Stage
+    ensures { result ≡ worked_at form fails place act }
+{
+    match act {
+        Some(Act::Fails) => Stage::GivingUp,
+        Some(_) => Stage::Working(place),
+        None => match form {
+            Form::Whole => {
+                if fails {
+                    Stage::GivingUp
+                } else {
+                    Stage::Working(place)
+                }
+            }
+            Form::Split | Form::Event => Stage::Working(place),
+        },
+    }
+}
+
+/// The event of a step; past the last one there is `finish`.
+fn step_event(txn: TxnId, act: Option<Act>) -> Event
+    ensures { result ≡ step_event txn act }
+{
+    match act {
+        Some(Act::Makes(event)) => event,
+        Some(_) => Event::Fail(txn),
+        None => Event::Finish(txn),
+    }
+}
+
+/// The stage after the reply to a step.
+fn after_step(event: Event, place: usize, count: usize, reply: &Reply) -> Option<Stage>
+    ensures { result ≡ after_step event place count reply.now }
+{
+    if let Reply::Aborted(_) = reply {
+        return Some(Stage::Releasing(true));
+    }
+    if !answers(event, reply) {
+        return None;
+    }
+    if place < count {
+        Some(Stage::Working(place + 1))
+    } else {
+        Some(Stage::Preparing)
+    }
+}
+
+/// The stage after the reply to a transaction's event at a stage; None if it cannot have this reply.
+fn stage_after(
+    of_one: &Moves,
+    txn: TxnId,
+    history: &[Entry],
+    stage: Stage,
+    reply: &Reply,
+) -> Option<Stage>
+    ensures { result ≡ stage_after txn (shown_to of_one.now txn history.now) stage reply.now }
+{
+    match stage {
+        Stage::Working(at) => {
+            let event = step_event(txn, of_one.act(at, txn, history));
+            after_step(event, at, of_one.steps().len(), reply)
         }
+        _ => {
+            let next = Position { stage, turns: 0 }.after(txn, &[], reply)?;
+            Some(next.stage)
+        }
+    }
+}
+
+/// Whether an event of this kind can have the reply.
+fn answers(event: Event, reply: &Reply) -> bool
+    ensures { result ≡ answers event reply.now }
+{
+    match event {
+        Event::Read(_, _) => matches!(reply, Reply::Found(_) | Reply::Absent),
+        Event::Scan(_, _) => matches!(reply, Reply::Rows(_)),
+        Event::Insert(_, _, _) => matches!(reply, Reply::Done | Reply::Exists),
+        Event::Update(_, _, _) | Event::Delete(_, _) => matches!(
+            reply,
+            Reply::Done | Reply::Absent
+        ),
+        Event::Finish(_) => matches!(reply, Reply::Ready),
+        _ => false,
     }
 }
 
@@ -273,13 +366,14 @@ pub fn make_move(
     ensures plan { book.new.plan ≡ book.old.plan }
     ensures moved { OnOk result (HasMoved form moves.now mover places.old book.old.history places.new book.new.history) }
 {
-    let mut turn = come(moves, form, places, mover)?;
+    let mut turn = come(moves, form, book.history(), places, mover)?;
     for _ in 0..u64::MAX {
-        match next_event(moves, form, places, mover, turn)? {
+        match next_event(moves, form, book.history(), places, mover, turn)? {
             None => return Ok(()),
             Some((worker, event)) => {
+                let before = book.history().len();
                 let (_, reply) = book.attempt(worker, event)?;
-                turn = take_reply(moves, form, places, turn, &reply)?;
+                turn = take_reply(moves, form, before, book.history(), places, turn, &reply)?;
             }
         }
     }
@@ -287,8 +381,14 @@ pub fn make_move(
 }
 
 /// One more move of a transaction has come. Answers whose turn it is.
-fn come(moves: &[Moves], form: Form, places: &mut [Place], mover: TxnId) -> Result<Turn, OrderFault>
-    ensures { IfOk result (λ turn. comes form moves.now places.old mover ≡ Some (record { places = places.new; turn = turn })) }
+fn come(
+    moves: &[Moves],
+    form: Form,
+    history: &[Entry],
+    places: &mut [Place],
+    mover: TxnId,
+) -> Result<Turn, OrderFault>
+    ensures { IfOk result (λ turn. comes form moves.now history.now places.old mover ≡ Some (record { places = places.new; turn = turn })) }
 {
     let at = place_of(mover)?;
     let Some(place) = places.get(at) else {
@@ -309,19 +409,26 @@ fn come(moves: &[Moves], form: Form, places: &mut [Place], mover: TxnId) -> Resu
         }
         return Ok(Turn::Rests);
     }
-    send(moves, form, places, at)
+    send(moves, form, history, places, at)
 }
 
 ghost use Rattle.std.specs.Prelude.{Some};
 
 /// The turn of the transaction at a place, if it may go on; otherwise that of the others that wait.
-fn send(moves: &[Moves], form: Form, places: &[Place], at: usize) -> Result<Turn, OrderFault>
-    ensures { IfOk result (λ turn. sends form moves.now places.now (at + 1) ≡ Some (record { places = places.now; turn = turn })) }
+fn send(
+    moves: &[Moves],
+    form: Form,
+    history: &[Entry],
+    places: &[Place],
+    at: usize,
+) -> Result<Turn, OrderFault>
+    ensures { IfOk result (λ turn. sends form moves.now history.now places.now (at + 1) ≡ Some (record { places = places.now; turn = turn })) }
 {
     let (Some(of_one), Some(place)) = (moves.get(at), places.get(at)) else {
         return Err(OrderFault::Mismatch);
     };
-    if place.may_go(of_one, form) {
+    let txn = txn_at(at)?;
+    if place.may_go(of_one, form, txn, history) {
         Ok(Turn::Goes(at))
     } else {
         Ok(asks(places, Some(at), None))
@@ -332,11 +439,12 @@ fn send(moves: &[Moves], form: Form, places: &[Place], at: usize) -> Result<Turn
 fn next_event(
     moves: &[Moves],
     form: Form,
+    history: &[Entry],
     places: &[Place],
     mover: TxnId,
     turn: Turn,
 ) -> Result<Option<(TxnId, Event)>, OrderFault>
-    ensures { IfOk result (λ found. found ≡ next_by form moves.now mover places.now turn) }
+    ensures { IfOk result (λ found. found ≡ next_by form moves.now mover history.now places.now turn) }
 {
     match turn {
         Turn::Goes(at) | Turn::Asks(at, _, _) => {
@@ -344,33 +452,36 @@ fn next_event(
                 return Err(OrderFault::Mismatch);
             };
             let txn = txn_at(at)?;
-            Ok(Some((txn, place.position(of_one, form).event(txn, of_one.work()))))
+            Ok(Some((txn, place.event(of_one, form, txn, history))))
         }
         Turn::Looks => Ok(Some((mover, Event::Detect))),
         Turn::Rests => Ok(None),
     }
 }
 
-/// Takes the reply to the next event. Answers whose turn it is then.
+/// Takes the reply to the next event, which is the last one of the history and comes after this many. Answers whose turn
+/// it is then.
 fn take_reply(
     moves: &[Moves],
     form: Form,
+    before: usize,
+    history: &[Entry],
     places: &mut [Place],
     turn: Turn,
     reply: &Reply,
 ) -> Result<Turn, OrderFault>
-    ensures { IfOk result (λ next. after_by form moves.now places.old turn reply.now ≡ Some (record { places = places.new; turn = next })) }
+    ensures { IfOk result (λ next. after_by form moves.now (take before history.now) history.now places.old turn reply.now ≡ Some (record { places = places.new; turn = next })) }
 {
     match turn {
-        Turn::Goes(at) => take_own(moves, form, places, at, turn, reply),
+        Turn::Goes(at) => take_own(moves, form, before, history, places, at, turn, reply),
         Turn::Asks(at, but, got_on) => {
             let noted = Turn::Asks(at, but, got_on || !is_wait(reply));
-            take_own(moves, form, places, at, noted, reply)
+            take_own(moves, form, before, history, places, at, noted, reply)
         }
         Turn::Looks => match reply {
             Reply::Victim(victim, _) => {
                 let at = place_of(*victim)?;
-                send(moves, form, places, at)
+                send(moves, form, history, places, at)
             }
             _ => Ok(Turn::Rests),
         },
@@ -382,25 +493,38 @@ fn take_reply(
 fn take_own(
     moves: &[Moves],
     form: Form,
+    before: usize,
+    history: &[Entry],
     places: &mut [Place],
     at: usize,
     turn: Turn,
     reply: &Reply,
 ) -> Result<Turn, OrderFault>
-    ensures { IfOk result (λ next. after_own form moves.now places.old at turn reply.now ≡ Some (record { places = places.new; turn = next })) }
+    ensures { IfOk result (λ next. after_own form moves.now (take before history.now) history.now places.old at turn reply.now ≡ Some (record { places = places.new; turn = next })) }
 {
     let (Some(of_one), Some(place)) = (moves.get(at), places.get(at)) else {
         return Err(OrderFault::Mismatch);
     };
     let txn = txn_at(at)?;
-    let Some(later) = place.answered(of_one, form, at, txn, reply) else {
+    let old = front_of(history, before);
+    let Some(later) = place.answered(of_one, form, at, txn, old, reply) else {
         return Err(OrderFault::Mismatch);
     };
     places[at] = later;
-    if later.rests(of_one, form) {
+    if later.rests(of_one, form, txn, history) {
         Ok(passed(turn, places))
     } else {
         Ok(turn)
+    }
+}
+
+/// The first entries of a history.
+fn front_of(history: &[Entry], count: usize) -> &[Entry]
+    ensures { result.now ≡ take count history.now }
+{
+    match history.get(..count) {
+        Some(front) => front,
+        None => history,
     }
 }
 

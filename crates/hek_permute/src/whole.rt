@@ -11,6 +11,7 @@ use crate::order::advance;
 use crate::outcome::{Outcome, outcome_of};
 use crate::play::play_order;
 use crate::tally::Tally;
+use hek_program::Rule;
 use hek_rules::{Schedule, TxnId};
 use std::alloc::Global;
 
@@ -21,18 +22,19 @@ pub trait Watch {
 }
 
 /// Plays all orders of a schedule's moves with a number from `from` on and below `to`, each on a new machine. The first
-/// order in a dictionary has the number 0. If there are too many orders to count, none is played.
+/// order in a dictionary has the number 0. The first rule is that of the first step. If there are too many orders to count, none is played.
 pub fn play_all<W: Watch>(
     alloc: Global,
     schedule: &Schedule,
+    rules: &[Rule],
     form: Form,
     from: u64,
     to: u64,
     watch: &mut W,
 ) -> Result<Tally, OrderFault>
-    ensures { IfOk result (IsWhole schedule.now form from to) }
+    ensures { IfOk result (IsWhole schedule.now rules.now form from to) }
 {
-    let moves = moves_of(alloc, schedule)?;
+    let moves = moves_of(alloc, schedule, rules)?;
     let mut tally = Tally::new(alloc);
     let Some(mut order) = order_at(alloc, moves.as_slice(), form, from)? else {
         return Ok(tally);

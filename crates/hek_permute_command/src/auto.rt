@@ -1,9 +1,10 @@
 //! A schedule that finishes itself.
+use crate::given::{Given, program_in};
 use crate::one::{events_of, leveled};
 use hek_asm::canonical;
 use hek_permute::{Form, Moves, moves_of};
-use hek_report::{HekFault, ScheduleFile, schedule_in};
-use hek_rules::{Event, EventKind, NoMemory, Schedule, TxnId};
+use hek_report::{HekFault, ScheduleFile};
+use hek_rules::{Event, EventKind, Level, NoMemory, Schedule, TxnId};
 use hek_worker::is_work;
 use std::alloc::Global;
 use std::io::Read;
@@ -15,8 +16,9 @@ use std::io::Read;
 pub fn auto_file<'a, R: Read + Drop>(
     alloc: Global,
     file: ScheduleFile<R>,
+    level: Option<Level>,
 ) -> Result<ScheduleFile<R>, HekFault<'a>> {
-    let made = ended(alloc, file)?;
+    let made = ended(alloc, file, level)?;
     let text = canonical(alloc, &made)?;
     Ok(ScheduleFile::Text(text.into_bytes()))
 }
@@ -25,19 +27,22 @@ pub fn auto_file<'a, R: Read + Drop>(
 fn ended<'a, R: Read + Drop>(
     alloc: Global,
     file: ScheduleFile<R>,
+    level: Option<Level>,
 ) -> Result<Schedule, HekFault<'a>> {
-    let schedule = schedule_in(alloc, file)?;
-    let events = events_in_file(alloc, &schedule)?;
-    leveled(alloc, &schedule, None, events.as_slice())
+    let program = program_in(alloc, file)?;
+    let schedule = program.schedule();
+    let leveled_one = leveled(alloc, schedule, level, schedule.steps())?;
+    let events = events_in_file(alloc, &Given::of(&program).over(&leveled_one))?;
+    leveled(alloc, &leveled_one, None, events.as_slice())
 }
 
 /// The events of the order that a file has.
-fn events_in_file<'a>(alloc: Global, schedule: &Schedule) -> Result<Vec<Event>, HekFault<'a>> {
-    let moves = moves_of(alloc, schedule)?;
-    let order = order_in_file(alloc, schedule, moves.as_slice())?;
+fn events_in_file<'a>(alloc: Global, given: &Given<'_>) -> Result<Vec<Event>, HekFault<'a>> {
+    let moves = moves_of(alloc, given.schedule, given.rules)?;
+    let order = order_in_file(alloc, given, moves.as_slice())?;
     events_of(
         alloc,
-        schedule,
+        given.schedule,
         moves.as_slice(),
         Form::Event,
         order.as_slice(),
@@ -58,13 +63,19 @@ struct Track {
 /// The order of moves, by events, in which a file has the steps of its transactions.
 fn order_in_file(
     alloc: Global,
-    schedule: &Schedule,
+    given: &Given<'_>,
     moves: &[Moves],
 ) -> Result<Vec<TxnId>, NoMemory> {
-    let mut tracks = tracks_of(alloc, schedule, moves)?;
+    let mut tracks = tracks_of(alloc, given, moves)?;
     let mut order = Vec::new(alloc);
-    for (place, step) in schedule.steps().iter().enumerate() {
-        push_step(place, step, tracks.as_mut_slice(), &mut order)?;
+    for (place, step) in given.schedule.steps().iter().enumerate() {
+        push_step(
+            place,
+            step,
+            given.fails_if(place, step),
+            tracks.as_mut_slice(),
+            &mut order,
+        )?;
     }
     for (index, track) in tracks.iter().enumerate() {
         let txn = TxnId::new((index as u64).saturating_add(1));
@@ -74,10 +85,10 @@ fn order_in_file(
 }
 
 /// The tracks of all transactions before the first step.
-fn tracks_of(alloc: Global, schedule: &Schedule, moves: &[Moves]) -> Result<Vec<Track>, NoMemory> {
+fn tracks_of(alloc: Global, given: &Given<'_>, moves: &[Moves]) -> Result<Vec<Track>, NoMemory> {
     let mut tracks = Vec::new(alloc);
     for of_one in moves {
-        let works = of_one.work().len();
+        let works = of_one.steps().len();
         tracks.push(Track {
             works,
             most: works.saturating_add(Form::Event.other_moves()),
@@ -86,8 +97,10 @@ fn tracks_of(alloc: Global, schedule: &Schedule, moves: &[Moves]) -> Result<Vec<
             made: 0,
         })?;
     }
-    for (place, step) in schedule.steps().iter().enumerate() {
-        note_end(place, step, tracks.as_mut_slice());
+    for (place, step) in given.schedule.steps().iter().enumerate() {
+        if !given.fails_if(place, step) {
+            note_end(place, step, tracks.as_mut_slice());
+        }
     }
     Ok(tracks)
 }
@@ -112,23 +125,25 @@ fn track_of<'t>(step: &Event, tracks: &'t mut [Track]) -> Option<&'t mut Track> 
 fn push_step(
     place: usize,
     step: &Event,
+    fails_if: bool,
     tracks: &mut [Track],
     order: &mut Vec<TxnId>,
 ) -> Result<(), NoMemory> {
     let (Some(txn), Some(track)) = (step.txn(), track_of(step, tracks)) else {
         return Ok(());
     };
-    if is_work(txn, *step) {
+    let is_move = fails_if || is_work(txn, *step);
+    if is_move {
         track.seen = track.seen.saturating_add(1);
     }
-    let moves = moves_upto(track, place, step);
+    let moves = moves_upto(track, place, step, is_move);
     let count = moves.saturating_sub(track.made);
     track.made = moves.max(track.made);
     push_moves(txn, count, order)
 }
 
 /// How many moves of a transaction have come with a step of its own, by the file.
-fn moves_upto(track: &Track, place: usize, step: &Event) -> usize {
+fn moves_upto(track: &Track, place: usize, step: &Event, is_move: bool) -> usize {
     let begun = track.seen.saturating_add(1);
     if track.seen < track.works {
         return begun;
@@ -137,7 +152,7 @@ fn moves_upto(track: &Track, place: usize, step: &Event) -> usize {
         EventKind::Begin => begun,
         EventKind::Finish => begun.saturating_add(1),
         EventKind::Precommit => begun.saturating_add(2),
-        _ if is_end(step) => track.most,
+        _ if !is_move && is_end(step) => track.most,
         _ if ends_later(track, place) => begun,
         _ => track.most,
     }

@@ -1,7 +1,9 @@
 //! In which other order the committed transactions of an order's play can follow one another, or why they can't.
+use crate::given::Given;
 use crate::one::fault_of;
 use hek_history_report::{Together, together_of};
 use hek_permute::{Form, Moves, moves_of, play_order};
+use hek_program::Rule;
 use hek_report::HekFault;
 use hek_rules::{Schedule, TxnId};
 use hek_serial::Serializability;
@@ -11,18 +13,29 @@ use std::alloc::Global;
 /// What is said of a verdict beside its word: nothing where the order of end times is serial.
 pub(crate) fn details_of<'a>(
     alloc: Global,
-    schedule: &Schedule,
+    given: &Given<'_>,
     form: Form,
     order: &[TxnId],
     verdict: Serializability,
 ) -> Result<Together, HekFault<'a>> {
-    match verdict {
-        Serializability::ByEndTime => Ok(Together::ByEndTime),
-        Serializability::InAnotherOrder | Serializability::NotSerial => {
-            let moves = moves_of(alloc, schedule)?;
-            together_in_play(alloc, schedule, moves.as_slice(), form, order)
-        }
+    let schedule = given.schedule;
+    let rules = given.rules;
+    if verdict == Serializability::ByEndTime {
+        return Ok(Together::ByEndTime);
     }
+    together_by_rules(alloc, schedule, rules, form, order)
+}
+
+/// Whether the committed transactions of an order's play can follow one another, by the rules of the steps.
+fn together_by_rules<'a>(
+    alloc: Global,
+    schedule: &Schedule,
+    rules: &[Rule],
+    form: Form,
+    order: &[TxnId],
+) -> Result<Together, HekFault<'a>> {
+    let moves = moves_of(alloc, schedule, rules)?;
+    together_in_play(alloc, schedule, moves.as_slice(), form, order)
 }
 
 /// Whether the committed transactions of an order's play can follow one another.

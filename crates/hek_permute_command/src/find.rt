@@ -1,5 +1,6 @@
 //! The shortest beginning of an order in which something comes, as a schedule.
 use crate::details::details_of;
+use crate::given::Given;
 use crate::kinds::{Beginning as Kind, begins_replies, find_kind};
 use crate::one::{Played, fault_of, leveled};
 use crate::progress::Progress;
@@ -7,7 +8,7 @@ use hek_asm::{TraceFault, read_trace};
 use hek_explore::explore;
 use hek_history_report::Together;
 use hek_permute::{
-    Form, Moves, OrderFault, Play, Sought, find_order, first_order, moves_of, play_order,
+    Form, Moves, OrderFault, Outcome, Play, Sought, find_order, first_order, moves_of, play_order,
 };
 use hek_report::HekFault;
 use hek_rules::{Event, NoMemory, Reply, Schedule, TxnId};
@@ -23,7 +24,12 @@ enum Wanted {
     Kind(Kind),
     /// An order with this verdict.
     Verdict(Serializability),
+    /// An order that breaks an invariant.
+    Breaks,
 }
+
+/// The text that asks for an order that breaks an invariant.
+const BREAKS: &str = "breaks";
 
 /// The moves after which it came, and how many moves an order has.
 #[derive(Drop)]
@@ -39,6 +45,8 @@ pub(crate) struct Found {
     pub(crate) played: Played,
     /// Whether those that committed can follow one another, if a verdict was looked for.
     pub(crate) together: Option<Together>,
+    /// The line of the first invariant that the order breaks, if all of it was played.
+    pub(crate) breaks: Option<u64>,
 }
 
 /// The verdict that a text asks for: as it is printed, or `another order` for short.
@@ -55,6 +63,9 @@ fn verdict_named(text: &str) -> Option<Serializability> {
 fn wanted_of<'a>(alloc: Global, schedule: &Schedule, text: &str) -> Result<Wanted, HekFault<'a>> {
     if let Some(verdict) = verdict_named(text) {
         return Ok(Wanted::Verdict(verdict));
+    }
+    if text == BREAKS {
+        return Ok(Wanted::Breaks);
     }
     if let Some(wanted) = wanted_by(alloc, schedule, None, text)? {
         return Ok(wanted);
@@ -120,71 +131,108 @@ fn detect_line(alloc: Global, text: &str) -> Result<String, NoMemory> {
 /// The moves after which it came, if it comes; None if orders lead to more states than the limit.
 fn beginning_of<E: Write>(
     alloc: Global,
-    schedule: &Schedule,
+    given: &Given<'_>,
     form: Form,
     wanted: &Wanted,
     limit: u64,
     progress: &mut Progress<'_, E>,
 ) -> Result<Option<Search>, OrderFault> {
     let moves = match wanted {
-        Wanted::Reply(sought) => find_order(alloc, schedule, form, sought, progress)?,
-        Wanted::Kind(kind) => find_kind(alloc, schedule, form, kind, progress)?,
-        Wanted::Verdict(verdict) => {
-            return first_with(alloc, schedule, form, *verdict, limit, progress);
+        Wanted::Reply(sought) => find_order(
+            alloc,
+            given.schedule,
+            given.rules,
+            form,
+            sought,
+            progress,
+        )?,
+        Wanted::Kind(kind) => find_kind(alloc, given, form, kind, progress)?,
+        Wanted::Verdict(_) | Wanted::Breaks => {
+            return first_with(alloc, given, form, wanted, limit, progress);
         }
     };
-    Ok(Some(Search { moves }))
+    Ok(Some(Search {
+        moves,
+        verdict: None,
+        breaks: None,
+    }))
 }
 
 /// How many moves an order has.
-fn most_moves<'a>(alloc: Global, schedule: &Schedule, form: Form) -> Result<usize, HekFault<'a>> {
-    let moves = moves_of(alloc, schedule)?;
+fn most_moves<'a>(alloc: Global, given: &Given<'_>, form: Form) -> Result<usize, HekFault<'a>> {
+    let moves = moves_of(alloc, given.schedule, given.rules)?;
     Ok(first_order(alloc, moves.as_slice(), form)?.len())
 }
 
-/// The first order with a verdict: a row of the tally of all orders has the first of its own, and the first row has the
-/// first of all. None if orders lead to more states than the limit.
+/// The first order with a verdict, or that breaks an invariant: a row of the tally of all orders has the first of its own, and
+/// the first row has the first of all. None if orders lead to more states than the limit.
 fn first_with<E: Write>(
     alloc: Global,
-    schedule: &Schedule,
+    given: &Given<'_>,
     form: Form,
-    verdict: Serializability,
+    wanted: &Wanted,
     limit: u64,
     progress: &mut Progress<'_, E>,
 ) -> Result<Option<Search>, OrderFault> {
-    let Some(tally) = explore(alloc, schedule, form, limit, progress)? else {
+    let explored = explore(alloc, given.schedule, given.rules, form, limit, progress)?;
+    let Some(tally) = explored else {
         return Ok(None);
     };
     for row in tally.rows() {
-        if row.outcome().verdict() == verdict {
-            let moves = Vec::from_slice(alloc, row.first())?;
-            return Ok(Some(Search { moves: Some(moves) }));
+        if is_wanted(alloc, given, wanted, row.outcome())? {
+            return Ok(Some(Search {
+                moves: Some(Vec::from_slice(alloc, row.first())?),
+                verdict: Some(row.outcome().verdict()),
+                breaks: given.broken_by(alloc, row.outcome())?,
+            }));
         }
     }
-    Ok(Some(Search { moves: None }))
+    Ok(Some(Search {
+        moves: None,
+        verdict: None,
+        breaks: None,
+    }))
+}
+
+/// Whether an outcome is looked for.
+fn is_wanted(
+    alloc: Global,
+    given: &Given<'_>,
+    wanted: &Wanted,
+    outcome: &Outcome,
+) -> Result<bool, NoMemory> {
+    match wanted {
+        Wanted::Verdict(verdict) => Ok(outcome.verdict() == *verdict),
+        Wanted::Breaks => Ok(given.broken_by(alloc, outcome)?.is_some()),
+        Wanted::Reply(_) | Wanted::Kind(_) => Ok(false),
+    }
 }
 
 /// The moves after which it comes, if it comes in an order.
 #[derive(Drop)]
 struct Search {
     moves: Option<Vec<TxnId>>,
+    /// The verdict of the order, if all orders were looked through.
+    verdict: Option<Serializability>,
+    /// The line of the first invariant that the order breaks, if all orders were looked through.
+    breaks: Option<u64>,
 }
 
 /// Whether a text asks for a verdict, which is looked for by states.
 pub(crate) fn is_verdict(text: &str) -> bool {
-    verdict_named(text).is_some()
+    verdict_named(text).is_some() || text == BREAKS
 }
 
 /// The moves that were found, and the schedule of their play up to the event that has the reply.
 fn played_of<'a>(
     alloc: Global,
-    schedule: &Schedule,
+    given: &Given<'_>,
     form: Form,
     wanted: &Wanted,
     found: Beginning,
 ) -> Result<Played, HekFault<'a>> {
-    let events = events_found(alloc, schedule, form, wanted, found.moves.as_slice())?;
-    let made = leveled(alloc, schedule, None, events.as_slice())?;
+    let events = events_found(alloc, given, form, wanted, found.moves.as_slice())?;
+    let made = leveled(alloc, given.schedule, None, events.as_slice())?;
     let Beginning { moves, most } = found;
     Ok(Played {
         moves,
@@ -196,13 +244,20 @@ fn played_of<'a>(
 /// The events of the play of moves, up to the event that has the reply.
 fn events_found<'a>(
     alloc: Global,
-    schedule: &Schedule,
+    given: &Given<'_>,
     form: Form,
     wanted: &Wanted,
     moves: &[TxnId],
 ) -> Result<Vec<Event>, HekFault<'a>> {
-    let of_all = moves_of(alloc, schedule)?;
-    events_played(alloc, schedule, form, wanted, of_all.as_slice(), moves)
+    let of_all = moves_of(alloc, given.schedule, given.rules)?;
+    events_played(
+        alloc,
+        given.schedule,
+        form,
+        wanted,
+        of_all.as_slice(),
+        moves,
+    )
 }
 
 /// The events of the play of moves, up to the event that has the reply, given the moves of all transactions.
@@ -234,45 +289,58 @@ pub(crate) enum Answer {
 /// states.
 pub(crate) fn found_in<'a, E: Write>(
     alloc: Global,
-    schedule: &Schedule,
+    given: &Given<'_>,
     form: Form,
     text: &str,
     limit: u64,
     progress: &mut Progress<'_, E>,
 ) -> Result<Answer, HekFault<'a>> {
-    let wanted = wanted_of(alloc, schedule, text)?;
-    match beginning_of(alloc, schedule, form, &wanted, limit, progress) {
-        Ok(Some(Search { moves: Some(moves) })) => {
-            let most = most_moves(alloc, schedule, form)?;
-            let beginning = Beginning { moves, most };
-            let found = found_of(alloc, schedule, form, &wanted, beginning)?;
-            Ok(Answer::Found(found))
-        }
-        Ok(Some(Search { moves: None })) => Ok(Answer::Nowhere),
+    let wanted = wanted_of(alloc, given.schedule, text)?;
+    match beginning_of(alloc, given, form, &wanted, limit, progress) {
+        Ok(Some(search)) => answer_of(alloc, given, form, &wanted, search),
         Ok(None) => Ok(Answer::TooMany),
         Err(fault) => Err(fault_of(fault)),
     }
 }
 
-/// What was found, with its play.
-fn found_of<'a>(
+/// What a search came to, with the play of what it found.
+fn answer_of<'a>(
     alloc: Global,
-    schedule: &Schedule,
+    given: &Given<'_>,
     form: Form,
     wanted: &Wanted,
-    found: Beginning,
-) -> Result<Found, HekFault<'a>> {
-    let together = match wanted {
-        Wanted::Reply(_) | Wanted::Kind(_) => None,
-        Wanted::Verdict(verdict) => {
-            let order = found.moves.as_slice();
-            Some(details_of(alloc, schedule, form, order, *verdict)?)
-        }
+    search: Search,
+) -> Result<Answer, HekFault<'a>> {
+    let Search {
+        moves,
+        verdict,
+        breaks,
+    } = search;
+    let Some(moves) = moves else {
+        return Ok(Answer::Nowhere);
     };
-    Ok(Found {
-        played: played_of(alloc, schedule, form, wanted, found)?,
+    let most = most_moves(alloc, given, form)?;
+    let beginning = Beginning { moves, most };
+    let together = together_of(alloc, given, form, verdict, beginning.moves.as_slice())?;
+    Ok(Answer::Found(Found {
+        played: played_of(alloc, given, form, wanted, beginning)?,
         together,
-    })
+        breaks,
+    }))
+}
+
+/// What is said of the order that was found, if a verdict was looked for.
+fn together_of<'a>(
+    alloc: Global,
+    given: &Given<'_>,
+    form: Form,
+    verdict: Option<Serializability>,
+    order: &[TxnId],
+) -> Result<Option<Together>, HekFault<'a>> {
+    match verdict {
+        None => Ok(None),
+        Some(verdict) => Ok(Some(details_of(alloc, given, form, order, verdict)?)),
+    }
 }
 
 /// The events of a play up to the first that has the reply; all, if none is asked for.
@@ -283,7 +351,7 @@ fn events_upto(alloc: Global, play: &Play, wanted: &Wanted) -> Result<Vec<Event>
         let is_last = match wanted {
             Wanted::Reply(sought) => sought.is_of(entry),
             Wanted::Kind(kind) => kind.is_of(alloc, entry)?,
-            Wanted::Verdict(_) => false,
+            Wanted::Verdict(_) | Wanted::Breaks => false,
         };
         if is_last {
             break;

@@ -1,11 +1,11 @@
 //! The command `permute` with several threads, which play the orders of a part.
 use crate::choice::Choice;
+use crate::given::{Given, program_in};
 use crate::one::leveled;
 use crate::permute::{range, sorted};
 use crate::printed::put_tally;
 use hek_permute::play_parts;
-use hek_report::{HekFault, ScheduleFile, schedule_in, send};
-use hek_rules::Schedule;
+use hek_report::{HekFault, ScheduleFile, send};
 use std::alloc::Global;
 use std::io::{Read, Write};
 use std::thread::Threads;
@@ -21,9 +21,10 @@ pub fn permute_in_threads<'a, T: Threads + Sync, R: Read + Drop, W: Write, E: Wr
     out: &mut W,
     faults: &mut E,
 ) -> Result<u8, HekFault<'a>> {
-    let schedule = schedule_in(alloc, file)?;
-    match range(alloc, &schedule, choice, faults)? {
-        Some(part) => write_part(system, jobs, alloc, &schedule, choice, part, out),
+    let program = program_in(alloc, file)?;
+    let given = Given::of(&program);
+    match range(alloc, &given, choice, faults)? {
+        Some(part) => write_part(system, jobs, alloc, &given, choice, part, out),
         None => Ok(1),
     }
 }
@@ -33,12 +34,12 @@ fn write_part<'a, T: Threads + Sync, W: Write>(
     system: &T,
     jobs: u64,
     alloc: Global,
-    schedule: &Schedule,
+    given: &Given<'_>,
     choice: Choice<'_>,
     part: (u64, u64),
     out: &mut W,
 ) -> Result<u8, HekFault<'a>> {
-    let mut lines = lines_of_part(system, jobs, alloc, schedule, choice, part)?;
+    let mut lines = lines_of_part(system, jobs, alloc, given, choice, part)?;
     send(&mut lines, out)?;
     Ok(0)
 }
@@ -48,12 +49,12 @@ fn lines_of_part<'a, T: Threads + Sync>(
     system: &T,
     jobs: u64,
     alloc: Global,
-    schedule: &Schedule,
+    given: &Given<'_>,
     choice: Choice<'_>,
     part: (u64, u64),
 ) -> Result<Vec<u8>, HekFault<'a>> {
-    let leveled = leveled(alloc, schedule, choice.level, schedule.steps())?;
-    lines_played(system, jobs, alloc, &leveled, choice, part)
+    let leveled = leveled(alloc, given.schedule, choice.level, given.schedule.steps())?;
+    lines_played(system, jobs, alloc, &given.over(&leveled), choice, part)
 }
 
 /// The lines of the outcomes of a part, of a schedule with the levels that are asked for.
@@ -61,18 +62,27 @@ fn lines_played<'a, T: Threads + Sync>(
     system: &T,
     jobs: u64,
     alloc: Global,
-    leveled: &Schedule,
+    given: &Given<'_>,
     choice: Choice<'_>,
     part: (u64, u64),
 ) -> Result<Vec<u8>, HekFault<'a>> {
     let (from, to) = part;
-    let played = play_parts(system, alloc, leveled, choice.form, from, to, jobs);
+    let played = play_parts(
+        system,
+        alloc,
+        given.schedule,
+        given.rules,
+        choice.form,
+        from,
+        to,
+        jobs,
+    );
     let tally = sorted(played)?;
     let mut lines = Vec::new(alloc);
     put_tally(
         alloc,
         choice.printing,
-        leveled,
+        given,
         choice.form,
         &tally,
         &mut lines,

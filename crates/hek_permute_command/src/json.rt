@@ -2,6 +2,7 @@
 use crate::counts::{count_of, is_first, orders_of};
 use crate::details::details_of;
 use crate::find::Found;
+use crate::given::Given;
 use crate::one::Played;
 use hek_history_report::{Together, put_members, put_verdict};
 use hek_permute::{Ending, Form, Outcome, Row, Tally};
@@ -44,7 +45,7 @@ fn put_ends(schedule: &Schedule, ends: &[Ending], out: &mut Lines) {
 /// The lines of a tally: how many orders were played and how many outcomes they have, then each row.
 pub(crate) fn put_tally<'a>(
     alloc: Global,
-    schedule: &Schedule,
+    given: &Given<'_>,
     form: Form,
     tally: &Tally,
     out: &mut Lines,
@@ -55,46 +56,87 @@ pub(crate) fn put_tally<'a>(
     out.end_line();
     for row in tally.rows() {
         let verdict = row.outcome().verdict();
-        let details = details_of(alloc, schedule, form, row.first(), verdict)?;
-        put_row(schedule, row, &details, out);
+        let details = details_of(alloc, given, form, row.first(), verdict)?;
+        put_row(alloc, given, row, &details, out)?;
     }
     Ok(())
 }
 
 /// A row of the tally, with what is said of the verdict of its first order.
-fn put_row(schedule: &Schedule, row: &Row, details: &Together, out: &mut Lines) {
+fn put_row(
+    alloc: Global,
+    given: &Given<'_>,
+    row: &Row,
+    details: &Together,
+    out: &mut Lines,
+) -> Result<(), NoMemory> {
     out.begin_line();
     out.put_number("orders", row.orders());
-    put_outcome(schedule, row.outcome(), out);
-    put_members(schedule, details, out);
+    put_outcome(given.schedule, row.outcome(), out);
+    put_members(given.schedule, details, out);
+    put_broken(alloc, given, row.outcome(), out)?;
     out.put_number("waited", row.waited());
-    out.put_names("first", schedule, row.first());
+    out.put_names("first", given.schedule, row.first());
     out.end_line();
+    Ok(())
+}
+
+/// The line of the first invariant that an outcome breaks.
+fn put_broken(
+    alloc: Global,
+    given: &Given<'_>,
+    outcome: &Outcome,
+    out: &mut Lines,
+) -> Result<(), NoMemory> {
+    if let Some(line) = given.broken_by(alloc, outcome)? {
+        out.put_number("breaks", line);
+    }
+    Ok(())
 }
 
 /// The line of an order with its outcome.
-pub(crate) fn put_order(schedule: &Schedule, order: &[TxnId], outcome: &Outcome, out: &mut Lines) {
+pub(crate) fn put_order(
+    alloc: Global,
+    given: &Given<'_>,
+    order: &[TxnId],
+    outcome: &Outcome,
+    out: &mut Lines,
+) -> Result<(), NoMemory> {
     out.begin_line();
-    out.put_names("order", schedule, order);
-    put_judged(schedule, outcome, out);
+    out.put_names("order", given.schedule, order);
+    put_judged(given.schedule, outcome, out);
+    put_broken(alloc, given, outcome, out)?;
     out.put_flag("waited", outcome.waited());
     out.end_line();
+    Ok(())
 }
 
 /// Each outcome, with the number of orders that have it at each level. There is one tally for each level, in the order of
 /// the levels.
-pub(crate) fn put_levels(schedule: &Schedule, tallies: &[Tally], out: &mut Lines) {
+pub(crate) fn put_levels(
+    alloc: Global,
+    given: &Given<'_>,
+    tallies: &[Tally],
+    out: &mut Lines,
+) -> Result<(), NoMemory> {
     for (column, tally) in tallies.iter().enumerate() {
         for row in tally.rows() {
             if is_first(tallies, column, row.outcome()) {
-                put_leveled(schedule, tallies, row.outcome(), out);
+                put_leveled(alloc, given, tallies, row.outcome(), out)?;
             }
         }
     }
+    Ok(())
 }
 
 /// The line of an outcome, with the number of orders that have it at each level.
-fn put_leveled(schedule: &Schedule, tallies: &[Tally], outcome: &Outcome, out: &mut Lines) {
+fn put_leveled(
+    alloc: Global,
+    given: &Given<'_>,
+    tallies: &[Tally],
+    outcome: &Outcome,
+    out: &mut Lines,
+) -> Result<(), NoMemory> {
     out.begin_line();
     out.put_key("levels");
     out.begin_object();
@@ -102,8 +144,10 @@ fn put_leveled(schedule: &Schedule, tallies: &[Tally], outcome: &Outcome, out: &
         out.put_number((*level).word(), count_of(tally, outcome));
     }
     out.end_object();
-    put_judged(schedule, outcome, out);
+    put_judged(given.schedule, outcome, out);
+    put_broken(alloc, given, outcome, out)?;
     out.end_line();
+    Ok(())
 }
 
 /// The moves of an order, and the steps of their play.
@@ -131,6 +175,9 @@ pub(crate) fn put_found(alloc: Global, found: &Found, lines: &mut Vec<u8>) -> Re
     objects.put_number("of", played.most as u64);
     if let Some(together) = &found.together {
         put_members(&played.schedule, together, &mut objects);
+    }
+    if let Some(line) = found.breaks {
+        objects.put_number("breaks", line);
     }
     objects.end_line();
     objects.put_back(lines)?;

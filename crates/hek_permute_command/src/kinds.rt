@@ -1,4 +1,5 @@
 //! The shortest beginning of an order in which a reply of a kind comes: one that begins with some words.
+use crate::given::Given;
 use crate::progress::Progress;
 use hek_asm::put_reply;
 use hek_permute::{Form, Moves, OrderFault, Pace, first_order, moves_of, next_order, play_order};
@@ -60,18 +61,18 @@ impl Beginning {
 /// equally long ones the first. None if no order has one.
 pub(crate) fn find_kind<E: Write>(
     alloc: Global,
-    schedule: &Schedule,
+    given: &Given<'_>,
     form: Form,
     sought: &Beginning,
     progress: &mut Progress<'_, E>,
 ) -> Result<Option<Vec<TxnId>>, OrderFault> {
-    let moves = moves_of(alloc, schedule)?;
+    let moves = moves_of(alloc, given.schedule, given.rules)?;
     let most = first_order(alloc, moves.as_slice(), form)?.len();
     for less in 0..most {
         let count = less.saturating_add(1);
         let found = find_at(
             alloc,
-            schedule,
+            given.schedule,
             moves.as_slice(),
             form,
             sought,

@@ -1,4 +1,5 @@
 //! One order, as the schedule of its events.
+use crate::given::Given;
 use hek_permute::{
     Form, Moves, OrderFault, Play, first_order, moves_of, play_order, schedule_with,
 };
@@ -17,13 +18,19 @@ pub(crate) struct Played {
 /// The order that names give, and the schedule whose steps are its events.
 pub(crate) fn one_order<'a>(
     alloc: Global,
-    schedule: &Schedule,
+    given: &Given<'_>,
     form: Form,
     names: &str,
 ) -> Result<Played, HekFault<'a>> {
-    let moves = moves_of(alloc, schedule)?;
-    let order = order_named(alloc, schedule, moves.as_slice(), form, names)?;
-    let played = played_by(alloc, schedule, moves.as_slice(), form, order.as_slice())?;
+    let moves = moves_of(alloc, given.schedule, given.rules)?;
+    let order = order_named(alloc, given.schedule, moves.as_slice(), form, names)?;
+    let played = played_by(
+        alloc,
+        given.schedule,
+        moves.as_slice(),
+        form,
+        order.as_slice(),
+    )?;
     Ok(Played {
         most: order.len(),
         moves: order,

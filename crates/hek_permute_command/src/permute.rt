@@ -2,13 +2,14 @@
 use crate::choice::{Choice, Extent, range_of};
 use crate::each::write_each;
 use crate::find::{Answer, found_in};
+use crate::given::{Given, program_in};
 use crate::one::{fault_of, leveled, one_order};
 use crate::printed::{put_found, put_levels, put_none, put_played, put_tally};
 use crate::progress::{Census, Progress};
 use hek_explore::explore;
 use hek_permute::{Form, OrderFault, Tally, moves_of, order_count, play_all};
-use hek_report::{HekFault, ScheduleFile, schedule_in, send};
-use hek_rules::{Level, Schedule};
+use hek_report::{HekFault, ScheduleFile, send};
+use hek_rules::Level;
 use std::alloc::Global;
 use std::io::{Read, Write};
 
@@ -23,30 +24,30 @@ pub fn permute_command<'a, R: Read + Drop, W: Write, E: Write>(
     out: &mut W,
     faults: &mut E,
 ) -> Result<u8, HekFault<'a>> {
-    let schedule = schedule_in(alloc, file)?;
-    permute(alloc, &schedule, choice, out, faults)
+    let program = program_in(alloc, file)?;
+    permute(alloc, &Given::of(&program), choice, out, faults)
 }
 
 fn permute<'a, W: Write, E: Write>(
     alloc: Global,
-    schedule: &Schedule,
+    given: &Given<'_>,
     choice: Choice<'_>,
     out: &mut W,
     faults: &mut E,
 ) -> Result<u8, HekFault<'a>> {
     if let Some(names) = choice.order {
-        return at_order(alloc, schedule, choice, names, out);
+        return at_order(alloc, given, choice, names, out);
     }
-    let Some(extent) = extent_of(alloc, schedule, choice, faults)? else {
+    let Some(extent) = extent_of(alloc, given, choice, faults)? else {
         return Ok(choice.status_unplayed());
     };
     if let (true, Extent::Orders(from, to)) = (choice.each, extent) {
-        return write_each(alloc, schedule, choice, (from, to), out);
+        return write_each(alloc, given, choice, (from, to), out);
     }
     let most = most_plays(choice, extent);
     let mut progress = Progress::new(faults, choice.progress, choice.stats, most);
     let mut lines = Vec::new(alloc);
-    let played = put_asked(alloc, schedule, choice, extent, &mut progress, &mut lines);
+    let played = put_asked(alloc, given, choice, extent, &mut progress, &mut lines);
     progress.clear();
     let census = progress.census();
     let status = played?;
@@ -78,19 +79,20 @@ fn put_too_many<E: Write>(choice: Choice<'_>, census: Census, faults: &mut E) {
 /// limit.
 fn put_asked<'a, E: Write>(
     alloc: Global,
-    schedule: &Schedule,
+    given: &Given<'_>,
     choice: Choice<'_>,
     extent: Extent,
     progress: &mut Progress<'_, E>,
     lines: &mut Vec<u8>,
 ) -> Result<Option<u8>, HekFault<'a>> {
     if choice.levels {
-        return put_leveled(alloc, schedule, choice, extent, progress, lines);
+        return put_leveled(alloc, given, choice, extent, progress, lines);
     }
-    let leveled = leveled(alloc, schedule, choice.level, schedule.steps())?;
+    let leveled = leveled(alloc, given.schedule, choice.level, given.schedule.steps())?;
+    let given = given.over(&leveled);
     match choice.find {
-        Some(wanted) => put_search(alloc, &leveled, choice, wanted, progress, lines),
-        None => put_counts(alloc, &leveled, choice, extent, progress, lines),
+        Some(wanted) => put_search(alloc, &given, choice, wanted, progress, lines),
+        None => put_counts(alloc, &given, choice, extent, progress, lines),
     }
 }
 
@@ -108,12 +110,12 @@ fn most_plays(choice: Choice<'_>, extent: Extent) -> Option<u64> {
 /// The events of one order.
 fn at_order<'a, W: Write>(
     alloc: Global,
-    schedule: &Schedule,
+    given: &Given<'_>,
     choice: Choice<'_>,
     names: &str,
     out: &mut W,
 ) -> Result<u8, HekFault<'a>> {
-    let mut lines = lines_of_order(alloc, schedule, choice, names)?;
+    let mut lines = lines_of_order(alloc, given, choice, names)?;
     send(&mut lines, out)?;
     Ok(0)
 }
@@ -121,12 +123,12 @@ fn at_order<'a, W: Write>(
 /// The lines of one order.
 fn lines_of_order<'a>(
     alloc: Global,
-    schedule: &Schedule,
+    given: &Given<'_>,
     choice: Choice<'_>,
     names: &str,
 ) -> Result<Vec<u8>, HekFault<'a>> {
-    let leveled = leveled(alloc, schedule, choice.level, schedule.steps())?;
-    let played = one_order(alloc, &leveled, choice.form, names)?;
+    let leveled = leveled(alloc, given.schedule, choice.level, given.schedule.steps())?;
+    let played = one_order(alloc, &given.over(&leveled), choice.form, names)?;
     let mut lines = Vec::new(alloc);
     put_played(alloc, choice.printing, &played, &mut lines)?;
     Ok(lines)
@@ -135,15 +137,15 @@ fn lines_of_order<'a>(
 /// How the outcomes that a choice asks for are counted; None if there are too many orders.
 fn extent_of<'a, E: Write>(
     alloc: Global,
-    schedule: &Schedule,
+    given: &Given<'_>,
     choice: Choice<'_>,
     faults: &mut E,
 ) -> Result<Option<Extent>, HekFault<'a>> {
     if choice.plays_each() {
-        let part = range(alloc, schedule, choice, faults)?;
+        let part = range(alloc, given, choice, faults)?;
         return Ok(part.map(|(from, to)| Extent::Orders(from, to)));
     }
-    let moves = moves_of(alloc, schedule)?;
+    let moves = moves_of(alloc, given.schedule, given.rules)?;
     if order_count(moves.as_slice(), choice.form).is_none() {
         let _ = writeln!(faults, "hek: permute: too many orders to count");
         return Ok(None);
@@ -154,11 +156,11 @@ fn extent_of<'a, E: Write>(
 /// The orders of the part: the number of the first and the number after the last; None if there are too many.
 pub(crate) fn range<'a, E: Write>(
     alloc: Global,
-    schedule: &Schedule,
+    given: &Given<'_>,
     choice: Choice<'_>,
     faults: &mut E,
 ) -> Result<Option<(u64, u64)>, HekFault<'a>> {
-    let moves = moves_of(alloc, schedule)?;
+    let moves = moves_of(alloc, given.schedule, given.rules)?;
     let limit = choice.most_orders();
     let Some(count) = order_count(moves.as_slice(), choice.form) else {
         let _ = writeln!(
@@ -180,20 +182,20 @@ pub(crate) fn range<'a, E: Write>(
 /// the exit status, 1 for none; or None if there are more states than the limit.
 fn put_search<'a, E: Write>(
     alloc: Global,
-    schedule: &Schedule,
+    given: &Given<'_>,
     choice: Choice<'_>,
     wanted: &str,
     progress: &mut Progress<'_, E>,
     lines: &mut Vec<u8>,
 ) -> Result<Option<u8>, HekFault<'a>> {
     let limit = choice.most_states();
-    match found_in(alloc, schedule, choice.form, wanted, limit, progress)? {
+    match found_in(alloc, given, choice.form, wanted, limit, progress)? {
         Answer::Found(found) => {
             put_found(alloc, choice.printing, &found, lines)?;
             Ok(Some(0))
         }
         Answer::Nowhere => {
-            let count = count_of(alloc, schedule, choice.form)?;
+            let count = count_of(alloc, given, choice.form)?;
             put_none(alloc, choice.printing, count, lines)?;
             Ok(Some(1))
         }
@@ -202,41 +204,48 @@ fn put_search<'a, E: Write>(
 }
 
 /// How many orders there are, which are fewer than 2^64.
-fn count_of<'a>(alloc: Global, schedule: &Schedule, form: Form) -> Result<u64, HekFault<'a>> {
-    let moves = moves_of(alloc, schedule)?;
+fn count_of<'a>(alloc: Global, given: &Given<'_>, form: Form) -> Result<u64, HekFault<'a>> {
+    let moves = moves_of(alloc, given.schedule, given.rules)?;
     order_count(moves.as_slice(), form).ok_or(HekFault::BadArgument)
 }
 
 /// The lines of a tally. Answers the exit status, or None if there are more states than the limit.
 fn put_counts<'a, E: Write>(
     alloc: Global,
-    schedule: &Schedule,
+    given: &Given<'_>,
     choice: Choice<'_>,
     extent: Extent,
     progress: &mut Progress<'_, E>,
     lines: &mut Vec<u8>,
 ) -> Result<Option<u8>, HekFault<'a>> {
-    let Some(tally) = tally_of(alloc, schedule, choice.form, extent, progress)? else {
+    let Some(tally) = tally_of(alloc, given, choice.form, extent, progress)? else {
         return Ok(None);
     };
-    put_tally(alloc, choice.printing, schedule, choice.form, &tally, lines)?;
+    put_tally(alloc, choice.printing, given, choice.form, &tally, lines)?;
     Ok(Some(0))
 }
 
 /// The tally of the orders, the most frequent outcomes first; None if there are more states than the limit.
 fn tally_of<'a, E: Write>(
     alloc: Global,
-    schedule: &Schedule,
+    given: &Given<'_>,
     form: Form,
     extent: Extent,
     progress: &mut Progress<'_, E>,
 ) -> Result<Option<Tally>, HekFault<'a>> {
     match extent {
         Extent::Orders(from, to) => {
-            let played = play_all(alloc, schedule, form, from, to, progress);
+            let played = play_all(alloc, given.schedule, given.rules, form, from, to, progress);
             Ok(Some(sorted(played)?))
         }
-        Extent::States(most) => match explore(alloc, schedule, form, most, progress) {
+        Extent::States(most) => match explore(
+            alloc,
+            given.schedule,
+            given.rules,
+            form,
+            most,
+            progress,
+        ) {
             Ok(None) => Ok(None),
             Ok(Some(tally)) => {
                 progress.tell();
@@ -250,14 +259,14 @@ fn tally_of<'a, E: Write>(
 /// The tally of the orders at a level; None if there are more states than the limit.
 fn tally_at<'a, E: Write>(
     alloc: Global,
-    schedule: &Schedule,
+    given: &Given<'_>,
     level: Level,
     form: Form,
     extent: Extent,
     progress: &mut Progress<'_, E>,
 ) -> Result<Option<Tally>, HekFault<'a>> {
-    let leveled = leveled(alloc, schedule, Some(level), schedule.steps())?;
-    tally_of(alloc, &leveled, form, extent, progress)
+    let leveled = leveled(alloc, given.schedule, Some(level), given.schedule.steps())?;
+    tally_of(alloc, &given.over(&leveled), form, extent, progress)
 }
 
 /// The tally with the most frequent outcomes first.
@@ -274,30 +283,30 @@ pub(crate) fn sorted<'a>(counted: Result<Tally, OrderFault>) -> Result<Tally, He
 /// The outcomes at each level. Answers the exit status, or None if there are more states than the limit.
 fn put_leveled<'a, E: Write>(
     alloc: Global,
-    schedule: &Schedule,
+    given: &Given<'_>,
     choice: Choice<'_>,
     extent: Extent,
     progress: &mut Progress<'_, E>,
     lines: &mut Vec<u8>,
 ) -> Result<Option<u8>, HekFault<'a>> {
-    let Some(tallies) = tallies_of(alloc, schedule, choice.form, extent, progress)? else {
+    let Some(tallies) = tallies_of(alloc, given, choice.form, extent, progress)? else {
         return Ok(None);
     };
-    put_levels(alloc, choice.printing, schedule, tallies.as_slice(), lines)?;
+    put_levels(alloc, choice.printing, given, tallies.as_slice(), lines)?;
     Ok(Some(0))
 }
 
 /// The tally of the orders at each level, in the order of the levels; None if there are more states than the limit.
 fn tallies_of<'a, E: Write>(
     alloc: Global,
-    schedule: &Schedule,
+    given: &Given<'_>,
     form: Form,
     extent: Extent,
     progress: &mut Progress<'_, E>,
 ) -> Result<Option<Vec<Tally>>, HekFault<'a>> {
     let mut tallies = Vec::new(alloc);
     for level in Level::ALL {
-        let Some(tally) = tally_at(alloc, schedule, level, form, extent, progress)? else {
+        let Some(tally) = tally_at(alloc, given, level, form, extent, progress)? else {
             return Ok(None);
         };
         if tallies.push(tally).is_err() {

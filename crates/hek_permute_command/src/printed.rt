@@ -1,26 +1,27 @@
 //! Orders and outcomes as text or as objects of JSON.
 use crate::find::Found;
+use crate::given::Given;
 use crate::one::Played;
 use crate::{json, text};
 use hek_permute::{Form, Outcome, Tally};
 use hek_report::{HekFault, Lines, Printing};
-use hek_rules::{NoMemory, Schedule, TxnId};
+use hek_rules::{NoMemory, TxnId};
 use std::alloc::Global;
 
 /// Appends the line of an order with its outcome.
 pub(crate) fn put_order(
     alloc: Global,
     printing: Printing,
-    schedule: &Schedule,
+    given: &Given<'_>,
     order: &[TxnId],
     outcome: &Outcome,
     lines: &mut Vec<u8>,
 ) -> Result<(), NoMemory> {
     match printing {
-        Printing::Text => text::put_order(schedule, order, outcome, lines),
+        Printing::Text => text::put_order(alloc, given, order, outcome, lines),
         Printing::Json => {
             let mut objects = Lines::after(alloc, lines);
-            json::put_order(schedule, order, outcome, &mut objects);
+            json::put_order(alloc, given, order, outcome, &mut objects)?;
             objects.put_back(lines)
         }
     }
@@ -30,35 +31,44 @@ pub(crate) fn put_order(
 pub(crate) fn put_tally<'a>(
     alloc: Global,
     printing: Printing,
-    schedule: &Schedule,
+    given: &Given<'_>,
     form: Form,
     tally: &Tally,
     lines: &mut Vec<u8>,
 ) -> Result<(), HekFault<'a>> {
     match printing {
-        Printing::Text => text::put_tally(alloc, schedule, form, tally, lines),
-        Printing::Json => {
-            let mut objects = Lines::after(alloc, lines);
-            json::put_tally(alloc, schedule, form, tally, &mut objects)?;
-            objects.put_back(lines)?;
-            Ok(())
-        }
+        Printing::Text => text::put_tally(alloc, given, form, tally, lines),
+        Printing::Json => put_objects(alloc, given, form, tally, lines),
     }
+}
+
+/// Appends the object of the number of orders, and that of each outcome.
+fn put_objects<'a>(
+    alloc: Global,
+    given: &Given<'_>,
+    form: Form,
+    tally: &Tally,
+    lines: &mut Vec<u8>,
+) -> Result<(), HekFault<'a>> {
+    let mut objects = Lines::after(alloc, lines);
+    json::put_tally(alloc, given, form, tally, &mut objects)?;
+    objects.put_back(lines)?;
+    Ok(())
 }
 
 /// Appends each outcome with the number of orders that have it at each level.
 pub(crate) fn put_levels(
     alloc: Global,
     printing: Printing,
-    schedule: &Schedule,
+    given: &Given<'_>,
     tallies: &[Tally],
     lines: &mut Vec<u8>,
 ) -> Result<(), NoMemory> {
     match printing {
-        Printing::Text => text::put_levels(schedule, tallies, lines),
+        Printing::Text => text::put_levels(alloc, given, tallies, lines),
         Printing::Json => {
             let mut objects = Lines::after(alloc, lines);
-            json::put_levels(schedule, tallies, &mut objects);
+            json::put_levels(alloc, given, tallies, &mut objects)?;
             objects.put_back(lines)
         }
     }

@@ -2,6 +2,7 @@
 use crate::counts::{count_of, is_first, orders_of};
 use crate::details::details_of;
 use crate::find::Found;
+use crate::given::Given;
 use crate::one::Played;
 use hek_asm::{canonical, put_reply};
 use hek_history_report::{Together, put_details, put_phrase, verdict_word};
@@ -63,14 +64,15 @@ fn put_names(schedule: &Schedule, order: &[TxnId], text: &mut Vec<u8>) -> Result
 
 /// The line of an order with its outcome.
 pub(crate) fn put_order(
-    schedule: &Schedule,
+    alloc: Global,
+    given: &Given<'_>,
     order: &[TxnId],
     outcome: &Outcome,
     text: &mut Vec<u8>,
 ) -> Result<(), NoMemory> {
-    put_names(schedule, order, text)?;
+    put_names(given.schedule, order, text)?;
     text.extend_from_slice(b" -> ")?;
-    put_outcome(schedule, outcome, text)?;
+    put_judged(alloc, given, outcome, text)?;
     if outcome.waited() {
         text.extend_from_slice(b"; waited")?;
     }
@@ -78,10 +80,24 @@ pub(crate) fn put_order(
     Ok(())
 }
 
+/// An outcome, and the line of the first invariant that it breaks.
+pub fn put_judged(
+    alloc: Global,
+    given: &Given<'_>,
+    outcome: &Outcome,
+    text: &mut Vec<u8>,
+) -> Result<(), NoMemory> {
+    put_outcome(given.schedule, outcome, text)?;
+    match given.broken_by(alloc, outcome)? {
+        Some(line) => put(write!(text, "; breaks line {line}")),
+        None => Ok(()),
+    }
+}
+
 /// A line with the number of orders, and a line for each outcome.
 pub(crate) fn put_tally<'a>(
     alloc: Global,
-    schedule: &Schedule,
+    given: &Given<'_>,
     form: Form,
     tally: &Tally,
     text: &mut Vec<u8>,
@@ -90,26 +106,27 @@ pub(crate) fn put_tally<'a>(
     put(writeln!(text, "orders {orders} outcomes {outcomes}"))?;
     for row in tally.rows() {
         let verdict = row.outcome().verdict();
-        let details = details_of(alloc, schedule, form, row.first(), verdict)?;
-        put_row(schedule, row, &details, text)?;
+        let details = details_of(alloc, given, form, row.first(), verdict)?;
+        put_row(alloc, given, row, &details, text)?;
     }
     Ok(())
 }
 
 /// A row of the tally, with what is said of the verdict of its first order.
 fn put_row(
-    schedule: &Schedule,
+    alloc: Global,
+    given: &Given<'_>,
     row: &Row,
     details: &Together,
     text: &mut Vec<u8>,
 ) -> Result<(), NoMemory> {
     let orders = row.orders();
     put(write!(text, "{orders} "))?;
-    put_outcome(schedule, row.outcome(), text)?;
+    put_judged(alloc, given, row.outcome(), text)?;
     let waited = row.waited();
     put(write!(text, "; waited {waited}; first "))?;
-    put_names(schedule, row.first(), text)?;
-    put_details(schedule, details, text)?;
+    put_names(given.schedule, row.first(), text)?;
+    put_details(given.schedule, details, text)?;
     text.push(b'\n')?;
     Ok(())
 }
@@ -117,7 +134,8 @@ fn put_row(
 /// A line of the levels, and a line for each outcome: how many orders have it at each level, and the outcome. There is
 /// one tally for each level, in the order of the levels.
 pub(crate) fn put_levels(
-    schedule: &Schedule,
+    alloc: Global,
+    given: &Given<'_>,
     tallies: &[Tally],
     text: &mut Vec<u8>,
 ) -> Result<(), NoMemory> {
@@ -126,7 +144,7 @@ pub(crate) fn put_levels(
         for row in tally.rows() {
             if is_first(tallies, column, row.outcome()) {
                 put_counts(tallies, row.outcome(), text)?;
-                put_outcome(schedule, row.outcome(), text)?;
+                put_judged(alloc, given, row.outcome(), text)?;
                 text.push(b'\n')?;
             }
         }
@@ -201,6 +219,9 @@ fn put_together(found: &Found, text: &mut Vec<u8>) -> Result<(), NoMemory> {
     };
     text.extend_from_slice(b"# ")?;
     put_phrase(&found.played.schedule, together, text)?;
+    if let Some(line) = found.breaks {
+        put(write!(text, "; breaks line {line}"))?;
+    }
     text.push(b'\n')?;
     Ok(())
 }

@@ -24,7 +24,10 @@ pub enum HekFault<'a> {
     BadWaits,
     /// What is wrong with a schedule text, at the line of this number.
     #[error("hek: line {line}: {kind}")]
-    Line { line: u64, kind: AsmKind },
+    Line {
+        line: u64,
+        kind: AsmKind,
+    },
     #[error("hek: image: {0}")]
     Image(LoadFault),
     /// The number of the first line that cannot appear there in any trace.
@@ -33,6 +36,19 @@ pub enum HekFault<'a> {
     /// The number of the first line that is not a command of the debugger.
     #[error("hek: command line {0}")]
     CommandLine(u64),
+    /// The number of the first line that only a program has, and what it is, where a schedule is wanted.
+    #[error("hek: line {line}: {what} wants --auto")]
+    Computed {
+        line: u64,
+        what: &'a str,
+    },
+    /// What is wanted at a place of a program: the number of the line, and that of the byte in it, from 1.
+    #[error("hek: line {line}, column {column}: {wanted} is wanted")]
+    Wanted {
+        line: u64,
+        column: u64,
+        wanted: &'a str,
+    },
     /// A worker's thread cannot be started.
     #[error("hek: threads: no worker")]
     NoWorker,
@@ -64,6 +80,8 @@ impl HekFault<'_> {
             | HekFault::Image(_)
             | HekFault::TraceLine(_)
             | HekFault::CommandLine(_)
+            | HekFault::Computed { .. }
+            | HekFault::Wanted { .. }
             | HekFault::NoWorker
             | HekFault::Mismatch(_)
             | HekFault::NotText

@@ -49,6 +49,23 @@ const FAULTS: &[(HekFault<'static>, u8, &str)] = &[
     (HekFault::Image(LoadFault::Read), 1, "hek: image: 6 Read\n"),
     (HekFault::TraceLine(2), 1, "hek: trace line 2\n"),
     (HekFault::CommandLine(2), 1, "hek: command line 2\n"),
+    (
+        HekFault::Computed {
+            line: 2,
+            what: "an invariant",
+        },
+        1,
+        "hek: line 2: an invariant wants --auto\n",
+    ),
+    (
+        HekFault::Wanted {
+            line: 2,
+            column: 9,
+            wanted: "a number below 2^64",
+        },
+        1,
+        "hek: line 2, column 9: a number below 2^64 is wanted\n",
+    ),
     (HekFault::NoWorker, 1, "hek: threads: no worker\n"),
     (HekFault::Mismatch(2), 1, "hek: threads: mismatch 2\n"),
     (HekFault::NotText, 1, "hek: not text\n"),

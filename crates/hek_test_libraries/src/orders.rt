@@ -79,7 +79,7 @@ fn assert_at(
 #[test]
 fn finds_the_order_with_a_number(rt: HostRuntime) -> Result<(), Fail> {
     let schedule = assemble_text(rt.alloc(), THREE)?;
-    let moves = moves_of(rt.alloc(), &schedule)?;
+    let moves = moves_of(rt.alloc(), &schedule, &[])?;
     is(&rt, order_count(moves.as_slice(), Form::Whole), Some(30));
     for (number, want) in NUMBERED {
         assert_at(&rt, rt.alloc(), moves.as_slice(), *number, *want)?;
@@ -97,7 +97,7 @@ fn orders_of_single_moves(
     for number in 0..txns {
         add_txn(rt, alloc, &mut schedule, number);
     }
-    let moves = moves_of(alloc, &schedule)?;
+    let moves = moves_of(alloc, &schedule, &[])?;
     Ok(order_count(moves.as_slice(), Form::Whole))
 }
 

@@ -32,7 +32,7 @@ impl Watch for Unwatched {
 }
 
 fn of_one(rt: &impl Abort, alloc: Global, schedule: &Schedule, from: u64, to: u64) -> Tally {
-    play_all(alloc, schedule, Form::Whole, from, to, &mut Unwatched).expect(rt, "a tally")
+    play_all(alloc, schedule, &[], Form::Whole, from, to, &mut Unwatched).expect(rt, "a tally")
 }
 
 fn of_jobs<R: Abort + Threads + Sync>(
@@ -43,7 +43,7 @@ fn of_jobs<R: Abort + Threads + Sync>(
     to: u64,
     jobs: u64,
 ) -> Tally {
-    play_parts(rt, alloc, schedule, Form::Whole, from, to, jobs).expect(rt, "a tally")
+    play_parts(rt, alloc, schedule, &[], Form::Whole, from, to, jobs).expect(rt, "a tally")
 }
 
 fn orders_in(tally: &Tally) -> u64 {

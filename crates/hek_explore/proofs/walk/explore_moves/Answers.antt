@@ -14,5 +14,5 @@ loop-init g c =
 pub returns : goal.returns
 returns g c =
     let over : c.loop.counter ≡ c.in-Some.most = search rules in
-    walked-all c.args.schedule.now c.args.form c.args.moves.now c.in-Some.most c.loop.counter c.loop.layer c.in_ok-tally_of.field-0 c.requires over
+    walked-all c.args.schedule.now c.args.form c.args.moves.now c.in-Some.most c.loop.counter c.loop.layer c.in_ok-tally_of.field-0 over
     c.loop.invariant c.in_ok-tally_of.ensures

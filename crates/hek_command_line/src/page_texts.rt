@@ -1,0 +1,125 @@
+//! The words of the commands that draw.
+use crate::texts::{
+    ArgumentText, CommandText, EXPLAIN, FILE, Form, GRAIN, IMAGE, JSON, LEVEL, TEXT,
+};
+
+pub(crate) const PAGE: CommandText = CommandText {
+    name: "page",
+    about: "Writes a schedule's run as a page for a browser",
+    example: r"Example:
+  hek page first.hek -o first.html
+The page shows each step with its reply, and the versions, waits and lock words at each position. It needs no network and no other file. Comments of a schedule text are shown: those above its first line at the start, those above a step at that step. A line `#? ..` above a step is a question, which is asked where replies are guessed. A page has at most 2000 steps; of a longer schedule --from and --to say which.",
+    arguments: &[
+        FILE,
+        TEXT,
+        IMAGE,
+        EXPLAIN,
+        LEVEL,
+        ArgumentText {
+            name: "auto",
+            help: "shows only the reads and writes of FILE, which may be a program, and begins and ends each transaction by itself",
+            form: Form::Flag,
+        },
+        ArgumentText {
+            name: "output",
+            help: "writes the page to a file; - is standard output, also where that is a terminal",
+            form: Form::Output,
+        },
+        ArgumentText {
+            name: "from",
+            help: "begins at step N, by default the first",
+            form: Form::Number,
+        },
+        ArgumentText {
+            name: "to",
+            help: "ends at step N, by default the last",
+            form: Form::Number,
+        },
+        ArgumentText {
+            name: "title",
+            help: "the page's title, by default the name of FILE",
+            form: Form::Value("TEXT"),
+        },
+        ArgumentText {
+            name: "lesson",
+            help: "the number before the title",
+            form: Form::Number,
+        },
+        ArgumentText {
+            name: "previous",
+            help: "the address of the page before this one",
+            form: Form::Value("ADDRESS"),
+        },
+        ArgumentText {
+            name: "next",
+            help: "the address of the page after this one",
+            form: Form::Value("ADDRESS"),
+        },
+        ArgumentText {
+            name: "orders",
+            help: "makes the explorer of every order of the moves, as hek permute plays them",
+            form: Form::Flag,
+        },
+        ArgumentText {
+            name: "levels",
+            help: "makes the explorers of all levels, with their outcomes side by side",
+            form: Form::Flag,
+        },
+        ArgumentText {
+            name: "split",
+            help: "with --orders: makes finish and precommit a separate move",
+            form: Form::Flag,
+        },
+        GRAIN,
+        ArgumentText {
+            name: "limit",
+            help: "with --orders: writes nothing if there are more than N nodes (5000)",
+            form: Form::Number,
+        },
+        ArgumentText {
+            name: "json",
+            help: "writes the page's data alone, one object of JSON",
+            form: Form::Flag,
+        },
+    ],
+};
+
+pub(crate) const FIGURE: CommandText = CommandText {
+    name: "figure",
+    about: "Writes a step of a schedule's run as one picture, for a slide",
+    example: r"Example:
+  hek figure first.hek --step 2 -o first.svg
+The picture is SVG with its style inside: lanes, what the step says, versions, waits and lock words, in the colours of `hek page`. With --part it shows one of these.",
+    arguments: &[
+        FILE,
+        TEXT,
+        IMAGE,
+        EXPLAIN,
+        LEVEL,
+        ArgumentText {
+            name: "auto",
+            help: "shows only the reads and writes of FILE, which may be a program, and begins and ends each transaction by itself",
+            form: Form::Flag,
+        },
+        ArgumentText {
+            name: "output",
+            help: "writes the picture to a file; - is standard output, also where that is a terminal",
+            form: Form::Output,
+        },
+        ArgumentText {
+            name: "step",
+            help: "shows what is so after N steps, by default after the last; 0 is before the first",
+            form: Form::Number,
+        },
+        ArgumentText {
+            name: "part",
+            help: "shows one part: lanes, versions, waits or words",
+            form: Form::Value("PART"),
+        },
+        ArgumentText {
+            name: "title",
+            help: "the picture's title, by default the name of FILE",
+            form: Form::Value("TEXT"),
+        },
+    ],
+};

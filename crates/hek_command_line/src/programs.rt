@@ -1,0 +1,161 @@
+//! Programs, whose steps are computed: whether a file holds one, where a schedule is wanted, and what is wrong with one.
+use crate::opening::without_mark;
+use clap::ArgMatches;
+use hek_asm::AsmKind;
+use hek_diagnostics::{Excerpt, explain_text};
+use hek_program::{ComputedLine, bare_text, computed_line, read_program};
+use hek_report::{HekFault, ScheduleFile};
+use hek_rules::next_line;
+use std::alloc::Global;
+use std::io::{Read, Write};
+use std::str;
+
+/// Whether a file has a line that only a program has.
+pub fn is_program<R: Read + Drop>(file: &ScheduleFile<R>) -> bool {
+    match file {
+        ScheduleFile::Text(text) => match str::from_utf8(text.as_slice()) {
+            Ok(text) => computed_line(text).is_some(),
+            Err(_) => false,
+        },
+        ScheduleFile::Image(_) => false,
+    }
+}
+
+/// The file, unless it holds a program: that is a fault where a schedule is wanted. A text with another fault stays as it is.
+pub fn plain_file<'a, R: Read + Drop>(
+    alloc: Global,
+    file: ScheduleFile<R>,
+) -> Result<ScheduleFile<R>, HekFault<'a>> {
+    if let ScheduleFile::Text(text) = &file {
+        plain_text(alloc, text.as_slice())?;
+    }
+    Ok(file)
+}
+
+/// Refuses a text that is a program.
+pub fn plain_text<'a>(alloc: Global, text: &[u8]) -> Result<(), HekFault<'a>> {
+    let Ok(text) = str::from_utf8(text) else {
+        return Ok(());
+    };
+    let Some(ComputedLine { number, what }) = computed_line(text) else {
+        return Ok(());
+    };
+    match read_program(alloc, text) {
+        Ok(_) => Err(HekFault::Computed { line: number, what }),
+        Err(_) => Ok(()),
+    }
+}
+
+/// Whether the words of a command ask for a program's play.
+fn takes_programs(command: &str, found: &ArgMatches<'_>) -> bool {
+    match command {
+        "permute" => true,
+        "page" => found.get_flag("auto") || found.get_flag("orders") || found.get_flag("levels"),
+        "run" | "debug" | "figure" => found.get_flag("auto"),
+        _ => false,
+    }
+}
+
+/// Explains the fault of a line of a schedule text, or of a line of a program that computes nothing.
+pub fn explain_line<'t, E: Write>(
+    alloc: Global,
+    matches: &ArgMatches<'_>,
+    name: &'t str,
+    bytes: &'t [u8],
+    line: u64,
+    kind: AsmKind,
+    faults: &mut E,
+) {
+    let text = without_mark(bytes);
+    let bare = match matches.subcommand() {
+        Some((command, found)) if takes_programs(command, found) => bare_of(alloc, text),
+        _ => None,
+    };
+    let text = match &bare {
+        Some(bare) => bare.as_slice(),
+        None => text,
+    };
+    if let Ok(Some(found)) = explain_text(alloc, name, text, line, kind) {
+        let _ = write!(faults, "{found}");
+    }
+}
+
+/// A program's text without what its lines compute; None of a schedule's.
+fn bare_of(alloc: Global, text: &[u8]) -> Option<Vec<u8>> {
+    let text = str::from_utf8(text).ok()?;
+    computed_line(text)?;
+    bare_text(alloc, text).ok()
+}
+
+/// Shows the place of a program's fault. What can't be written is left out.
+pub fn explain_place<E: Write>(
+    name: &str,
+    bytes: &[u8],
+    number: u64,
+    column: u64,
+    wanted: &str,
+    faults: &mut E,
+) {
+    let Some(line) = line_at(without_mark(bytes), number) else {
+        return;
+    };
+    let start = (column as usize).saturating_sub(1).min(line.len());
+    let end = end_of_token(line, start);
+    let excerpt = Excerpt { line, start, end };
+    let column = excerpt.column();
+    let _ = writeln!(
+        faults,
+        "  {name}:{number}:{column}\n{excerpt} {wanted} is wanted here"
+    );
+}
+
+/// Shows the line of a program where a schedule is wanted, and says what takes it.
+pub fn explain_computed<E: Write>(
+    name: &str,
+    bytes: &[u8],
+    number: u64,
+    what: &str,
+    faults: &mut E,
+) {
+    let Some(line) = line_at(without_mark(bytes), number) else {
+        return;
+    };
+    let excerpt = Excerpt {
+        line,
+        start: 0,
+        end: line.len(),
+    };
+    let _ = writeln!(
+        faults,
+        "  {name}:{number}:1\n{excerpt} {what}: the file is a program\n  | `hek permute` plays every order of a program; `--auto` of run, debug, page and figure plays one"
+    );
+}
+
+/// The line of this number, the first being 1.
+fn line_at(text: &[u8], number: u64) -> Option<&[u8]> {
+    let mut rest = text;
+    for _ in 1..number {
+        let (_, later) = next_line(rest)?;
+        rest = later;
+    }
+    let (line, _) = next_line(rest)?;
+    Some(line)
+}
+
+/// Whether a byte ends the token before it: a blank, or one that begins another token.
+fn ends_token(byte: u8) -> bool {
+    matches!(
+        byte,
+        b' ' | b'\t' | b'\r' | b'@' | b'+' | b'-' | b'*' | b'=' | b'!' | b'<' | b'>'
+    )
+}
+
+/// Where the token ends that begins at a place of a line.
+fn end_of_token(line: &[u8], start: usize) -> usize {
+    for (place, byte) in line.iter().enumerate() {
+        if place > start && ends_token(*byte) {
+            return place;
+        }
+    }
+    line.len()
+}

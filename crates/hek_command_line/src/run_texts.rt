@@ -1,0 +1,175 @@
+//! The words of the commands that run a schedule.
+use crate::texts::{
+    ALWAYS_AUTO, AUTO, ArgumentText, CHANGES, COLOR, CommandText, EXPLAIN, FILE, Form, IMAGE, JSON,
+    LEVEL, TEXT, WHY,
+};
+
+pub(crate) const RUN: CommandText = CommandText {
+    name: "run",
+    about: "Runs the steps of a schedule, and prints each with its reply",
+    example: r"Example:
+  hek run first.hek
+Where first.hek has the lines
+  buckets 1
+  row 10 100
+  txn a serializable
+  a begin
+  a read 10
+it prints
+  1 a begin -> began 1
+  2 a read 10 -> found 100
+--state also prints the clock, the versions, the transactions and the locked buckets. --why prints the reasons of each reply under its line, --changes what the step changed, each after two spaces.",
+    arguments: &[
+        FILE,
+        TEXT,
+        IMAGE,
+        EXPLAIN,
+        COLOR,
+        ArgumentText {
+            name: "state",
+            help: "prints the state of the machine after the trace",
+            form: Form::Flag,
+        },
+        ArgumentText {
+            name: "state-at",
+            help: "stops after N steps, and prints the state there",
+            form: Form::Number,
+        },
+        WHY,
+        CHANGES,
+        ArgumentText {
+            name: "history",
+            help: "prints the run as a log for hek history, in place of its trace",
+            form: Form::Flag,
+        },
+        AUTO,
+        LEVEL,
+        JSON,
+    ],
+};
+
+pub(crate) const DEBUG: CommandText = CommandText {
+    name: "debug",
+    about: "Runs a schedule step by step, to breakpoints and watches, and back",
+    example: r"Commands, one a line:
+  step N             N steps
+  run                steps until a breakpoint or a watch fits
+  back N             N steps back
+  break at N         stops after step N
+  break event EVENT  stops after each event of a kind, as update
+  break txn NAME     stops after each event of a transaction
+  watch begin V      stops where the Begin word of version V changes
+  watch end V        stops where the End word of version V changes
+  watch waits NAME   stops where the number that a transaction waits for changes
+  clear              forgets all breakpoints and watches
+Without COMMANDS, and with -, they are read from standard input, and each is answered at once; there `help` lists them, with the commands and questions that only such a session has. At a terminal `rlwrap -f <(hek completions words) hek debug FILE` adds arrow keys, a history and completion.
+
+Example:
+  hek debug first.hek
+Where first.hek has the lines
+  buckets 1
+  row 10 100
+  txn a serializable
+  a begin
+  a read 10
+the commands
+  watch end 0
+  run
+are answered with
+  at 0 set 1
+  1 end 0 7FFFFFFFFFFFFFFF
+  at 2 break 1 -> found 100
+  1 end 0 807FFFFFFFFFFFFF",
+    arguments: &[
+        FILE,
+        ArgumentText {
+            name: "COMMANDS",
+            help: "a text of these commands; - is standard input, where they are those of a session",
+            form: Form::MaybeWord,
+        },
+        TEXT,
+        IMAGE,
+        EXPLAIN,
+        COLOR,
+        AUTO,
+        LEVEL,
+    ],
+};
+
+pub(crate) const DRIVE: CommandText = CommandText {
+    name: "drive",
+    about: "Runs events as they are typed, one a line, and answers each at once",
+    example: r"Each line is an event, written as a step of a schedule: `a read 10`. The rows and transactions are those of FILE; its own steps are not run. A line that is not an event is answered with `? line 2: 2 BadWord`, and changes nothing.
+
+Example:
+  hek drive first.hek
+Where first.hek has the lines
+  buckets 1
+  row 10 100
+  txn a serializable
+the lines
+  a begin
+  a read 10
+are answered with
+  1 a begin -> began 1
+  2 a read 10 -> found 100",
+    arguments: &[
+        FILE,
+        TEXT,
+        IMAGE,
+        EXPLAIN,
+        COLOR,
+        WHY,
+        CHANGES,
+        ArgumentText {
+            name: "state",
+            help: "prints the state of the machine after each answer",
+            form: Form::Flag,
+        },
+        ArgumentText {
+            name: "ends",
+            help: "ends what is printed for each line with an empty line",
+            form: Form::Flag,
+        },
+        ALWAYS_AUTO,
+        LEVEL,
+        JSON,
+    ],
+};
+
+pub(crate) const THREADS: CommandText = CommandText {
+    name: "threads",
+    about: "Runs each transaction of a schedule in its own thread, and prints the history",
+    example: r"Example:
+  hek threads first.hek --turns 5
+Where first.hek has the lines
+  buckets 1
+  row 10 100
+  txn a repeatable
+  a read 10
+it prints the trace of a whole run of a, from begin to end. What it prints is a trace for hek check. With --repeat 100 it runs 100 times, and prints how many different outcomes there were, and each with how often it was seen.",
+    arguments: &[
+        FILE,
+        TEXT,
+        IMAGE,
+        EXPLAIN,
+        ArgumentText {
+            name: "turns",
+            help: "how many times a waiting transaction tries again, 0 to 1000000",
+            form: Form::NeededNumber,
+        },
+        ArgumentText {
+            name: "repeat",
+            help: "runs N times, 1 to 1000000, and prints the outcomes",
+            form: Form::Number,
+        },
+        ArgumentText {
+            name: "seed",
+            help: "draws by this number whose turn it is, so that a run can be repeated",
+            form: Form::Number,
+        },
+        ALWAYS_AUTO,
+        LEVEL,
+        JSON,
+    ],
+};
