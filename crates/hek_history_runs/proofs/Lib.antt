@@ -1,2 +1,5 @@
 pub mod Past
 pub mod Winners
+pub mod FreshWrites
+pub mod Kept
+pub mod FirstCommitters

@@ -118,35 +118,33 @@ maker-ends ts us x (At time) e m = m ∙ sym e
 maker-ends ts us x (By u) e m = m
 
 -- the maker of a version that has not aborted stays its maker
-abbrev pub MakersStay : World → World → Type 0
-MakersStay w new = (v x : ℕ) → is_aborted (txn_in w.txns x).state ≡ false → (txn_in w.txns x).end < infinity → IsMaker w.txns x (version_in w.versions v).creator → IsMaker w.txns x (version_in new.versions v).creator
+abbrev pub MakersStay : World → List Version → Type 0
+MakersStay w vs = (v x : ℕ) → is_aborted (txn_in w.txns x).state ≡ false → (txn_in w.txns x).end < infinity → IsMaker w.txns x (version_in w.versions v).creator → IsMaker w.txns x (version_in vs v).creator
 
 module _ (w : World) (h : History) (s : Structure w h) where
-  walk-makers : (t : ℕ) (p : Purpose) (bucket : ℕ) (vs : List ℕ) (es : List Effect) → (txn_in w.txns t).state ≡ state.Active → walk w t p bucket vs ≡ Allow es → MakersStay w (apply_all t w es)
+  walk-makers : (t : ℕ) (p : Purpose) (bucket : ℕ) (vs : List ℕ) (es : List Effect) → (txn_in w.txns t).state ≡ state.Active → walk w t p bucket vs ≡ Allow es → MakersStay w (apply_all t w es).versions
   walk-makers t p bucket vs es a ok v x n l m =
       subst (IsMaker w.txns x) (sym ((good-all w t (MayWrite w p (last (seen_of w t vs))) a w es (walk-can w t p bucket vs es ok) (good-start w t (MayWrite w p (last (seen_of w t vs))))).moved v).creator) m
 
-  made-makers : (t key value : ℕ) (cur : World) → MakersStay w cur → MakersStay w (add_version cur t key value)
+  made-makers : (t key value : ℕ) (cur : World) → MakersStay w cur.versions → MakersStay w (add_version cur t key value).versions
   made-makers t key value cur k v x n l m =
       ⊎_elim (λ same. subst (IsMaker w.txns x) (sym (ap (λ (y : Version). y.creator) same)) (k v x n l m))
       (λ fresh. let never : infinity ≡ (txn_in w.txns x).end = subst (IsMaker w.txns x) (ap (λ (y : Version). y.creator) fresh.2) (k v x n l m) in absurd (omega (arith, never, l)))
       (append-cases cur.versions (record { key = key; value = value; creator = By t; ender = Held None false }) v)
 
-  stays : MakersStay w w
+  stays : MakersStay w w.versions
   stays v x n l m = m
 
-  ender-makers : (n : ℕ) (f : Ender) (new : World) → new.versions ≡ set_ender w.versions n f → MakersStay w new
-  ender-makers n f new is v x a l m =
-      subst (λ vs. IsMaker w.txns x (version_in vs v).creator) (sym is)
-      (⊎_elim (λ p. subst (IsMaker w.txns x) (sym (ap (λ (y : Version). y.creator) p.1)) (subst (λ j. IsMaker w.txns x (version_in w.versions j).creator) p.0 m))
-      (λ e. subst (IsMaker w.txns x) (sym (ap (λ (y : Version). y.creator) e)) m) (version_in-set w.versions n v (with_ender (version_in w.versions n) f)))
+  ender-makers : (n : ℕ) (f : Ender) → MakersStay w (set_ender w.versions n f)
+  ender-makers n f v x a l m =
+      ⊎_elim (λ p. subst (IsMaker w.txns x) (sym (ap (λ (y : Version). y.creator) p.1)) (subst (λ j. IsMaker w.txns x (version_in w.versions j).creator) p.0 m))
+      (λ e. subst (IsMaker w.txns x) (sym (ap (λ (y : Version). y.creator) e)) m) (version_in-set w.versions n v (with_ender (version_in w.versions n) f))
 
-  creator-makers : (n time : ℕ) (new : World) → new.versions ≡ set_creator w.versions n (At time) →
-      ((x : ℕ) → is_aborted (txn_in w.txns x).state ≡ false → (txn_in w.txns x).end < infinity → IsMaker w.txns x (version_in w.versions n).creator → time ≡ (txn_in w.txns x).end) → MakersStay w new
-  creator-makers n time new is at v x a l m =
-      subst (λ vs. IsMaker w.txns x (version_in vs v).creator) (sym is)
-      (⊎_elim (λ p. subst (IsMaker w.txns x) (sym (ap (λ (y : Version). y.creator) p.1)) (at x a l (subst (λ j. IsMaker w.txns x (version_in w.versions j).creator) p.0 m)))
-      (λ e. subst (IsMaker w.txns x) (sym (ap (λ (y : Version). y.creator) e)) m) (version_in-set w.versions n v (record (version_in w.versions n) { creator = At time })))
+  creator-makers : (n time : ℕ) →
+      ((x : ℕ) → is_aborted (txn_in w.txns x).state ≡ false → (txn_in w.txns x).end < infinity → IsMaker w.txns x (version_in w.versions n).creator → time ≡ (txn_in w.txns x).end) → MakersStay w (set_creator w.versions n (At time))
+  creator-makers n time at v x a l m =
+      ⊎_elim (λ p. subst (IsMaker w.txns x) (sym (ap (λ (y : Version). y.creator) p.1)) (at x a l (subst (λ j. IsMaker w.txns x (version_in w.versions j).creator) p.0 m)))
+      (λ e. subst (IsMaker w.txns x) (sym (ap (λ (y : Version). y.creator) e)) m) (version_in-set w.versions n v (record (version_in w.versions n) { creator = At time }))
 
   stamped : (t : ℕ) (c : BeginRecord) → (txn_in w.txns t).state ≡ state.Committed → MadeFor (txn_in w.txns t) t c → (x : ℕ) → IsMaker w.txns x c → (txn_in w.txns t).end ≡ (txn_in w.txns x).end
   stamped t (At time) p m x k = ⊎_elim (λ q. sym q.1 ∙ k) (λ q. absurd (false≢true (ap is_aborted (sym p) ∙ q.0))) m
@@ -156,7 +154,7 @@ module _ (w : World) (h : History) (s : Structure w h) where
   voided t (At time) p m x a l k = ⊎_elim (λ q. absurd (false≢true (sym (ap is_aborted q.0) ∙ p))) (λ q. sym q.1 ∙ k) m
   voided t (By u) p m x a l k = absurd (false≢true (sym a ∙ ap (λ n. is_aborted (txn_in w.txns n).state) (sym k ∙ eqb-true u t m) ∙ p))
 
-  each_makers : EachChange w (λ e o. MakersStay w o.world)
+  each_makers : EachChange w (λ e o. MakersStay w o.world.versions)
   each_makers = record {
     same = λ e r i m. stays;
     aborts = λ e r t cause i l m. stays;
@@ -175,17 +173,17 @@ module _ (w : World) (h : History) (s : Structure w h) where
     unlocks = λ t b p. stays;
     frees = λ t u p. stays;
     commits = λ t p z. stays;
-    stamps_begin = λ t v es p is. creator-makers v (txn_in w.txns t).end _ refl (λ x a l m. stamped t (version_in w.versions v).creator p.state (s.begin_entry v t (entry-In w.writes t (BeginOf v) es is)) x m);
-    stamps_end = λ t v es p is. ender-makers v (EndedAt (txn_in w.txns t).end) _ refl;
-    voids = λ t v es cause p is. creator-makers v infinity _ refl (λ x a l m. voided t (version_in w.versions v).creator (ap is_aborted p.state) (s.begin_entry v t (entry-In w.writes t (BeginOf v) es is)) x a l m);
-    gives_back = λ t v es cause r p is i n. ender-makers v (given_back t (version_in w.versions v).ender) _ refl;
+    stamps_begin = λ t v es p is. creator-makers v (txn_in w.txns t).end (λ x a l m. stamped t (version_in w.versions v).creator p.state (s.begin_entry v t (entry-In w.writes t (BeginOf v) es is)) x m);
+    stamps_end = λ t v es p is. ender-makers v (EndedAt (txn_in w.txns t).end);
+    voids = λ t v es cause p is. creator-makers v infinity (λ x a l m. voided t (version_in w.versions v).creator (ap is_aborted p.state) (s.begin_entry v t (entry-In w.writes t (BeginOf v) es is)) x a l m);
+    gives_back = λ t v es cause r p is i n. ender-makers v (given_back t (version_in w.versions v).ender);
     ends = λ t p z. stays;
   }
     where
-      dropped : (t v : ℕ) → MakersStay w (drop_read w t v)
+      dropped : (t v : ℕ) → MakersStay w (drop_read w t v).versions
       dropped t v =
-          cond_both (readers (leave w.read_locks t v) v == 0) (set_ender w.versions v (sealed (version_in w.versions v).ender)) w.versions (λ ws. MakersStay w (record (drop_read w t v) { versions = ws }))
-          (λ _. ender-makers v (sealed (version_in w.versions v).ender) (record (drop_read w t v) { versions = set_ender w.versions v (sealed (version_in w.versions v).ender) }) refl) (λ _. stays)
+          cond_both (readers (leave w.read_locks t v) v == 0) (set_ender w.versions v (sealed (version_in w.versions v).ender)) w.versions (MakersStay w)
+          (λ _. ender-makers v (sealed (version_in w.versions v).ender)) (λ _. stays)
 
-  pub makers-stay : (e : Event) → MakersStay w (next w e)
-  makers-stay e = each_outcome w (λ e o. MakersStay w o.world) each_makers e
+  pub makers-stay : (e : Event) → MakersStay w (next w e).versions
+  makers-stay e = each_outcome w (λ e o. MakersStay w o.world.versions) each_makers e

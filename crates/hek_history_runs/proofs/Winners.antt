@@ -82,7 +82,7 @@ end-early w h s u = let below = s.times.ends_below u in let b = s.bounded in ome
 -- ---- an event at which no transaction of the future draws its end time
 module _ (w : World) (h : History) (new : World) (e : Event) (r : Reply) (s : Structure w h) (c : Calm w h new e r) (told : (u : ℕ) → AsTold (h ++ (e, r) ∷ []) u (txn_in new.txns u)) (fixed : Fixed w new)
     (g : Goes w h new (h ++ (e, r) ∷ [])) (A : ℕ → Bool) (f : Future w h A) (fn : Future new (h ++ (e, r) ∷ []) A)
-    (back : (u : ℕ) → (txn_in new.txns u).state ≡ state.Active → (txn_in w.txns u).state ≡ state.Active) (makers : MakersStay w new) (living : (v : ℕ) → lives_at new.versions A v ≡ lives_at w.versions A v)
+    (back : (u key : ℕ) → (txn_in new.txns u).state ≡ state.Active → wrote (writes_of u (h ++ (e, r) ∷ [])) key ≡ true → (txn_in w.txns u).state ≡ state.Active) (makers : MakersStay w new.versions) (living : (v : ℕ) → lives_at new.versions A v ≡ lives_at w.versions A v)
     (old : Writers w h A) where
   abbrev later : History
   later = h ++ (e, r) ∷ []
@@ -142,7 +142,7 @@ module _ (w : World) (h : History) (new : World) (e : Event) (r : Reply) (s : St
     newest = calm-newest;
     closed = calm-closed;
     opened = λ t x key v l a y z less.
-        (let vt = viable-before w h new later A g fn t (back t) v in
+        (let vt = viable-before w h new later A g fn t (λ q. back t key q y) v in
         let lt : (txn_in w.txns t).level ≡ Snapshot = sym (fixed.level t) ∙ l in
         let bt = begin-is t (ap is_not_begun vt.active) in
         let ex = end-is x a in
