@@ -2,4 +2,5 @@ pub mod Past
 pub mod Winners
 pub mod FreshWrites
 pub mod Kept
+pub mod SnapshotReplies
 pub mod FirstCommitters
