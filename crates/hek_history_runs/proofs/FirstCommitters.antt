@@ -79,7 +79,7 @@ module _ (buckets clock : ℕ) (rows : List (ℕ × ℕ)) (levels : List Level) 
   abbrev pub last_world : World
   last_world = run start events
 
-  opened : Whole (put_all rows []) start []
+  pub opened : Whole (put_all rows []) start []
   opened = whole-opening buckets clock rows levels distinct first.0 first.1
 
   pub whole : Whole (put_all rows []) last_world h

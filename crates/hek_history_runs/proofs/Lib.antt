@@ -5,4 +5,6 @@ pub mod Kept
 pub mod SnapshotReplies
 pub mod Ticks
 pub mod PointPlaces
+pub mod RowsAgree
+pub mod Explained
 pub mod FirstCommitters

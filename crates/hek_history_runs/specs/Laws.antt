@@ -8,8 +8,13 @@ use Rattle.hek_rules.specs.World.{opening}
 use Rattle.hek_rules.specs.Run.{transcript}
 use Rattle.hek_rules.specs.Serial.{begin_of, end_of, committed_in}
 use Rattle.hek_rules.specs.Faults.{level_of}
-use Rattle.hek_laws.specs.Runs.{HasDistinctKeys, IsFirstClock}
+use Rattle.hek_laws.specs.Runs.{HasDistinctKeys, IsFirstClock, recorded_run}
+use Rattle.hek_history.specs.declared.history.History.{History}
+use Rattle.hek_history.specs.declared.history.Order.TheVariants.{Any, Versions, Times}
+use Rattle.hek_history.specs.Explanation.{IsExplanationIn}
 use Rattle.hek_history_runs.specs.Written.{has_written}
+use Rattle.hek_history_runs.specs.Recording.{Records}
+use Rattle.hek_history_runs.specs.Points.{points_of}
 
 -- In any run, whatever the events: where a committed snapshot transaction t writes a key, no committed transaction x that writes
 -- the key ends between the begin and the end of t.
@@ -31,3 +36,17 @@ FirstCommittersWin =
     begin < other →
     other < end →
     ⊥
+
+-- Each run explains itself at its own levels, whatever the events: a history that records it, each committed transaction at its own
+-- level, has the points of the run as an explanation, whichever of three orders is asked for.
+abbrev pub RunsExplainThemselves : Type 0
+RunsExplainThemselves =
+    (buckets clock : ℕ) (rows : List (ℕ × ℕ)) (levels : List Level) (events : List Event) →
+    0 < buckets →
+    HasDistinctKeys rows →
+    IsFirstClock clock →
+    let s = recorded_run buckets rows levels clock events in
+    (h : History) (place : ℕ → ℕ) →
+    Records h place s →
+    let points = points_of place s in
+    IsExplanationIn h Any points × IsExplanationIn h Versions points × IsExplanationIn h Times points
