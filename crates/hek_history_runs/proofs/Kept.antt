@@ -232,20 +232,24 @@ module _ (rows : List (ℕ × ℕ)) (w : World) (h : History) (k : Kept rows w h
     ends = λ t p z. quiet (end w t) (event.End t) reply.Over (txns-set w (end w t) t (record (txn_in w.txns t) { state = state.Terminated }) refl refl (λ q. let m : state.Terminated ≡ state.Active = q in cc) (λ q. absurd (false≢true q))) (inl refl) (nothing-owed (end w t) (event.End t) reply.Over (λ u. refl));
   }
 
-pub writers-next : (rows : List (ℕ × ℕ)) (up : AreRising rows) (w : World) (h : History) (e : Event) → Whole rows w h → ((A : ℕ → Bool) → Future w h A → Writers w h A) →
-    (A : ℕ → Bool) → Future (next w e) (h ++ (e, reply_to w e) ∷ []) A → Writers (next w e) (h ++ (e, reply_to w e) ∷ []) A
-writers-next rows up w h e whole old =
-    let k = kept rows w h whole in
-    let s = k.structure in
+pub known-next : (rows : List (ℕ × ℕ)) (up : AreRising rows) (w : World) (h : History) (e : Event) → Whole rows w h → Known w h (next w e) e (reply_to w e)
+known-next rows up w h e whole =
+    let s = (kept rows w h whole).structure in
     let new = whole-next rows up w h e whole in
-    each_outcome w (Goal rows w h k old) (each_goal rows w h k old) e (record {
+    record {
       calm = calm-next w h s e;
       goes = each_outcome w (λ e o. Goes w h o.world (h ++ (e, o.reply) ∷ [])) (each_goes w h s.dependences s.settled) e;
       fixed = fixed-next w e;
       told = new.told;
       structure = (kept rows (next w e) (h ++ (e, reply_to w e) ∷ []) new).structure;
       makers = makers-stay w h s e;
-    })
+    }
+
+pub writers-next : (rows : List (ℕ × ℕ)) (up : AreRising rows) (w : World) (h : History) (e : Event) → Whole rows w h → ((A : ℕ → Bool) → Future w h A → Writers w h A) →
+    (A : ℕ → Bool) → Future (next w e) (h ++ (e, reply_to w e) ∷ []) A → Writers (next w e) (h ++ (e, reply_to w e) ∷ []) A
+writers-next rows up w h e whole old =
+    let k = kept rows w h whole in
+    each_outcome w (Goal rows w h k old) (each_goal rows w h k old) e (known-next rows up w h e whole)
 
 pub writers-run : (rows : List (ℕ × ℕ)) (up : AreRising rows) (w : World) (h : History) (es : List Event) → Whole rows w h → ((A : ℕ → Bool) → Future w h A → Writers w h A) →
     (A : ℕ → Bool) → Future (run w es) (h ++ transcript w es) A → Writers (run w es) (h ++ transcript w es) A

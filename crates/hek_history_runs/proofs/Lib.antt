@@ -6,5 +6,7 @@ pub mod SnapshotReplies
 pub mod Ticks
 pub mod PointPlaces
 pub mod RowsAgree
+pub mod Presence
+pub mod LenientAnswers
 pub mod Explained
 pub mod FirstCommitters
