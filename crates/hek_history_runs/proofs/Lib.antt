@@ -6,7 +6,10 @@ pub mod SnapshotReplies
 pub mod Ticks
 pub mod PointPlaces
 pub mod RowsAgree
+pub mod Softened
 pub mod Presence
 pub mod LenientAnswers
 pub mod Explained
+pub mod Repeatable
+pub mod AllRuns
 pub mod FirstCommitters

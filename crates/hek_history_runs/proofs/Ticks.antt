@@ -135,7 +135,7 @@ time-at p q a same d = ap (λ (x : Event × Reply). time_drawn x.0 x.1) (one p q
     one : (p q : Event × Reply) → Some p ≡ Some q → p ≡ q
     one p q e = cc
 
-no_entry : (q : Event × Reply) → ◌≡◌ {A = Option (Event × Reply)} None (Some q) → ⊥
+pub no_entry : (q : Event × Reply) → ◌≡◌ {A = Option (Event × Reply)} None (Some q) → ⊥
 no_entry q e = cc
 
 -- no time before the clock is drawn
@@ -157,13 +157,13 @@ times-rise w (e ∷ es) zero (suc j) p q a b l at to c d =
 times-rise w (e ∷ es) (suc i) (suc j) p q a b l at to c d = times-rise (next w e) es i j p q a b (omega (arith, l)) at to c d
 
 -- ---- the world at a place
-take-transcript : (w : World) (es : List Event) (i : ℕ) → transcript w (take i es) ≡ take i (transcript w es)
+pub take-transcript : (w : World) (es : List Event) (i : ℕ) → transcript w (take i es) ≡ take i (transcript w es)
 take-transcript w [] zero = refl
 take-transcript w [] (suc i) = refl
 take-transcript w (e ∷ es) zero = refl
 take-transcript w (e ∷ es) (suc i) = ap (λ ps. (e, reply_to w e) ∷ ps) (take-transcript (next w e) es i)
 
-entry-at : (w : World) (es : List Event) (i : ℕ) (p : Event × Reply) → slice_get (transcript w es) i ≡ Some p → p ≡ (p.0, reply_to (run w (take i es)) p.0)
+pub entry-at : (w : World) (es : List Event) (i : ℕ) (p : Event × Reply) → slice_get (transcript w es) i ≡ Some p → p ≡ (p.0, reply_to (run w (take i es)) p.0)
 entry-at w [] i p at = absurd (no_entry p at)
 entry-at w (e ∷ es) zero p at = let same : (e, reply_to w e) ≡ p = cc in subst (λ (q : Event × Reply). q ≡ (q.0, reply_to w q.0)) same refl
 entry-at w (e ∷ es) (suc i) p at = entry-at (next w e) es i p at

@@ -1,7 +1,7 @@
-//! Laws that tie runs of the machine, each transaction at its own level, to explanations of histories, as contracts of functions
-//! with empty bodies.
+//! Laws of runs whose transactions are each at their own level: first committers win, and a run explains itself. They are contracts
+//! of functions with empty bodies.
 #![tactic(auto)]
 
 mod laws;
 
-pub use laws::{first_committers_win};
+pub use laws::{first_committers_win, runs_explain_themselves};
