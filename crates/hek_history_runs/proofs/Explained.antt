@@ -3,10 +3,9 @@ use Rattle.std.proofs.Common.{◌≡◌, ℕ, zero, suc, ◌+◌, ◌<◌, ◌�
 use Rattle.std.proofs.lemmas.Bool.{cases_Bool, cases_order, cond-true, cond-false, false≢true, ltb-true, or_right, eq-eqb}
 use Rattle.std.proofs.lemmas.Option.{slice_get_past}
 use Rattle.std.proofs.lemmas.List.{length-map}
-use Rattle.std.specs.Prelude.{◌==◌, ◌⊎◌, nat_lt, filter, slice_get, map, unwrap_or, if◌then◌else◌}
+use Rattle.std.specs.Prelude.{◌==◌, ◌⊎◌, nat_lt, filter, slice_get, unwrap_or, if◌then◌else◌}
 use Rattle.hek_rules.specs.declared.event.Level.{Level}
 use Rattle.hek_rules.specs.declared.event.Level.TheVariants.{Serializable, Snapshot, Repeatable}
-use Rattle.hek_rules.specs.declared.event.State.{State}
 use Rattle.hek_rules.specs.declared.event.State.TheVariants as state
 use Rattle.hek_rules.specs.declared.event.Event.{Event}
 use Rattle.hek_rules.specs.declared.event.Event.TheVariants as event
@@ -14,9 +13,9 @@ use Rattle.hek_rules.specs.declared.reply.Reply.{Reply}
 use Rattle.hek_rules.specs.declared.reply.Reply.TheVariants as reply
 use Rattle.hek_rules.specs.Listing.{value_of}
 use Rattle.hek_rules.specs.Recorded.{Recorded}
-use Rattle.hek_rules.specs.World.{World, Txn, new_txn, no_txn, txn_in, opening, is_not_begun}
+use Rattle.hek_rules.specs.World.{World, Txn, new_txn, no_txn, txn_in, opening}
 use Rattle.hek_rules.specs.Run.{run, transcript}
-use Rattle.hek_rules.specs.Serial.{writes_of, begin_of as begin_drawn, end_of as end_drawn, serial_order, serial_rows, judged_at, laid_over as laid_in, AreRight as AreRightIn}
+use Rattle.hek_rules.specs.Serial.{writes_of, begin_of as begin_drawn, end_of as end_drawn, serial_rows, judged_at, laid_over as laid_in, AreRight as AreRightIn}
 use Rattle.hek_rules.specs.Faults.{level_of, put_all}
 use Rattle.hek_laws.specs.Rows.{AreRising}
 use Rattle.hek_laws.specs.Runs.{HasDistinctKeys, IsFirstClock, recorded_run}
@@ -45,8 +44,8 @@ use Rattle.hek_history_laws.proofs.Answered.{AreAnswered, writes_answered, right
 use Rattle.hek_history_runs.specs.Recording.{same_level, IsRecordedAt, Records}
 use Rattle.hek_history_runs.specs.Points.{is_snapshot, is_snapshot_in, commits, points_at, points_of}
 use Rattle.hek_history_runs.proofs.Winners.{drawn-begun}
-use Rattle.hek_history_runs.proofs.FirstCommitters.{last_world, opened, whole, writers, begin-is, end-is, level-is, committed-future}
-use Rattle.hek_history_runs.proofs.SnapshotReplies.{RightThen, right-run}
+use Rattle.hek_history_runs.proofs.FirstCommitters.{opened, whole, writers, begin-is, end-is, level-is, committed-future}
+use Rattle.hek_history_runs.proofs.SnapshotReplies.{right-run}
 use Rattle.hek_history_runs.proofs.Ticks.{time_drawn, times-rise, begin-entry, end-entry, begins-once, ends-once, begun-before}
 use Rattle.hek_history_runs.proofs.PointPlaces.{offset, IsPointOf, point-of, point-at, points-before, offset-rises, Reads, Ends, reads-from, ends-from, begin-points, end-points, both-points}
 use Rattle.hek_history_runs.proofs.RowsAgree.{filter-swap, order-until, rows-agree}

@@ -1,5 +1,5 @@
 -- In any run first committers win.
-use Rattle.std.proofs.Common.{◌≡◌, ℕ, zero, suc, ◌<◌, Bool, true, false, List, [], ◌∷◌, Option, Some, None, refl, ◌∙◌, ap, sym, ⊎_elim, subst, arith}
+use Rattle.std.proofs.Common.{◌≡◌, ℕ, zero, suc, Bool, true, List, [], ◌∷◌, Some, refl, ◌∙◌, ap, sym, ⊎_elim, arith}
 use Rattle.std.proofs.lemmas.Bool.{false≢true, or_cases, or_right}
 use Rattle.std.specs.Prelude.{◌==◌, ◌||◌, slice_get, unwrap_or, map}
 use Rattle.std.specs.List.{list_any}
@@ -9,19 +9,17 @@ use Rattle.hek_rules.specs.declared.event.State.{State}
 use Rattle.hek_rules.specs.declared.event.State.TheVariants as state
 use Rattle.hek_rules.specs.declared.event.Event.{Event}
 use Rattle.hek_rules.specs.declared.serial.Write.{Write}
-use Rattle.hek_rules.specs.World.{World, Txn, new_txn, no_txn, txn_in, opening, is_not_begun, is_preparing}
-use Rattle.hek_rules.specs.Serial.{begin_of, end_of, committed_in, writes_of}
+use Rattle.hek_rules.specs.World.{World, new_txn, no_txn, txn_in, opening, is_preparing}
+use Rattle.hek_rules.specs.Serial.{begin_of, end_of, writes_of}
 use Rattle.hek_rules.specs.Faults.{level_of, put_all}
 use Rattle.hek_rules.specs.Run.{run, transcript}
 use Rattle.hek_laws.specs.Rows.{key_of}
 use Rattle.hek_laws.specs.Runs.{HasDistinctKeys, IsFirstClock}
 use Rattle.hek_laws.proofs.Lists.Overlay.{wrote}
 use Rattle.hek_laws.proofs.Worlds.Fixed.{fixed-run}
-use Rattle.hek_laws.proofs.Futures.Survivors.{History, has_committed, is_drawn, is_settled, Future}
-use Rattle.hek_laws.proofs.Futures.Invariant.{Structure}
+use Rattle.hek_laws.proofs.Futures.Survivors.{History, has_committed, is_settled, Future}
 use Rattle.hek_laws.proofs.Runs.Opening.{base-rising, whole-opening}
 use Rattle.hek_laws.proofs.Runs.Whole.{Whole, kept, whole-run}
-use Rattle.hek_history_runs.specs.Written.{has_written}
 use Rattle.hek_history_runs.specs.Laws.{FirstCommittersWin}
 use Rattle.hek_history_runs.proofs.Winners.{Writers, drawn-begun}
 use Rattle.hek_history_runs.proofs.Kept.{writers-run}

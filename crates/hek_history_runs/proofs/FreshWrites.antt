@@ -1,6 +1,6 @@
 -- A snapshot transaction writes a key for the first time only if no other writer of the key ended since its begin.
-use Rattle.std.proofs.Common.{◌≡◌, ℕ, suc, ◌<◌, ◌≤◌, Bool, true, false, List, [], ◌∷◌, Option, Some, None, refl, ◌∙◌, ap, sym, arith, inl, inr, ⊎_elim, subst}
-use Rattle.std.proofs.lemmas.Bool.{cases_Bool, cond-true, cond-false, false≢true, lt-ltb, le-ltb, ltb-false, ltb-true, eqb-true, eq-eqb, or_cases, or_left, or_right, or_parts, and_parts, and_from, false_from_ne_true}
+use Rattle.std.proofs.Common.{◌≡◌, ℕ, ◌<◌, ◌≤◌, Bool, true, false, List, Some, None, refl, ◌∙◌, ap, sym, arith, inl, inr, ⊎_elim, subst}
+use Rattle.std.proofs.lemmas.Bool.{cases_Bool, cond-false, false≢true, lt-ltb, ltb-false, ltb-true, eqb-true, eq-eqb, or_cases, or_parts, and_parts, and_from}
 use Rattle.std.specs.Prelude.{not, ◌==◌, ◌&&◌, ◌⊎◌, nat_lt, is_some, slice_get}
 use Rattle.hek_rules.specs.declared.event.Level.TheVariants.{Snapshot}
 use Rattle.hek_rules.specs.declared.event.State.{State}
@@ -10,22 +10,22 @@ use Rattle.hek_rules.specs.declared.word.BeginRecord.{BeginRecord}
 use Rattle.hek_rules.specs.declared.word.BeginRecord.TheVariants.{At, By}
 use Rattle.hek_rules.specs.Words.{infinity}
 use Rattle.hek_rules.specs.Listing.{has}
-use Rattle.hek_rules.specs.World.{World, Version, Ender, EndedAt, Held, txn_in, version_in, bucket_of, is_made_by, is_held_by, is_prepared, is_preparing, is_present}
+use Rattle.hek_rules.specs.World.{World, Ender, EndedAt, Held, txn_in, version_in, bucket_of, is_made_by, is_held_by, is_prepared, is_preparing, is_present}
 use Rattle.hek_rules.specs.Visibility.{sight, is_seen}
-use Rattle.hek_rules.specs.Walk.{Allow, Purpose, ToRead, ToWrite, looks_at, read_time, walk, last, seen_of, of_key, apply_all}
+use Rattle.hek_rules.specs.Walk.{Allow, Purpose, ToWrite, looks_at, read_time, walk, last, seen_of, of_key, apply_all}
 use Rattle.hek_rules.specs.Table.{is_claimed, is_claim, is_made_by_other, is_made_later}
 use Rattle.hek_rules.specs.Serial.{writes_of}
 use Rattle.hek_laws.specs.Lists.{In}
 use Rattle.hek_laws.specs.Sound.{IsSoundCreator}
 use Rattle.hek_laws.proofs.Lists.Overlay.{wrote}
 use Rattle.hek_laws.proofs.Futures.Living.{with_one, Covers}
-use Rattle.hek_laws.proofs.Futures.Stood.{ended_by, made_then, kept_then, stood, stood_at, stood-range, sight-stood, Past}
+use Rattle.hek_laws.proofs.Futures.Stood.{ended_by, made_then, kept_then, stood, stood_at, stood-range, sight-stood}
 use Rattle.hek_laws.proofs.Futures.FoundValues.{In-last, last-In, filter-In, places-In}
-use Rattle.hek_laws.proofs.Futures.Survivors.{History, is_drawn, is_settled, Future, Viable}
+use Rattle.hek_laws.proofs.Futures.Survivors.{History, is_settled, Future, Viable}
 use Rattle.hek_laws.proofs.Futures.Invariant.{Kept, Structure}
 use Rattle.hek_laws.proofs.Futures.Prepares.{lives-less}
 use Rattle.hek_laws.proofs.Futures.Updates.{list_any-none}
-use Rattle.hek_laws.proofs.Futures.Walker.{covers, creator_fits, ender_fits, looked, target-seen}
+use Rattle.hek_laws.proofs.Futures.Walker.{covers, creator_fits, ender_fits, target-seen}
 use Rattle.hek_laws.proofs.Futures.WalkReplies.{seen-tested}
 use Rattle.hek_history_runs.proofs.Past.{stood_in, IsMaker, maker-range}
 use Rattle.hek_history_runs.proofs.Winners.{Trace, Writers, end-early}

@@ -1,5 +1,5 @@
 -- Every event keeps what is known of the writers of keys, in each future, and so every run has it.
-use Rattle.std.proofs.Common.{◌≡◌, ℕ, ◌<◌, Bool, true, false, List, [], ◌∷◌, ◌++◌, append_assoc, Some, None, refl, ◌∙◌, ap, sym, inl, inr, ⊎_elim, subst}
+use Rattle.std.proofs.Common.{◌≡◌, ℕ, ◌<◌, Bool, true, false, List, [], ◌∷◌, ◌++◌, append_assoc, refl, ◌∙◌, ap, sym, inl, ⊎_elim, subst}
 use Rattle.std.proofs.lemmas.Bool.{cases_Bool, cond-true, cond-false, false≢true, eqb-true, eq-eqb, or_cases, or_left, or_right, and_parts, and_from, false_from_ne_true}
 use Rattle.std.specs.Prelude.{◌==◌, ◌&&◌, ◌||◌, ◌⊎◌}
 use Rattle.hek_rules.specs.declared.event.Level.TheVariants.{Snapshot}
@@ -12,16 +12,16 @@ use Rattle.hek_rules.specs.declared.reply.Reply.{Reply}
 use Rattle.hek_rules.specs.declared.reply.Reply.TheVariants as reply
 use Rattle.hek_rules.specs.declared.serial.Write.{Write}
 use Rattle.hek_rules.specs.declared.serial.Write.TheVariants.{Put, Remove}
-use Rattle.hek_rules.specs.World.{World, Txn, txn_in, bucket_of, is_preparing}
+use Rattle.hek_rules.specs.World.{World, Txn, txn_in, is_preparing}
 use Rattle.hek_rules.specs.Locks.{add_version}
 use Rattle.hek_rules.specs.Waits.{waits}
-use Rattle.hek_rules.specs.Walk.{Allow, ToRead, ToWrite, walk, last, seen_of, of_key, apply_all}
-use Rattle.hek_rules.specs.Table.{Outcome, outcome, begin, finish, commit, end, abort, prepare, drop_read, is_claimed}
+use Rattle.hek_rules.specs.Walk.{ToRead, apply_all}
+use Rattle.hek_rules.specs.Table.{Outcome, begin, finish, commit, end, abort, prepare, drop_read}
 use Rattle.hek_rules.specs.Serial.{write_of, writes_of}
 use Rattle.hek_rules.specs.Run.{next, run, transcript, reply as reply_to}
 use Rattle.hek_laws.specs.Rows.{AreRising, key_of}
 use Rattle.hek_laws.proofs.Lists.Overlay.{wrote}
-use Rattle.hek_laws.proofs.Table.SetTxns.{txn_in-set_other, txn_in-set_same, each_txn-set}
+use Rattle.hek_laws.proofs.Table.SetTxns.{txn_in-set_other, each_txn-set}
 use Rattle.hek_laws.proofs.Table.Unchanged.{apply_all-times}
 use Rattle.hek_laws.proofs.Table.Cases.{IsIn, IsActive}
 use Rattle.hek_laws.proofs.Table.Changes.{EachChange, each_outcome}
@@ -32,7 +32,7 @@ use Rattle.hek_laws.proofs.Futures.Living.{with_one}
 use Rattle.hek_laws.proofs.Futures.Matches.{lives_at}
 use Rattle.hek_laws.proofs.Futures.Survivors.{History, has_committed, is_drawn, is_settled, Future, Viable, Goes, before, Future-before}
 use Rattle.hek_laws.proofs.Futures.PullBack.{each_goes}
-use Rattle.hek_laws.proofs.Futures.Invariant.{Kept, Structure, order_in}
+use Rattle.hek_laws.proofs.Futures.Invariant.{Kept, Structure}
 use Rattle.hek_laws.proofs.Futures.Acted.{unlisted}
 use Rattle.hek_laws.proofs.Futures.Parts.{writes-more, cases_same}
 use Rattle.hek_laws.proofs.Futures.Quiet.{TxnsBack, txns-same, txns-set, txns-abort, future-same, viable-before}

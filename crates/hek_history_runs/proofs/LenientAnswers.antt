@@ -1,24 +1,23 @@
 -- Answers whose absences are not judged: they are right if what they found is there.
-use Rattle.std.proofs.Common.{◌≡◌, ◌==◌, ℕ, zero, suc, ◌<◌, Bool, true, false, List, [], ◌∷◌, Option, Some, None, refl, sym, ap, ◌∙◌, inl, inr, ⊎_elim, subst, take, arith}
-use Rattle.std.proofs.lemmas.Bool.{cases_Bool, cond-true, cond-false, cond_both, eq-eqb, eqb-true, ne_eqb, false≢true, and_parts}
-use Rattle.std.specs.Prelude.{◌&&◌, ◌||◌, ◌%◌, not, is_some, map, filter, slice_get, if◌then◌else◌}
+use Rattle.std.proofs.Common.{◌≡◌, ◌==◌, ℕ, zero, suc, ◌<◌, Bool, true, false, List, [], ◌∷◌, Option, Some, None, refl, sym, ap, ◌∙◌, ⊎_elim, subst, take, arith}
+use Rattle.std.proofs.lemmas.Bool.{cases_Bool, cond-true, cond-false, cond_both, eq-eqb, eqb-true, ne_eqb, false≢true}
+use Rattle.std.specs.Prelude.{◌||◌, ◌%◌, not, is_some, map, filter, slice_get, if◌then◌else◌}
 use Rattle.hek_rules.specs.declared.event.Event.{Event}
 use Rattle.hek_rules.specs.declared.event.Event.TheVariants as event
 use Rattle.hek_rules.specs.declared.reply.Reply.{Reply}
 use Rattle.hek_rules.specs.declared.reply.Reply.TheVariants as reply
 use Rattle.hek_rules.specs.Listing.{value_of}
-use Rattle.hek_rules.specs.World.{World, version_in, bucket_of}
+use Rattle.hek_rules.specs.World.{World, bucket_of}
 use Rattle.hek_rules.specs.Walk.{of_bucket, seen_of}
 use Rattle.hek_rules.specs.Table.{Outcome, outcome, pairs_of}
-use Rattle.hek_rules.specs.Serial.{lay_all as laid, writes_of, is_of, found_in, AreIn}
+use Rattle.hek_rules.specs.Serial.{lay_all as laid, writes_of, is_of, AreIn}
 use Rattle.hek_laws.specs.Rows.{AreRising}
-use Rattle.hek_laws.specs.Lists.{In}
 use Rattle.hek_laws.proofs.Table.Changes.{EachChange, each_outcome, is_answer as is_walk_answer}
 use Rattle.hek_laws.proofs.Futures.WalkReplies.{seen-tested, pairs-from, pairs-rising}
 use Rattle.hek_history.specs.declared.history.Operation.{Operation}
 use Rattle.hek_history.specs.declared.history.Operation.TheVariants.{Read, Put, Insert, Update, Delete, Scan}
 use Rattle.hek_history.specs.declared.history.Scope.TheVariants.{Range, Bucket}
-use Rattle.hek_history.specs.Answers.{fits, same_found, lay_all, IsRight, AreRight}
+use Rattle.hek_history.specs.Answers.{same_found, IsRight, AreRight}
 use Rattle.hek_history_laws.specs.Recording.{entry_of, is_operation, is_answer, answered}
 use Rattle.hek_history_laws.proofs.InOrder.{rises}
 use Rattle.hek_history_laws.proofs.Answered.{AreAnswered, is_answered, first_true, writes_answered}

@@ -1,24 +1,22 @@
 -- Versions that stood at a past time, in a future: an event leaves them standing, and the makers of versions stay named.
-use Rattle.std.proofs.Common.{◌≡◌, ℕ, zero, suc, ◌<◌, ◌≤◌, Bool, true, false, List, [], ◌∷◌, ◌++◌, Option, Some, None, refl, ◌∙◌, ap, sym, arith, inl, inr, ⊎_elim, subst}
-use Rattle.std.proofs.lemmas.Bool.{cases_Bool, cond_both, false≢true, lt-ltb, le-ltb, ltb-false, eqb-true, eq-eqb, or_cases, and_parts, and_from}
-use Rattle.std.specs.Prelude.{not, ◌==◌, ◌&&◌, ◌⊎◌, nat_lt, is_some, slice_get}
+use Rattle.std.proofs.Common.{◌≡◌, ℕ, zero, suc, ◌<◌, ◌≤◌, Bool, true, false, List, [], ◌∷◌, ◌++◌, Some, None, refl, ◌∙◌, ap, sym, arith, ⊎_elim, subst}
+use Rattle.std.proofs.lemmas.Bool.{cases_Bool, cond_both, false≢true, lt-ltb, le-ltb, eqb-true}
+use Rattle.std.specs.Prelude.{not, ◌==◌, ◌&&◌, nat_lt, is_some, slice_get}
 use Rattle.std.specs.Option.{option_or}
 use Rattle.hek_rules.specs.declared.event.State.TheVariants as state
 use Rattle.hek_rules.specs.declared.event.Event.{Event}
-use Rattle.hek_rules.specs.declared.event.Event.TheVariants as event
 use Rattle.hek_rules.specs.declared.event.Effect.{Effect}
-use Rattle.hek_rules.specs.declared.event.WriteEntry.{WriteEntry}
-use Rattle.hek_rules.specs.declared.event.WriteEntry.TheVariants.{BeginOf, EndOf}
+use Rattle.hek_rules.specs.declared.event.WriteEntry.TheVariants.{BeginOf}
 use Rattle.hek_rules.specs.declared.reply.Reply.{Reply}
 use Rattle.hek_rules.specs.declared.word.BeginRecord.{BeginRecord}
 use Rattle.hek_rules.specs.declared.word.BeginRecord.TheVariants.{At, By}
 use Rattle.hek_rules.specs.Words.{infinity}
-use Rattle.hek_rules.specs.World.{World, Version, Txn, Ender, EndedAt, Held, no_version, txn_in, version_in, bucket_of, is_aborted, is_preparing, is_present}
+use Rattle.hek_rules.specs.World.{World, Version, Txn, Ender, EndedAt, Held, txn_in, version_in, bucket_of, is_aborted}
 use Rattle.hek_rules.specs.Locks.{add_version, with_ender, set_ender}
 use Rattle.hek_rules.specs.Waits.{readers}
 use Rattle.hek_rules.specs.Listing.{leave}
 use Rattle.hek_rules.specs.Walk.{Allow, Purpose, ToRead, ToWrite, walk, last, seen_of, of_key, of_bucket, apply_all}
-use Rattle.hek_rules.specs.Table.{Outcome, outcome, drop_read, sealed, given_back, set_creator}
+use Rattle.hek_rules.specs.Table.{drop_read, sealed, given_back, set_creator}
 use Rattle.hek_rules.specs.Serial.{end_of}
 use Rattle.hek_rules.specs.Run.{next}
 use Rattle.hek_laws.specs.Sound.{IsSoundCreator, IsSoundEnder}
@@ -26,13 +24,13 @@ use Rattle.hek_laws.proofs.Table.Changes.{EachChange, each_outcome}
 use Rattle.hek_laws.proofs.Sound.WaitCounts.{version_in-set}
 use Rattle.hek_laws.proofs.Words.Names.{MadeFor}
 use Rattle.hek_laws.proofs.Words.EachEvent.{entry-In}
-use Rattle.hek_laws.proofs.Walks.Walked.{Moved, good-all, good-start}
+use Rattle.hek_laws.proofs.Walks.Walked.{good-all, good-start}
 use Rattle.hek_laws.proofs.Worlds.AsTold.{AsTold}
 use Rattle.hek_laws.proofs.Worlds.Histories.{end_of-append}
 use Rattle.hek_laws.proofs.Futures.Stood.{ended_by, made_then, kept_then, stood_at}
 use Rattle.hek_laws.proofs.Futures.Living.{made_in, kept_in}
 use Rattle.hek_laws.proofs.Futures.Matches.{lives_at}
-use Rattle.hek_laws.proofs.Futures.Survivors.{History, is_drawn, Future}
+use Rattle.hek_laws.proofs.Futures.Survivors.{History, Future}
 use Rattle.hek_laws.proofs.Futures.Invariant.{Structure}
 use Rattle.hek_laws.proofs.Futures.Quiet.{aborted-outside, committed-inside}
 use Rattle.hek_laws.proofs.Futures.Bystanders.{MayWrite, walk-can, active-out}

@@ -1,7 +1,7 @@
 -- Where an update or a delete was answered done, the key is there at the end, under the transaction's own earlier writes.
-use Rattle.std.proofs.Common.{◌≡◌, ℕ, zero, suc, ◌<◌, ◌≤◌, Bool, true, false, List, [], ◌∷◌, ◌++◌, append_assoc, Some, None, Option, refl, ◌∙◌, ap, sym, arith, inl, inr, ⊎_elim, subst, take}
+use Rattle.std.proofs.Common.{◌≡◌, ℕ, zero, suc, Bool, true, false, List, [], ◌∷◌, ◌++◌, append_assoc, Some, refl, ◌∙◌, ap, sym, arith, ⊎_elim, subst, take}
 use Rattle.std.proofs.lemmas.Bool.{cases_Bool, cond-true, cond-false, false≢true, lt-ltb, eqb-true, eq-eqb, or_cases, or_left, or_right, and_parts, and_from, false_from_ne_true}
-use Rattle.std.specs.Prelude.{◌==◌, ◌&&◌, ◌||◌, ◌⊎◌, nat_lt, filter, is_some, slice_get}
+use Rattle.std.specs.Prelude.{◌==◌, ◌&&◌, nat_lt, filter, is_some, slice_get}
 use Rattle.std.specs.Option.{option_or}
 use Rattle.hek_rules.specs.declared.event.Level.TheVariants.{Repeatable}
 use Rattle.hek_rules.specs.declared.event.State.{State}
@@ -17,30 +17,28 @@ use Rattle.hek_rules.specs.Listing.{has, value_of}
 use Rattle.hek_rules.specs.World.{World, Txn, txn_in, bucket_of, is_preparing}
 use Rattle.hek_rules.specs.Locks.{add_version}
 use Rattle.hek_rules.specs.Waits.{waits}
-use Rattle.hek_rules.specs.Walk.{Allow, ToRead, ToWrite, walk, last, seen_of, of_key, apply_all}
-use Rattle.hek_rules.specs.Table.{Outcome, outcome, begin, finish, commit, end, abort, prepare, drop_read}
+use Rattle.hek_rules.specs.Walk.{Allow, ToWrite, walk, last, seen_of, of_key, apply_all}
+use Rattle.hek_rules.specs.Table.{Outcome, begin, finish, commit, end, abort, prepare, drop_read}
 use Rattle.hek_rules.specs.Serial.{lay_all, write_of, writes_of, laid_over, is_of, end_of}
 use Rattle.hek_rules.specs.Run.{next, run, transcript, reply as reply_to}
 use Rattle.hek_laws.specs.Rows.{AreRising, key_of}
 use Rattle.hek_laws.proofs.Lists.Overlay.{wrote, lay_all-other, lay_all-same}
 use Rattle.hek_laws.proofs.Walks.Looks.{repeatable-now}
-use Rattle.hek_laws.proofs.Table.SetTxns.{txn_in-set_other, txn_in-set_same, each_txn-set}
+use Rattle.hek_laws.proofs.Table.SetTxns.{txn_in-set_other, each_txn-set}
 use Rattle.hek_laws.proofs.Table.Unchanged.{apply_all-times}
 use Rattle.hek_laws.proofs.Table.Cases.{IsIn, IsActive}
-use Rattle.hek_laws.proofs.Table.Changes.{EachChange, each_outcome, is_refusal, is_answer, IsMute}
+use Rattle.hek_laws.proofs.Table.Changes.{EachChange, each_outcome, is_refusal, is_answer}
 use Rattle.hek_laws.proofs.Worlds.Histories.{end_of-append, append-nil, lay_all-append}
 use Rattle.hek_laws.proofs.Futures.Living.{with_one}
 use Rattle.hek_laws.proofs.Futures.Survivors.{History, has_committed, is_drawn, is_settled, Future, Viable, before, Future-before}
-use Rattle.hek_laws.proofs.Futures.Invariant.{Kept, Structure, InFuture, IsSilent, AllBelow, drawn_by, order_in, future_rows}
+use Rattle.hek_laws.proofs.Futures.Invariant.{Kept, Structure, IsSilent, AllBelow, drawn_by, order_in, future_rows}
 use Rattle.hek_laws.proofs.Futures.Acted.{unlisted}
-use Rattle.hek_laws.proofs.Futures.Parts.{writes-more, cases_same, LeavesRows, future_rows-more}
+use Rattle.hek_laws.proofs.Futures.Parts.{cases_same, future_rows-more}
 use Rattle.hek_laws.proofs.Futures.Prepares.{NotListed, prepared, laid_over-prepared, order_in-append, viable, other, rows_now}
 use Rattle.hek_laws.proofs.Futures.Precommits.{filter-out}
 use Rattle.hek_laws.proofs.Futures.Quiet.{TxnsBack, txns-same, txns-set, txns-abort, future-same, viable-before, idle-draws}
 use Rattle.hek_laws.proofs.Futures.Bystanders.{active-out}
 use Rattle.hek_laws.proofs.Futures.WalkReplies.{found-some}
-use Rattle.hek_laws.proofs.Futures.Updates.{write-other, write-own}
-use Rattle.hek_laws.proofs.Futures.EachEvent.{silent-writes}
 use Rattle.hek_laws.proofs.Futures.AsOfBegin.{rows_until, same-rows, back-member}
 use Rattle.hek_laws.proofs.Runs.Whole.{Whole, kept, whole-next}
 use Rattle.hek_history_runs.proofs.Kept.{Known, known-next}

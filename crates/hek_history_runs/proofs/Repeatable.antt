@@ -1,7 +1,7 @@
 -- The answers of a committed repeatable transaction: what each found is there at its end time, under its own earlier writes.
-use Rattle.std.proofs.Common.{◌≡◌, ℕ, zero, suc, ◌<◌, Bool, true, false, List, [], ◌∷◌, Option, Some, None, refl, ◌∙◌, ap, sym, inl, inr, ⊎_elim, subst, take}
-use Rattle.std.proofs.lemmas.Bool.{false≢true, or_right}
-use Rattle.std.specs.Prelude.{◌⊎◌, nat_lt, filter, is_some, slice_get}
+use Rattle.std.proofs.Common.{◌≡◌, ℕ, zero, suc, ◌<◌, true, List, [], ◌∷◌, Option, Some, ◌∙◌, ap, sym, ⊎_elim, subst, take}
+use Rattle.std.proofs.lemmas.Bool.{false≢true}
+use Rattle.std.specs.Prelude.{nat_lt, filter, is_some, slice_get}
 use Rattle.hek_rules.specs.declared.event.Level.{Level}
 use Rattle.hek_rules.specs.declared.event.Level.TheVariants.{Repeatable}
 use Rattle.hek_rules.specs.declared.event.Event.{Event}
@@ -10,10 +10,9 @@ use Rattle.hek_rules.specs.declared.reply.Reply.{Reply}
 use Rattle.hek_rules.specs.declared.reply.Reply.TheVariants as reply
 use Rattle.hek_rules.specs.Events.{txn_of}
 use Rattle.hek_rules.specs.Listing.{value_of, is_among}
-use Rattle.hek_rules.specs.Recorded.{Recorded}
 use Rattle.hek_rules.specs.World.{World, opening, txn_in}
 use Rattle.hek_rules.specs.Run.{run, next, transcript, reply as reply_to}
-use Rattle.hek_rules.specs.Serial.{lay_all as laid, writes_of, is_of, end_of, committed_in, laid_over, serial_rows, IsRepeatable}
+use Rattle.hek_rules.specs.Serial.{lay_all as laid, writes_of, is_of, end_of, laid_over, serial_rows, IsRepeatable}
 use Rattle.hek_rules.specs.Faults.{put_all, level_of, is_declared, IsRight, IsRightIf}
 use Rattle.hek_laws.specs.Runs.{HasDistinctKeys, IsFirstClock, recorded_run}
 use Rattle.hek_laws.proofs.Worlds.Fixed.{fixed-run}
@@ -21,7 +20,6 @@ use Rattle.hek_laws.proofs.Futures.Survivors.{has_committed}
 use Rattle.hek_laws.proofs.Futures.Invariant.{order_in}
 use Rattle.hek_laws.proofs.Futures.AsOfBegin.{rows_until}
 use Rattle.hek_laws.proofs.Runs.Opening.{base-rising}
-use Rattle.hek_laws.proofs.Runs.Whole.{Whole}
 use Rattle.hek_laws.proofs.Runs.NoFault.{run-no_fault}
 use Rattle.hek_serial.proofs.Verdicts.{is_of-to}
 use Rattle.hek_history_runs.proofs.FirstCommitters.{opened, whole, end-is, level-is, committed-future}
@@ -114,8 +112,7 @@ module _ (buckets clock : ℕ) (rows : List (ℕ × ℕ)) (levels : List Level) 
     found-at i (event.Read x key) (reply.Found value) at mine = found-in_run events i (event.Read x key) (reply.Found value) at mine c ends
     found-at i (event.Scan x bucket) (reply.Rows pairs) at mine =
         let e = entry-at start events i (event.Scan x bucket, reply.Rows pairs) at in
-        let answer : reply_to (run start (take i events)) (event.Scan x bucket) ≡ reply.Rows pairs = sym (ap (λ (p : Event × Reply). p.1) e) in
-        (
+        let answer : reply_to (run start (take i events)) (event.Scan x bucket) ≡ reply.Rows pairs = sym (ap (λ (p : Event × Reply). p.1) e) in (
           found-in_run events i (event.Scan x bucket) (reply.Rows pairs) at mine c ends,
           subst (λ n. IsListing n bucket pairs) (fixed-run start (take i events)).buckets (scan-lists (run start (take i events)) x bucket pairs answer),
         )

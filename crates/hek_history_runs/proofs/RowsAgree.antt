@@ -1,6 +1,6 @@
 -- The rows at a place of a transcript: those of its points, as a history that records it has them.
-use Rattle.std.proofs.Common.{◌≡◌, ℕ, zero, suc, ◌<◌, ◌≤◌, Bool, true, false, List, [], ◌∷◌, ◌++◌, Option, Some, None, refl, ◌∙◌, ap, sym, arith, inl, inr, ⊎_elim, subst, take}
-use Rattle.std.proofs.lemmas.Bool.{cases_Bool, cond-true, cond-false, lt-ltb, le-ltb, false≢true}
+use Rattle.std.proofs.Common.{◌≡◌, ℕ, zero, suc, ◌<◌, ◌≤◌, Bool, List, [], ◌∷◌, ◌++◌, Some, refl, ◌∙◌, ap, sym, arith, inl, inr, ⊎_elim, take}
+use Rattle.std.proofs.lemmas.Bool.{cases_Bool, cond-true, cond-false, lt-ltb, le-ltb}
 use Rattle.std.proofs.lemmas.List.Elements.{filter-append}
 use Rattle.std.specs.Prelude.{◌&&◌, ◌⊎◌, nat_lt, filter, slice_get, if◌then◌else◌}
 use Rattle.hek_rules.specs.declared.event.Event.{Event}
@@ -9,11 +9,10 @@ use Rattle.hek_rules.specs.declared.reply.Reply.{Reply}
 use Rattle.hek_rules.specs.declared.reply.Reply.TheVariants as reply
 use Rattle.hek_rules.specs.Listing.{value_of}
 use Rattle.hek_rules.specs.Recorded.{Recorded}
-use Rattle.hek_rules.specs.Serial.{lay_all as laid, writes_of, laid_over as laid_in, serial_order, serial_rows}
+use Rattle.hek_rules.specs.Serial.{lay_all as laid, writes_of, laid_over as laid_in}
 use Rattle.hek_laws.proofs.Worlds.Histories.{laid_over-append}
 use Rattle.hek_laws.proofs.Futures.Survivors.{has_committed}
 use Rattle.hek_laws.proofs.Futures.Invariant.{drawn_by, order_in}
-use Rattle.hek_laws.proofs.Futures.AsOfBegin.{rows_until}
 use Rattle.hek_history.specs.declared.history.History.{History}
 use Rattle.hek_history.specs.declared.history.Operation.{Operation}
 use Rattle.hek_history.specs.declared.history.Point.{Point}

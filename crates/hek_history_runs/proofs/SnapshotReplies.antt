@@ -1,7 +1,7 @@
 -- All replies to a snapshot transaction, to its writes too, are those of the rows at its begin, under its own writes.
-use Rattle.std.proofs.Common.{◌≡◌, ℕ, ◌<◌, Bool, true, false, List, [], ◌∷◌, ◌++◌, append_assoc, Some, None, Option, refl, ◌∙◌, ap, sym, arith, inl, inr, ⊎_elim, subst}
-use Rattle.std.proofs.lemmas.Bool.{cases_Bool, cond-true, cond-false, false≢true, lt-ltb, eqb-true, or_cases, or_right, and_parts}
-use Rattle.std.specs.Prelude.{◌==◌, ◌&&◌, ◌⊎◌, nat_lt, filter, is_some, if◌then◌else◌}
+use Rattle.std.proofs.Common.{◌≡◌, ℕ, Bool, true, false, List, [], ◌∷◌, ◌++◌, append_assoc, Some, None, Option, refl, ◌∙◌, ap, sym, arith, inl, inr, ⊎_elim, subst}
+use Rattle.std.proofs.lemmas.Bool.{cond-true, cond-false, false≢true, eqb-true, or_cases, and_parts}
+use Rattle.std.specs.Prelude.{◌==◌, ◌⊎◌, is_some}
 use Rattle.hek_rules.specs.declared.event.Level.TheVariants.{Serializable, Snapshot}
 use Rattle.hek_rules.specs.declared.event.State.{State}
 use Rattle.hek_rules.specs.declared.event.State.TheVariants as state
@@ -11,26 +11,25 @@ use Rattle.hek_rules.specs.declared.event.Effect.{Effect}
 use Rattle.hek_rules.specs.declared.reply.Reply.{Reply}
 use Rattle.hek_rules.specs.declared.reply.Reply.TheVariants as reply
 use Rattle.hek_rules.specs.Listing.{value_of}
-use Rattle.hek_rules.specs.World.{World, Txn, txn_in, version_in, places, bucket_of, is_not_begun, is_preparing, is_aborted}
+use Rattle.hek_rules.specs.World.{World, Txn, txn_in, version_in, bucket_of, is_not_begun, is_preparing, is_aborted}
 use Rattle.hek_rules.specs.Locks.{add_version}
 use Rattle.hek_rules.specs.Walk.{Allow, Purpose, ToRead, ToWrite, walk, last, seen_of, of_key, of_bucket, apply_all}
-use Rattle.hek_rules.specs.Table.{Outcome, outcome, begin, finish, commit, end, abort, prepare, drop_read, found, pairs_of}
+use Rattle.hek_rules.specs.Table.{Outcome, begin, finish, commit, end, abort, prepare, drop_read, found, pairs_of}
 use Rattle.hek_rules.specs.Serial.{lay_all, write_of, writes_of, is_of, found_in, serial_reply, IsSerial, AreRight}
 use Rattle.hek_rules.specs.Run.{next, run, transcript, reply as reply_to}
 use Rattle.hek_laws.specs.Rows.{AreRising}
-use Rattle.hek_laws.proofs.Table.SetTxns.{txn_in-set_same, txn_in-set_other, each_txn-set}
+use Rattle.hek_laws.proofs.Table.SetTxns.{txn_in-set_other, each_txn-set}
 use Rattle.hek_laws.proofs.Table.Unchanged.{apply_all-times}
 use Rattle.hek_laws.proofs.Table.Cases.{IsIn}
 use Rattle.hek_laws.proofs.Table.Changes.{EachChange, each_outcome, IsMute, is_walk, is_refusal}
-use Rattle.hek_laws.proofs.Worlds.AsTold.{AsTold}
-use Rattle.hek_laws.proofs.Worlds.Fixed.{Fixed, fixed-next}
+use Rattle.hek_laws.proofs.Worlds.Fixed.{fixed-next}
 use Rattle.hek_laws.proofs.Worlds.Histories.{append-nil}
-use Rattle.hek_laws.proofs.Futures.Survivors.{History, has_committed, is_drawn, is_settled, Future, Viable, Goes, before}
+use Rattle.hek_laws.proofs.Futures.Survivors.{History, is_drawn, is_settled, Future, Viable, Goes, before}
 use Rattle.hek_laws.proofs.Futures.PullBack.{each_goes}
 use Rattle.hek_laws.proofs.Futures.Invariant.{Kept, Structure, IsSilent}
 use Rattle.hek_laws.proofs.Futures.Parts.{cases_same}
 use Rattle.hek_laws.proofs.Futures.Quiet.{TxnsBack, txns-same, txns-set, txns-abort}
-use Rattle.hek_laws.proofs.Futures.Carried.{Calm, calm-next}
+use Rattle.hek_laws.proofs.Futures.Carried.{calm-next}
 use Rattle.hek_laws.proofs.Futures.AsOfBegin.{rows_until, AsOfBegin, Snapshots, AreRight-more, past-future, back-viable, back-member, same-rows}
 use Rattle.hek_laws.proofs.Futures.OwnWalks.{Around, snapshot-read, found-then, listed-then}
 use Rattle.hek_laws.proofs.Runs.Whole.{Whole, kept, whole-next}

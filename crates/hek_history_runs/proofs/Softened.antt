@@ -1,9 +1,8 @@
 -- An insert that was answered `exists` reads its key: with a read in its place a run goes through the same worlds.
-use Rattle.std.proofs.Common.{◌≡◌, ℕ, zero, suc, Bool, true, false, List, [], ◌∷◌, ◌++◌, Option, Some, None, refl, ◌∙◌, ap, sym, inl, inr, ⊎_elim, subst, take}
-use Rattle.std.proofs.lemmas.Bool.{cond-true, cond-false, false≢true, and_from, and_right}
+use Rattle.std.proofs.Common.{◌≡◌, ℕ, zero, suc, Bool, true, false, List, [], ◌∷◌, ◌++◌, Option, Some, refl, ◌∙◌, ap, sym, inl, inr, ⊎_elim, subst, take}
+use Rattle.std.proofs.lemmas.Bool.{cond-false, false≢true, and_from, and_right}
 use Rattle.std.specs.Prelude.{not, ◌&&◌, ◌⊎◌, nat_lt, filter, slice_get, if◌then◌else◌}
 use Rattle.std.specs.Option.{option_or}
-use Rattle.hek_rules.specs.declared.check.Check.{Check}
 use Rattle.hek_rules.specs.declared.check.Check.TheVariants.{Passed, Doomed, Refused}
 use Rattle.hek_rules.specs.declared.event.State.TheVariants as state
 use Rattle.hek_rules.specs.declared.event.Event.{Event}
@@ -12,10 +11,10 @@ use Rattle.hek_rules.specs.declared.reply.Refusal.TheVariants as refusal
 use Rattle.hek_rules.specs.declared.reply.Reply.{Reply}
 use Rattle.hek_rules.specs.declared.reply.Reply.TheVariants as reply
 use Rattle.hek_rules.specs.World.{World, Txn, txn_in, version_in, bucket_of, declared, is_active, is_live, is_not_begun, is_terminated}
-use Rattle.hek_rules.specs.Walk.{Judgement, Allow, ToRead, walk, apply_all, last, seen_of, of_key}
+use Rattle.hek_rules.specs.Walk.{Allow, ToRead, walk, apply_all, last, seen_of, of_key}
 use Rattle.hek_rules.specs.Checks.{check_of, check_phase, is_open, missed}
-use Rattle.hek_rules.specs.Table.{Outcome, outcome, refused, answered, after_read, found, holds_nothing}
-use Rattle.hek_rules.specs.Run.{next, run, transcript, reply as reply_to}
+use Rattle.hek_rules.specs.Table.{Outcome, outcome, refused, answered, after_read, holds_nothing}
+use Rattle.hek_rules.specs.Run.{next, transcript, reply as reply_to}
 use Rattle.hek_rules.specs.Serial.{write_of, writes_of, end_drawn, end_of, committed_by, committed_in, with_end, ordered, serial_order, laid_over, lay_all, serial_rows}
 use Rattle.hek_laws.proofs.Table.Cases.{IsActive}
 use Rattle.hek_laws.proofs.Table.Changes.{EachChange, each_outcome, is_answer}
@@ -144,8 +143,7 @@ softer-run w (e ∷ es) =
     (λ c.
     let reads = each_outcome w (Softens w) (each_softens w) e c.txn c.key c.value c.event_is c.reply_is in
     let world : next w new ≡ next w e = ap (next w) c.read_is ∙ ap (λ (o : Outcome). o.world) reads.same in
-    let answer : reply_to w new ≡ reply.Found reads.value = ap (reply_to w) c.read_is ∙ ap (λ (o : Outcome). o.reply) reads.same in
-    (
+    let answer : reply_to w new ≡ reply.Found reads.value = ap (reply_to w) c.read_is ∙ ap (λ (o : Outcome). o.reply) reads.same in (
       inr (record {
         txn = c.txn;
         key = c.key;

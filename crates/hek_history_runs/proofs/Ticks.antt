@@ -1,6 +1,6 @@
 -- The times that a run draws: each later one is greater, and each transaction begins once, and ends once, after it began.
-use Rattle.std.proofs.Common.{◌≡◌, ℕ, zero, suc, ◌+◌, ◌<◌, ◌≤◌, Bool, true, false, List, [], ◌∷◌, ◌++◌, Option, Some, None, refl, ◌∙◌, ap, sym, arith, inl, inr, ⊎_elim, subst, take}
-use Rattle.std.proofs.lemmas.Bool.{cases_Bool, cases_order, cond_both, cond-true, cond-false, false≢true, eq-eqb, eqb-true, or_left, or_right}
+use Rattle.std.proofs.Common.{◌≡◌, ℕ, zero, suc, ◌+◌, ◌<◌, ◌≤◌, true, List, [], ◌∷◌, Option, Some, None, refl, ◌∙◌, ap, sym, arith, inl, inr, ⊎_elim, subst, take}
+use Rattle.std.proofs.lemmas.Bool.{cases_order, cond_both, cond-true, false≢true, eq-eqb, eqb-true}
 use Rattle.std.specs.Prelude.{◌==◌, ◌⊎◌, slice_get}
 use Rattle.std.specs.Option.{option_or}
 use Rattle.hek_rules.specs.declared.event.State.TheVariants as state
@@ -19,7 +19,7 @@ use Rattle.hek_history.proofs.Boxes.{front_at}
 use Rattle.hek_laws.specs.Rows.{AreRising}
 use Rattle.hek_laws.proofs.Table.Unchanged.{apply_all-times}
 use Rattle.hek_laws.proofs.Table.Cases.{EachRule, each_event}
-use Rattle.hek_laws.proofs.Table.Changes.{EachChange, each_outcome, is_refusal}
+use Rattle.hek_laws.proofs.Table.Changes.{each_outcome, is_refusal}
 use Rattle.hek_laws.proofs.Futures.Survivors.{History}
 use Rattle.hek_laws.proofs.Futures.Invariant.{IsSilent}
 use Rattle.hek_laws.proofs.Runs.Whole.{Whole, whole-run}

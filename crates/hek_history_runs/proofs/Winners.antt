@@ -1,33 +1,31 @@
 -- Writers of one key: where a snapshot transaction writes a key, no other writer of it ends between its begin and its end.
-use Rattle.std.proofs.Common.{◌≡◌, ℕ, zero, suc, ◌<◌, ◌≤◌, Bool, true, false, List, [], ◌∷◌, ◌++◌, Option, Some, None, refl, ◌∙◌, ap, sym, arith, inl, inr, ⊎_elim, subst}
-use Rattle.std.proofs.lemmas.Bool.{cases_Bool, cond-true, cond-false, false≢true, lt-ltb, le-ltb, ltb-true, ltb-false, eqb-true, eq-eqb, ne_eqb, or_cases, and_parts, and_from, false_from_ne_true}
-use Rattle.std.specs.Prelude.{not, ◌==◌, ◌&&◌, ◌||◌, ◌⊎◌, nat_lt, is_some, slice_get}
+use Rattle.std.proofs.Common.{◌≡◌, ℕ, zero, suc, ◌<◌, Bool, true, false, List, [], ◌∷◌, ◌++◌, Some, None, refl, ◌∙◌, ap, sym, arith, inl, inr, ⊎_elim, subst}
+use Rattle.std.proofs.lemmas.Bool.{cases_Bool, cond-true, cond-false, false≢true, lt-ltb, eqb-true, eq-eqb, ne_eqb, or_cases, and_parts}
+use Rattle.std.specs.Prelude.{not, ◌==◌, ◌&&◌, ◌⊎◌, nat_lt, is_some, slice_get}
 use Rattle.hek_rules.specs.declared.event.Level.TheVariants.{Snapshot}
 use Rattle.hek_rules.specs.declared.event.State.{State}
 use Rattle.hek_rules.specs.declared.event.State.TheVariants as state
 use Rattle.hek_rules.specs.declared.event.Event.{Event}
-use Rattle.hek_rules.specs.declared.event.Event.TheVariants as event
 use Rattle.hek_rules.specs.declared.reply.Reply.{Reply}
-use Rattle.hek_rules.specs.declared.reply.Reply.TheVariants as reply
 use Rattle.hek_rules.specs.declared.word.BeginRecord.{BeginRecord}
 use Rattle.hek_rules.specs.declared.word.BeginRecord.TheVariants.{At, By}
 use Rattle.hek_rules.specs.Words.{infinity}
-use Rattle.hek_rules.specs.World.{World, Version, Txn, Ender, EndedAt, Held, txn_in, version_in, is_aborted, is_preparing, is_not_begun, is_made_by, is_held_by}
+use Rattle.hek_rules.specs.World.{World, Txn, Ender, EndedAt, Held, txn_in, version_in, is_aborted, is_preparing, is_not_begun, is_made_by, is_held_by}
 use Rattle.hek_rules.specs.Waits.{waits}
 use Rattle.hek_rules.specs.Table.{prepare}
-use Rattle.hek_rules.specs.Serial.{write_of, writes_of}
+use Rattle.hek_rules.specs.Serial.{writes_of}
 use Rattle.hek_laws.proofs.Lists.Overlay.{wrote}
 use Rattle.hek_laws.proofs.Table.SetTxns.{txn_in-set_same, txn_in-set_other}
 use Rattle.hek_laws.proofs.Table.Cases.{IsActive}
 use Rattle.hek_laws.proofs.Worlds.AsTold.{AsTold}
 use Rattle.hek_laws.proofs.Worlds.Fixed.{Fixed}
-use Rattle.hek_laws.proofs.Futures.Living.{with_one, lives, made_in, kept_in}
-use Rattle.hek_laws.proofs.Futures.Stood.{ended_by, made_then, kept_then, stood, stood_at, stood-range}
+use Rattle.hek_laws.proofs.Futures.Living.{with_one, made_in, kept_in}
+use Rattle.hek_laws.proofs.Futures.Stood.{ended_by, made_then, kept_then, stood_at, stood-range}
 use Rattle.hek_laws.proofs.Futures.Matches.{lives_at}
 use Rattle.hek_laws.proofs.Futures.FoundValues.{in_range}
-use Rattle.hek_laws.proofs.Futures.Survivors.{History, has_committed, is_drawn, is_settled, Future, Viable, Goes}
+use Rattle.hek_laws.proofs.Futures.Survivors.{History, is_drawn, is_settled, Future, Viable, Goes}
 use Rattle.hek_laws.proofs.Futures.Invariant.{Kept, Structure, InFuture, order_in}
-use Rattle.hek_laws.proofs.Futures.Parts.{writes-more, cases_same, made-range}
+use Rattle.hek_laws.proofs.Futures.Parts.{writes-more, cases_same}
 use Rattle.hek_laws.proofs.Futures.Quiet.{viable-before}
 use Rattle.hek_laws.proofs.Futures.Bystanders.{active-out}
 use Rattle.hek_laws.proofs.Futures.Prepares.{NotListed, prepared, writes_of-prepared, lives-less, viable, other}

@@ -1,5 +1,5 @@
 -- Histories that record a transcript with each committed transaction at its own level.
-use Rattle.std.specs.Prelude.{ℕ, ◌≡◌, true, List, [], Some, map}
+use Rattle.std.specs.Prelude.{ℕ, ◌≡◌, true, [], Some, map}
 use Rattle.hek_rules.specs.declared.event.Level.{Level}
 use Rattle.hek_rules.specs.declared.event.Level.TheVariants as engine
 use Rattle.hek_rules.specs.Listing.{value_of}
