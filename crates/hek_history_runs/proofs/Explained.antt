@@ -1,7 +1,7 @@
 -- A history that records a run has the points of the run as an explanation.
 use Rattle.std.proofs.Common.{◌≡◌, ℕ, zero, suc, ◌+◌, ◌<◌, ◌≤◌, Bool, true, false, List, [], ◌∷◌, length, Option, Some, None, refl, ◌∙◌, ap, sym, arith, inl, inr, ⊎_elim, subst, take}
 use Rattle.std.proofs.lemmas.Bool.{cases_Bool, cases_order, cond-true, cond-false, false≢true, ltb-true, or_right, eq-eqb}
-use Rattle.std.proofs.lemmas.Option.{slice_get_past}
+use Rattle.std.proofs.lemmas.Option.{slice_get_past, slice_get_within}
 use Rattle.std.proofs.lemmas.List.{length-map}
 use Rattle.std.specs.Prelude.{◌==◌, ◌⊎◌, nat_lt, filter, slice_get, unwrap_or, if◌then◌else◌}
 use Rattle.hek_rules.specs.declared.event.Level.{Level}
@@ -44,7 +44,7 @@ use Rattle.hek_history_laws.proofs.Answered.{AreAnswered, writes_answered, right
 use Rattle.hek_history_runs.specs.Recording.{same_level, IsRecordedAt, Records}
 use Rattle.hek_history_runs.specs.Points.{is_snapshot, is_snapshot_in, commits, points_at, points_of}
 use Rattle.hek_history_runs.proofs.Winners.{drawn-begun}
-use Rattle.hek_history_runs.proofs.FirstCommitters.{opened, whole, writers, begin-is, end-is, level-is, committed-future}
+use Rattle.hek_history_runs.proofs.FirstCommitters.{declared, opened, whole, writers, begin-is, end-is, level-is, committed-future}
 use Rattle.hek_history_runs.proofs.SnapshotReplies.{right-run}
 use Rattle.hek_history_runs.proofs.Ticks.{time_drawn, times-rise, begin-entry, end-entry, begins-once, ends-once, begun-before}
 use Rattle.hek_history_runs.proofs.PointPlaces.{offset, IsPointOf, point-of, point-at, points-before, offset-rises, Reads, Ends, reads-from, ends-from, begin-points, end-points, both-points}
@@ -92,16 +92,6 @@ snapshot-level (Some Serializable) y = absurd (false≢true y)
 snapshot-level (Some Repeatable) y = absurd (false≢true y)
 snapshot-level (Some Snapshot) y = refl
 
-none-past : {X : Type 0} (xs : List X) (i : ℕ) → slice_get xs i ≡ None → length xs ≤ i
-none-past [] i e = omega arith
-none-past (x ∷ xs) zero e = cc
-none-past (x ∷ xs) (suc i) e = let l = none-past xs i e in omega (arith, l)
-
-within-length : {X : Type 0} (xs : List X) (m : ℕ) (x : X) → slice_get xs m ≡ Some x → m < length xs
-within-length [] m x e = cc
-within-length (y ∷ xs) zero x e = omega arith
-within-length (y ∷ xs) (suc m) x e = let l = within-length xs m x e in omega (arith, l)
-
 one_begin : (t a b : ℕ) → ◌≡◌ {A = Event × Reply} (event.Begin t, reply.Began a) (event.Begin t, reply.Began b) → a ≡ b
 one_begin t a b e = let r : reply.Began a ≡ reply.Began b = ap (λ (p : Event × Reply). p.1) e in cc
 
@@ -135,20 +125,6 @@ module _ (buckets clock : ℕ) (rows : List (ℕ × ℕ)) (levels : List Level) 
   began = opened buckets clock rows levels events distinct first
 
   -- ---- levels
-  declared : (t : ℕ) → commits s t ≡ true → (l : Level) × (level_of levels t ≡ Some l)
-  declared t c = by t (level_of levels t) refl ((k.told t).settled c)
-    where
-      unknown : (i : ℕ) → slice_get levels i ≡ None → (txn_in w.txns (suc i)).state ≡ state.NotBegun
-      unknown i e =
-          let count : length w.txns ≡ length levels = (fixed-run start events).count ∙ length-map levels new_txn in
-          let past = none-past levels i e in
-          ap (λ (o : Option Txn). (unwrap_or o no_txn).state) (slice_get_past w.txns i (omega (arith, count, past)))
-
-      by : (t : ℕ) (o : Option Level) → level_of levels t ≡ o → is_settled (txn_in w.txns t).state ≡ true → (l : Level) × (level_of levels t ≡ Some l)
-      by t (Some l) e y = (l, e)
-      by zero None e y = absurd (false≢true y)
-      by (suc i) None e y = absurd (false≢true (ap is_settled (sym (unknown i e)) ∙ y))
-
   found : (t : ℕ) → commits s t ≡ true → IsRecordedAt s hist (place t) t
   found t c = rec.committed t c
 
@@ -159,7 +135,7 @@ module _ (buckets clock : ℕ) (rows : List (ℕ × ℕ)) (levels : List Level) 
   serializable-is t c n =
       let f = found t c in
       ap serializable_in f.at
-      ∙ ⊎_elim (λ e. ap serializable_at (f.run.level Serializable e)) (λ e. ap serializable_at (f.run.level Repeatable e)) (named-level (level_of levels t) (declared t c) n)
+      ∙ ⊎_elim (λ e. ap serializable_at (f.run.level Serializable e)) (λ e. ap serializable_at (f.run.level Repeatable e)) (named-level (level_of levels t) (declared buckets clock rows levels events distinct first t c) n)
 
   snapshot-is : (t : ℕ) → commits s t ≡ true → is_snapshot s t ≡ true → is_serializable hist (place t) ≡ false
   snapshot-is t c y = let f = found t c in ap serializable_in f.at ∙ ap serializable_at (f.run.level Snapshot (snapshot-level (level_of levels t) y))
@@ -421,7 +397,7 @@ module _ (buckets clock : ℕ) (rows : List (ℕ × ℕ)) (levels : List Level) 
       subst (λ b. AreRight b ops (PR T.read)) (sym (lenient-is t Serializable c l)) (strict t T.read ops are here))
       (λ l. subst (λ b. AreRight b ops (PR T.read)) (sym (lenient-is t Repeatable c l))
       (subst (λ rs. AreRight true ops rs) (serial-is T.read T.read_time T.entry T.there T.time) (repeatable t T.read_time ops c l a.2 are)))
-      (named-level (level_of levels t) (declared t c) a.1))
+      (named-level (level_of levels t) (declared buckets clock rows levels events distinct first t c) a.1))
       T.how
 
   right-over : (lenient : Bool) (ops : List Operation) (some others : List (ℕ × ℕ)) → ((key : ℕ) → value_of some key ≡ value_of others key) → AreRight lenient ops some → AreRight lenient ops others
@@ -461,7 +437,7 @@ module _ (buckets clock : ℕ) (rows : List (ℕ × ℕ)) (levels : List Level) 
 
   -- the entries of two points whose times are drawn one after another
   commit-within : (t : ℕ) (T : Turn t) → T.commit_turn < length (points_at place s (event.Precommit t) (reply.Precommitted T.end_time))
-  commit-within t T = within-length (points_at place s (event.Precommit t) (reply.Precommitted T.end_time)) T.commit_turn (Commit (place t)) T.commits_there
+  commit-within t T = slice_get_within (points_at place s (event.Precommit t) (reply.Precommitted T.end_time)) T.commit_turn (Commit (place t)) T.commits_there
 
   no-writer-between : (t u i j m key : ℕ) (c : commits s t ≡ true) (d : commits s u ≡ true) (T : Turn t) (U : Turn u) → i ≡ off T.end + T.commit_turn → j ≡ off T.read → m ≡ off U.end + U.commit_turn → j < m → m < i →
       writes hist (place t) key ≡ true → writes hist (place u) key ≡ true → ⊥
@@ -554,7 +530,7 @@ module _ (buckets clock : ℕ) (rows : List (ℕ × ℕ)) (levels : List Level) 
             (λ x. cond-true (is_serializable hist (place R.txn)) (end_of hist (place R.txn)) (begin_of hist (place R.txn)) (serializable-is R.txn R.committed x.1) ∙ ends-as R.txn R.committed ∙ x.2) T.how);
         turn_in = 0;
         at = (let at = R.at in omega (arith, at));
-        inside = within-length (points_at place s T.entry.0 T.entry.1) 0 (Begin (place R.txn)) T.reads;
+        inside = slice_get_within (points_at place s T.entry.0 T.entry.1) 0 (Begin (place R.txn)) T.reads;
       }
   timed (Commit p) i a =
       let R = ender i p a in

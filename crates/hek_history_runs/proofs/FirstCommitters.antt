@@ -1,5 +1,7 @@
 -- In any run first committers win.
-use Rattle.std.proofs.Common.{◌≡◌, ℕ, zero, suc, Bool, true, List, [], ◌∷◌, Some, refl, ◌∙◌, ap, sym, ⊎_elim, arith}
+use Rattle.std.proofs.Common.{◌≡◌, ℕ, zero, suc, ◌≤◌, Bool, true, List, [], ◌∷◌, length, Option, Some, None, refl, ◌∙◌, ap, sym, ⊎_elim, arith}
+use Rattle.std.proofs.lemmas.Option.{slice_get_past}
+use Rattle.std.proofs.lemmas.List.{length-map}
 use Rattle.std.proofs.lemmas.Bool.{false≢true, or_cases, or_right}
 use Rattle.std.specs.Prelude.{◌==◌, ◌||◌, slice_get, unwrap_or, map}
 use Rattle.std.specs.List.{list_any}
@@ -9,7 +11,7 @@ use Rattle.hek_rules.specs.declared.event.State.{State}
 use Rattle.hek_rules.specs.declared.event.State.TheVariants as state
 use Rattle.hek_rules.specs.declared.event.Event.{Event}
 use Rattle.hek_rules.specs.declared.serial.Write.{Write}
-use Rattle.hek_rules.specs.World.{World, new_txn, no_txn, txn_in, opening, is_preparing}
+use Rattle.hek_rules.specs.World.{World, Txn, new_txn, no_txn, txn_in, opening, is_preparing}
 use Rattle.hek_rules.specs.Serial.{begin_of, end_of, writes_of}
 use Rattle.hek_rules.specs.Faults.{level_of, put_all}
 use Rattle.hek_rules.specs.Run.{run, transcript}
@@ -67,6 +69,11 @@ level-at levels (suc i) level h = at levels i h
 one_time : (m n : ℕ) → Some m ≡ Some n → m ≡ n
 one_time m n e = cc
 
+none-past : {X : Type 0} (xs : List X) (i : ℕ) → slice_get xs i ≡ None → length xs ≤ i
+none-past [] i e = omega arith
+none-past (x ∷ xs) zero e = cc
+none-past (x ∷ xs) (suc i) e = let l = none-past xs i e in omega (arith, l)
+
 module _ (buckets clock : ℕ) (rows : List (ℕ × ℕ)) (levels : List Level) (events : List Event) (distinct : HasDistinctKeys rows) (first : IsFirstClock clock) where
   abbrev start : World
   start = opening buckets rows levels clock
@@ -104,6 +111,21 @@ module _ (buckets clock : ℕ) (rows : List (ℕ × ℕ)) (levels : List Level) 
 
   pub level-is : (t : ℕ) (level : Level) → level_of levels t ≡ Some level → (txn_in last_world.txns t).level ≡ level
   level-is t level l = (fixed-run start events).level t ∙ level-at levels t level l
+
+  -- a committed transaction is declared
+  pub declared : (t : ℕ) → has_committed h t ≡ true → (l : Level) × (level_of levels t ≡ Some l)
+  declared t c = by t (level_of levels t) refl ((whole.told t).settled c)
+    where
+      unknown : (i : ℕ) → slice_get levels i ≡ None → (txn_in last_world.txns (suc i)).state ≡ state.NotBegun
+      unknown i e =
+          let count : length last_world.txns ≡ length levels = (fixed-run start events).count ∙ length-map levels new_txn in
+          let past = none-past levels i e in
+          ap (λ (o : Option Txn). (unwrap_or o no_txn).state) (slice_get_past last_world.txns i (omega (arith, count, past)))
+
+      by : (t : ℕ) (o : Option Level) → level_of levels t ≡ o → is_settled (txn_in last_world.txns t).state ≡ true → (l : Level) × (level_of levels t ≡ Some l)
+      by t (Some l) e y = (l, e)
+      by zero None e y = absurd (false≢true y)
+      by (suc i) None e y = absurd (false≢true (ap is_settled (sym (unknown i e)) ∙ y))
 
 pub first_committers_win : FirstCommittersWin
 first_committers_win buckets clock rows levels events distinct first t x key begin end other l ct cx wt wx b e o less more =

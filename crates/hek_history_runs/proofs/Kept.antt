@@ -57,7 +57,7 @@ pub record Known (w : World) (h : History) (new : World) (e : Event) (r : Reply)
 active-not-preparing : (x : State) → x ≡ state.Active → is_preparing x ≡ true → ⊥
 active-not-preparing x a p = false≢true (sym (ap is_preparing a) ∙ p)
 
-settled-not-preparing : (x : State) → is_settled x ≡ true → is_preparing x ≡ true → ⊥
+pub settled-not-preparing : (x : State) → is_settled x ≡ true → is_preparing x ≡ true → ⊥
 settled-not-preparing state.Preparing s p = false≢true s
 settled-not-preparing state.Committed s p = false≢true p
 settled-not-preparing state.Terminated s p = false≢true p

@@ -1,6 +1,7 @@
 -- Answers whose absences are not judged: they are right if what they found is there.
 use Rattle.std.proofs.Common.{◌≡◌, ◌==◌, ℕ, zero, suc, ◌<◌, Bool, true, false, List, [], ◌∷◌, Option, Some, None, refl, sym, ap, ◌∙◌, ⊎_elim, subst, take, arith}
 use Rattle.std.proofs.lemmas.Bool.{cases_Bool, cond-true, cond-false, cond_both, eq-eqb, eqb-true, ne_eqb, false≢true}
+use Rattle.std.proofs.lemmas.List.{take-map}
 use Rattle.std.specs.Prelude.{◌||◌, ◌%◌, not, is_some, map, filter, slice_get, if◌then◌else◌}
 use Rattle.hek_rules.specs.declared.event.Event.{Event}
 use Rattle.hek_rules.specs.declared.event.Event.TheVariants as event
@@ -224,11 +225,6 @@ kept-at test (p ∷ ps) (suc m) q e =
     })
     (cases_Bool (test p))
 
-map-take : {X Y : Type 0} (f : X → Y) (n : ℕ) (xs : List X) → map f (take n xs) ≡ take n (map f xs)
-map-take f zero xs = refl
-map-take f (suc n) [] = refl
-map-take f (suc n) (x ∷ xs) = ap (λ ys. f x ∷ ys) (map-take f n xs)
-
 map-get : {X Y : Type 0} (f : X → Y) (xs : List X) (n : ℕ) (x : X) → slice_get xs n ≡ Some x → slice_get (map f xs) n ≡ Some (f x)
 map-get f [] n x e = cc
 map-get f (y ∷ ys) zero x e = let same : y ≡ x = cc in ap (λ z. Some (f z)) same
@@ -246,7 +242,7 @@ found_answered buckets t h ops rows some are found n op there =
     let q = some-get (answered t h) n (entry_of buckets t op) (ap (λ xs. slice_get xs n) (sym are) ∙ map-get (entry_of buckets t) ops n op there) in
     let kept = kept-at (is_answered t) h n q.0 q.1 in
     let prefix : AreAnswered buckets t (take kept.place h) (take n ops) =
-    map-take (entry_of buckets t) n ops ∙ ap (take n) are ∙ sym (map-take Some n (answered t h)) ∙ ap (map Some) (sym kept.before) in
+    sym (take-map (entry_of buckets t) n ops) ∙ ap (take n) are ∙ take-map Some n (answered t h) ∙ ap (map Some) (sym kept.before) in
     let mine : is_of t q.0.0 ≡ true = first_true (is_of t q.0.0) (is_operation q.0.0) (is_answer q.0.1) kept.passes in
     subst (λ rs. IsRight true op (value_of rs)) (writes_answered buckets t (take kept.place h) (take n ops) rows prefix)
     (found_as buckets t op (laid (writes_of t (take kept.place h)) rows) q.0 some q.2 (found kept.place q.0 kept.there mine))

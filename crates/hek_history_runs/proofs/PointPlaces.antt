@@ -29,16 +29,6 @@ either-part [] ys i x e = let same : i ≡ 0 + i = omega arith in inr (i, same, 
 either-part (y ∷ xs) ys zero x e = inl e
 either-part (y ∷ xs) ys (suc i) x e = ⊎_elim (λ l. inl l) (λ r. let at = r.1 in let same : suc i ≡ suc (length xs) + r.0 = omega (arith, at) in inr (r.0, same, r.2)) (either-part xs ys i x e)
 
-bounded : {X : Type 0} (xs : List X) (m : ℕ) (x : X) → slice_get xs m ≡ Some x → m < length xs
-bounded [] m x e = cc
-bounded (y ∷ xs) zero x e = omega arith
-bounded (y ∷ xs) (suc m) x e = let l = bounded xs m x e in omega (arith, l)
-
-take-first : {X : Type 0} (xs ys : List X) → take (length xs) (xs ++ ys) ≡ xs
-take-first [] [] = refl
-take-first [] (y ∷ ys) = refl
-take-first (x ∷ xs) ys = ap (λ zs. x ∷ zs) (take-first xs ys)
-
 module _ (place : ℕ → ℕ) (s : Recorded) where
   -- how many points the first n entries have
   abbrev pub offset : List (Event × Reply) → ℕ → ℕ

@@ -41,7 +41,7 @@ use Rattle.hek_laws.proofs.Futures.Bystanders.{active-out}
 use Rattle.hek_laws.proofs.Futures.WalkReplies.{found-some}
 use Rattle.hek_laws.proofs.Futures.AsOfBegin.{rows_until, same-rows, back-member}
 use Rattle.hek_laws.proofs.Runs.Whole.{Whole, kept, whole-next}
-use Rattle.hek_history_runs.proofs.Kept.{Known, known-next}
+use Rattle.hek_history_runs.proofs.Kept.{Known, settled-not-preparing, known-next}
 
 -- a reply `done` to an update or a delete found the key
 abbrev pub IsThere : List (ℕ × ℕ) → Event → Reply → Type 0
@@ -106,14 +106,6 @@ unanswered-there rows e r y = tt
 all-below : (time : ℕ) (xs : List (ℕ × ℕ)) → AllBelow time xs → filter (λ (x : ℕ × ℕ). nat_lt x.0 time) xs ≡ xs
 all-below time [] b = refl
 all-below time (x ∷ xs) b = cond-true (nat_lt x.0 time) (x ∷ filter (λ (y : ℕ × ℕ). nat_lt y.0 time) xs) (filter (λ (y : ℕ × ℕ). nat_lt y.0 time) xs) (lt-ltb x.0 time b.0) ∙ ap (λ ys. x ∷ ys) (all-below time xs b.1)
-
-settled-not-preparing : (x : State) → is_settled x ≡ true → is_preparing x ≡ true → ⊥
-settled-not-preparing state.Preparing s p = false≢true s
-settled-not-preparing state.Committed s p = false≢true p
-settled-not-preparing state.Terminated s p = false≢true p
-settled-not-preparing state.NotBegun s p = false≢true p
-settled-not-preparing state.Active s p = false≢true p
-settled-not-preparing (state.Aborted cause) s p = false≢true p
 
 -- what a transaction's replies `done` found is there, in a future: at its end, or now while it may still commit
 pub record Present (rows : List (ℕ × ℕ)) (w : World) (h : History) (A : ℕ → Bool) (t : ℕ) : Type 0 where

@@ -1,5 +1,6 @@
 -- The laws of runs with transactions at their own levels, each in a sentence.
-use Rattle.std.specs.Prelude.{ℕ, ◌≡◌, ◌<◌, true, List, Some}
+use Rattle.std.specs.Prelude.{ℕ, ◌≡◌, ◌<◌, ◌+◌, ◌^◌, true, List, length, Some}
+use Rattle.std.specs.Global.{Global}
 use Rattle.hek_rules.specs.declared.event.Level.{Level}
 use Rattle.hek_rules.specs.declared.event.Level.TheVariants.{Snapshot}
 use Rattle.hek_rules.specs.declared.event.Event.{Event}
@@ -12,6 +13,7 @@ use Rattle.hek_laws.specs.Runs.{HasDistinctKeys, IsFirstClock, recorded_run}
 use Rattle.hek_history.specs.declared.history.History.{History}
 use Rattle.hek_history.specs.declared.history.Order.TheVariants.{Any, Versions, Times}
 use Rattle.hek_history.specs.Explanation.{IsExplanationIn}
+use Rattle.hek_history_laws.specs.Recording.{IsShort}
 use Rattle.hek_history_runs.specs.Written.{has_written}
 use Rattle.hek_history_runs.specs.Recording.{Records}
 use Rattle.hek_history_runs.specs.Points.{points_of}
@@ -50,3 +52,16 @@ RunsExplainThemselves =
     Records h place s →
     let points = points_of place s in
     IsExplanationIn h Any points × IsExplanationIn h Versions points × IsExplanationIn h Times points
+
+-- Each run is recorded by some history, if its lists are no longer than a program's can be. The lists of a history have an
+-- allocator.
+abbrev pub RunsAreRecorded : Type 0
+RunsAreRecorded =
+    Global →
+    (buckets clock : ℕ) (rows : List (ℕ × ℕ)) (levels : List Level) (events : List Event) →
+    HasDistinctKeys rows →
+    IsFirstClock clock →
+    let s = recorded_run buckets rows levels clock events in
+    IsShort s →
+    length levels + 1 < 2 ^ 63 →
+    (h : History) × (place : ℕ → ℕ) × Records h place s

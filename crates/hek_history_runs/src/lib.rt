@@ -4,4 +4,4 @@
 
 mod laws;
 
-pub use laws::{first_committers_win, runs_explain_themselves};
+pub use laws::{first_committers_win, runs_are_recorded, runs_explain_themselves};
