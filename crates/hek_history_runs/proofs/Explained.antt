@@ -1,19 +1,17 @@
 -- A history that records a run has the points of the run as an explanation.
-use Rattle.std.proofs.Common.{◌≡◌, ℕ, zero, suc, ◌+◌, ◌<◌, ◌≤◌, Bool, true, false, List, [], ◌∷◌, length, Option, Some, None, refl, ◌∙◌, ap, sym, arith, inl, inr, ⊎_elim, subst, take}
+use Rattle.std.proofs.Common.{◌≡◌, ℕ, suc, ◌+◌, ◌<◌, Bool, true, false, List, [], ◌∷◌, length, Option, Some, None, refl, ◌∙◌, ap, sym, arith, inl, inr, ⊎_elim, subst, take}
 use Rattle.std.proofs.lemmas.Bool.{cases_Bool, cases_order, cond-true, cond-false, false≢true, ltb-true, or_right, eq-eqb}
-use Rattle.std.proofs.lemmas.Option.{slice_get_past, slice_get_within}
-use Rattle.std.proofs.lemmas.List.{length-map}
-use Rattle.std.specs.Prelude.{◌==◌, ◌⊎◌, nat_lt, filter, slice_get, unwrap_or, if◌then◌else◌}
+use Rattle.std.proofs.lemmas.Option.{slice_get_within}
+use Rattle.std.specs.Prelude.{◌==◌, ◌⊎◌, nat_lt, filter, slice_get, if◌then◌else◌}
 use Rattle.hek_rules.specs.declared.event.Level.{Level}
 use Rattle.hek_rules.specs.declared.event.Level.TheVariants.{Serializable, Snapshot, Repeatable}
-use Rattle.hek_rules.specs.declared.event.State.TheVariants as state
 use Rattle.hek_rules.specs.declared.event.Event.{Event}
 use Rattle.hek_rules.specs.declared.event.Event.TheVariants as event
 use Rattle.hek_rules.specs.declared.reply.Reply.{Reply}
 use Rattle.hek_rules.specs.declared.reply.Reply.TheVariants as reply
 use Rattle.hek_rules.specs.Listing.{value_of}
 use Rattle.hek_rules.specs.Recorded.{Recorded}
-use Rattle.hek_rules.specs.World.{World, Txn, new_txn, no_txn, txn_in, opening}
+use Rattle.hek_rules.specs.World.{World, txn_in, opening}
 use Rattle.hek_rules.specs.Run.{run, transcript}
 use Rattle.hek_rules.specs.Serial.{writes_of, begin_of as begin_drawn, end_of as end_drawn, serial_rows, judged_at, laid_over as laid_in, AreRight as AreRightIn}
 use Rattle.hek_rules.specs.Faults.{level_of, put_all}
@@ -21,7 +19,7 @@ use Rattle.hek_laws.specs.Rows.{AreRising}
 use Rattle.hek_laws.specs.Runs.{HasDistinctKeys, IsFirstClock, recorded_run}
 use Rattle.hek_laws.proofs.Lists.Overlay.{wrote, lay_all-other}
 use Rattle.hek_laws.proofs.Worlds.Fixed.{fixed-run}
-use Rattle.hek_laws.proofs.Futures.Survivors.{has_committed, is_settled}
+use Rattle.hek_laws.proofs.Futures.Survivors.{has_committed}
 use Rattle.hek_laws.proofs.Futures.Invariant.{order_in}
 use Rattle.hek_laws.proofs.Futures.AsOfBegin.{rows_until}
 use Rattle.hek_laws.proofs.Futures.Precommits.{rising-laid_over}

@@ -4,7 +4,6 @@ use Rattle.std.proofs.lemmas.Bool.{cases_Bool, cond-true, cond-false, false≢tr
 use Rattle.std.specs.Prelude.{◌==◌, ◌&&◌, nat_lt, filter, is_some, slice_get}
 use Rattle.std.specs.Option.{option_or}
 use Rattle.hek_rules.specs.declared.event.Level.TheVariants.{Repeatable}
-use Rattle.hek_rules.specs.declared.event.State.{State}
 use Rattle.hek_rules.specs.declared.event.State.TheVariants as state
 use Rattle.hek_rules.specs.declared.event.Event.{Event}
 use Rattle.hek_rules.specs.declared.event.Event.TheVariants as event

@@ -1,9 +1,9 @@
 -- Some history records each run: one with a transaction for each ID, those that did not commit without operations.
-use Rattle.std.proofs.Common.{◌≡◌, ◌==◌, ℕ, zero, suc, ◌+◌, ◌<◌, ◌≤◌, ◌^◌, Bool, true, false, Vec, Global, List, [], ◌∷◌, length, Option, Some, None, refl, sym, ap, ◌∙◌, inl, inr, ⊎_elim, subst, take, arith}
+use Rattle.std.proofs.Common.{◌≡◌, ◌==◌, ℕ, zero, suc, ◌+◌, ◌<◌, ◌≤◌, ◌^◌, Bool, true, false, Vec, Global, List, [], ◌∷◌, length, Option, Some, None, refl, sym, ap, ◌∙◌, ⊎_elim, subst, take, arith}
 use Rattle.std.proofs.lemmas.Bool.{cases_Bool, cond-true, cond-false, eqb-true, eq-eqb, false≢true}
 use Rattle.std.proofs.lemmas.Option.{slice_get_within}
 use denote.RawPtr.{null_ptr}
-use Rattle.std.specs.Prelude.{◌&&◌, is_some, slice_get, map, unwrap_or, if◌then◌else◌}
+use Rattle.std.specs.Prelude.{◌&&◌, slice_get, map, unwrap_or, if◌then◌else◌}
 use Rattle.hek_rules.specs.declared.event.Level.{Level}
 use Rattle.hek_rules.specs.declared.event.Level.TheVariants as engine
 use Rattle.hek_rules.specs.declared.event.Event.{Event}
@@ -24,10 +24,10 @@ use Rattle.hek_history.specs.declared.history.Operation.{Operation}
 use Rattle.hek_history.specs.declared.history.Operation.TheVariants.{Read, Insert, Update, Delete, Scan}
 use Rattle.hek_history.specs.declared.history.Scope.TheVariants.{Bucket}
 use Rattle.hek_history.specs.declared.history.Status.TheVariants.{Committed, Aborted}
-use Rattle.hek_history.specs.Histories.{transaction, committed_in as known_in, committed_by, is_committed}
+use Rattle.hek_history.specs.Histories.{committed_in as known_in, committed_by, is_committed}
 use Rattle.hek_history_laws.specs.Recording.{entry_of, is_operation, is_answer, answered, HasCommitted, IsShort}
 use Rattle.hek_history_laws.proofs.Answered.{AreAnswered, is_answered, first_true}
-use Rattle.hek_history_runs.specs.Recording.{same_level, IsRunOf, IsRecordedAt, Records}
+use Rattle.hek_history_runs.specs.Recording.{same_level, IsRecordedAt, Records}
 use Rattle.hek_history_runs.specs.Laws.{RunsAreRecorded}
 use Rattle.hek_history_runs.specs.Points.{commits}
 use Rattle.hek_history_runs.proofs.FirstCommitters.{declared}
