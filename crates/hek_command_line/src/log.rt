@@ -4,7 +4,7 @@ use crate::options::{printing_of, step_of};
 use crate::refused::{OUTPUT, refuse_same};
 use clap::ArgMatches;
 use hek_history::{Level, Order};
-use hek_history_command::{Choice, EFFORT, Extent, history_command};
+use hek_history_command::{Choice, Extent, history_command};
 use hek_levels_command::{Asked, Binding, LevelsChoice, Promise, levels_command};
 use hek_report::{HekFault, send};
 use std::alloc::Global;
@@ -154,10 +154,10 @@ fn level_of<'a>(found: &ArgMatches<'a>) -> Result<Option<Level>, HekFault<'a>> {
 }
 
 /// How many repairs of an order the words allow with `--effort`.
-fn effort_of<'a>(found: &ArgMatches<'a>) -> Result<usize, HekFault<'a>> {
+fn effort_of<'a>(found: &ArgMatches<'a>) -> Result<Option<usize>, HekFault<'a>> {
     match step_of(found, "effort")? {
-        Some(effort) => Ok(effort as usize),
-        None => Ok(EFFORT),
+        Some(effort) => Ok(Some(effort as usize)),
+        None => Ok(None),
     }
 }
 

@@ -183,7 +183,7 @@ The status is 0 if there is an order, or all that is asked for holds, 1 if not, 
         },
         ArgumentText {
             name: "effort",
-            help: "tries up to N repairs of an order before it gives up; without it 100000",
+            help: "tries up to N repairs of an order before it gives up; without it 100000, and one for each transaction",
             form: Form::Value("N"),
         },
         ArgumentText {

@@ -3,7 +3,7 @@ ghost use Rattle.std.specs.Prelude.{◌≡◌, IfOk};
 ghost use Rattle.hek_history_search.specs.Verdicts.{IsVerdict};
 ghost use Rattle.hek_history_command.specs.Answers.{IsStatus};
 
-use crate::choice::{Choice, Extent, is_judged, order_of, set_level, weaker_level};
+use crate::choice::{Choice, Extent, effort_for, is_judged, order_of, set_level, weaker_level};
 use crate::counted::Tally;
 use crate::counts::counts_of;
 use crate::explained::Explained;
@@ -90,7 +90,7 @@ fn judge_log<'a, W: Write, O: Write>(
         order: order_of(choice, &log.history),
         weaker: weaker_level(choice),
         extent: choice.extent,
-        effort: choice.effort,
+        effort: effort_for(choice.effort, &log.history),
         printing: choice.printing,
     };
     if !is_judged(&log.history) {
