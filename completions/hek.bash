@@ -17,7 +17,7 @@ _hek() {
     fi
     case "$command $before" in
     "help help") words="run debug page figure permute check history drive threads word release asm dis import completions man" ;;
-    "import import") words="spec" ;;
+    "import import") words="spec elle" ;;
     "completions completions") words="bash zsh fish words" ;;
     "run --explain=") words="always never" ;;
     "run --color=") words="always never auto" ;;

@@ -713,15 +713,15 @@ buckets 1
 .fi
 .RE
 .SS import
-Makes schedules of a spec of PostgreSQL's isolation tests.
+Makes schedules of a spec of PostgreSQL's isolation tests, or a log of a history of Jepsen.
 .PP
 \fBhek import [OPTIONS] <FORM> <FILE>\fR
 .TP
 \fIFORM\fR
-what FILE is [possible values: spec]
+what FILE is [possible values: spec, elle]
 .TP
 \fIFILE\fR
-a spec, or \- for standard input
+a spec or a history, or \- for standard input
 .TP
 \fB\-\-explain\fR[=\fIHOW\fR]
 says of each fault what is wrong, what is wanted and what is meant, as at a terminal; =never only names it (always, never)
@@ -733,9 +733,11 @@ makes the schedule of the Nth permutation, from 1
 takes all transactions as serializable, repeatable or snapshot
 .TP
 \fB\-o\fR, \fB\-\-output\fR \fIOUT\fR
-writes the schedule to a file; where OUT ends with /, a file for each permutation to this folder
+writes the schedule or the log to a file; where OUT ends with /, a file for each permutation to this folder
 .PP
-Rows of a table with a primary key become rows; select, insert, update and delete become steps: reads where a condition names the key, otherwise scans. Serializable stays so, repeatable read becomes snapshot, and read committed isn't there: \-\-level says which level to take. What can't be translated is left out and named, in comments too, with status 1; with status 4 if nothing is left. Without \-\-permutation the sessions follow one another: \(gahek permute\(ga plays all their orders.
+\(gahek import elle FILE\(ga makes a log for \(gahek history\(ga of a history of Jepsen or Elle, in EDN or JSON: reads and writes of registers, or appends to lists.
+.PP
+Of a spec: rows of a table with a primary key become rows; select, insert, update and delete become steps: reads where a condition names the key, otherwise scans. Serializable stays so, repeatable read becomes snapshot, and read committed isn't there: \-\-level says which level to take. What can't be translated is left out and named, in comments too, with status 1; with status 4 if nothing is left. Without \-\-permutation the sessions follow one another: \(gahek permute\(ga plays all their orders.
 .PP
 Example:
 .RS 4
