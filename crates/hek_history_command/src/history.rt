@@ -142,7 +142,10 @@ fn write_verdict<'a, W: Write, O: Write>(
         Verdict::NotSerial(steps, cause) => {
             write_causes(alloc, log, steps.as_slice(), cause, question, out)?;
         }
-        Verdict::Unknown(progress) => write_unknown(alloc, progress, question, out)?,
+        Verdict::Unknown(progress) => {
+            let gave_up = progress.violations > 0 || log.twins().is_empty();
+            write_unknown(alloc, progress, gave_up, question, out)?;
+        }
     }
     Ok(status)
 }
@@ -250,12 +253,18 @@ fn write_serial<'a, W: Write, O: Write>(
 fn write_unknown<'a, W: Write>(
     alloc: Global,
     progress: Progress,
+    gave_up: bool,
     question: Question,
     out: &mut W,
 ) -> Result<(), HekFault<'a>> {
     let mut lines = Vec::new(alloc);
     match question.printing {
-        Printing::Text => verdict_text::put_unknown(progress, question.effort, &mut lines)?,
+        Printing::Text => {
+            verdict_text::put_unknown(progress, &mut lines)?;
+            if gave_up {
+                verdict_text::put_effort(question.effort, &mut lines)?;
+            }
+        }
         Printing::Json => {
             let mut objects = Lines::after(alloc, &mut lines);
             verdict_json::put_unknown(question.order, progress, &mut objects);

@@ -107,20 +107,17 @@ fn rest_words(weaker: Option<Level>, is_serial: bool) -> &'static str {
     }
 }
 
-/// The lines of a history of which nothing is known: how far the search came, and where it gave up how it goes on.
-pub(crate) fn put_unknown(
-    progress: Progress,
-    effort: usize,
-    lines: &mut Vec<u8>,
-) -> Result<(), NoMemory> {
+/// The line of a history of which nothing is known.
+pub(crate) fn put_unknown(progress: Progress, lines: &mut Vec<u8>) -> Result<(), NoMemory> {
     let conflicts = number_of(progress.conflicts as u64, "conflict");
     put(writeln!(
         lines,
         "unknown: after {conflicts} the search has no order, and no proof that there is none"
-    ))?;
-    if progress.violations == 0 {
-        return Ok(());
-    }
+    ))
+}
+
+/// The line that says at how many repairs a search gave up, and how it goes on.
+pub(crate) fn put_effort(effort: usize, lines: &mut Vec<u8>) -> Result<(), NoMemory> {
     let repairs = number_of(effort as u64, "repair");
     let more = effort.saturating_mul(10);
     put(writeln!(
