@@ -282,9 +282,7 @@ impl<'a> Advice<'a> {
                 write!(f, "`{value}` is too small for `--{option}`{}", count.below)
             }
             Wrong::TooLarge(_) => write!(f, "`{value}` is too large for `--{option}`"),
-            Wrong::NoLevel(_) | Wrong::NoPromise(_) => {
-                write!(f, "no level is called `{value}`")
-            }
+            Wrong::NoLevel(_) | Wrong::NoPromise(_) => { write!(f, "no level is called `{value}`") }
             Wrong::NoPart => write!(f, "`{value}` is not a part"),
             Wrong::NoPortion(_) => write!(f, "no part is called `{value}`"),
             Wrong::NoOrder => write!(f, "`{value}` is not an order of the moves"),

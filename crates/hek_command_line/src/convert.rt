@@ -1,7 +1,7 @@
 //! The words of `word`, `release`, `asm` and `dis`, and the files that they read and write.
 use crate::disk::{Disk, LateFile, open};
 use crate::options::{number_of, printing_of, text, texts};
-use crate::program::plain_text;
+use crate::programs::plain_text;
 use crate::refused::{OUTPUT, refuse_bytes, refuse_same};
 use crate::schedule::{plain_schedule, schedule_text};
 use clap::ArgMatches;

@@ -5,7 +5,7 @@ use crate::kept::Kept;
 use crate::notes::note;
 use crate::opening::without_mark;
 use crate::output::NotedOutput;
-use crate::program::{explain_computed, explain_line, explain_place};
+use crate::programs::{explain_computed, explain_line, explain_place};
 use crate::reasons::{why_not_read, why_not_written};
 use crate::sought::advise_sought;
 use crate::words::advise_words;

@@ -24,7 +24,7 @@ mod page_data;
 mod page_texts;
 mod pages;
 mod permute;
-mod program;
+mod programs;
 mod reasons;
 mod refused;
 mod run_texts;

@@ -2,7 +2,7 @@
 use crate::disk::{Disk, LateFile};
 use crate::options::{form_of, level_of, number_of, portion_of, step_of, text};
 use crate::page_data::write_data;
-use crate::program::{is_program, plain_file};
+use crate::programs::{is_program, plain_file};
 use crate::refused::{OUTPUT, refuse_page, refuse_picture, refuse_same};
 use crate::schedule::schedule_file;
 use clap::ArgMatches;

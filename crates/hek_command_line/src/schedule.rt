@@ -5,7 +5,7 @@ ghost use Rattle.hek_report.specs.Files.{ReadFails};
 use crate::disk::{Disk, InputFile, open};
 use crate::opening::{BYTE_ORDER_MARK, Opening, read_opening};
 use crate::options::level_of;
-use crate::program::plain_file;
+use crate::programs::plain_file;
 use clap::ArgMatches;
 use hek_permute_command::{auto_file, level_file};
 use hek_report::{HekFault, ScheduleFile, buffered, read_fault, read_text};
