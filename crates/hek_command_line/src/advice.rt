@@ -208,15 +208,15 @@ fn kind_advice(alloc: Global, value: &str) -> Option<Advice<'_>> {
     let wrong = match value {
         "any" | "real" => return None,
         "versions" | "commit" => Wrong::NoBinding,
-        _ => Wrong::NoKind(nearest_word(alloc, value, KINDS)),
+        _ => Wrong::NoKind(nearest_of(alloc, value, KINDS)),
     };
     Some(Advice::new("order", value, wrong))
 }
 
-/// The part of a figure that a word may mean.
-fn nearest_portion(alloc: Global, value: &str) -> Option<&'static str> {
+/// The word of these that another may mean.
+fn nearest_of(alloc: Global, value: &str, known: &'static [&'static str]) -> Option<&'static str> {
     let mut words: Vec<&'static str> = Vec::new(alloc);
-    for word in PORTIONS {
+    for word in known {
         words.push(*word).ok()?;
     }
     nearest_word(alloc, value, words.as_slice())
@@ -227,7 +227,7 @@ fn portion_advice(alloc: Global, value: &str) -> Option<Advice<'_>> {
     if Portion::named(value).is_some() {
         return None;
     }
-    let wrong = Wrong::NoPortion(nearest_portion(alloc, value));
+    let wrong = Wrong::NoPortion(nearest_of(alloc, value, PORTIONS));
     Some(Advice::new("part", value, wrong))
 }
 

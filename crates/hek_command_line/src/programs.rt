@@ -57,11 +57,11 @@ fn takes_programs(command: &str, found: &ArgMatches<'_>) -> bool {
 }
 
 /// Explains the fault of a line of a schedule text, or of a line of a program that computes nothing.
-pub fn explain_line<E: Write>(
+pub fn explain_line<'t, E: Write>(
     alloc: Global,
     matches: &ArgMatches<'_>,
-    name: &str,
-    bytes: &[u8],
+    name: &'t str,
+    bytes: &'t [u8],
     line: u64,
     kind: AsmKind,
     faults: &mut E,
