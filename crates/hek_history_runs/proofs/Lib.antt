@@ -1,0 +1,16 @@
+pub mod Past
+pub mod Winners
+pub mod FreshWrites
+pub mod Kept
+pub mod FirstCommitters
+pub mod SnapshotReplies
+pub mod Ticks
+pub mod PointPlaces
+pub mod RowsAgree
+pub mod Explained
+pub mod LenientAnswers
+pub mod Presence
+pub mod Softened
+pub mod Repeatable
+pub mod AllRuns
+pub mod Recordable

@@ -1,0 +1,4 @@
+pub mod Written
+pub mod Recording
+pub mod Points
+pub mod Laws
