@@ -1,6 +1,6 @@
 //! A log as it was read, and as levels see it.
 use crate::choice::Binding;
-use hek_history::{Order, Transaction, Writer};
+use hek_history::{Order, Status, Transaction, Writer};
 use hek_history_levels::log_of;
 use hek_history_log::{Label, Log};
 use hek_levels::Turn;
@@ -44,6 +44,19 @@ impl Scene {
     /// Whether real time binds.
     pub(crate) fn is_timed(&self) -> bool {
         self.binding == Binding::RealTime
+    }
+
+    /// Whether the log has the end of each transaction that has committed, and they don't bind.
+    pub(crate) fn leaves_ends(&self) -> bool {
+        if self.is_timed() {
+            return false;
+        }
+        for transaction in self.log.history.transactions.iter() {
+            if transaction.status == Status::Committed && transaction.end.is_none() {
+                return false;
+            }
+        }
+        true
     }
 
     /// The serial orders that are asked for.
