@@ -41,7 +41,7 @@ const total = (counts) => counts.reduce((sum, it) => sum + it, 0);
 const isWhole = () => tree.nodes[tree.path.at(-1)].next.length === 0;
 
 /** The parts of an outcome: its ends and rows, and the verdict, to which the line of an invariant belongs that it breaks. */
-function partsOf(text) {
+function outcomeParts(text) {
   const parts = text.split("; ");
   const breaks = /^breaks /.test(parts.at(-1)) ? `; ${parts.pop()}` : "";
   const verdict = parts.pop() + breaks;
@@ -50,7 +50,7 @@ function partsOf(text) {
 
 /** An outcome in few words: of more than two transactions those that don't commit. */
 function outcomeOf(text) {
-  const { parts, verdict } = partsOf(text);
+  const { parts, verdict } = outcomeParts(text);
   const txns = parts.filter((it) => /(committed|aborted|unended)/.test(it) && !/^rows/.test(it)).map((it) => it.split(" "));
   const rows = parts.find((it) => it.startsWith("rows")) ?? "";
   const telling = txns.length > 2 ? txns.filter(([, state]) => state !== "committed") : txns;
@@ -109,7 +109,7 @@ function showTree() {
     const idle = it.steps.length === 0 ? ' <span class="soft">(has aborted)</span>' : "";
     return `<button type="button" class="choice${isTaken ? " taken" : ""}" data-next="${next}"><kbd>${who + 1}</kbd> <span>${tagName(tree.names[who])} <b>${esc(move)}</b>${idle}</span>${outcomeBar(it.counts)}<span class="count">${isSecret ? "" : countsSaid(it.counts)}</span></button>`;
   }).join("");
-  const found = whole && isAt ? `<p class="whose">This order is complete.</p><p class="final">${outcomeOf(data.outcomes[node.outcome])}</p><p>The checker: <b>${esc(partsOf(data.outcomes[node.outcome]).verdict)}</b>. ${reachSaid(node)}</p>` : "";
+  const found = whole && isAt ? `<p class="whose">This order is complete.</p><p class="final">${outcomeOf(data.outcomes[node.outcome])}</p><p>The checker: <b>${esc(outcomeParts(data.outcomes[node.outcome]).verdict)}</b>. ${reachSaid(node)}</p>` : "";
   const inside = isAt ? "" : `<p class="whose">In the middle of a move</p><p>\u2192 goes on with it.</p>`;
   $("because").innerHTML = `<div class="moves">${found || inside || `<p class="whose">Who moves next?</p><div class="pick" style="--n:${Math.min(node.next.filter((it) => it !== undefined).length, 3)}">${choices}</div>`}</div>`;
   // the outcomes that can still be reached

@@ -8,7 +8,7 @@ const levels = { trees: [], shown: null, order: [] };
 
 function plantLevels() {
   levels.trees = sheet.trees.map(treeOf);
-  const marked = outcomesAtLevels().find(({ text, counts }) => !partsOf(text).isGood && counts.some(Boolean)) ?? outcomesAtLevels()[0];
+  const marked = outcomesAtLevels().find(({ text, counts }) => !outcomeParts(text).isGood && counts.some(Boolean)) ?? outcomesAtLevels()[0];
   const at = marked.counts.findIndex(Boolean);
   levels.order = orderTo(levels.trees[at], sheet.trees[at].outcomes.indexOf(marked.text));
 }
@@ -60,7 +60,7 @@ function isNews() {
 
 /** An outcome in words: how each transaction ends, the rows, and the verdict. */
 function endsSaid(text) {
-  const { parts, verdict, isGood } = partsOf(text);
+  const { parts, verdict, isGood } = outcomeParts(text);
   return `${parts.map(esc).join("; ")}; <b class="${isGood ? "good" : "bad"}">${esc(verdict)}</b>`;
 }
 
