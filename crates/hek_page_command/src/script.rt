@@ -1915,7 +1915,7 @@ const total = (counts) => counts.reduce((sum, it) => sum + it, 0);
 const isWhole = () => tree.nodes[tree.path.at(-1)].next.length === 0;
 
 /** The parts of an outcome: its ends and rows, and the verdict, to which the line of an invariant belongs that it breaks. */
-function partsOf(text) {
+function outcomeParts(text) {
   const parts = text.split("; ");
   const breaks = /^breaks /.test(parts.at(-1)) ? `; ${parts.pop()}` : "";
   const verdict = parts.pop() + breaks;
@@ -1924,7 +1924,7 @@ function partsOf(text) {
 
 /** An outcome in few words: of more than two transactions those that don't commit. */
 function outcomeOf(text) {
-  const { parts, verdict } = partsOf(text);
+  const { parts, verdict } = outcomeParts(text);
   const txns = parts.filter((it) => /(committed|aborted|unended)/.test(it) && !/^rows/.test(it)).map((it) => it.split(" "));
   const rows = parts.find((it) => it.startsWith("rows")) ?? "";
   const telling = txns.length > 2 ? txns.filter(([, state]) => state !== "committed") : txns;
@@ -1983,7 +1983,7 @@ function showTree() {
     const idle = it.steps.length === 0 ? ' <span class="soft">(has aborted)</span>' : "";
     return `<button type="button" class="choice${isTaken ? " taken" : ""}" data-next="${next}"><kbd>${who + 1}</kbd> <span>${tagName(tree.names[who])} <b>${esc(move)}</b>${idle}</span>${outcomeBar(it.counts)}<span class="count">${isSecret ? "" : countsSaid(it.counts)}</span></button>`;
   }).join("");
-  const found = whole && isAt ? `<p class="whose">This order is complete.</p><p class="final">${outcomeOf(data.outcomes[node.outcome])}</p><p>The checker: <b>${esc(partsOf(data.outcomes[node.outcome]).verdict)}</b>. ${reachSaid(node)}</p>` : "";
+  const found = whole && isAt ? `<p class="whose">This order is complete.</p><p class="final">${outcomeOf(data.outcomes[node.outcome])}</p><p>The checker: <b>${esc(outcomeParts(data.outcomes[node.outcome]).verdict)}</b>. ${reachSaid(node)}</p>` : "";
   const inside = isAt ? "" : `<p class="whose">In the middle of a move</p><p>\u2192 goes on with it.</p>`;
   $("because").innerHTML = `<div class="moves">${found || inside || `<p class="whose">Who moves next?</p><div class="pick" style="--n:${Math.min(node.next.filter((it) => it !== undefined).length, 3)}">${choices}</div>`}</div>`;
   // the outcomes that can still be reached
@@ -2042,7 +2042,7 @@ const levels = { trees: [], shown: null, order: [] };
 
 function plantLevels() {
   levels.trees = sheet.trees.map(treeOf);
-  const marked = outcomesAtLevels().find(({ text, counts }) => !partsOf(text).isGood && counts.some(Boolean)) ?? outcomesAtLevels()[0];
+  const marked = outcomesAtLevels().find(({ text, counts }) => !outcomeParts(text).isGood && counts.some(Boolean)) ?? outcomesAtLevels()[0];
   const at = marked.counts.findIndex(Boolean);
   levels.order = orderTo(levels.trees[at], sheet.trees[at].outcomes.indexOf(marked.text));
 }
@@ -2094,7 +2094,7 @@ function isNews() {
 
 /** An outcome in words: how each transaction ends, the rows, and the verdict. */
 function endsSaid(text) {
-  const { parts, verdict, isGood } = partsOf(text);
+  const { parts, verdict, isGood } = outcomeParts(text);
   return `${parts.map(esc).join("; ")}; <b class="${isGood ? "good" : "bad"}">${esc(verdict)}</b>`;
 }
 
@@ -2322,7 +2322,7 @@ function firstOrder(outcome) {
 function outcomesInPrint() {
   const counts = tree.nodes[0].counts;
   const rows = data.outcomes.map((text, at) => {
-    const { parts, verdict } = partsOf(text);
+    const { parts, verdict } = outcomeParts(text);
     return `<tr><td>${letterOf(at)}</td><td>${counts[at]}</td><td>${parts.map(esc).join("; ")}</td><td><b>${esc(verdict)}</b></td><td>${esc(firstOrder(at))}</td></tr>`;
   });
   return `<caption>${esc(data.title)}. ${esc(data.about ?? "")} ${total(counts)} orders of the moves.</caption><thead><tr><th></th><th>orders</th><th>ends and rows</th><th>verdict</th><th>the first of these orders</th></tr></thead><tbody>${rows.join("")}</tbody>`;
