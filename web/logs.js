@@ -17,11 +17,17 @@ async function showHistory() {
   const got = await hek(logWords(level), {[LOG]: log.value});
   if (got.isEnded) return;
   const lines = (got.out || got.err).replace(/^hek: history: /gm, "").trimEnd().split("\n");
-  const [first, ...rest] = got.out && level === "levels" ? [lines.pop(), ...lines] : lines;
+  const [first, ...rest] = got.out && level === "levels" ? sumFirst(lines) : lines;
   answer.replaceChildren(...verdictOf(first, rest.join("\n") + (got.out && got.err ? "\n" + got.err : ""), got.status === 0));
   const place = !got.out && got.err.match(/line (\d+), column (\d+)/);
   if (place) answer.append(placeButton(place[1] - 1, place[2] - 1));
   if (got.status === 0 && !level) await showStrict(answer);
+}
+
+// The lines of all levels, the one that sums them up first: the last that is no note.
+function sumFirst(lines) {
+  const at = lines.findLastIndex((line) => !line.startsWith(" "));
+  return [lines[at], ...lines.slice(0, at), ...lines.slice(at + 1)];
 }
 
 // What a level does not take can't be chosen with it.

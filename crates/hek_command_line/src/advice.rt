@@ -35,6 +35,13 @@ const COUNTS: &[Count] = &[
         below: "",
     },
     Count {
+        option: "effort",
+        what: "how many repairs at most",
+        least: 1,
+        most: u64::MAX,
+        below: "",
+    },
+    Count {
         option: "jobs",
         what: "a number of threads",
         least: 1,

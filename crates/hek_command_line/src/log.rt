@@ -1,6 +1,6 @@
 //! The words of `hek history`, and the files that it reads and writes.
 use crate::disk::{Disk, LateFile, open};
-use crate::options::printing_of;
+use crate::options::{printing_of, step_of};
 use crate::refused::{OUTPUT, refuse_same};
 use clap::ArgMatches;
 use hek_history::{Level, Order};
@@ -26,6 +26,7 @@ pub fn history<'a, D: Disk, I: Read + Drop, W: Write, E: Write>(
         let choice = LevelsChoice {
             asked,
             binding: binding_of(found)?,
+            effort: effort_of(found)?,
             explains,
             printing: printing_of(found),
         };
@@ -135,6 +136,7 @@ fn choice_of<'a>(found: &ArgMatches<'a>, explains: bool) -> Result<Choice, HekFa
         level: level_of(found)?,
         order: order_of(found)?,
         extent: Extent::named(found.get_str("all")),
+        effort: effort_of(found)?,
         explains,
         printing: printing_of(found),
     })
@@ -148,6 +150,14 @@ fn level_of<'a>(found: &ArgMatches<'a>) -> Result<Option<Level>, HekFault<'a>> {
             Some(level) => Ok(Some(level)),
             None => Err(HekFault::BadArgument),
         },
+    }
+}
+
+/// How many repairs of an order the words allow with `--effort`.
+fn effort_of<'a>(found: &ArgMatches<'a>) -> Result<Option<usize>, HekFault<'a>> {
+    match step_of(found, "effort")? {
+        Some(effort) => Ok(Some(effort as usize)),
+        None => Ok(None),
     }
 }
 

@@ -16,7 +16,7 @@ pub fn number_of<'a>(found: &ArgMatches<'a>, name: &str) -> Result<Option<u64>, 
     }
 }
 
-/// The number of a step, from 1, that an option has, if the words have the option.
+/// The number from 1 on that an option has, if the words have the option.
 pub fn step_of<'a>(found: &ArgMatches<'a>, name: &str) -> Result<Option<u64>, HekFault<'a>> {
     match number_of(found, name)? {
         Some(0) => Err(HekFault::BadArgument),

@@ -182,6 +182,11 @@ The status is 0 if there is an order, or all that is asked for holds, 1 if not, 
             form: Form::Value("KIND"),
         },
         ArgumentText {
+            name: "effort",
+            help: "tries up to N repairs of an order before it gives up; without it 100000, and one for each transaction",
+            form: Form::Value("N"),
+        },
+        ArgumentText {
             name: "all",
             help: "goes on after an anomaly, without the answers on which it rests, and counts them by name; =counts prints the counts alone",
             form: Form::Choice("each", Extent::WORDS),

@@ -21,7 +21,7 @@ use Rattle.hek_permute.specs.Outcomes.{IsOutcomeOf}
 use Rattle.hek_permute.specs.Plays.{HasMoved, first_place}
 use Rattle.hek_explore.specs.Counts.{AreLike, Group, HasLike, IsBefore, IsGrown, IsJoined, IsPut, IsReplayed, IsStart, IsTried, joined}
 use Rattle.hek_explore.specs.Deals.{DealsClasses, FitsClass, IsExtended, IsNextLayer, Measure, left_of, weigh}
-use Rattle.hek_explore.specs.Keys.{Shape, shape_of}
+use Rattle.hek_explore.specs.Codes.{code_of}
 use Rattle.hek_explore.specs.Steps.{AreRuled, EndsWith, HasKey, LeadsBy}
 use Rattle.hek_permute.proofs.Begun.{among_append}
 use Rattle.hek_explore.proofs.Counting.{deals-alike, deals-push, deals-set, HasExtended, extended-none, extended-skip, extended-more, IsDealt, IsPassed, passed-none, passed-more, passed-all}
@@ -102,14 +102,14 @@ up-to-none-below xs ys (inl e) g = not-below-self xs (subst (λ (l : List ℕ). 
 up-to-none-below xs ys (inr h) g = not-below xs ys h g
 
 module _ (p : Plan) (form : Form) (works : List Work) where
-  longer-key : (q : List ℕ) (key : Shape) (a b : ℕ) → a ≤ b → HasKey p form works q key a → HasKey p form works q key b
+  longer-key : (q : List ℕ) (key : List ℕ) (a b : ℕ) → a ≤ b → HasKey p form works q key a → HasKey p form works q key b
   longer-key q key a b h k = record { history = k.history; places = k.places; played = k.played; is = k.is; short = let few : length k.history ≤ a = k.short in omega (arith, few, h) }
 
-  longer-keys : (key other : Shape) (a b : ℕ) (qs : List (List ℕ)) → key ≡ other → a ≤ b → All (λ q. HasKey p form works q key a) qs → All (λ q. HasKey p form works q other b) qs
+  longer-keys : (key other : List ℕ) (a b : ℕ) (qs : List (List ℕ)) → key ≡ other → a ≤ b → All (λ q. HasKey p form works q key a) qs → All (λ q. HasKey p form works q other b) qs
   longer-keys key other a b [] same h all = All-nil (λ q. HasKey p form works q other b)
   longer-keys key other a b (q ∷ qs) same h all =
       All-cons (λ q. HasKey p form works q other b) q qs
-      (subst (λ (k : Shape). HasKey p form works q k b) same (longer-key q key a b h (All-head (λ q. HasKey p form works q key a) q qs all)))
+      (subst (λ (k : List ℕ). HasKey p form works q k b) same (longer-key q key a b h (All-head (λ q. HasKey p form works q key a) q qs all)))
       (longer-keys key other a b qs same h (All-tail (λ q. HasKey p form works q key a) q qs all))
 
   joined-fits : (g c : Group) (us qs : List (List ℕ)) → AreLike g c → IsBefore g.first c.first → FitsClass p form works g us → FitsClass p form works c qs
@@ -246,28 +246,28 @@ put-in (Ok x) old items c place was now is like at made =
 put-in (Err e) old items c place was now is like at made = tt
 
 -- a move of a class's first beginning leads from its key to another
-pub grown-leads : (p q r : Plan) (form : Form) (works : List Work) (g : Group) (t : ℕ) (places later : List Place) (h now : List Entry) (m : Engine) (key : Shape) → AreRuled p works
-    → IsReplayed p form works g q places h → r ≡ q → HasMoved form works t places h later now → key ≡ shape_of r later now → Replays r m now
+pub grown-leads : (p q r : Plan) (form : Form) (works : List Work) (g : Group) (t : ℕ) (places later : List Place) (h now : List Entry) (m : Engine) (key : List ℕ) → AreRuled p works
+    → IsReplayed p form works g q places h → r ≡ q → HasMoved form works t places h later now → key ≡ code_of r later now → Replays r m now
     → LeadsBy p form works t g.key key (length now)
 grown-leads p q r form works g t places later h now m key are so same moved is replays =
     let own : r ≡ p = same ∙ so.plan_is in
-    let here : key ≡ shape_of p later now = is ∙ ap (λ (x : Plan). shape_of x later now) own in
-    let one : LeadsBy p form works t (shape_of p places h) (shape_of p later now) (length now) =
+    let here : key ≡ code_of p later now = is ∙ ap (λ (x : Plan). code_of x later now) own in
+    let one : LeadsBy p form works t (code_of p places h) (code_of p later now) (length now) =
     leads p form works (reverse g.first) t places later h now m are so.come moved (subst (λ (x : Plan). Replays x m now) own replays) in
-    subst (λ (k : Shape). LeadsBy p form works t k key (length now)) so.key (subst (λ (k : Shape). LeadsBy p form works t (shape_of p places h) k (length now)) (sym here) one)
+    subst (λ (k : List ℕ). LeadsBy p form works t k key (length now)) so.key (subst (λ (k : List ℕ). LeadsBy p form works t (code_of p places h) k (length now)) (sym here) one)
 
 -- the key of the play without moves
-pub start-key : (p q : Plan) (form : Form) (works : List Work) (places : List Place) (h : List Entry) (m : Engine) (key : Shape) → AreRuled p works → q ≡ p
-    → places ≡ replicate (length works) first_place → h ≡ [] → key ≡ shape_of q places h → Replays q m h → HasKey p form works [] key 0
+pub start-key : (p q : Plan) (form : Form) (works : List Work) (places : List Place) (h : List Entry) (m : Engine) (key : List ℕ) → AreRuled p works → q ≡ p
+    → places ≡ replicate (length works) first_place → h ≡ [] → key ≡ code_of q places h → Replays q m h → HasKey p form works [] key 0
 start-key p q form works places h m key are own first none is replays =
-    let one : HasKey p form works [] (shape_of p places h) 0 =
+    let one : HasKey p form works [] (code_of p places h) 0 =
     first-key p form works places h m are (first, none) (subst (λ (x : Plan). Replays x m h) own replays) none in
-    subst (λ (k : Shape). HasKey p form works [] k 0) (sym (is ∙ ap (λ (x : Plan). shape_of x places h) own)) one
+    subst (λ (k : List ℕ). HasKey p form works [] k 0) (sym (is ∙ ap (λ (x : Plan). code_of x places h) own)) one
 
 -- the outcome of a class's orders
 pub class-ends : (p q : Plan) (form : Form) (works : List Work) (g : Group) (places : List Place) (h now : List Entry) (m : Engine) (o : Found) → AreRuled p works
     → IsReplayed p form works g q places h → Replays q m h → now ≡ h → IsOutcomeOf p now o → EndsWith p form works g.key o
 class-ends p q form works g places h now m o are so replays same outcome =
-    let one : EndsWith p form works (shape_of p places h) o =
+    let one : EndsWith p form works (code_of p places h) o =
     last-key p form works (reverse g.first) places h m o are so.come (subst (λ (x : Plan). Replays x m h) so.plan_is replays) (subst (λ (l : List Entry). IsOutcomeOf p l o) same outcome) in
-    subst (λ (k : Shape). EndsWith p form works k o) so.key one
+    subst (λ (k : List ℕ). EndsWith p form works k o) so.key one

@@ -1,6 +1,5 @@
 pub mod Known
 pub mod Bare
-pub mod Equal
 pub mod Grown
 pub mod Extended
 pub mod Ordered
@@ -9,6 +8,7 @@ pub mod Ranks
 pub mod Taken
 pub mod Scanned
 pub mod Keys
+pub mod Codes
 pub mod Shown
 pub mod Sorted
 pub mod Shapes

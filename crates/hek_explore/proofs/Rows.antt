@@ -16,7 +16,6 @@ use Rattle.hek_permute.proofs.Begun.{among_append}
 use Rattle.hek_permute.specs.Tallies.{AreNoted, many_more, row_for, total}
 use Rattle.hek_explore.specs.Counts.{AreApart, AreCountedOut, AreOf, Group, HasOutcome, IsAhead, IsBefore, IsCensusOf, IsStart, orders_in, weight_in}
 use Rattle.hek_explore.specs.Deals.{DealsClasses, DealsRows, FitsClass, FitsRow, IsTallied, Measure, left_of, no_moves, weigh}
-use Rattle.hek_explore.specs.Keys.{Shape}
 use Rattle.hek_explore.specs.Steps.{EndsWith, HasKey}
 use Rattle.hek_explore.proofs.Classes.{among-all, among-made, among-more, before-all, before-trans, IsUpTo, start-deals, up-to-all, up-to-none-below}
 use Rattle.hek_explore.proofs.Counting.{deals-alike, deals-push, deals-set, weigh-end}
@@ -51,7 +50,7 @@ waits-with o (q ∷ qs) =
     omega (arith, a, b, c, waits-with o qs)
 
 module _ (p : Plan) (form : Form) (works : List Work) where
-  played-with : (r : Line) (o : Found) (key : Shape) (longest : ℕ) (qs : List (List ℕ)) → EndsWith p form works key o → IsSame o r.outcome → All (λ q. HasKey p form works q key longest) qs
+  played-with : (r : Line) (o : Found) (key : List ℕ) (longest : ℕ) (qs : List (List ℕ)) → EndsWith p form works key o → IsSame o r.outcome → All (λ q. HasKey p form works q key longest) qs
       → All (HasOutcome p form works r) (with_outcome o qs)
   played-with r o key longest [] ends same all = All-nil (HasOutcome p form works r)
   played-with r o key longest (q ∷ qs) ends same all =

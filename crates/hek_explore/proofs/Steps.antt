@@ -37,7 +37,7 @@ use Rattle.hek_permute.specs.Plays.{IsPlay, Plays, HasMoved, Scene, Shown, Reach
 use Rattle.hek_permute.proofs.Plays.{plays_on}
 use Rattle.hek_permute.proofs.RunReplies.{events-append, told, told-before}
 use Rattle.hek_explore.specs.Groups.{group_in}
-use Rattle.hek_explore.specs.Keys.{shape_of}
+use Rattle.hek_explore.specs.Codes.{code_of, shape_code}
 use Rattle.hek_explore.specs.Twins.{HasPlayed, AreTwins}
 use Rattle.hek_explore.specs.Steps.{AreRuled, HasKey, LeadsBy, EndsWith}
 use Rattle.hek_explore.specs.Laws.{HasTwin}
@@ -45,6 +45,7 @@ use Rattle.hek_explore.proofs.Extended.{extends-alike}
 use Rattle.hek_explore.proofs.Scanned.{steps-scan}
 use Rattle.hek_explore.proofs.Keys.{keys-twins}
 use Rattle.hek_explore.proofs.Outcomes.{one-outcome}
+use Rattle.hek_explore.proofs.Codes.{same-shapes}
 use Rattle.hek_explore.proofs.Shapes.{twins-shape}
 
 -- ---- the events of a play scan buckets that exist, each of whose keys are of one group
@@ -209,9 +210,9 @@ module _ (p : Plan) (form : Form) (works : List Work) (past : List ℕ) (t : ℕ
   next-played : HasPlayed p form works (t ∷ past) later now
   next-played = played-by p form works (t ∷ past) later now replays.plan are replays.formed replays.ran.replies (plays_on form works t past places later h now so moved)
 
-  pub leads : LeadsBy p form works t (shape_of p places h) (shape_of p later now) (length now)
+  pub leads : LeadsBy p form works t (code_of p places h) (code_of p later now) (length now)
   leads others longest k short =
-      let same : (places ≡ k.places) × AreTwins p h k.history = keys-twins p form works past others places k.places h k.history replays.plan first-played k.played (sym k.is) in
+      let same : (places ≡ k.places) × AreTwins p h k.history = keys-twins p form works past others places k.places h k.history replays.plan first-played k.played (same-shapes p places k.places h k.history (sym k.is)) in
       let other : HasPlayed p form works others places k.history = subst (λ (ps : List Place). HasPlayed p form works others ps k.history) (sym same.0) k.played in
       let within : length k.history ≤ longest = k.short in
       let twin : HasTwin p form works (t ∷ others) later now (length k.history + length now) =
@@ -221,13 +222,13 @@ module _ (p : Plan) (form : Form) (works : List Work) (past : List ℕ) (t : ℕ
         history = twin.twin;
         places = later;
         played = twin.played;
-        is = sym (twins-shape p form works (t ∷ past) (t ∷ others) later now twin.twin replays.plan next-played twin.played twin.twins);
+        is = sym (ap shape_code (twins-shape p form works (t ∷ past) (t ∷ others) later now twin.twin replays.plan next-played twin.played twin.twins));
         short = omega (arith, few, within);
       }
 
 -- ---- the first key, and the last
 pub first-key : (p : Plan) (form : Form) (works : List Work) (places : List Place) (h : List Entry) (m : Engine) → AreRuled p works → Plays form works [] places h → Replays p m h → h ≡ []
-    → HasKey p form works [] (shape_of p places h) 0
+    → HasKey p form works [] (code_of p places h) 0
 first-key p form works places h m are come replays none = record {
   history = h;
   places = places;
@@ -237,10 +238,10 @@ first-key p form works places h m are come replays none = record {
 }
 
 pub last-key : (p : Plan) (form : Form) (works : List Work) (past : List ℕ) (places : List Place) (h : List Entry) (m : Engine) (o : Found) → AreRuled p works → Plays form works past places h
-    → Replays p m h → IsOutcomeOf p h o → EndsWith p form works (shape_of p places h) o
+    → Replays p m h → IsOutcomeOf p h o → EndsWith p form works (code_of p places h) o
 last-key p form works past places h m o are come replays outcome others longest k =
     let mine : HasPlayed p form works past places h = played-by p form works past places h replays.plan are replays.formed replays.ran.replies come in
-    let same : (places ≡ k.places) × AreTwins p h k.history = keys-twins p form works past others places k.places h k.history replays.plan mine k.played (sym k.is) in
+    let same : (places ≡ k.places) × AreTwins p h k.history = keys-twins p form works past others places k.places h k.history replays.plan mine k.played (same-shapes p places k.places h k.history (sym k.is)) in
     let other : HasPlayed p form works others places k.history = subst (λ (ps : List Place). HasPlayed p form works others ps k.history) (sym same.0) k.played in
     record {
       history = k.history;

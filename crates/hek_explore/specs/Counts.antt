@@ -13,7 +13,7 @@ use Rattle.hek_permute.specs.Numbers.{all_orders, order_total}
 use Rattle.hek_permute.specs.Orders.{IsAmong, IsBelow}
 use Rattle.hek_permute.specs.Plays.{Plays}
 use Rattle.hek_permute.specs.Tallies.{IsPlayed, total}
-use Rattle.hek_explore.specs.Keys.{Shape, shape_of}
+use Rattle.hek_explore.specs.Codes.{code_of}
 use Rattle.hek_explore.specs.Steps.{HasKey, LeadsBy}
 
 -- ---- what is counted
@@ -75,7 +75,7 @@ pub record Group : Type 0 where
   pub first : List ℕ
   pub orders : ℕ
   pub left : List ℕ
-  pub key : Shape
+  pub key : List ℕ
   pub longest : ℕ
 
 -- the same moves are left, and the keys are equal
@@ -110,7 +110,7 @@ IsPut old new c = ((place : ℕ) × (like : HasLike old c place) × (now : Group
 pub record IsReplayed (p : Plan) (form : Form) (works : List Work) (g : Group) (plan : Plan) (places : List Place) (h : List Entry) : Type 0 where
   pub plan_is : plan ≡ p
   pub come : Plays form works (reverse g.first) places h
-  pub key : shape_of p places h ≡ g.key
+  pub key : code_of p places h ≡ g.key
 
 -- one move fewer at the place
 pub record IsFewer (old : List ℕ) (place : ℕ) (new : List ℕ) : Type 0 where

@@ -1,6 +1,7 @@
 pub mod Twins
 pub mod Groups
 pub mod Keys
+pub mod Codes
 pub mod Numbers
 pub mod Steps
 pub mod Laws

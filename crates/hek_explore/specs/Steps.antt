@@ -9,7 +9,7 @@ use Rattle.hek_permute.specs.declared.play.Place.{Place}
 use Rattle.hek_permute.specs.Found.{Found}
 use Rattle.hek_permute.specs.Moves.{Work, AreMoves}
 use Rattle.hek_permute.specs.Tallies.{IsPlayed}
-use Rattle.hek_explore.specs.Keys.{Shape, shape_of}
+use Rattle.hek_explore.specs.Codes.{code_of}
 use Rattle.hek_explore.specs.Twins.{HasPlayed}
 
 -- the moves are those of a schedule's transactions, by some rules of its steps
@@ -18,19 +18,19 @@ pub record AreRuled (p : Plan) (works : List Work) : Type 0 where
   pub are : AreMoves p rules works
 
 -- a play of these moves has the key, and no more events than this
-pub record HasKey (p : Plan) (form : Form) (works : List Work) (past : List ℕ) (key : Shape) (longest : ℕ) : Type 0 where
+pub record HasKey (p : Plan) (form : Form) (works : List Work) (past : List ℕ) (key : List ℕ) (longest : ℕ) : Type 0 where
   pub history : List Entry
   pub places : List Place
   pub played : HasPlayed p form works past places history
-  pub is : shape_of p places history ≡ key
+  pub is : code_of p places history ≡ key
   pub short : length history ≤ longest
 
 -- Moves with a play of the first key have, with one more move of t, a play of the second key, at most so many events
 -- longer, unless the clock comes to its end.
-abbrev pub LeadsBy : Plan → Form → List Work → ℕ → Shape → Shape → ℕ → Type 0
+abbrev pub LeadsBy : Plan → Form → List Work → ℕ → List ℕ → List ℕ → ℕ → Type 0
 LeadsBy p form works t key next more =
     (past : List ℕ) (longest : ℕ) → HasKey p form works past key longest → longest + more < clock_end → HasKey p form works (t ∷ past) next (longest + more)
 
 -- each order with a play of this key has the outcome
-abbrev pub EndsWith : Plan → Form → List Work → Shape → Found → Type 0
+abbrev pub EndsWith : Plan → Form → List Work → List ℕ → Found → Type 0
 EndsWith p form works key o = (past : List ℕ) (longest : ℕ) → HasKey p form works past key longest → IsPlayed p form works (reverse past) o

@@ -3,6 +3,7 @@
 #![tactic(auto)]
 
 mod class;
+mod code;
 mod groups;
 mod key;
 mod numbers;

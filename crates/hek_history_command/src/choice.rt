@@ -27,6 +27,17 @@ impl Extent {
     }
 }
 
+/// How many repairs of an order a search tries at least where the words don't say.
+const EFFORT: usize = 100_000;
+
+/// How many repairs of an order a search of a history tries: where the words don't say, the more the larger it is.
+pub fn effort_for(chosen: Option<usize>, history: &History) -> usize {
+    match chosen {
+        Some(effort) => effort,
+        None => EFFORT.saturating_add(history.transactions.len()),
+    }
+}
+
 /// What the words of the command line ask for.
 #[derive(Clone, Copy)]
 pub struct Choice {
@@ -36,6 +47,8 @@ pub struct Choice {
     pub order: Option<Order>,
     /// Which anomalies are told.
     pub extent: Extent,
+    /// How many repairs of an order a search tries before it gives up, if the words say.
+    pub effort: Option<usize>,
     /// Whether faults of the log are explained.
     pub explains: bool,
     pub printing: Printing,

@@ -3,7 +3,7 @@ ghost use Rattle.std.specs.Prelude.{◌≡◌, IfOk};
 ghost use Rattle.hek_history_search.specs.Verdicts.{IsVerdict};
 ghost use Rattle.hek_history_command.specs.Answers.{IsStatus};
 
-use crate::choice::{Choice, Extent, is_judged, order_of, set_level, weaker_level};
+use crate::choice::{Choice, Extent, effort_for, is_judged, order_of, set_level, weaker_level};
 use crate::counted::Tally;
 use crate::counts::counts_of;
 use crate::explained::Explained;
@@ -22,9 +22,6 @@ use hek_rules::NoMemory;
 use std::alloc::Global;
 use std::io::{Read, Write};
 
-/// How much the search tries before it gives up.
-const EFFORT: usize = 100_000;
-
 /// The exit status after a fault of the log, and that of a log of which nothing is known.
 const AT_FAULT: u8 = 4;
 
@@ -37,6 +34,7 @@ struct Question {
     /// The level of all transactions, if it is asked for and weaker than serializable.
     weaker: Option<Level>,
     extent: Extent,
+    effort: usize,
     printing: Printing,
 }
 
@@ -92,6 +90,7 @@ fn judge_log<'a, W: Write, O: Write>(
         order: order_of(choice, &log.history),
         weaker: weaker_level(choice),
         extent: choice.extent,
+        effort: effort_for(choice.effort, &log.history),
         printing: choice.printing,
     };
     if !is_judged(&log.history) {
@@ -129,7 +128,13 @@ fn write_verdict<'a, W: Write, O: Write>(
 ) -> Result<u8, HekFault<'a>>
     ensures right { IfOk result (λ status. IsStatus log.old.history question.order status) }
 {
-    let (verdict, status) = judged(alloc, &log.history, log.twins(), question.order)?;
+    let (verdict, status) = judged(
+        alloc,
+        &log.history,
+        log.twins(),
+        question.order,
+        question.effort,
+    )?;
     match verdict {
         Verdict::Serial(points) => {
             write_serial(alloc, log, points.as_slice(), question, order_out, out)?;
@@ -137,7 +142,10 @@ fn write_verdict<'a, W: Write, O: Write>(
         Verdict::NotSerial(steps, cause) => {
             write_causes(alloc, log, steps.as_slice(), cause, question, out)?;
         }
-        Verdict::Unknown(progress) => write_unknown(alloc, progress, question, out)?,
+        Verdict::Unknown(progress) => {
+            let gave_up = progress.violations > 0 || log.twins().is_empty();
+            write_unknown(alloc, progress, gave_up, question, out)?;
+        }
     }
     Ok(status)
 }
@@ -149,11 +157,12 @@ fn judged(
     history: &History,
     twins: &[(usize, usize)],
     order: Order,
+    effort: usize,
 ) -> Result<(Verdict, u8), NoMemory>
     ensures right { IfOk result (λ found. IsStatus history.now order found.1) }
 {
-    let found = judge(alloc, history, order, EFFORT)?;
-    let found = by_times(alloc, history, order, found)?;
+    let found = judge(alloc, history, order, effort)?;
+    let found = by_times(alloc, history, order, effort, found)?;
     let verdict = without_twins(alloc, history, twins, order, found)?;
     let status = status_of(&verdict);
     Ok((verdict, status))
@@ -165,6 +174,7 @@ fn by_times(
     alloc: Global,
     history: &History,
     order: Order,
+    effort: usize,
     verdict: Verdict,
 ) -> Result<Verdict, NoMemory>
     requires right { IsVerdict history.now order verdict }
@@ -173,7 +183,7 @@ fn by_times(
     if order != Order::Versions || !matches!(verdict, Verdict::Unknown(_)) {
         return Ok(verdict);
     }
-    if let Verdict::Serial(points) = judge(alloc, history, Order::Times, EFFORT)? {
+    if let Verdict::Serial(points) = judge(alloc, history, Order::Times, effort)? {
         if is_explanation(alloc, history, order, points.as_slice())? {
             return Ok(Verdict::Serial(points));
         }
@@ -243,12 +253,18 @@ fn write_serial<'a, W: Write, O: Write>(
 fn write_unknown<'a, W: Write>(
     alloc: Global,
     progress: Progress,
+    gave_up: bool,
     question: Question,
     out: &mut W,
 ) -> Result<(), HekFault<'a>> {
     let mut lines = Vec::new(alloc);
     match question.printing {
-        Printing::Text => verdict_text::put_unknown(progress, &mut lines)?,
+        Printing::Text => {
+            verdict_text::put_unknown(progress, &mut lines)?;
+            if gave_up {
+                verdict_text::put_effort(question.effort, &mut lines)?;
+            }
+        }
         Printing::Json => {
             let mut objects = Lines::after(alloc, &mut lines);
             verdict_json::put_unknown(question.order, progress, &mut objects);
@@ -368,7 +384,7 @@ fn write_others<'a, W: Write>(
     out: &mut W,
 ) -> Result<(), HekFault<'a>> {
     for _ in 0..usize::MAX {
-        match judge(alloc, &log.history, question.order, EFFORT)? {
+        match judge(alloc, &log.history, question.order, question.effort)? {
             Verdict::NotSerial(steps, cause) => {
                 write_other(alloc, log, steps.as_slice(), cause, question, tally, out)?;
             }

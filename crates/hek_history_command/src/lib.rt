@@ -13,6 +13,6 @@ mod twins;
 mod verdict_json;
 mod verdict_text;
 
-pub use choice::{Choice, Extent};
+pub use choice::{Choice, Extent, effort_for};
 pub use history::history_command;
 pub use run_log::run_log_command;

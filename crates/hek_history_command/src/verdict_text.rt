@@ -116,6 +116,16 @@ pub(crate) fn put_unknown(progress: Progress, lines: &mut Vec<u8>) -> Result<(),
     ))
 }
 
+/// The line that says at how many repairs a search gave up, and how it goes on.
+pub(crate) fn put_effort(effort: usize, lines: &mut Vec<u8>) -> Result<(), NoMemory> {
+    let repairs = number_of(effort as u64, "repair");
+    let more = effort.saturating_mul(10);
+    put(writeln!(
+        lines,
+        "  it gave up at {repairs} of an order; --effort {more} goes on ten times as far"
+    ))
+}
+
 /// The line that says of which orders a history is not serial, if not of all.
 pub(crate) fn put_order(order: Order, lines: &mut Vec<u8>) -> Result<(), NoMemory> {
     match order {

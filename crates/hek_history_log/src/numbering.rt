@@ -7,23 +7,35 @@ use hek_rules::NoMemory;
 use indexmap::IndexSet;
 use std::alloc::Global;
 
-/// From this number on a number stands for an entry of `Labels`: an even one for a large number, an odd one for a text.
+/// From this number on a number stands for an entry of `Labels`.
 const ENTRIES: u64 = 1 << 63;
 
-/// Labels by number. A number below 2^63 stands for itself. Larger ones and texts have the numbers from 2^63 on, in the
-/// order in which they came.
+/// What a number from `ENTRIES` on stands for, by what is left of it when divided by `KINDS`.
+#[derive(Clone, Copy, PartialEq, Eq)]
+enum Kind {
+    Large,
+    Text,
+    Negative,
+}
+
+const KINDS: u64 = 4;
+
+/// Labels by number. A number below 2^63 stands for itself. Larger ones, texts and numbers below zero have the numbers from
+/// 2^63 on, each kind in the order in which they came.
 #[derive(Drop)]
 pub(crate) struct Labels {
     texts: IndexSet<String>,
     large: IndexSet<u64>,
+    negative: IndexSet<i64>,
 }
 
 impl Labels {
-    /// No text and no large number.
+    /// No label but the numbers that stand for themselves.
     pub(crate) fn new(alloc: Global) -> Labels {
         Labels {
             texts: IndexSet::new(alloc),
             large: IndexSet::new(alloc),
+            negative: IndexSet::new(alloc),
         }
     }
 
@@ -31,6 +43,7 @@ impl Labels {
     pub(crate) fn number_of(&mut self, alloc: Global, label: Label<'_>) -> Result<u64, NoMemory> {
         match label {
             Label::Number(number) => self.number_of_number(number),
+            Label::Negative(number) => self.number_of_negative(number),
             Label::Text(text) => self.number_of_text(alloc, text),
         }
     }
@@ -40,15 +53,20 @@ impl Labels {
             return Ok(number);
         }
         let (place, _) = self.large.insert_full(number)?;
-        entry_number(place, false)
+        entry_number(place, Kind::Large)
+    }
+
+    fn number_of_negative(&mut self, number: i64) -> Result<u64, NoMemory> {
+        let (place, _) = self.negative.insert_full(number)?;
+        entry_number(place, Kind::Negative)
     }
 
     fn number_of_text(&mut self, alloc: Global, text: &str) -> Result<u64, NoMemory> {
         if let Some(place) = self.texts.get_index_of(text) {
-            return entry_number(place, true);
+            return entry_number(place, Kind::Text);
         }
         let (place, _) = self.texts.insert_full(String::from_str(alloc, text)?)?;
-        entry_number(place, true)
+        entry_number(place, Kind::Text)
     }
 
     /// The label with a number; a number that stands for no entry is its own label.
@@ -58,14 +76,16 @@ impl Labels {
         if number < ENTRIES {
             return Label::Number(number);
         }
-        let place = ((number - ENTRIES) / 2) as usize;
-        if number % 2 == 0 {
-            let large = self.large.get_index(place).copied();
-            return Label::Number(large.unwrap_or(number));
-        }
-        match self.texts.get_index(place) {
-            Some(text) => Label::Text(text.as_str()),
-            None => Label::Number(number),
+        self.entry(number).unwrap_or(Label::Number(number))
+    }
+
+    /// The entry that a number stands for.
+    fn entry(&self, number: u64) -> Option<Label<'_>> {
+        let (kind, place) = entry_place(number)?;
+        match kind {
+            Kind::Large => Some(Label::Number(*self.large.get_index(place)?)),
+            Kind::Text => Some(Label::Text(self.texts.get_index(place)?.as_str())),
+            Kind::Negative => Some(Label::Negative(*self.negative.get_index(place)?)),
         }
     }
 
@@ -76,10 +96,9 @@ impl Labels {
 
     /// The place among the texts of the text that a number stands for.
     pub(crate) fn text_place(number: u64) -> Option<usize> {
-        if number >= ENTRIES && number % 2 == 1 {
-            Some(((number - ENTRIES) / 2) as usize)
-        } else {
-            None
+        match entry_place(number)? {
+            (Kind::Text, place) => Some(place),
+            _ => None,
         }
     }
 
@@ -90,16 +109,32 @@ impl Labels {
 
     /// Whether each label is its own number.
     pub(crate) fn are_small(&self) -> bool {
-        self.texts.is_empty() && self.large.is_empty()
+        self.texts.is_empty() && self.large.is_empty() && self.negative.is_empty()
     }
 }
 
-/// The number of the text, or of the large number, at a place.
-fn entry_number(place: usize, is_text: bool) -> Result<u64, NoMemory> {
+/// The number of the entry of a kind at a place.
+fn entry_number(place: usize, kind: Kind) -> Result<u64, NoMemory> {
     let place = place as u64;
-    if place >= ENTRIES / 2 {
+    if place >= ENTRIES / KINDS {
         return Err(NoMemory);
     }
-    let even = ENTRIES + place * 2;
-    Ok(if is_text { even + 1 } else { even })
+    let first = ENTRIES + place * KINDS;
+    Ok(match kind {
+        Kind::Large => first,
+        Kind::Text => first + 1,
+        Kind::Negative => first + 2,
+    })
+}
+
+/// The kind and the place of the entry that a number stands for.
+fn entry_place(number: u64) -> Option<(Kind, usize)> {
+    let entry = number.checked_sub(ENTRIES)?;
+    let kind = match entry % KINDS {
+        0 => Kind::Large,
+        1 => Kind::Text,
+        2 => Kind::Negative,
+        _ => return None,
+    };
+    Some((kind, (entry / KINDS) as usize))
 }

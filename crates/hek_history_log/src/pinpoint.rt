@@ -72,7 +72,7 @@ impl Mistake {
             Mistake::Twice => "this member is there twice",
             Mistake::TransactionTwice(_) => "this transaction has a line already: line ",
             Mistake::NoKey => "a key is a text or a number below 2^64",
-            Mistake::NoValue => "a value is a text or a number below 2^64",
+            Mistake::NoValue => "a value is a text or a whole number from -2^63 up to 2^64",
             Mistake::NoAnswer => "DONE is true or false",
             Mistake::NoBucket => "a bucket is a number",
             Mistake::NoPairs => "pairs are an array of [KEY, VALUE]",
@@ -196,9 +196,9 @@ impl Part {
         let (is_right, mistake) = match self {
             Part::Word => (true, Mistake::Other),
             Part::Key => (is_label(bytes), Mistake::NoKey),
-            Part::Value => (is_label(bytes), Mistake::NoValue),
+            Part::Value => (is_value(bytes), Mistake::NoValue),
             Part::Found => (
-                is_label(bytes) || bytes == b"null".as_slice(),
+                is_value(bytes) || bytes == b"null".as_slice(),
                 Mistake::NoValue,
             ),
             Part::Answer => (is_answer(bytes), Mistake::NoAnswer),
@@ -209,9 +209,17 @@ impl Part {
     }
 }
 
-/// Whether the bytes of a value are a key or a value of a log.
+/// Whether these bytes are a key of a log.
 fn is_label(bytes: &[u8]) -> bool {
     bytes.first() == Some(&b'"') || number(bytes).is_some()
+}
+
+/// Whether these bytes are a value of a log.
+fn is_value(bytes: &[u8]) -> bool {
+    match bytes {
+        [b'-', digits @ ..] => matches!(number(digits), Some(size) if size > 0 && size <= 1 << 63),
+        _ => is_label(bytes),
+    }
 }
 
 /// Whether the bytes of a value say whether something was done.

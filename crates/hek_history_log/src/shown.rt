@@ -6,6 +6,8 @@ use std::fmt;
 #[derive(Clone, Copy, Debug, PartialEq, Eq)]
 pub enum Label<'a> {
     Number(u64),
+    /// A number below zero, which only a value can be.
+    Negative(i64),
     Text(&'a str),
 }
 
@@ -13,6 +15,7 @@ impl fmt::Display for Label<'_> {
     fn fmt<W: fmt::Write>(&self, f: &mut fmt::Formatter<W>) -> fmt::Result {
         match *self {
             Label::Number(number) => write!(f, "{number}"),
+            Label::Negative(number) => write!(f, "{number}"),
             Label::Text(text) => {
                 if is_plain(text) {
                     f.write_str(text)
@@ -28,12 +31,21 @@ impl fmt::Display for Label<'_> {
 /// backslash or control character.
 fn is_plain(text: &str) -> bool {
     let bytes = text.as_bytes();
-    if text == "absent" || bytes.iter().all(|byte| byte.is_ascii_digit()) {
+    if text == "absent" || is_number(bytes) {
         return false;
     }
     bytes.iter().all(|&byte| {
         byte > b' ' && byte != b'"' && byte != b',' && byte != b'\\' && byte != 127
     })
+}
+
+/// Whether bytes are digits, with a minus before them or without.
+fn is_number(bytes: &[u8]) -> bool {
+    let digits = match bytes {
+        [b'-', digits @ ..] => digits,
+        _ => bytes,
+    };
+    digits.iter().all(|byte| byte.is_ascii_digit())
 }
 
 /// Writes a text as a JSON string.

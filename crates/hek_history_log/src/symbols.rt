@@ -50,7 +50,7 @@ impl Symbols {
         value: &Value<'_>,
         wanted: Wanted,
     ) -> Result<u64, Misfit> {
-        let label = label_of(value).ok_or(wanted)?;
+        let label = value_label_of(value).ok_or(wanted)?;
         Ok(self.values.number_of(alloc, label)?)
     }
 
@@ -107,6 +107,14 @@ pub(crate) fn label_of<'a>(value: &Value<'a>) -> Option<Label<'a>> {
             Some(number) => Some(Label::Number(number)),
             None => None,
         },
+    }
+}
+
+/// A text, or a whole number from -2^63 up to 2^64.
+fn value_label_of<'a>(value: &Value<'a>) -> Option<Label<'a>> {
+    match value.as_i64() {
+        Some(number) if number < 0 => Some(Label::Negative(number)),
+        _ => label_of(value),
     }
 }
 

@@ -73,7 +73,7 @@ fn before_of(log: &Log, edge: CycleEdge, first: Side, second: Side, words: Strin
 fn number_of(value: Label<'_>) -> Option<u64> {
     match value {
         Label::Number(number) => Some(number),
-        Label::Text(_) => None,
+        Label::Negative(_) | Label::Text(_) => None,
     }
 }
 
@@ -90,5 +90,6 @@ pub(crate) fn named(schedule: &Schedule, name: Label<'_>) -> Option<TxnId> {
     match name {
         Label::Text(text) => schedule.id_of(text.as_bytes()),
         Label::Number(number) => Some(TxnId::new(number)),
+        Label::Negative(_) => None,
     }
 }

@@ -147,6 +147,7 @@ fn put_label(name: &str, label: Option<Label<'_>>, out: &mut Lines) {
     match label {
         None => out.put_null(name),
         Some(Label::Number(number)) => out.put_number(name, number),
+        Some(Label::Negative(number)) => out.put_negative(name, number),
         Some(Label::Text(text)) => out.put_text(name, text),
     }
 }

@@ -47,8 +47,8 @@ fn given_time(problem: &Problem, t: usize, is_commit: bool, enters: bool) -> Opt
                 None
             }
         }
-        (Order::Real, true) => { if enters { transaction.answered } else { None } }
-        (Order::Real, false) => { if enters { None } else { transaction.invoked } }
+        (Order::Real, true) => { if enters { problem.answered(t) } else { None } }
+        (Order::Real, false) => { if enters { None } else { problem.invoked(t) } }
         _ => None,
     }
 }

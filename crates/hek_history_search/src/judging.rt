@@ -5,7 +5,7 @@ ghost use Rattle.hek_history_search.specs.Verdicts.{IsVerdict};
 use crate::anomalies::Cause;
 use crate::hints::points_by_hints;
 use crate::known::Known;
-use crate::problem::Problem;
+use crate::problem::{Problem, Times};
 use crate::reduce::reduced;
 use crate::seek::Outcome;
 use crate::start::prepared;
@@ -42,6 +42,9 @@ pub enum Verdict {
     NotSerial(Vec<Step>, Cause),
     Unknown(Progress),
 }
+
+/// How many places after its own in the log a transaction is answered at the latest, in the searches that assume so.
+const WIDTHS: [u64; 2] = [24, 100];
 
 /// Nothing was found, and nothing is known of how far it is.
 const NOWHERE: Progress = Progress {
@@ -80,8 +83,22 @@ fn search_further(
     order: Order,
     effort: usize,
 ) -> Result<Found, NoMemory> {
-    let problem = reduced(alloc, history, order)?;
+    let problem = reduced(alloc, history, order, Times::Given)?;
     sought_in(alloc, &problem, effort)
+}
+
+/// The points that a search finds that assumes that each transaction took place near its place in the log.
+fn points_by_place(
+    alloc: Global,
+    history: &History,
+    width: u64,
+    effort: usize,
+) -> Result<Option<Vec<Point>>, NoMemory> {
+    let problem = reduced(alloc, history, Order::Real, Times::ByPlace(width))?;
+    match sought_in(alloc, &problem, effort)? {
+        Found::Points(points) => Ok(Some(points)),
+        Found::Steps(_, _) | Found::Unknown(_) => Ok(None),
+    }
 }
 
 /// Searches for an explanation of this order, or for a certificate that there is none. First it tries the points by the times
@@ -196,8 +213,40 @@ fn stricter_points(
     Ok(None)
 }
 
-/// A verdict, or that there is an explanation, where a search for a stricter order finds one.
-fn judge_stricter(
+/// Points that a search finds near the places of the log, if they are an explanation of this order.
+fn near_points(
+    alloc: Global,
+    history: &History,
+    order: Order,
+    effort: usize,
+) -> Result<Option<Vec<Point>>, NoMemory> {
+    for width in WIDTHS {
+        if let Some(points) = points_by_place(alloc, history, width, effort)? {
+            if is_explanation(alloc, history, order, points.as_slice())? {
+                return Ok(Some(points));
+            }
+        }
+    }
+    Ok(None)
+}
+
+/// Points that a search finds that assumes more than is asked for, if they are an explanation of this order.
+fn points_of_others(
+    alloc: Global,
+    history: &History,
+    order: Order,
+    effort: usize,
+) -> Result<Option<Vec<Point>>, NoMemory> {
+    if order == Order::Any {
+        if let Some(points) = stricter_points(alloc, history, order, effort)? {
+            return Ok(Some(points));
+        }
+    }
+    near_points(alloc, history, order, effort)
+}
+
+/// A verdict, or that there is an explanation, where a search that assumes more than is asked for finds one.
+fn judge_further(
     alloc: Global,
     history: &History,
     order: Order,
@@ -207,15 +256,15 @@ fn judge_stricter(
     requires right { IsVerdict history.now order verdict }
     ensures { IfOk result (λ verdict. IsVerdict history.now order verdict) }
 {
-    match stricter_points(alloc, history, order, effort)? {
+    match points_of_others(alloc, history, order, effort)? {
         Some(points) => judge_points(alloc, history, order, points),
         None => Ok(verdict),
     }
 }
 
 /// Judges whether a history has an explanation of this order: first by the points by the times of the log, and then with up
-/// to `effort` repairs of an order. Where any order will do and the search ends without an answer, orders by times are searched for,
-/// each with as many repairs.
+/// to `effort` repairs of an order. Where the search ends without an answer, others follow, each with as many repairs: for orders by
+/// times, if any order will do, and for orders in which each transaction is near its place in the log.
 pub fn judge(
     alloc: Global,
     history: &History,
@@ -230,8 +279,8 @@ pub fn judge(
     }
     let found = search_further(alloc, history, order, effort)?;
     let verdict = judge_found(alloc, history, order, found)?;
-    if order == Order::Any && matches!(verdict, Verdict::Unknown(_)) {
-        return judge_stricter(alloc, history, order, effort, verdict);
+    if matches!(verdict, Verdict::Unknown(_)) {
+        return judge_further(alloc, history, order, effort, verdict);
     }
     Ok(verdict)
 }

@@ -106,11 +106,21 @@ impl OwnFault {
     }
 }
 
+/// By which times a search for an order of real time goes.
+#[derive(Clone, Copy)]
+pub(crate) enum Times {
+    /// Those of the log.
+    Given,
+    /// Assumed ones: each transaction is invoked at its place in the log, and answered so many places later.
+    ByPlace(u64),
+}
+
 /// A history, reduced. Keys are named by their places in `keys`, transactions by their places in the history.
 #[derive(Drop)]
 pub(crate) struct Problem<'a> {
     pub history: &'a History,
     pub order: Order,
+    pub times: Times,
     pub keys: Keys,
     /// The value of each key in the opening rows.
     pub opening: Vec<Option<u64>>,
@@ -251,6 +261,22 @@ impl Problem<'_> {
     /// Whether the transaction may have committed.
     pub(crate) fn is_possible(&self, t: usize) -> bool {
         is_possible(self.history, t)
+    }
+
+    /// When a transaction was invoked.
+    pub(crate) fn invoked(&self, t: usize) -> Option<u64> {
+        match self.times {
+            Times::Given => self.history.transactions.get(t)?.invoked,
+            Times::ByPlace(_) => Some(t as u64),
+        }
+    }
+
+    /// When a transaction was answered.
+    pub(crate) fn answered(&self, t: usize) -> Option<u64> {
+        match self.times {
+            Times::Given => self.history.transactions.get(t)?.answered,
+            Times::ByPlace(width) => Some((t as u64).saturating_add(width)),
+        }
     }
 
     pub(crate) fn is_snapshot(&self, t: usize) -> bool {

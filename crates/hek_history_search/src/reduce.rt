@@ -1,7 +1,7 @@
 //! Makes of a history what the search works on: needs, what is left, and contradictions within a transaction.
 use crate::keys::Keys;
 use crate::lists::{add, at, put};
-use crate::problem::{AtKey, Left, OwnFault, Problem, Reading, meets};
+use crate::problem::{AtKey, Left, OwnFault, Problem, Reading, Times, meets};
 use hek_history::{
     Change, History, Level, Need, Operation, Order, Scope, Status, are_apart, change_of, covers,
     key_of, own_need,
@@ -294,10 +294,12 @@ pub(crate) fn reduced(
     alloc: Global,
     history: &History,
     order: Order,
+    times: Times,
 ) -> Result<Problem<'_>, NoMemory> {
     let mut problem = Problem {
         history,
         order,
+        times,
         keys: Keys::new(alloc),
         opening: Vec::new(alloc),
         readings: Vec::new(alloc),

@@ -66,6 +66,17 @@ impl Answers {
         }
     }
 
+    /// Whether a level holds at which a search without levels goes by the ends of a log.
+    pub(crate) fn hold_by_ends(&self) -> bool {
+        for (place, promise) in self.promises.iter().enumerate() {
+            let goes = matches!(promise, Promise::Serializable | Promise::Snapshot);
+            if goes && self.standing(place) == Standing::Holds {
+                return true;
+            }
+        }
+        false
+    }
+
     /// This is known of the one at a place.
     pub(crate) fn know(&mut self, place: usize, answer: Answer) {
         if let Some(known) = self.known.get_mut(place) {

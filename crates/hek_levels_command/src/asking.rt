@@ -17,9 +17,6 @@ use hek_levels_search::judge;
 use hek_rules::NoMemory;
 use std::alloc::Global;
 
-/// How much each search tries before it gives up.
-const EFFORT: usize = 100_000;
-
 /// What is found of a level.
 #[derive(Drop)]
 pub(crate) enum Finding {
@@ -54,7 +51,7 @@ fn ask_uncommitted(alloc: Global, scene: &Scene) -> Result<Finding, NoMemory> {
 fn ask_rules(alloc: Global, scene: &Scene, rules: Rules) -> Result<Finding, NoMemory>
     ensures { IfOk result (λ finding. IsFinding rules scene.now.seen finding) }
 {
-    match judge(alloc, rules, &scene.seen, EFFORT)? {
+    match judge(alloc, rules, &scene.seen, scene.effort)? {
         hek_levels_search::Verdict::Holds(certificate) => {
             let order = certificate.order.as_slice();
             if has_both(alloc, scene, order)? {
@@ -90,7 +87,7 @@ pub(crate) fn in_series(
     for transaction in scene.log.history.transactions.iter_mut() {
         transaction.level = level;
     }
-    match hek_history_search::judge(alloc, &scene.log.history, scene.order(), EFFORT)? {
+    match hek_history_search::judge(alloc, &scene.log.history, scene.order(), scene.effort)? {
         hek_history_search::Verdict::Serial(points) => {
             found_order(alloc, scene, promise, points.as_slice())
         }

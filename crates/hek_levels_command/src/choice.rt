@@ -37,6 +37,8 @@ impl Binding {
 pub struct LevelsChoice {
     pub asked: Asked,
     pub binding: Binding,
+    /// How many repairs of an order a search tries before it gives up, if the words say.
+    pub effort: Option<usize>,
     /// Whether faults of the log are explained.
     pub explains: bool,
     pub printing: Printing,

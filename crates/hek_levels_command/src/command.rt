@@ -5,7 +5,7 @@ use crate::climbing::{answer_one, climb, guarantees};
 use crate::scene::Scene;
 use crate::{text, verdict_json};
 use hek_history::{History, Status};
-use hek_history_command::{Choice, Extent, history_command};
+use hek_history_command::{Choice, Extent, effort_for, history_command};
 use hek_history_log::{Log, LogFault, read_log};
 use hek_report::{HekFault, Lines, Printing, buffered, read_text, send};
 use hek_rules::NoMemory;
@@ -62,6 +62,7 @@ fn explain<'a, W: Write, E: Write>(
         level: None,
         order: None,
         extent: Extent::First,
+        effort: choice.effort,
         explains: true,
         printing: choice.printing,
     };
@@ -80,7 +81,8 @@ fn answer<'a, W: Write>(
         write_nothing(alloc, choice, out)?;
         return Ok(NOT_KNOWN);
     }
-    let mut scene = Scene::new(alloc, log, choice.binding)?;
+    let effort = effort_for(choice.effort, &log.history);
+    let mut scene = Scene::new(alloc, log, choice.binding, effort)?;
     match choice.asked {
         Asked::One(promise) => {
             let answers = answer_one(alloc, &mut scene, promise)?;

@@ -1,6 +1,6 @@
 //! A log as it was read, and as levels see it.
 use crate::choice::Binding;
-use hek_history::{Order, Transaction, Writer};
+use hek_history::{Order, Status, Transaction, Writer};
 use hek_history_levels::log_of;
 use hek_history_log::{Label, Log};
 use hek_levels::Turn;
@@ -14,24 +14,49 @@ pub(crate) struct Scene {
     pub log: Log,
     pub seen: hek_levels::Log,
     pub binding: Binding,
+    /// How many repairs of an order a search tries.
+    pub effort: usize,
 }
 
 impl Scene {
     /// The scene of a log. Real time has one session of all its transactions; else they are of the sessions that the log
     /// gives.
-    pub(crate) fn new(alloc: Global, log: Log, binding: Binding) -> Result<Scene, NoMemory> {
+    pub(crate) fn new(
+        alloc: Global,
+        log: Log,
+        binding: Binding,
+        effort: usize,
+    ) -> Result<Scene, NoMemory> {
         let turns = if binding == Binding::RealTime {
             times_of(alloc, &log)?
         } else {
             turns_of(alloc, &log)?
         };
         let seen = log_of(alloc, &log.history, turns.as_slice())?;
-        Ok(Scene { log, seen, binding })
+        Ok(Scene {
+            log,
+            seen,
+            binding,
+            effort,
+        })
     }
 
     /// Whether real time binds.
     pub(crate) fn is_timed(&self) -> bool {
         self.binding == Binding::RealTime
+    }
+
+    /// Whether the log has the end of each transaction that has committed, and they don't bind.
+    pub(crate) fn leaves_ends(&self) -> bool {
+        if self.is_timed() {
+            return false;
+        }
+        for transaction in self.log.history.transactions.iter() {
+            if transaction.status == Status::Committed && transaction.end.is_none() {
+                return false;
+            }
+        }
+        true
     }
 
     /// The serial orders that are asked for.

@@ -22,6 +22,12 @@ pub(crate) fn put_answers(
     if answers.promises.len() > 1 {
         put_sum(answers, lines)?;
     }
+    if answers.hold_by_ends() && scene.leaves_ends() {
+        return put(writeln!(
+            lines,
+            "  in some order of commits, whatever the end times of the log; hek history --level serializable goes by them"
+        ));
+    }
     Ok(())
 }
 

@@ -91,6 +91,7 @@ fn put_writer(name: &str, scene: &Scene, writer: Writer, out: &mut Lines) {
         Writer::Opening => out.put_null(name),
         Writer::Transaction(t) => match scene.log.name(t) {
             Label::Number(number) => out.put_number(name, number),
+            Label::Negative(number) => out.put_negative(name, number),
             Label::Text(text) => out.put_text(name, text),
         },
     }

@@ -111,6 +111,7 @@ complete -c hek -n '__fish_seen_subcommand_from history' -l levels -d 'says of e
 complete -c hek -n '__fish_seen_subcommand_from history' -l sessions -d 'has sessions bind at the level, or at each with --levels: a transaction comes after those before it in its session, and sees them'
 complete -c hek -n '__fish_seen_subcommand_from history' -l guarantees -d 'says of each guarantee of sessions whether the log satisfies it; after the levels, if they are asked for too'
 complete -c hek -n '__fish_seen_subcommand_from history' -l order -x -a 'any versions commit real' -d 'asks for an order of a kind: any, versions, commit or real; of these levels take any and real'
+complete -c hek -n '__fish_seen_subcommand_from history' -l effort -x -d 'tries up to N repairs of an order before it gives up; without it 100000, and one for each transaction'
 complete -c hek -n '__fish_seen_subcommand_from history' -l all -a 'each counts' -d 'goes on after an anomaly, without the answers on which it rests, and counts them by name; =counts prints the counts alone'
 complete -c hek -n '__fish_seen_subcommand_from history' -l order-out -r -F -d 'writes the order that was found, a line for each transaction; - is standard output, after the verdict'
 complete -c hek -n '__fish_seen_subcommand_from history' -l json -d 'writes the verdict as JSON, one object on each line'

@@ -441,6 +441,9 @@ says of each guarantee of sessions whether the log satisfies it; after the level
 \fB\-\-order\fR \fIKIND\fR
 asks for an order of a kind: any, versions, commit or real; of these levels take any and real
 .TP
+\fB\-\-effort\fR \fIN\fR
+tries up to N repairs of an order before it gives up; without it 100000, and one for each transaction
+.TP
 \fB\-\-all\fR[=\fIHOW\fR]
 goes on after an anomaly, without the answers on which it rests, and counts them by name; =counts prints the counts alone (each, counts)
 .TP

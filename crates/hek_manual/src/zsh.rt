@@ -144,6 +144,7 @@ _hek() {
                 '--sessions[has sessions bind at the level, or at each with --levels\: a transaction comes after those before it in its session, and sees them]' \
                 '--guarantees[says of each guarantee of sessions whether the log satisfies it; after the levels, if they are asked for too]' \
                 '--order[asks for an order of a kind\: any, versions, commit or real; of these levels take any and real]:KIND:(any versions commit real)' \
+                '--effort[tries up to N repairs of an order before it gives up; without it 100000, and one for each transaction]:N:' \
                 '--all=-[goes on after an anomaly, without the answers on which it rests, and counts them by name; =counts prints the counts alone]::HOW:(each counts)' \
                 '--order-out[writes the order that was found, a line for each transaction; - is standard output, after the verdict]:OUT:_files' \
                 '--json[writes the verdict as JSON, one object on each line]' \

@@ -71,6 +71,13 @@ impl Lines {
         self.write_number(number);
     }
 
+    /// A number that may be below zero.
+    pub fn put_negative(&mut self, name: &str, number: i64) {
+        self.put_key(name);
+        let written = self.writer.i64(number);
+        self.note(written);
+    }
+
     pub fn put_flag(&mut self, name: &str, flag: bool) {
         self.put_key(name);
         let written = self.writer.boolean(flag);
