@@ -58,18 +58,33 @@ impl From<Wanted> for Misfit {
 }
 
 impl From<NoMemory> for Misfit {
+    ghost use Rattle.std.specs.Prelude.{◌≡◌};
+    ghost use Rattle.hek_history_log.specs.declared.log_line.Misfit.TheVariants.{NoMemory as no_memory};
+
+    ghost from_gives = { λ _ e. e ≡ no_memory };
+
     fn from(_fault: NoMemory) -> Misfit {
         Misfit::NoMemory
     }
 }
 
 impl From<AllocError> for Misfit {
+    ghost use Rattle.std.specs.Prelude.{◌≡◌};
+    ghost use Rattle.hek_history_log.specs.declared.log_line.Misfit.TheVariants.{NoMemory as no_memory};
+
+    ghost from_gives = { λ _ e. e ≡ no_memory };
+
     fn from(_fault: AllocError) -> Misfit {
         Misfit::NoMemory
     }
 }
 
 impl<T: Drop> From<AllocFailed<T>> for Misfit {
+    ghost use Rattle.std.specs.Prelude.{◌≡◌};
+    ghost use Rattle.hek_history_log.specs.declared.log_line.Misfit.TheVariants.{NoMemory as no_memory};
+
+    ghost from_gives = { λ _ e. e ≡ no_memory };
+
     fn from(_fault: AllocFailed<T>) -> Misfit {
         Misfit::NoMemory
     }

@@ -1,5 +1,6 @@
 //! The numbers that stand for labels.
-ghost use Rattle.std.specs.Prelude.{◌≡◌, ◌<◌, ◌^◌};
+ghost use Rattle.std.specs.Prelude.{◌≡◌, ◌<◌, ◌^◌, ℕ, Ok};
+ghost use Rattle.hek_history_log.specs.Readable.{IsOwn};
 ghost use Rattle.hek_history_log.specs.declared.shown.Label.TheVariants.{Number};
 
 use crate::shown::Label;
@@ -40,7 +41,10 @@ impl Labels {
     }
 
     /// The number of a label, which is kept.
-    pub(crate) fn number_of(&mut self, alloc: Global, label: Label<'_>) -> Result<u64, NoMemory> {
+    pub(crate) fn number_of(&mut self, alloc: Global, label: Label<'_>) -> Result<u64, NoMemory>
+        ensures { (n : ℕ) → IsOwn n → label.entry ≡ Number n
+            → (result ≡ Ok n) × (self.new ≡ self.old) }
+    {
         match label {
             Label::Number(number) => self.number_of_number(number),
             Label::Negative(number) => self.number_of_negative(number),
@@ -48,7 +52,9 @@ impl Labels {
         }
     }
 
-    fn number_of_number(&mut self, number: u64) -> Result<u64, NoMemory> {
+    fn number_of_number(&mut self, number: u64) -> Result<u64, NoMemory>
+        ensures { IsOwn number → (result ≡ Ok number) × (self.new ≡ self.old) }
+    {
         if number < ENTRIES {
             return Ok(number);
         }

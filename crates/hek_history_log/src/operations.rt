@@ -1,4 +1,13 @@
 //! The operations of a transaction.
+ghost use Rattle.std.specs.Prelude.{◌≡◌, ◌<◌, ◌^◌, ℕ, List, [], ◌∷◌, Some, Ok, Option, map};
+ghost use Rattle.std.specs.Prelude as prelude;
+ghost use Rattle.json.specs.Json.{Json, boolean};
+ghost use Rattle.json.specs.Value.{value_view};
+ghost use Rattle.hek_history.specs.declared.history.Operation.TheVariants.{Read, Put, Insert, Update, Delete};
+ghost use Rattle.hek_history_log.specs.Kept.{KeepsLabels};
+ghost use Rattle.hek_history_log.specs.LogText.{number_json, number_or_null};
+ghost use Rattle.hek_history_log.specs.Readable.{IsOwn, IsOwnFound};
+
 use crate::fault::{LogFault, Wanted};
 use crate::log_line::{LogLine, Misfit};
 use crate::numbering::Labels;
@@ -139,7 +148,11 @@ fn kind_of(parts: &[Value<'_>]) -> Option<Kind> {
     None
 }
 
-fn read_of(alloc: Global, parts: &[Value<'_>], symbols: &mut Symbols) -> Result<Operation, Misfit> {
+fn read_of(alloc: Global, parts: &[Value<'_>], symbols: &mut Symbols) -> Result<Operation, Misfit>
+    ensures { (word : Json) (key : ℕ) (found : Option ℕ) → IsOwn key → IsOwnFound found
+        → map value_view parts.now ≡ word ∷ number_json key ∷ number_or_null found ∷ []
+        → (result ≡ Ok (Read key found)) × KeepsLabels symbols.old symbols.new }
+{
     let [_, key, value] = parts else {
         return Err(Misfit::Wanted(Wanted::Read));
     };
@@ -152,7 +165,11 @@ fn write_of(
     alloc: Global,
     parts: &[Value<'_>],
     symbols: &mut Symbols,
-) -> Result<Operation, Misfit> {
+) -> Result<Operation, Misfit>
+    ensures { (word : Json) (key value : ℕ) → IsOwn key → IsOwn value
+        → map value_view parts.now ≡ word ∷ number_json key ∷ number_json value ∷ []
+        → (result ≡ Ok (Put key value)) × KeepsLabels symbols.old symbols.new }
+{
     let [_, key, value] = parts else {
         return Err(Misfit::Wanted(Wanted::Write));
     };
@@ -166,7 +183,11 @@ fn insert_of(
     parts: &[Value<'_>],
     lacking: Option<bool>,
     symbols: &mut Symbols,
-) -> Result<Operation, Misfit> {
+) -> Result<Operation, Misfit>
+    ensures { (word : Json) (key value : ℕ) (done : prelude.Bool) → IsOwn key → IsOwn value
+        → map value_view parts.now ≡ word ∷ number_json key ∷ number_json value ∷ boolean done ∷ []
+        → (result ≡ Ok (Insert key value done)) × KeepsLabels symbols.old symbols.new }
+{
     let [_, key, value, done] = parts else {
         return Err(Misfit::Wanted(Wanted::Insert));
     };
@@ -181,7 +202,11 @@ fn update_of(
     parts: &[Value<'_>],
     lacking: Option<bool>,
     symbols: &mut Symbols,
-) -> Result<Operation, Misfit> {
+) -> Result<Operation, Misfit>
+    ensures { (word : Json) (key value : ℕ) (done : prelude.Bool) → IsOwn key → IsOwn value
+        → map value_view parts.now ≡ word ∷ number_json key ∷ number_json value ∷ boolean done ∷ []
+        → (result ≡ Ok (Update key value done)) × KeepsLabels symbols.old symbols.new }
+{
     let [_, key, value, done] = parts else {
         return Err(Misfit::Wanted(Wanted::Update));
     };
@@ -196,7 +221,11 @@ fn delete_of(
     parts: &[Value<'_>],
     lacking: Option<bool>,
     symbols: &mut Symbols,
-) -> Result<Operation, Misfit> {
+) -> Result<Operation, Misfit>
+    ensures { (word : Json) (key : ℕ) (done : prelude.Bool) → IsOwn key
+        → map value_view parts.now ≡ word ∷ number_json key ∷ boolean done ∷ []
+        → (result ≡ Ok (Delete key done)) × KeepsLabels symbols.old symbols.new }
+{
     let [_, key, done] = parts else {
         return Err(Misfit::Wanted(Wanted::Delete));
     };
@@ -206,7 +235,9 @@ fn delete_of(
 }
 
 /// The answer of a write: true or false, or for null the one of `lacking`.
-fn answer_of(value: &Value<'_>, lacking: Option<bool>, wanted: Wanted) -> Result<bool, Misfit> {
+fn answer_of(value: &Value<'_>, lacking: Option<bool>, wanted: Wanted) -> Result<bool, Misfit>
+    ensures { (done : prelude.Bool) → value_view value.now ≡ boolean done → result ≡ Ok done }
+{
     let answer = if value.is_null() {
         lacking
     } else {

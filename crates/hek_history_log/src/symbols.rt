@@ -1,4 +1,13 @@
 //! The keys and values of a log while it is read.
+ghost use Rattle.std.specs.Prelude.{◌≡◌, ◌<◌, ◌^◌, ℕ, List, All, Some, Ok, Option, option_map};
+ghost use Rattle.json.specs.Find.{as_array};
+ghost use Rattle.json.specs.Value.{value_view, items_view};
+ghost use Rattle.hek_history_log.specs.Gives.{Gives};
+ghost use Rattle.hek_history_log.specs.Kept.{KeepsLabels};
+ghost use Rattle.hek_history_log.specs.LogText.{number_json, number_or_null, pair_json, pairs_json};
+ghost use Rattle.hek_history_log.specs.Readable.{IsOwn, IsOwnFound, IsOwnPair};
+ghost use Rattle.hek_history_log.specs.declared.shown.Label.TheVariants.{Number};
+
 use crate::fault::Wanted;
 use crate::log_line::Misfit;
 use crate::numbering::Labels;
@@ -35,7 +44,10 @@ impl Symbols {
         alloc: Global,
         value: &Value<'_>,
         wanted: Wanted,
-    ) -> Result<u64, Misfit> {
+    ) -> Result<u64, Misfit>
+        ensures { (n : ℕ) → IsOwn n → value_view value.now ≡ number_json n
+            → (result ≡ Ok n) × KeepsLabels self.old self.new }
+    {
         let label = label_of(value).ok_or(wanted)?;
         if let Label::Number(number) = label {
             self.highest = self.highest.max(Some(number));
@@ -49,7 +61,10 @@ impl Symbols {
         alloc: Global,
         value: &Value<'_>,
         wanted: Wanted,
-    ) -> Result<u64, Misfit> {
+    ) -> Result<u64, Misfit>
+        ensures { (n : ℕ) → IsOwn n → value_view value.now ≡ number_json n
+            → (result ≡ Ok n) × KeepsLabels self.old self.new }
+    {
         let label = value_label_of(value).ok_or(wanted)?;
         Ok(self.values.number_of(alloc, label)?)
     }
@@ -60,7 +75,11 @@ impl Symbols {
         alloc: Global,
         value: &Value<'_>,
         wanted: Wanted,
-    ) -> Result<Option<u64>, Misfit> {
+    ) -> Result<Option<u64>, Misfit>
+        ensures { (found : Option ℕ) → IsOwnFound found
+            → value_view value.now ≡ number_or_null found
+            → (result ≡ Ok found) × KeepsLabels self.old self.new }
+    {
         if value.is_null() {
             return Ok(None);
         }
@@ -73,7 +92,11 @@ impl Symbols {
         alloc: Global,
         value: &Value<'_>,
         wanted: Wanted,
-    ) -> Result<Vec<(u64, u64)>, Misfit> {
+    ) -> Result<Vec<(u64, u64)>, Misfit>
+        ensures { (ps : List (ℕ × ℕ)) → All IsOwnPair ps → value_view value.now ≡ pairs_json ps
+            → Gives result Misfit.NoMemory
+            (λ pairs. (pairs.items ≡ ps) × KeepsLabels self.old self.new) }
+    {
         let items = items_of(value).ok_or(wanted)?;
         let mut pairs = Vec::with_capacity(alloc, items.len())?;
         for item in items {
@@ -88,8 +111,12 @@ impl Symbols {
         alloc: Global,
         value: &Value<'_>,
         wanted: Wanted,
-    ) -> Result<(u64, u64), Misfit> {
-        let Some([key, value]) = items_of(value) else {
+    ) -> Result<(u64, u64), Misfit>
+        ensures { (p : ℕ × ℕ) → IsOwnPair p → value_view value.now ≡ pair_json p
+            → (result ≡ Ok p) × KeepsLabels self.old self.new }
+    {
+        let items = items_of(value).ok_or(wanted)?;
+        let [key, value] = items else {
             return Err(Misfit::Wanted(wanted));
         };
         Ok((
@@ -100,7 +127,10 @@ impl Symbols {
 }
 
 /// A text, or a number below 2^64.
-pub(crate) fn label_of<'a>(value: &Value<'a>) -> Option<Label<'a>> {
+pub(crate) fn label_of<'a>(value: &Value<'a>) -> Option<Label<'a>>
+    ensures { (n : ℕ) → n < 2 ^ 64 → value_view value.now ≡ number_json n
+        → result ≡ Some (Number n) }
+{
     match value.as_str() {
         Some(text) => Some(Label::Text(text)),
         None => match value.as_u64() {
@@ -111,7 +141,10 @@ pub(crate) fn label_of<'a>(value: &Value<'a>) -> Option<Label<'a>> {
 }
 
 /// A text, or a whole number from -2^63 up to 2^64.
-fn value_label_of<'a>(value: &Value<'a>) -> Option<Label<'a>> {
+fn value_label_of<'a>(value: &Value<'a>) -> Option<Label<'a>>
+    ensures { (n : ℕ) → n < 2 ^ 63 → value_view value.now ≡ number_json n
+        → result ≡ Some (Number n) }
+{
     match value.as_i64() {
         Some(number) if number < 0 => Some(Label::Negative(number)),
         _ => label_of(value),
@@ -119,7 +152,10 @@ fn value_label_of<'a>(value: &Value<'a>) -> Option<Label<'a>> {
 }
 
 /// The items of an array.
-pub(crate) fn items_of<'v, 'a>(value: &'v Value<'a>) -> Option<&'v [Value<'a>]> {
+pub(crate) fn items_of<'v, 'a>(value: &'v Value<'a>) -> Option<&'v [Value<'a>]>
+    ensures { option_map (λ items. items_view items.now) result
+        ≡ as_array (value_view value.now) }
+{
     match value {
         Value::Array(items) => Some(items.as_slice()),
         _ => None,

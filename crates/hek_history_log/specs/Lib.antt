@@ -1,0 +1,5 @@
+pub mod LogText
+pub mod Contents
+pub mod Readable
+pub mod Gives
+pub mod Kept
