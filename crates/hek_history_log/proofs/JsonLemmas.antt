@@ -74,3 +74,8 @@ item_at {A} {X} f vs xs i d e same within =
 pub some_from_ok : {A E : Type 0} (r : Option A) (e : E) (x : A) → Ok x ≡ ok_or r e → r ≡ Some x
 some_from_ok None e x h = cc
 some_from_ok (Some y) e x h = cc
+
+pub array_same : (xs ys : List Json) → array_json xs ≡ array_json ys → xs ≡ ys
+array_same xs ys e =
+    let same : items_of xs ≡ items_of ys = cc in
+    items_of-injective xs ys same

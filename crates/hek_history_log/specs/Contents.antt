@@ -1,5 +1,5 @@
 -- What a history says, whatever room its lists have.
-use Rattle.std.specs.Prelude.{ℕ, ◌≡◌, List, map, Option, ◌⊎◌, inl, inr}
+use Rattle.std.specs.Prelude.{ℕ, ◌≡◌, List, map}
 use Rattle.hek_history.specs.declared.history.History.{History}
 use Rattle.hek_history.specs.declared.history.Transaction.{Transaction}
 use Rattle.hek_history.specs.declared.history.Operation.{Operation}
@@ -8,17 +8,18 @@ use Rattle.hek_history.specs.declared.history.Scope.{Scope}
 use Rattle.hek_history.specs.declared.history.Level.{Level}
 use Rattle.hek_history.specs.declared.history.Status.{Status}
 
--- an operation; of a scan its scope and its pairs
-abbrev pub Content : Type 0
-Content = Operation ⊎ (Scope × List (ℕ × ℕ))
+-- an operation with its answer; a scan with the list of its pairs
+pub data Content : Type 0 where
+  plain : Operation → Content
+  scan : Scope → List (ℕ × ℕ) → Content
 
 abbrev pub content : Operation → Content
-content (Read key found) = inl (Read key found)
-content (Put key value) = inl (Put key value)
-content (Insert key value done) = inl (Insert key value done)
-content (Update key value done) = inl (Update key value done)
-content (Delete key done) = inl (Delete key done)
-content (Scan scope pairs) = inr (scope, pairs.items)
+content (Read key found) = plain (Read key found)
+content (Put key value) = plain (Put key value)
+content (Insert key value done) = plain (Insert key value done)
+content (Update key value done) = plain (Update key value done)
+content (Delete key done) = plain (Delete key done)
+content (Scan scope pairs) = scan scope pairs.items
 
 -- two transactions say the same
 pub record SameTransaction (t u : Transaction) : Type 0 where

@@ -3,3 +3,4 @@ pub mod Contents
 pub mod Readable
 pub mod Gives
 pub mod Kept
+pub mod Kinds

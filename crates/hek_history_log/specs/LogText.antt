@@ -31,14 +31,18 @@ pair_json p = array_json (number_json p.0 ∷ number_json p.1 ∷ [])
 abbrev pub pairs_json : List (ℕ × ℕ) → Json
 pairs_json ps = array_json (map pair_json ps)
 
+-- an operation, part by part
+abbrev pub parts_of : Operation → List Json
+parts_of (Read key found) = string (codes "read") ∷ number_json key ∷ number_or_null found ∷ []
+parts_of (Put key value) = string (codes "write") ∷ number_json key ∷ number_json value ∷ []
+parts_of (Insert key value done) = string (codes "insert") ∷ number_json key ∷ number_json value ∷ boolean done ∷ []
+parts_of (Update key value done) = string (codes "update") ∷ number_json key ∷ number_json value ∷ boolean done ∷ []
+parts_of (Delete key done) = string (codes "delete") ∷ number_json key ∷ boolean done ∷ []
+parts_of (Scan (Bucket buckets bucket) pairs) = string (codes "scan") ∷ number_json bucket ∷ pairs_json pairs.items ∷ []
+parts_of (Scan (Range low high) pairs) = string (codes "range") ∷ number_json low ∷ number_json high ∷ pairs_json pairs.items ∷ []
+
 abbrev pub operation_json : Operation → Json
-operation_json (Read key found) = array_json (string (codes "read") ∷ number_json key ∷ number_or_null found ∷ [])
-operation_json (Put key value) = array_json (string (codes "write") ∷ number_json key ∷ number_json value ∷ [])
-operation_json (Insert key value done) = array_json (string (codes "insert") ∷ number_json key ∷ number_json value ∷ boolean done ∷ [])
-operation_json (Update key value done) = array_json (string (codes "update") ∷ number_json key ∷ number_json value ∷ boolean done ∷ [])
-operation_json (Delete key done) = array_json (string (codes "delete") ∷ number_json key ∷ boolean done ∷ [])
-operation_json (Scan (Bucket buckets bucket) pairs) = array_json (string (codes "scan") ∷ number_json bucket ∷ pairs_json pairs.items ∷ [])
-operation_json (Scan (Range low high) pairs) = array_json (string (codes "range") ∷ number_json low ∷ number_json high ∷ pairs_json pairs.items ∷ [])
+operation_json op = array_json (parts_of op)
 
 abbrev pub level_word : Level → List ℕ
 level_word Serializable = codes "serializable"

@@ -1,10 +1,11 @@
 //! The keys and values of a log while it is read.
-ghost use Rattle.std.specs.Prelude.{◌≡◌, ◌<◌, ◌^◌, ℕ, List, All, Some, Ok, Option, option_map};
+ghost use Rattle.std.specs.Prelude.{◌≡◌, ◌<◌, ◌^◌, ℕ, List, All, Some, Ok, Option, option_map, IsSomeAnd, map};
+ghost use Rattle.json.specs.Json.{Json};
 ghost use Rattle.json.specs.Find.{as_array};
 ghost use Rattle.json.specs.Value.{value_view, items_view};
 ghost use Rattle.hek_history_log.specs.Gives.{Gives};
 ghost use Rattle.hek_history_log.specs.Kept.{KeepsLabels};
-ghost use Rattle.hek_history_log.specs.LogText.{number_json, number_or_null, pair_json, pairs_json};
+ghost use Rattle.hek_history_log.specs.LogText.{number_json, number_or_null, pair_json, pairs_json, array_json};
 ghost use Rattle.hek_history_log.specs.Readable.{IsOwn, IsOwnFound, IsOwnPair};
 ghost use Rattle.hek_history_log.specs.declared.shown.Label.TheVariants.{Number};
 
@@ -126,6 +127,13 @@ impl Symbols {
     }
 }
 
+/// A number below 2^64.
+pub(crate) fn number_in(value: &Value<'_>) -> Option<u64>
+    ensures { (n : ℕ) → n < 2 ^ 64 → value_view value.now ≡ number_json n → result ≡ Some n }
+{
+    value.as_u64()
+}
+
 /// A text, or a number below 2^64.
 pub(crate) fn label_of<'a>(value: &Value<'a>) -> Option<Label<'a>>
     ensures { (n : ℕ) → n < 2 ^ 64 → value_view value.now ≡ number_json n
@@ -133,7 +141,7 @@ pub(crate) fn label_of<'a>(value: &Value<'a>) -> Option<Label<'a>>
 {
     match value.as_str() {
         Some(text) => Some(Label::Text(text)),
-        None => match value.as_u64() {
+        None => match number_in(value) {
             Some(number) => Some(Label::Number(number)),
             None => None,
         },
@@ -153,8 +161,10 @@ fn value_label_of<'a>(value: &Value<'a>) -> Option<Label<'a>>
 
 /// The items of an array.
 pub(crate) fn items_of<'v, 'a>(value: &'v Value<'a>) -> Option<&'v [Value<'a>]>
-    ensures { option_map (λ items. items_view items.now) result
+    ensures view { option_map (λ items. items_view items.now) result
         ≡ as_array (value_view value.now) }
+    ensures items { (js : List Json) → value_view value.now ≡ array_json js
+        → IsSomeAnd result (λ items. map value_view items.now ≡ js) }
 {
     match value {
         Value::Array(items) => Some(items.as_slice()),

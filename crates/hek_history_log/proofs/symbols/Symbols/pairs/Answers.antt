@@ -12,7 +12,7 @@ use Rattle.hek_history_log.proofs.symbols.Symbols.pairs.Goals as goal
 pub returns-in_err-pair : goal.returns-in_err-pair
 returns-in_err-pair c ps own is =
     let some : c.items_of.result ≡ Some c.in_ok-items.items = some_from_ok c.items_of.result c.args.wanted c.in_ok-items.items c.in_ok-items.ensures.value in
-    let items = array_items c.items_of.result c.in_ok-items.items (value_view c.args.value.now) (map pair_json ps) c.items_of.ensures is some in
+    let items = array_items c.items_of.result c.in_ok-items.items (value_view c.args.value.now) (map pair_json ps) c.items_of.ensures.view is some in
     let at = item_at pair_json c.in_ok-items.items.now ps c.loop-item.item-index c.item-item.result (0, 0) items (omega arith) in
     let p = c.pair.ensures (get_or ps c.loop-item.item-index (0, 0)) (All-get_or IsOwnPair ps c.loop-item.item-index (0, 0) at.0 own) (ap value_view c.item-item.is ∙ at.1) in
     let e = c.in_err-pair.was in
@@ -31,8 +31,8 @@ loop-item-preserved c ps own items =
 pub returns : goal.returns
 returns c ps own is =
     let some : c.items_of.result ≡ Some c.in_ok-items.items = some_from_ok c.items_of.result c.args.wanted c.in_ok-items.items c.in_ok-items.ensures.value in
-    let items = array_items c.items_of.result c.in_ok-items.items (value_view c.args.value.now) (map pair_json ps) c.items_of.ensures is some in
+    let items = array_items c.items_of.result c.in_ok-items.items (value_view c.args.value.now) (map pair_json ps) c.items_of.ensures.view is some in
     let before = c.loop-item.invariant ps own items in
-    let many = array_length c.items_of.result c.in_ok-items.items (value_view c.args.value.now) (map pair_json ps) c.items_of.ensures is some in
+    let many = array_length c.items_of.result c.in_ok-items.items (value_view c.args.value.now) (map pair_json ps) c.items_of.ensures.view is some in
     let all = take_all c.loop-item.item-index ps (omega (arith, many, length-map ps pair_json)) in
     (before.0 ∙ all, before.1)
