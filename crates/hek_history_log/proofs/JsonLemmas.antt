@@ -79,3 +79,12 @@ pub array_same : (xs ys : List Json) → array_json xs ≡ array_json ys → xs 
 array_same xs ys e =
     let same : items_of xs ≡ items_of ys = cc in
     items_of-injective xs ys same
+
+pub length_of : {A : Type 0} (vs : List (Value A)) (js : List Json) → map value_view vs ≡ js → length vs ≡ length js
+length_of vs js e = sym (length-map vs value_view) ∙ ap length e
+
+-- the value that a look-up finds
+pub found_is : {A : Type 0} (r : Option (Bor (Value A))) (v : Bor (Value A)) (o : Option Json) (j : Json) → option_map (λ v. value_view v.now) r ≡ o → r ≡ Some v → o ≡ Some j → value_view v.now ≡ j
+found_is {A} r v o j finds is wanted =
+    let given : Some (value_view v.now) ≡ o = subst (λ (r : Option (Bor (Value A))). option_map (λ v. value_view v.now) r ≡ o) is finds in
+    cc

@@ -1,4 +1,6 @@
 //! A line of a log, and the faults at its values.
+ghost use Rattle.std.specs.Prelude.{◌≡◌};
+
 use crate::fault::{LogFault, Wanted};
 use crate::spot::{Spot, column_of};
 use hek_rules::NoMemory;
@@ -36,7 +38,9 @@ impl<'a> LogLine<'a> {
     }
 
     /// The fault of a value.
-    pub(crate) fn fault(self, spot: Spot, misfit: Misfit) -> LogFault {
+    pub(crate) fn fault(self, spot: Spot, misfit: Misfit) -> LogFault
+        ensures { misfit ≡ Misfit.NoMemory → result ≡ LogFault.NoMemory }
+    {
         match misfit {
             Misfit::Wanted(wanted) => self.wants(spot, wanted),
             Misfit::NoMemory => LogFault::NoMemory,

@@ -1,8 +1,10 @@
 //! The operations of a transaction.
-ghost use Rattle.std.specs.Prelude.{◌≡◌, ◌<◌, ◌≤◌, ◌^◌, ℕ, List, [], ◌∷◌, Some, Ok, Option, IsOkAnd, map, codes, false};
+ghost use Rattle.std.specs.Prelude.{◌≡◌, ◌<◌, ◌≤◌, ◌^◌, ℕ, List, [], ◌∷◌, ◌++◌, All, Some, Ok, Option, IsOkAnd, map, codes, false};
 ghost use Rattle.std.specs.Prelude as prelude;
 ghost use Rattle.json.specs.Json.{Json, boolean, string};
+ghost use Rattle.json.specs.Find.{get};
 ghost use Rattle.json.specs.Value.{value_view};
+ghost use Rattle.hek_history_log.specs.Contents.{content};
 ghost use Rattle.hek_history.specs.declared.history.Operation.{Operation as SpecOperation};
 ghost use Rattle.hek_history.specs.declared.history.Operation.TheVariants.{Read, Put, Insert, Update, Delete, Scan};
 ghost use Rattle.hek_history.specs.declared.history.Scope.{Scope as SpecScope};
@@ -12,7 +14,7 @@ ghost use Rattle.hek_history_log.specs.Kinds.{kind_of, IsPlain, Adds};
 ghost use Rattle.hek_history_log.specs.Gives.{Gives};
 ghost use Rattle.hek_history_log.specs.declared.shown.Label.TheVariants.{Number};
 ghost use Rattle.hek_history_log.specs.Kept.{KeepsLabels};
-ghost use Rattle.hek_history_log.specs.LogText.{number_json, number_or_null, pairs_json, parts_of, operation_json};
+ghost use Rattle.hek_history_log.specs.LogText.{number_json, number_or_null, pairs_json, parts_of, operation_json, array_json};
 ghost use Rattle.hek_history_log.specs.Readable.{IsOwn, IsOwnFound, IsReadable, ArePairs};
 
 use crate::fault::{LogFault, Wanted};
@@ -20,7 +22,7 @@ use crate::log_line::{LogLine, Misfit};
 use crate::numbering::Labels;
 use crate::shown::Label;
 use crate::spot::Spot;
-use crate::symbols::{Symbols, items_of, number_in};
+use crate::symbols::{Symbols, items_in, items_of, number_in};
 use hek_history::{Operation, Scope};
 use json::Value;
 use std::alloc::Global;
@@ -68,12 +70,17 @@ pub(crate) fn read_operations(
     object: &Value<'_>,
     lacking: Option<bool>,
     symbols: &mut Symbols,
-) -> Result<Vec<Operation>, LogFault> {
-    let Some(Value::Array(items)) = object.get("ops") else {
+) -> Result<Vec<Operation>, LogFault>
+    ensures { (buckets : ℕ) (ops : List SpecOperation) → All (IsReadable buckets) ops
+        → symbols.old.buckets ≡ Some buckets
+        → get (codes "ops") (value_view object.now) ≡ Some (array_json (map operation_json ops))
+        → Gives result LogFault.NoMemory (λ v. KeepsLabels symbols.old symbols.new
+            × (map content v.items ≡ map content ops)) }
+{
+    let Some(items) = items_in(object, "ops") else {
         return Err(line.wants(Spot::Field("ops"), Wanted::Operations));
     };
     let mut operations = Vec::with_capacity(alloc, items.len())?;
-    let items = items.as_slice();
     add_operations(alloc, line, items, lacking, symbols, &mut operations)?;
     Ok(operations)
 }
@@ -85,7 +92,13 @@ fn add_operations(
     lacking: Option<bool>,
     symbols: &mut Symbols,
     operations: &mut Vec<Operation>,
-) -> Result<(), LogFault> {
+) -> Result<(), LogFault>
+    ensures { (buckets : ℕ) (ops : List SpecOperation) → All (IsReadable buckets) ops
+        → symbols.old.buckets ≡ Some buckets → map value_view items.now ≡ map operation_json ops
+        → Gives result LogFault.NoMemory (λ _. KeepsLabels symbols.old symbols.new
+            × (map content operations.new.items
+            ≡ map content operations.old.items ++ map content ops)) }
+{
     for place in 0..items.len() {
         let is_last = place + 1 == items.len();
         let lacking = if is_last { lacking } else { None };

@@ -1,7 +1,7 @@
 //! The keys and values of a log while it is read.
 ghost use Rattle.std.specs.Prelude.{◌≡◌, ◌<◌, ◌^◌, ℕ, List, All, Some, Ok, Option, option_map, IsSomeAnd, map};
 ghost use Rattle.json.specs.Json.{Json};
-ghost use Rattle.json.specs.Find.{as_array};
+ghost use Rattle.json.specs.Find.{as_array, get};
 ghost use Rattle.json.specs.Value.{value_view, items_view};
 ghost use Rattle.hek_history_log.specs.Gives.{Gives};
 ghost use Rattle.hek_history_log.specs.Kept.{KeepsLabels};
@@ -170,4 +170,12 @@ pub(crate) fn items_of<'v, 'a>(value: &'v Value<'a>) -> Option<&'v [Value<'a>]>
         Value::Array(items) => Some(items.as_slice()),
         _ => None,
     }
+}
+
+/// The items of a field that is an array.
+pub(crate) fn items_in<'v, 'a>(object: &'v Value<'a>, name: &str) -> Option<&'v [Value<'a>]>
+    ensures { (js : List Json) → get name.now (value_view object.now) ≡ Some (array_json js)
+        → IsSomeAnd result (λ items. map value_view items.now ≡ js) }
+{
+    items_of(object.get(name)?)
 }
