@@ -1,2 +1,3 @@
 mod JsonLemmas
 mod KeptLemmas
+mod FieldLemmas

@@ -1,4 +1,13 @@
 //! Reading a log.
+ghost use Rattle.std.specs.Prelude.{◌≡◌, ℕ, Some};
+ghost use Rattle.json.specs.Value.{value_view};
+ghost use Rattle.hek_history.specs.declared.history.Transaction.{Transaction as SpecTransaction};
+ghost use Rattle.hek_history_log.specs.Contents.{SameTransaction};
+ghost use Rattle.hek_history_log.specs.Gives.{Gives};
+ghost use Rattle.hek_history_log.specs.Kept.{KeepsLabels};
+ghost use Rattle.hek_history_log.specs.LogText.{transaction_json};
+ghost use Rattle.hek_history_log.specs.Readable.{IsReadableTransaction};
+
 use crate::fault::{LogFault, Wanted};
 use crate::fields::{
     MEMBERS, OPENING_MEMBERS, buckets_of, check_members, interval_of, level_of, name_of, read_rows,
@@ -282,7 +291,12 @@ fn transaction_in(
     object: &Value<'_>,
     lacking: Option<bool>,
     symbols: &mut Symbols,
-) -> Result<Transaction, LogFault> {
+) -> Result<Transaction, LogFault>
+    ensures { (buckets name : ℕ) (t : SpecTransaction) → IsReadableTransaction buckets t
+        → symbols.old.buckets ≡ Some buckets → value_view object.now ≡ transaction_json name t
+        → Gives result LogFault.NoMemory
+        (λ u. KeepsLabels symbols.old symbols.new × SameTransaction u t) }
+{
     let (invoked, answered) = interval_of(line, object)?;
     let level = level_of(line, object)?;
     let status = status_of(line, object)?;
