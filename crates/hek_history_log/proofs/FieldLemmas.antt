@@ -1,5 +1,5 @@
 -- The fields that a printed transaction has.
-use Rattle.std.proofs.Common.{◌≡◌, ℕ, List, Bool, true, false, cond, Option, Some, None, option_map, map, refl, sym, ap, ◌∙◌}
+use Rattle.std.proofs.Common.{◌≡◌, ℕ, List, Bool, true, false, cond, Option, Some, None, option_map, map, ◌⊎◌, inl, inr, refl, sym, ap, ◌∙◌}
 use Rattle.std.specs.Prelude.{codes}
 use Rattle.std.specs.Str.{bytes_eq}
 use Rattle.json.specs.Json.{Json, string, Members, no_members, member}
@@ -32,12 +32,19 @@ other_interval n None None ms e = refl
 other_interval n None (Some a) ms e = other n (codes "at") (interval_json None (Some a)) ms e
 other_interval n (Some i) a ms e = other n (codes "at") (interval_json (Some i) a) ms e
 
+-- the times of a clock outside: none is given, or both are found
+pub at_member : (i a : Option ℕ) (ms : Members) → get_member (codes "at") ms ≡ None
+    → ((i ≡ None) × (a ≡ None) × (get_member (codes "at") (interval_then i a ms) ≡ None)) ⊎ (get_member (codes "at") (interval_then i a ms) ≡ Some (interval_json i a))
+at_member None None ms none = inl (refl, refl, none)
+at_member None (Some a) ms none = inr (here (codes "at") (codes "at") (interval_json None (Some a)) ms refl none)
+at_member (Some i) a ms none = inr (here (codes "at") (codes "at") (interval_json (Some i) a) ms refl none)
+
 module _ (name : ℕ) (t : Transaction) where
   -- the members from each one on
-  abbrev from_ops : Members
+  abbrev pub from_ops : Members
   from_ops = member (codes "ops") (array_json (map operation_json t.operations.items)) no_members
 
-  abbrev from_at : Members
+  abbrev pub from_at : Members
   from_at = interval_then t.invoked t.answered from_ops
 
   abbrev from_end : Members
