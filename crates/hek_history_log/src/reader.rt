@@ -1,5 +1,7 @@
 //! Reading a log.
 ghost use Rattle.std.specs.Prelude.{◌≡◌, ℕ, Some};
+ghost use Rattle.std.specs.Str.{IsUtf8};
+ghost use Rattle.json.specs.Json.{Json, Members, object, document};
 ghost use Rattle.json.specs.Value.{value_view};
 ghost use Rattle.hek_history.specs.declared.history.Transaction.{Transaction as SpecTransaction};
 ghost use Rattle.hek_history_log.specs.Contents.{SameTransaction};
@@ -190,7 +192,11 @@ fn object_in<'a>(
     alloc: Global,
     line: LogLine<'a>,
     scratch: &'a mut Scratch,
-) -> Result<Value<'a>, LogFault> {
+) -> Result<Value<'a>, LogFault>
+    ensures { (j : Json) (ms : Members) → j ≡ object ms → IsUtf8 line.entry.bytes.now
+        → document line.entry.bytes.now ≡ Some j
+        → Gives result LogFault.NoMemory (λ v. value_view v ≡ j) }
+{
     match Value::from_slice(alloc, line.bytes, scratch) {
         Ok(Value::Object(members)) => Ok(Value::Object(members)),
         Ok(_) => Err(line.wants(Spot::Line, Wanted::Object)),
