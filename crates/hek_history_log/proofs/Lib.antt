@@ -1,3 +1,4 @@
 mod JsonLemmas
 mod KeptLemmas
 mod FieldLemmas
+mod DocumentLemmas

@@ -6,7 +6,7 @@ ghost use Rattle.json.specs.Value.{value_view};
 ghost use Rattle.hek_history.specs.declared.history.Transaction.{Transaction as SpecTransaction};
 ghost use Rattle.hek_history_log.specs.Contents.{SameTransaction};
 ghost use Rattle.hek_history_log.specs.Gives.{Gives};
-ghost use Rattle.hek_history_log.specs.Kept.{KeepsLabels};
+ghost use Rattle.hek_history_log.specs.Kept.{KeepsLabels, AddsTransaction};
 ghost use Rattle.hek_history_log.specs.LogText.{transaction_json};
 ghost use Rattle.hek_history_log.specs.Readable.{IsReadableTransaction};
 
@@ -285,7 +285,12 @@ fn add_one(
     lacking: Option<bool>,
     who: Identity,
     draft: &mut Draft,
-) -> Result<(), LogFault> {
+) -> Result<(), LogFault>
+    ensures { (buckets name : ℕ) (t : SpecTransaction) → IsReadableTransaction buckets t
+        → draft.old.symbols.buckets ≡ Some buckets
+        → value_view object.now ≡ transaction_json name t
+        → Gives result LogFault.NoMemory (λ _. AddsTransaction draft.old draft.new t) }
+{
     let transaction = transaction_in(alloc, line, object, lacking, &mut draft.symbols)?;
     draft.history.transactions.push(transaction)?;
     Ok(draft.names.add(who)?)
