@@ -75,7 +75,7 @@ pub(crate) fn read_operations(
         → symbols.old.buckets ≡ Some buckets
         → get (codes "ops") (value_view object.now) ≡ Some (array_json (map operation_json ops))
         → Gives result LogFault.NoMemory (λ v. KeepsLabels symbols.old symbols.new
-            × (map content v.items ≡ map content ops)) }
+        × (map content v.items ≡ map content ops)) }
 {
     let Some(items) = items_in(object, "ops") else {
         return Err(line.wants(Spot::Field("ops"), Wanted::Operations));
@@ -96,8 +96,8 @@ fn add_operations(
     ensures { (buckets : ℕ) (ops : List SpecOperation) → All (IsReadable buckets) ops
         → symbols.old.buckets ≡ Some buckets → map value_view items.now ≡ map operation_json ops
         → Gives result LogFault.NoMemory (λ _. KeepsLabels symbols.old symbols.new
-            × (map content operations.new.items
-            ≡ map content operations.old.items ++ map content ops)) }
+        × (map content operations.new.items
+        ≡ map content operations.old.items ++ map content ops)) }
 {
     for place in 0..items.len() {
         let is_last = place + 1 == items.len();
@@ -123,7 +123,7 @@ fn add_operation(
     ensures { (buckets : ℕ) (op : SpecOperation) → IsReadable buckets op
         → symbols.old.buckets ≡ Some buckets → value_view item.now ≡ operation_json op
         → Gives result Misfit.NoMemory (λ _. KeepsLabels symbols.old symbols.new
-            × Adds operations.old.items operations.new.items op) }
+        × Adds operations.old.items operations.new.items op) }
 {
     let (kind, parts) = parts_in(item)?;
     if let Kind::Scan | Kind::Range = kind {
@@ -220,11 +220,7 @@ fn read_of(alloc: Global, parts: &[Value<'_>], symbols: &mut Symbols) -> Result<
     Ok(Operation::Read(key, found))
 }
 
-fn write_of(
-    alloc: Global,
-    parts: &[Value<'_>],
-    symbols: &mut Symbols,
-) -> Result<Operation, Misfit>
+fn write_of(alloc: Global, parts: &[Value<'_>], symbols: &mut Symbols) -> Result<Operation, Misfit>
     ensures { (word : Json) (key value : ℕ) → IsOwn key → IsOwn value
         → map value_view parts.now ≡ word ∷ number_json key ∷ number_json value ∷ []
         → (result ≡ Ok (Put key value)) × KeepsLabels symbols.old symbols.new }
@@ -323,7 +319,7 @@ fn add_scan(
         → kind ≡ kind_of (Scan scope pairs)
         → map value_view parts.now ≡ parts_of (Scan scope pairs)
         → Gives result Misfit.NoMemory (λ _. KeepsLabels symbols.old symbols.new
-            × Adds operations.old.items operations.new.items (Scan scope pairs)) }
+        × Adds operations.old.items operations.new.items (Scan scope pairs)) }
 {
     let (scope, answer) = scope_in(alloc, line, kind, parts, symbols)?;
     if may_lack && answer.is_null() {

@@ -27,11 +27,10 @@ loop-place-preserved c buckets ops all given items =
     let op = get_or ops place (Delete 0 true) in
     let r = c.add_operation.ensures buckets op (All-get_or (IsReadable buckets) ops place (Delete 0 true) at.0 all) (before.0.buckets ∙ given) (ap value_view c.index-items-place.is ∙ at.1) in
     let g = gives_ok c.add_operation.result _ _ c.in-Ok.field-0 r c.in-Ok.is in
-    let more = ap (map content) (take_more ops place (Delete 0 true) at.0) ∙ map-append content (take place ops) (op ∷ []) in
-    (
+    let more = ap (map content) (take_more ops place (Delete 0 true) at.0) ∙ map-append content (take place ops) (op ∷ []) in (
       keeps-then before.0 g.0,
       g.1 ∙ ap (λ (l : List Content). l ++ content op ∷ []) before.1 ∙ append_assoc (map content c.args.operations.now.items) (map content (take place ops)) (content op ∷ [])
-      ∙ ap (λ (l : List Content). map content c.args.operations.now.items ++ l) (sym more),
+          ∙ ap (λ (l : List Content). map content c.args.operations.now.items ++ l) (sym more),
     )
 
 pub returns : goal.returns

@@ -22,8 +22,7 @@ returns c buckets name t readable given is =
     let interval : (c.in_ok-invoked.invoked, c.in_ok-invoked.answered) ≡ (t.invoked, t.answered) = ok_is _ _ (sym c.in_ok-invoked.was ∙ times) in
     let own : (c.in_ok-begin.begin, c.in_ok-begin.end) ≡ (t.begin, t.end) =
     ok_is _ _ (sym c.in_ok-begin.was ∙ c.times_of.ensures t.begin t.end readable.begin readable.end readable.ends (ap (get (codes "begin")) is ∙ get-begin name t) (ap (get (codes "end")) is ∙ get-end name t)) in
-    let g = c.in_ok-read_operations.ensures buckets t.operations.items readable.operations given (ap (get (codes "ops")) is ∙ get-ops name t) in
-    (
+    let g = c.in_ok-read_operations.ensures buckets t.operations.items readable.operations given (ap (get (codes "ops")) is ∙ get-ops name t) in (
       g.0,
       record {
         level = ok_is _ _ (sym c.in_ok-level.was ∙ c.level_of.ensures t.level (ap (get (codes "level")) is ∙ get-level name t));
