@@ -58,6 +58,10 @@ abbrev pub hex_text : ℕ → ℕ → List ℕ
 hex_text zero n = []
 hex_text (suc k) n = hex_text k (n / 16) ++ hex_digit (n % 16) ∷ []
 
+-- all 16 digits of the number of a word
+unfoldable pub word_text : ℕ → List ℕ
+word_text n = hex_text 16 n
+
 abbrev pub flag_text : Bool → List ℕ
 flag_text true = codes "set"
 flag_text false = codes "clear"
@@ -82,10 +86,10 @@ end_reading (Lock readers writer no_more) = lock_reading readers writer ++ (code
 
 -- a word: its number in hexadecimal, and its reading
 abbrev pub begin_field : BeginRecord → List ℕ
-begin_field r = codes "; " ++ (hex_text 16 (begin_number r) ++ (codes " begin " ++ begin_reading r))
+begin_field r = codes "; " ++ (word_text (begin_number r) ++ (codes " begin " ++ begin_reading r))
 
 abbrev pub end_field : EndRecord → List ℕ
-end_field r = codes "; " ++ (hex_text 16 (end_number r) ++ (codes " end " ++ end_reading r))
+end_field r = codes "; " ++ (word_text (end_number r) ++ (codes " end " ++ end_reading r))
 
 -- ---- versions
 
@@ -122,8 +126,11 @@ txn_front p t = codes "txn " ++ (decimal t ++ (32 ∷ (name_at p t ++ (codes ": 
 abbrev pub phase_fields : Txn → List ℕ
 phase_fields x = codes "; " ++ (phase_text x.state ++ (codes "; begin " ++ (drawn_text x.begin ++ (codes "; end " ++ drawn_text x.end))))
 
+abbrev pub flags_text : Bool → Bool → List ℕ
+flags_text no_more_waits abort_now = codes "; no-more-waits " ++ (flag_text no_more_waits ++ (codes "; abort-now " ++ flag_text abort_now))
+
 abbrev pub flag_fields : Txn → List ℕ
-flag_fields x = codes "; no-more-waits " ++ (flag_text x.no_more_waits ++ (codes "; abort-now " ++ flag_text x.abort_now))
+flag_fields x = flags_text x.no_more_waits x.abort_now
 
 abbrev pub counter_fields : World → ℕ → List ℕ
 counter_fields w t = codes "; waits " ++ (decimal (waits w t) ++ (codes "; commits " ++ decimal (commit_deps w t)))

@@ -2,7 +2,7 @@
 ghost use Rattle.std.specs.Prelude.{◌≡◌, ◌<◌, ◌++◌, ◌∷◌, [], codes, map, OnOk};
 ghost use Rattle.std.specs.Fmt.{decimal};
 ghost use Rattle.hek_rules.specs.Lines.{spaced};
-ghost use Rattle.hek_step_report.specs.StateText.{none_text, list_field, entry_text, hex_digit, hex_text};
+ghost use Rattle.hek_step_report.specs.StateText.{none_text, list_field, entry_text, hex_digit, hex_text, word_text};
 
 use hek_rules::{NoMemory, TxnId, VersionId, WriteEntry};
 use std::io::Write;
@@ -23,8 +23,15 @@ pub(crate) fn put_number(number: u64, lines: &mut Vec<u8>) -> Result<(), NoMemor
     }
 }
 
-/// The last `count` digits of a number in upper-case hexadecimal.
-pub(crate) fn put_hex(count: u64, number: u64, lines: &mut Vec<u8>) -> Result<(), NoMemory>
+/// The number of a word, in hexadecimal.
+pub(crate) fn put_bits(bits: u64, lines: &mut Vec<u8>) -> Result<(), NoMemory>
+    ensures { OnOk result (lines.new.items ≡ lines.old.items ++ word_text bits) }
+{
+    put_hex(16, bits, lines)
+}
+
+// The last `count` digits of a number in upper-case hexadecimal.
+fn put_hex(count: u64, number: u64, lines: &mut Vec<u8>) -> Result<(), NoMemory>
     ensures { OnOk result (lines.new.items ≡ lines.old.items ++ hex_text count number) }
 {
     if count == 0 {

@@ -6,10 +6,10 @@ ghost use Rattle.hek_txn.specs.TxnTable.{Declared};
 ghost use Rattle.hek_machine.specs.Judgements.{IsShown};
 ghost use Rattle.hek_machine.specs.Stands.{StandsFor};
 ghost use Rattle.hek_step_report.specs.Clock.{clock_text};
-ghost use Rattle.hek_step_report.specs.StateText.{bucket_line, bucket_lines, locks_line, row_line, row_text, version_line, version_lines, drawn_text, phase_text, txn_front, phase_fields, counter_fields, flag_fields, flag_text, held_fields, other_fields, declared_line, txn_line, txn_lines, lines_of_state, state_text};
+ghost use Rattle.hek_step_report.specs.StateText.{bucket_line, bucket_lines, locks_line, row_line, row_text, version_line, version_lines, drawn_text, phase_text, txn_front, phase_fields, counter_fields, flag_fields, flags_text, held_fields, other_fields, declared_line, txn_line, txn_lines, lines_of_state, state_text};
 
 use crate::text::putting::{put_entries, put_number, put_numbers, put_text, put_txns, put_versions};
-use crate::text::word::{flag_word, put_begin_field, put_end_field};
+use crate::text::word::{put_begin_field, put_end_field, put_flag};
 use hek_machine::Machine;
 use hek_rules::{NoMemory, Schedule, State, Time, TxnId, VersionId};
 use hek_word::{BeginWord, EndWord};
@@ -106,7 +106,19 @@ pub fn put_version(machine: &Machine, v: VersionId, lines: &mut Vec<u8>) -> Resu
     let Some(end) = machine.end_word(v) else {
         return put_text("\n", lines);
     };
-    put_row(v, key, value, lines)?;
+    put_row_line(v, (key, value), begin, end, lines)
+}
+
+fn put_row_line(
+    v: VersionId,
+    row: (u64, u64),
+    begin: BeginWord,
+    end: EndWord,
+    lines: &mut Vec<u8>,
+) -> Result<(), NoMemory>
+    ensures { OnOk result (lines.new.items ≡ lines.old.items ++ row_line v row.0 row.1 begin end) }
+{
+    put_row(v, row.0, row.1, lines)?;
     put_begin_field(begin, lines)?;
     put_end_field(end, lines)?;
     put_text("\n", lines)
@@ -223,10 +235,20 @@ fn put_flags(machine: &Machine, t: TxnId, lines: &mut Vec<u8>) -> Result<(), NoM
     requires { Declared machine.now.txns t }
     ensures { OnOk result (IsShown machine.now (λ w. lines.old.items ++ flag_fields (txn_in w.txns t)) lines.new.items) }
 {
+    put_both_flags(machine.no_more_waits(t), machine.abort_now(t), lines)
+}
+
+fn put_both_flags(
+    no_more_waits: bool,
+    abort_now: bool,
+    lines: &mut Vec<u8>,
+) -> Result<(), NoMemory>
+    ensures { OnOk result (lines.new.items ≡ lines.old.items ++ flags_text no_more_waits abort_now) }
+{
     put_text("; no-more-waits ", lines)?;
-    put_text(flag_word(machine.no_more_waits(t)), lines)?;
+    put_flag(no_more_waits, lines)?;
     put_text("; abort-now ", lines)?;
-    put_text(flag_word(machine.abort_now(t)), lines)
+    put_flag(abort_now, lines)
 }
 
 // What a transaction holds: read locks, versions to stamp, bucket locks.

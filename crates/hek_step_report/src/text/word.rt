@@ -2,7 +2,7 @@
 ghost use Rattle.std.specs.Prelude.{◌≡◌, ◌++◌, codes, OnOk};
 ghost use Rattle.hek_step_report.specs.StateText.{flag_text, until_text, writer_text, begin_reading, lock_reading, end_reading, begin_field, end_field};
 
-use crate::text::putting::{put_hex, put_number, put_text};
+use crate::text::putting::{put_bits, put_number, put_text};
 use hek_rules::{BeginRecord, EndRecord, NoMemory, Time, TxnId};
 use hek_word::{BeginWord, EndWord};
 
@@ -59,7 +59,7 @@ fn put_whole_end(word: EndWord, lines: &mut Vec<u8>) -> Result<(), NoMemory>
         } => {
             put_lock(readers, writer, lines)?;
             put_text(" no-more-reads ", lines)?;
-            put_text(flag_word(no_more), lines)
+            put_flag(no_more, lines)
         }
     }
 }
@@ -86,11 +86,15 @@ fn put_writer(writer: Option<TxnId>, lines: &mut Vec<u8>) -> Result<(), NoMemory
     }
 }
 
-/// The word of a flag.
-pub(crate) fn flag_word(is_set: bool) -> &'static str
-    ensures { result.now ≡ flag_text is_set }
+/// A flag.
+pub(crate) fn put_flag(is_set: bool, lines: &mut Vec<u8>) -> Result<(), NoMemory>
+    ensures { OnOk result (lines.new.items ≡ lines.old.items ++ flag_text is_set) }
 {
-    if is_set { "set" } else { "clear" }
+    if is_set {
+        put_text("set", lines)
+    } else {
+        put_text("clear", lines)
+    }
 }
 
 /// A Begin word as a field: its number in hexadecimal, and what it says.
@@ -98,7 +102,7 @@ pub(crate) fn put_begin_field(word: BeginWord, lines: &mut Vec<u8>) -> Result<()
     ensures { OnOk result (lines.new.items ≡ lines.old.items ++ begin_field word) }
 {
     put_text("; ", lines)?;
-    put_hex(16, word.bits(), lines)?;
+    put_bits(word.bits(), lines)?;
     put_text(" begin ", lines)?;
     put_begin(word, lines)
 }
@@ -108,7 +112,7 @@ pub(crate) fn put_end_field(word: EndWord, lines: &mut Vec<u8>) -> Result<(), No
     ensures { OnOk result (lines.new.items ≡ lines.old.items ++ end_field word) }
 {
     put_text("; ", lines)?;
-    put_hex(16, word.bits(), lines)?;
+    put_bits(word.bits(), lines)?;
     put_text(" end ", lines)?;
     put_whole_end(word, lines)
 }
