@@ -1,2 +1,3 @@
 mod HexLemmas
 mod NumberedLines
+mod ShownLines

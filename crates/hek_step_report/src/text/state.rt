@@ -1,12 +1,14 @@
 //! The state of a machine as text.
 ghost use Rattle.std.specs.Prelude.{◌≡◌, ◌<◌, ◌++◌, ◌∷◌, [], length, codes, IfOk, OnOk};
+ghost use Rattle.hek_rules.specs.Names.{level_word};
 ghost use Rattle.hek_rules.specs.Plan.{IsDeclared};
 ghost use Rattle.hek_rules.specs.World.{World, txn_in};
 ghost use Rattle.hek_txn.specs.TxnTable.{Declared};
+ghost use Rattle.hek_asm.specs.Canonical.{name_at};
 ghost use Rattle.hek_machine.specs.Judgements.{IsShown};
 ghost use Rattle.hek_machine.specs.Stands.{StandsFor};
 ghost use Rattle.hek_step_report.specs.Clock.{clock_text};
-ghost use Rattle.hek_step_report.specs.StateText.{bucket_line, bucket_lines, locks_line, row_line, row_text, version_line, version_lines, drawn_text, phase_text, txn_front, phase_fields, counter_fields, flag_fields, flags_text, held_fields, other_fields, declared_line, txn_line, txn_lines, lines_of_state, state_text};
+ghost use Rattle.hek_step_report.specs.StateText.{bucket_line, bucket_lines, locks_line, row_line, row_text, version_line, version_lines, drawn_text, phase_text, level_at, txn_front, phase_fields, counter_fields, flag_fields, flags_text, held_fields, other_fields, declared_line, txn_line, txn_lines, lines_of_state, state_text};
 
 use crate::text::putting::{put_entries, put_number, put_numbers, put_text, put_txns, put_versions};
 use crate::text::word::{put_begin_field, put_end_field, put_flag};
@@ -177,8 +179,22 @@ fn put_name(schedule: &Schedule, t: TxnId, lines: &mut Vec<u8>) -> Result<(), No
     put_text("txn ", lines)?;
     put_number(t.number(), lines)?;
     put_text(" ", lines)?;
-    put_text(schedule.name_of(t), lines)?;
+    put_own_name(schedule, t, lines)?;
     put_text(": ", lines)?;
+    put_level(schedule, t, lines)
+}
+
+fn put_own_name(schedule: &Schedule, t: TxnId, lines: &mut Vec<u8>) -> Result<(), NoMemory>
+    requires { IsDeclared (length schedule.now.txns) t }
+    ensures { OnOk result (lines.new.items ≡ lines.old.items ++ name_at schedule.now t) }
+{
+    put_text(schedule.name_of(t), lines)
+}
+
+fn put_level(schedule: &Schedule, t: TxnId, lines: &mut Vec<u8>) -> Result<(), NoMemory>
+    requires { IsDeclared (length schedule.now.txns) t }
+    ensures { OnOk result (lines.new.items ≡ lines.old.items ++ level_word (level_at schedule.now t)) }
+{
     put_text(schedule.level_of(t).word(), lines)
 }
 
