@@ -66,11 +66,7 @@ pub(crate) fn put_versions(
 }
 
 /// A field with transactions, by their IDs.
-pub(crate) fn put_txns(
-    label: &str,
-    txns: &[TxnId],
-    lines: &mut Vec<u8>,
-) -> Result<(), NoMemory>
+pub(crate) fn put_txns(label: &str, txns: &[TxnId], lines: &mut Vec<u8>) -> Result<(), NoMemory>
     ensures { OnOk result (lines.new.items ≡ lines.old.items ++ list_field decimal label.now txns.now) }
 {
     put_label(label, txns.len(), lines)?;
@@ -78,11 +74,7 @@ pub(crate) fn put_txns(
 }
 
 /// A field with numbers.
-pub(crate) fn put_numbers(
-    label: &str,
-    numbers: &[u64],
-    lines: &mut Vec<u8>,
-) -> Result<(), NoMemory>
+pub(crate) fn put_numbers(label: &str, numbers: &[u64], lines: &mut Vec<u8>) -> Result<(), NoMemory>
     ensures { OnOk result (lines.new.items ≡ lines.old.items ++ list_field decimal label.now numbers.now) }
 {
     put_label(label, numbers.len(), lines)?;

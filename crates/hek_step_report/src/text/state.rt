@@ -10,7 +10,9 @@ ghost use Rattle.hek_machine.specs.Stands.{StandsFor};
 ghost use Rattle.hek_step_report.specs.Clock.{clock_text};
 ghost use Rattle.hek_step_report.specs.StateText.{bucket_line, bucket_lines, locks_line, row_line, row_text, version_line, version_lines, drawn_text, phase_text, level_at, txn_front, phase_fields, counter_fields, flag_fields, flags_text, held_fields, other_fields, declared_line, txn_line, txn_lines, lines_of_state, state_text};
 
-use crate::text::putting::{put_entries, put_number, put_numbers, put_text, put_txns, put_versions};
+use crate::text::putting::{
+    put_entries, put_number, put_numbers, put_text, put_txns, put_versions,
+};
 use crate::text::word::{put_begin_field, put_end_field, put_flag};
 use hek_machine::Machine;
 use hek_rules::{NoMemory, Schedule, State, Time, TxnId, VersionId};
@@ -70,11 +72,7 @@ fn put_all_versions(machine: &Machine, lines: &mut Vec<u8>) -> Result<(), NoMemo
     Ok(())
 }
 
-fn put_all_txns(
-    schedule: &Schedule,
-    machine: &Machine,
-    lines: &mut Vec<u8>,
-) -> Result<(), NoMemory>
+fn put_all_txns(schedule: &Schedule, machine: &Machine, lines: &mut Vec<u8>) -> Result<(), NoMemory>
     ensures { OnOk result (IsShown machine.now (λ w. lines.old.items ++ txn_lines schedule.now w) lines.new.items) }
 {
     for place in 0..schedule.txn_count() {
@@ -254,11 +252,7 @@ fn put_flags(machine: &Machine, t: TxnId, lines: &mut Vec<u8>) -> Result<(), NoM
     put_both_flags(machine.no_more_waits(t), machine.abort_now(t), lines)
 }
 
-fn put_both_flags(
-    no_more_waits: bool,
-    abort_now: bool,
-    lines: &mut Vec<u8>,
-) -> Result<(), NoMemory>
+fn put_both_flags(no_more_waits: bool, abort_now: bool, lines: &mut Vec<u8>) -> Result<(), NoMemory>
     ensures { OnOk result (lines.new.items ≡ lines.old.items ++ flags_text no_more_waits abort_now) }
 {
     put_text("; no-more-waits ", lines)?;

@@ -64,11 +64,7 @@ fn put_whole_end(word: EndWord, lines: &mut Vec<u8>) -> Result<(), NoMemory>
     }
 }
 
-fn put_lock(
-    readers: u8,
-    writer: Option<TxnId>,
-    lines: &mut Vec<u8>,
-) -> Result<(), NoMemory>
+fn put_lock(readers: u8, writer: Option<TxnId>, lines: &mut Vec<u8>) -> Result<(), NoMemory>
     ensures { OnOk result (lines.new.items ≡ lines.old.items ++ lock_reading readers writer) }
 {
     put_text("lock readers ", lines)?;
