@@ -1,7 +1,7 @@
 -- The lines of a state: of each version, each transaction, and each locked bucket.
 use Rattle.std.specs.Prelude.{ℕ, zero, suc, ◌+◌, ◌/◌, ◌%◌, ◌-◌, ◌==◌, nat_lt, if◌then◌else◌, Bool, true, false, List, [], ◌∷◌, ◌++◌, codes, length, map, Option, Some, None}
 use Rattle.std.specs.Fmt.{decimal}
-use Rattle.std.specs.List.{flat_map, slice_index_or}
+use Rattle.std.specs.List.{slice_index_or}
 use Rattle.hek_rules.specs.declared.event.Level.{Level}
 use Rattle.hek_rules.specs.declared.event.Level.TheVariants.{Repeatable}
 use Rattle.hek_rules.specs.declared.event.State.{State}
