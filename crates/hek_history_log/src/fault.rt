@@ -79,18 +79,33 @@ impl LogFault {
 }
 
 impl From<NoMemory> for LogFault {
+    ghost use Rattle.std.specs.Prelude.{◌≡◌};
+    ghost use Rattle.hek_history_log.specs.declared.fault.LogFault.TheVariants.{NoMemory as no_memory};
+
+    ghost from_gives = { λ _ e. e ≡ no_memory };
+
     fn from(_fault: NoMemory) -> LogFault {
         LogFault::NoMemory
     }
 }
 
 impl From<AllocError> for LogFault {
+    ghost use Rattle.std.specs.Prelude.{◌≡◌};
+    ghost use Rattle.hek_history_log.specs.declared.fault.LogFault.TheVariants.{NoMemory as no_memory};
+
+    ghost from_gives = { λ _ e. e ≡ no_memory };
+
     fn from(_fault: AllocError) -> LogFault {
         LogFault::NoMemory
     }
 }
 
 impl<T: Drop> From<AllocFailed<T>> for LogFault {
+    ghost use Rattle.std.specs.Prelude.{◌≡◌};
+    ghost use Rattle.hek_history_log.specs.declared.fault.LogFault.TheVariants.{NoMemory as no_memory};
+
+    ghost from_gives = { λ _ e. e ≡ no_memory };
+
     fn from(_fault: AllocFailed<T>) -> LogFault {
         LogFault::NoMemory
     }

@@ -1,4 +1,6 @@
 //! A line of a log, and the faults at its values.
+ghost use Rattle.std.specs.Prelude.{◌≡◌};
+
 use crate::fault::{LogFault, Wanted};
 use crate::spot::{Spot, column_of};
 use hek_rules::NoMemory;
@@ -36,7 +38,9 @@ impl<'a> LogLine<'a> {
     }
 
     /// The fault of a value.
-    pub(crate) fn fault(self, spot: Spot, misfit: Misfit) -> LogFault {
+    pub(crate) fn fault(self, spot: Spot, misfit: Misfit) -> LogFault
+        ensures { misfit ≡ Misfit.NoMemory → result ≡ LogFault.NoMemory }
+    {
         match misfit {
             Misfit::Wanted(wanted) => self.wants(spot, wanted),
             Misfit::NoMemory => LogFault::NoMemory,
@@ -58,18 +62,33 @@ impl From<Wanted> for Misfit {
 }
 
 impl From<NoMemory> for Misfit {
+    ghost use Rattle.std.specs.Prelude.{◌≡◌};
+    ghost use Rattle.hek_history_log.specs.declared.log_line.Misfit.TheVariants.{NoMemory as no_memory};
+
+    ghost from_gives = { λ _ e. e ≡ no_memory };
+
     fn from(_fault: NoMemory) -> Misfit {
         Misfit::NoMemory
     }
 }
 
 impl From<AllocError> for Misfit {
+    ghost use Rattle.std.specs.Prelude.{◌≡◌};
+    ghost use Rattle.hek_history_log.specs.declared.log_line.Misfit.TheVariants.{NoMemory as no_memory};
+
+    ghost from_gives = { λ _ e. e ≡ no_memory };
+
     fn from(_fault: AllocError) -> Misfit {
         Misfit::NoMemory
     }
 }
 
 impl<T: Drop> From<AllocFailed<T>> for Misfit {
+    ghost use Rattle.std.specs.Prelude.{◌≡◌};
+    ghost use Rattle.hek_history_log.specs.declared.log_line.Misfit.TheVariants.{NoMemory as no_memory};
+
+    ghost from_gives = { λ _ e. e ≡ no_memory };
+
     fn from(_fault: AllocFailed<T>) -> Misfit {
         Misfit::NoMemory
     }

@@ -1,4 +1,15 @@
 //! Reading a log.
+ghost use Rattle.std.specs.Prelude.{◌≡◌, ℕ, Some};
+ghost use Rattle.std.specs.Str.{IsUtf8};
+ghost use Rattle.json.specs.Json.{Json, Members, object, document};
+ghost use Rattle.json.specs.Value.{value_view};
+ghost use Rattle.hek_history.specs.declared.history.Transaction.{Transaction as SpecTransaction};
+ghost use Rattle.hek_history_log.specs.Contents.{SameTransaction};
+ghost use Rattle.hek_history_log.specs.Gives.{Gives};
+ghost use Rattle.hek_history_log.specs.Kept.{KeepsLabels, AddsTransaction};
+ghost use Rattle.hek_history_log.specs.LogText.{transaction_json};
+ghost use Rattle.hek_history_log.specs.Readable.{IsReadableTransaction};
+
 use crate::fault::{LogFault, Wanted};
 use crate::fields::{
     MEMBERS, OPENING_MEMBERS, buckets_of, check_members, interval_of, level_of, name_of, read_rows,
@@ -181,7 +192,11 @@ fn object_in<'a>(
     alloc: Global,
     line: LogLine<'a>,
     scratch: &'a mut Scratch,
-) -> Result<Value<'a>, LogFault> {
+) -> Result<Value<'a>, LogFault>
+    ensures { (j : Json) (ms : Members) → j ≡ object ms → IsUtf8 line.entry.bytes.now
+        → document line.entry.bytes.now ≡ Some j
+        → Gives result LogFault.NoMemory (λ v. value_view v ≡ j) }
+{
     match Value::from_slice(alloc, line.bytes, scratch) {
         Ok(Value::Object(members)) => Ok(Value::Object(members)),
         Ok(_) => Err(line.wants(Spot::Line, Wanted::Object)),
@@ -270,7 +285,12 @@ fn add_one(
     lacking: Option<bool>,
     who: Identity,
     draft: &mut Draft,
-) -> Result<(), LogFault> {
+) -> Result<(), LogFault>
+    ensures { (buckets name : ℕ) (t : SpecTransaction) → IsReadableTransaction buckets t
+        → draft.old.symbols.buckets ≡ Some buckets
+        → value_view object.now ≡ transaction_json name t
+        → Gives result LogFault.NoMemory (λ _. AddsTransaction draft.old draft.new t) }
+{
     let transaction = transaction_in(alloc, line, object, lacking, &mut draft.symbols)?;
     draft.history.transactions.push(transaction)?;
     Ok(draft.names.add(who)?)
@@ -282,7 +302,12 @@ fn transaction_in(
     object: &Value<'_>,
     lacking: Option<bool>,
     symbols: &mut Symbols,
-) -> Result<Transaction, LogFault> {
+) -> Result<Transaction, LogFault>
+    ensures { (buckets name : ℕ) (t : SpecTransaction) → IsReadableTransaction buckets t
+        → symbols.old.buckets ≡ Some buckets → value_view object.now ≡ transaction_json name t
+        → Gives result LogFault.NoMemory
+        (λ u. KeepsLabels symbols.old symbols.new × SameTransaction u t) }
+{
     let (invoked, answered) = interval_of(line, object)?;
     let level = level_of(line, object)?;
     let status = status_of(line, object)?;

@@ -1,0 +1,4 @@
+mod JsonLemmas
+mod KeptLemmas
+mod FieldLemmas
+mod DocumentLemmas
