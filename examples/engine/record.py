@@ -43,7 +43,8 @@ from contextlib import contextmanager
 from enum import Enum
 from typing import Any, Literal, Self, TypeAlias
 
-# A key, a value or a name: a text, or a number from 0 on and below 2^64. 7 and "7" are two of them.
+# A key, a value or a name: a text, or a number from 0 on and below 2^64; a value may be below zero, from -2^63 on. 7 and "7" are two
+# of them.
 Cell: TypeAlias = int | str
 Level: TypeAlias = Literal["serializable", "repeatable", "snapshot"]
 Status: TypeAlias = Literal["committed", "aborted", "unknown"]
@@ -58,14 +59,21 @@ UNANSWERED = Missing.ANSWER
 
 
 def cell(it: Any) -> Cell:
-    """Refuses what a log cannot hold: numbers below zero, with a fraction or too large, booleans, None."""
+    """A key or a name. Refuses what a log cannot hold: numbers below zero, with a fraction or too large, booleans, None."""
     if isinstance(it, str) or (isinstance(it, int) and not isinstance(it, bool) and 0 <= it < 1 << 64):
         return it
     raise ValueError(f"{it!r} is neither a text nor a number from 0 on and below 2^64; a text can stand for it")
 
 
+def valued(it: Any) -> Cell:
+    """A value: what `cell` takes, or a number below zero from -2^63 on."""
+    if isinstance(it, int) and not isinstance(it, bool) and -(1 << 63) <= it < 0:
+        return it
+    return cell(it)
+
+
 def pairs(them: Iterable[Iterable[Any]]) -> list[list[Cell]]:
-    return [[cell(key), cell(value)] for key, value in them]
+    return [[cell(key), valued(value)] for key, value in them]
 
 
 class Transaction:
@@ -93,16 +101,16 @@ class Transaction:
 
     def write(self, key: Cell, value: Cell) -> None:
         """Sets a key, whether or not it is there. It has no answer."""
-        self._ask(["write", cell(key), cell(value)], UNANSWERED)
+        self._ask(["write", cell(key), valued(value)], UNANSWERED)
         self._is_asking = False
 
     def insert(self, key: Cell, value: Cell, done: bool | Missing = UNANSWERED) -> None:
         """Adds a key; `done` is False where it is there already."""
-        self._ask(["insert", cell(key), cell(value)], done)
+        self._ask(["insert", cell(key), valued(value)], done)
 
     def update(self, key: Cell, value: Cell, done: bool | Missing = UNANSWERED) -> None:
         """Changes a key; `done` is False where it is absent."""
-        self._ask(["update", cell(key), cell(value)], done)
+        self._ask(["update", cell(key), valued(value)], done)
 
     def delete(self, key: Cell, done: bool | Missing = UNANSWERED) -> None:
         """Removes a key; `done` is False where it is absent."""
@@ -122,7 +130,7 @@ class Transaction:
             raise ValueError("no operation waits for an answer")
         operation = self._operations[-1]
         if operation[0] == "read":
-            answer = answer if answer is None else cell(answer)
+            answer = answer if answer is None else valued(answer)
         elif operation[0] in ("scan", "range"):
             answer = pairs(answer)
         elif not isinstance(answer, bool):

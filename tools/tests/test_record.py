@@ -112,6 +112,18 @@ class Logs(Tree):
         with self.recorder() as recorder, self.assertRaises(ValueError), recorder.transaction("a", level="snapshots"):
             pass
 
+    def test_values_may_be_below_zero(self):
+        def run(t):
+            t.read("x", -(1 << 63))
+            t.update("x", -1, True)
+            t.scan(0, [(1, -2)])
+
+        self.recorded(run)
+        self.assertEqual(self.lines()[1]["ops"], [["read", "x", -(1 << 63)], ["update", "x", -1, True], ["scan", 0, [[1, -2]]]])
+        for wrong in (lambda t: t.read("x", -(1 << 63) - 1), lambda t: t.update(-1, 1, True), lambda t: t.scan(0, [(-1, 1)])):
+            with self.assertRaises(ValueError):
+                self.recorded(wrong)
+
     def test_times_may_be_told_late(self):
         with self.recorder(late=True, clock=None) as recorder:
             for name in "ab":
