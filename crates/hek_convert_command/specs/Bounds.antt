@@ -1,5 +1,5 @@
 -- What no word of a machine holds that has drawn, declared or read so much.
-use Rattle.std.specs.Prelude.{◌≡◌, ◌≢◌, ℕ, ◌<◌, ◌≤◌, Option, Some, None}
+use Rattle.std.specs.Prelude.{◌≢◌, ℕ, ◌<◌, ◌≤◌, Option, Some}
 use Rattle.hek_rules.specs.Words.{infinity}
 
 -- a time t is not drawn yet where the next time is c; infinity is no time that is drawn

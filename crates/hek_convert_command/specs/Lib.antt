@@ -1,4 +1,6 @@
+pub mod Answering
 pub mod Bounds
 pub mod Chain
+pub mod Changed
 pub mod Converted
 pub mod WordText

@@ -1,6 +1,7 @@
 //! Whether each exchange of a word begins with what the one before it left.
-ghost use Rattle.std.specs.Prelude.{◌≡◌, IfOk, OnOk, IfErr};
+ghost use Rattle.std.specs.Prelude.{◌≡◌, ℕ, None, IfOk, OnOk, IfErr};
 ghost use Rattle.hek_report.specs.declared.fault.HekFault.TheVariants as hek;
+ghost use Rattle.hek_convert_command.specs.declared.exchange.Side.{Side};
 ghost use Rattle.hek_convert_command.specs.Chain.{IsNoted, last_of};
 
 use crate::exchange::{Side, WordName};
@@ -16,7 +17,10 @@ pub struct Chain {
 }
 
 impl Chain {
-    pub fn new(alloc: Global) -> Chain {
+    /// A chain that has noted nothing.
+    pub fn new(alloc: Global) -> Chain
+        ensures { (side : Side) (version : ℕ) → last_of result side version ≡ None }
+    {
         Chain {
             begins: IndexMap::new(alloc),
             ends: IndexMap::new(alloc),

@@ -1,83 +1,17 @@
 //! `word --changes`: which change leads from one word to the next.
+ghost use Rattle.std.specs.Prelude.{◌≡◌, Option, List, ℕ, Some, IfOk};
+ghost use Rattle.hek_convert_command.specs.Changed.{HasAnswers, IsAfter, IsBeginChange, IsEndChange, IsOfSide};
+ghost use Rattle.hek_convert_command.specs.Answering.{Answering, IsAnswered, IsReply};
+
+use crate::answer::Answer;
 use crate::chain::Chain;
-use crate::exchange::{Exchange, Side, exchange_of};
-use crate::objects::put_bits;
+use crate::exchange::{Exchange, Side, WordName, exchange_of};
 use crate::words::line_fault;
 use hek_changes::{BeginChange, EndChange, begin_change, end_change};
-use hek_report::{HekFault, INPUT, Lines, Printing, buffered, send_lines};
+use hek_report::{HekFault, INPUT, Printing, buffered, send};
 use hek_word::{BeginWord, EndWord};
 use std::alloc::Global;
-use std::fmt;
 use std::io::{BufRead, Read, Write};
-
-/// What a line of a log of exchanges comes to.
-#[derive(Drop)]
-enum Answer {
-    NotAChange,
-    /// The exchange before it left the word this number.
-    Broken(u64),
-    Changes(Option<BeginChange>, Option<EndChange>),
-}
-
-impl Answer {
-    /// The exit status that a line with this answer asks for: 0 for a change, 1 for none, 4 for a line of another form.
-    fn status(&self) -> u8 {
-        match self {
-            Answer::NotAChange => 4,
-            Answer::Broken(_) | Answer::Changes(None, None) => 1,
-            Answer::Changes(_, _) => 0,
-        }
-    }
-}
-
-impl Answer {
-    /// Puts the object of the answer.
-    fn put_object(&self, lines: &mut Lines) {
-        lines.begin_line();
-        lines.put_text("kind", self.kind());
-        match self {
-            Answer::Broken(last) => put_bits("was", *last, lines),
-            Answer::Changes(begin, end) => {
-                put_change("begin", begin.as_ref(), lines);
-                put_change("end", end.as_ref(), lines);
-            }
-            Answer::NotAChange => {}
-        }
-        lines.end_line();
-    }
-
-    /// Which kind of answer this is.
-    fn kind(&self) -> &'static str {
-        match self {
-            Answer::NotAChange => "not a change",
-            Answer::Broken(_) => "broken",
-            Answer::Changes(None, None) => "none",
-            Answer::Changes(_, _) => "change",
-        }
-    }
-}
-
-/// Puts a change as the member of this name, or null.
-fn put_change<T: fmt::Display>(name: &str, change: Option<&T>, lines: &mut Lines) {
-    match change {
-        Some(change) => lines.put_shown(name, change),
-        None => lines.put_null(name),
-    }
-}
-
-/// Writes `end stamped`, `begin stamped; end stamped`, `none`, `broken: the word was 8000000000000002` or `not a change`.
-impl fmt::Display for Answer {
-    fn fmt<W: fmt::Write>(&self, f: &mut fmt::Formatter<W>) -> fmt::Result {
-        match self {
-            Answer::NotAChange => write!(f, "not a change"),
-            Answer::Broken(last) => write!(f, "broken: the word was {last:016X}"),
-            Answer::Changes(None, None) => write!(f, "none"),
-            Answer::Changes(Some(begin), None) => write!(f, "begin {begin}"),
-            Answer::Changes(None, Some(end)) => write!(f, "end {end}"),
-            Answer::Changes(Some(begin), Some(end)) => write!(f, "begin {begin}; end {end}"),
-        }
-    }
-}
 
 /// Reads exchanges of words, one on each line of the input, and writes for each the change that leads from the old word to
 /// the new one. `words` must be `-` alone. Answers the exit status: 0 if each line is of a change, 4 if one has another
@@ -88,33 +22,53 @@ pub fn changes_command<'a, I: Read + Drop, W: Write>(
     input: I,
     printing: Printing,
     out: &mut W,
-) -> Result<u8, HekFault<'a>> {
+) -> Result<u8, HekFault<'a>>
+    ensures { IfOk result (HasAnswers printing (W.contents out.old) (W.contents out.new)) }
+{
     if words.len() != 1 || words[0] != INPUT {
         return Err(HekFault::BadArgument);
     }
     let mut lines = buffered(alloc, input)?;
-    let mut chain = Chain::new(alloc);
-    answer_lines(alloc, &mut lines, &mut chain, printing, out)
+    answer_lines(alloc, &mut lines, printing, out)
 }
 
 /// Writes what each line that isn't blank comes to. Answers the greatest status that one asks for.
+#[tactic(auto, using(crate::proofs::ChangeLaws::none_yet, crate::proofs::ChangeLaws::all_answered))]
 fn answer_lines<'a, B: BufRead, W: Write>(
     alloc: Global,
     lines: &mut B,
-    chain: &mut Chain,
     printing: Printing,
     out: &mut W,
-) -> Result<u8, HekFault<'a>> {
+) -> Result<u8, HekFault<'a>>
+    ensures { IfOk result (HasAnswers printing (W.contents out.old) (W.contents out.new)) }
+{
+    let mut chain = Chain::new(alloc);
     let mut status = 0;
     for line in lines.lines(alloc) {
         let line = line.map_err(|error| line_fault(error.kind()))?;
         let text = line.as_str().trim();
-        if !text.is_empty() {
-            let asked = answer_line(alloc, text, chain, printing, out)?;
-            status = asked.max(status);
-        }
+        status = answer_next(alloc, text, &mut chain, status, printing, out)?;
     }
     Ok(status)
+}
+
+/// Writes what a line comes to, unless it is blank. Answers the greatest status that was asked for until then.
+#[tactic(auto, using(crate::proofs::ChangeLaws::one_more))]
+fn answer_next<'a, W: Write>(
+    alloc: Global,
+    line: &str,
+    chain: &mut Chain,
+    status: u8,
+    printing: Printing,
+    out: &mut W,
+) -> Result<u8, HekFault<'a>>
+    ensures { IfOk result (λ next. (before : Option (List ℕ)) → Answering printing before (W.contents out.old) status chain.old → Answering printing before (W.contents out.new) next chain.new) }
+{
+    if line.is_empty() {
+        return Ok(status);
+    }
+    let asked = answer_line(alloc, line, chain, printing, out)?;
+    Ok(asked.max(status))
 }
 
 /// Writes what a line comes to. Answers the status that it asks for.
@@ -124,42 +78,83 @@ fn answer_line<'a, W: Write>(
     chain: &mut Chain,
     printing: Printing,
     out: &mut W,
-) -> Result<u8, HekFault<'a>> {
+) -> Result<u8, HekFault<'a>>
+    ensures { IfOk result (IsAnswered printing chain.old chain.new (W.contents out.old) (W.contents out.new)) }
+{
     let answer = answer_to(line, chain)?;
-    match printing {
-        Printing::Text => writeln!(out, "{answer}").map_err(|_| HekFault::CannotWrite)?,
-        Printing::Json => {
-            let mut lines = Lines::new(alloc);
-            answer.put_object(&mut lines);
-            send_lines(&mut lines, out)?;
-        }
-    }
+    let mut text = answer.text(alloc, printing)?;
+    send(&mut text, out)?;
     Ok(answer.status())
 }
 
-fn answer_to<'a>(line: &str, chain: &mut Chain) -> Result<Answer, HekFault<'a>> {
-    let Some(exchange) = exchange_of(line) else {
-        return Ok(Answer::NotAChange);
-    };
-    let Some(word) = exchange.word else {
-        return Ok(Answer::Changes(begin_change_of(exchange), end_change_of(exchange)));
-    };
-    match chain.note(word, exchange.new)? {
-        Some(last) if last != exchange.old => Ok(Answer::Broken(last)),
-        _ => Ok(match word.side {
-            Side::Begin => Answer::Changes(begin_change_of(exchange), None),
-            Side::End => Answer::Changes(None, end_change_of(exchange)),
-        }),
+/// The answer to a line. The chain notes what its exchange left.
+fn answer_to<'a>(line: &str, chain: &mut Chain) -> Result<Answer, HekFault<'a>>
+    ensures { IfOk result (IsReply chain.old chain.new) }
+{
+    match exchange_of(line) {
+        None => Ok(Answer::NotAChange),
+        Some(exchange) => answer_of(&exchange, chain),
     }
 }
 
-fn begin_change_of(exchange: Exchange) -> Option<BeginChange> {
+fn answer_of<'a>(exchange: &Exchange, chain: &mut Chain) -> Result<Answer, HekFault<'a>>
+    ensures { IfOk result (IsReply chain.old chain.new) }
+{
+    match exchange.word {
+        None => Ok(Answer::Changes(begin_change_of(exchange), end_change_of(exchange))),
+        Some(word) => answer_of_named(exchange, word, chain),
+    }
+}
+
+/// The answer to an exchange that names its word.
+fn answer_of_named<'a>(
+    exchange: &Exchange,
+    word: WordName,
+    chain: &mut Chain,
+) -> Result<Answer, HekFault<'a>>
+    requires { exchange.now.word ≡ Some word }
+    ensures { IfOk result (IsReply chain.old chain.new) }
+{
+    let last = chain.note(word, exchange.new)?;
+    Ok(answer_after(exchange, word.side, last))
+}
+
+/// The answer to an exchange of a word that the exchange before it left this number, if there was one.
+fn answer_after(exchange: &Exchange, side: Side, last: Option<u64>) -> Answer
+    ensures { IsAfter exchange.now side last result }
+{
+    let Some(last) = last else {
+        return answer_on_side(exchange, side);
+    };
+    if last != exchange.old {
+        return Answer::Broken(last);
+    }
+    answer_on_side(exchange, side)
+}
+
+/// The change of a word of this side.
+fn answer_on_side(exchange: &Exchange, side: Side) -> Answer
+    ensures { IsOfSide exchange.now side result }
+{
+    match side {
+        Side::Begin => Answer::Changes(begin_change_of(exchange), None),
+        Side::End => Answer::Changes(None, end_change_of(exchange)),
+    }
+}
+
+#[tactic(auto, using(crate::proofs::ChangeLaws::not_old_begin, crate::proofs::ChangeLaws::not_new_begin, crate::proofs::ChangeLaws::begin_found))]
+fn begin_change_of(exchange: &Exchange) -> Option<BeginChange>
+    ensures { IsBeginChange exchange.now result }
+{
     let before = BeginWord::read(exchange.old)?;
     let after = BeginWord::read(exchange.new)?;
     begin_change(before, after, exchange.txn)
 }
 
-fn end_change_of(exchange: Exchange) -> Option<EndChange> {
+#[tactic(auto, using(crate::proofs::ChangeLaws::not_old_end, crate::proofs::ChangeLaws::not_new_end, crate::proofs::ChangeLaws::end_found))]
+fn end_change_of(exchange: &Exchange) -> Option<EndChange>
+    ensures { IsEndChange exchange.now result }
+{
     let before = EndWord::read(exchange.old)?;
     let after = EndWord::read(exchange.new)?;
     end_change(before, after, exchange.txn)

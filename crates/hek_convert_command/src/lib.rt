@@ -2,6 +2,7 @@
 //! lock words and what they say.
 #![tactic(auto)]
 
+mod answer;
 mod asm;
 mod bounds;
 mod chain;

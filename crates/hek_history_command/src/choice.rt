@@ -1,5 +1,8 @@
 //! What the command line asks the command to do.
-use hek_history::{History, Level, Order, Status};
+ghost use Rattle.std.specs.Prelude.{◌≡◌, true, false, IfSome};
+ghost use Rattle.hek_history_command.specs.Told.{HasCommitted, NoneCommitted, weaker_of};
+
+use hek_history::{History, Level, Order, Status, is_committed};
 use hek_report::Printing;
 
 /// Which anomalies are told.
@@ -56,7 +59,9 @@ pub struct Choice {
 
 /// The order that is asked for: without a choice, that of versions where each committed transaction has an end, and
 /// any order otherwise.
-pub(crate) fn order_of(choice: Choice, history: &History) -> Order {
+pub(crate) fn order_of(choice: Choice, history: &History) -> Order
+    ensures { IfSome choice.order (λ wanted. result ≡ wanted) }
+{
     if let Some(order) = choice.order {
         return order;
     }
@@ -76,9 +81,13 @@ pub(crate) fn set_level(history: &mut History, level: Level) {
 }
 
 /// Whether something of a history is judged: a transaction that has committed. Those of unknown status need not take place.
-pub(crate) fn is_judged(history: &History) -> bool {
-    for transaction in history.transactions.iter() {
-        if transaction.status == Status::Committed {
+#[tactic(auto, using(crate::proofs::Telling::none_committed))]
+pub(crate) fn is_judged(history: &History) -> bool
+    ensures some { result ≡ true → HasCommitted history.now }
+    ensures none { result ≡ false → NoneCommitted history.now }
+{
+    for place in 0..history.transactions.len() {
+        if is_committed(history, place) {
             return true;
         }
     }
@@ -86,7 +95,9 @@ pub(crate) fn is_judged(history: &History) -> bool {
 }
 
 /// The level that is asked for of all transactions, if it is weaker than serializable.
-pub(crate) fn weaker_level(choice: Choice) -> Option<Level> {
+pub(crate) fn weaker_level(choice: Choice) -> Option<Level>
+    ensures { result ≡ weaker_of choice.level }
+{
     match choice.level {
         Some(Level::Repeatable) => Some(Level::Repeatable),
         Some(Level::Snapshot) => Some(Level::Snapshot),

@@ -1,4 +1,7 @@
-//! A verdict as text.
+//! A verdict as text: first its words, which say what it is, and then the rest of its lines.
+ghost use Rattle.std.specs.Prelude.{◌≡◌, ◌++◌, ◌∷◌, [], codes, OnOk};
+ghost use Rattle.hek_history_command.specs.Told.{failed_front, serial_front};
+
 use crate::counted::Tally;
 use crate::counts::Counts;
 use hek_history::{Level, Order};
@@ -11,7 +14,38 @@ use std::alloc::Global;
 use std::fmt;
 use std::io::Write;
 
-/// The line of a serial history; at a weaker level, that the history holds there.
+/// What the line of a history of which nothing is known begins with.
+pub(crate) const UNKNOWN: &str = "unknown: ";
+
+/// What the line of a serial history begins with; at a weaker level, up to its name.
+pub(crate) fn serial_front(weaker: Option<Level>) -> &'static str
+    ensures { result.now ≡ serial_front weaker }
+{
+    match weaker {
+        None => "serial: ",
+        Some(_) => "holds at ",
+    }
+}
+
+/// What the line of a history that is not serial begins with; at a weaker level, up to its name.
+pub(crate) fn failed_front(weaker: Option<Level>) -> &'static str
+    ensures { result.now ≡ failed_front weaker }
+{
+    match weaker {
+        None => "not serial: ",
+        Some(_) => "fails at ",
+    }
+}
+
+/// Appends the level, if it is a weaker one.
+fn put_level(weaker: Option<Level>, lines: &mut Vec<u8>) -> Result<(), NoMemory> {
+    match weaker {
+        None => Ok(()),
+        Some(level) => put(write!(lines, "{}: ", level.word())),
+    }
+}
+
+/// The rest of the line of a serial history, or of one that holds at a weaker level.
 pub(crate) fn put_serial(
     weaker: Option<Level>,
     counts: Counts,
@@ -19,11 +53,8 @@ pub(crate) fn put_serial(
 ) -> Result<(), NoMemory> {
     let transactions = number_of(counts.transactions, "transaction");
     let reads = number_of(counts.reads, "read");
-    match weaker {
-        None => put(write!(lines, "serial"))?,
-        Some(level) => put(write!(lines, "holds at {}", level.word()))?,
-    }
-    put(write!(lines, ": {transactions}, {reads}"))?;
+    put_level(weaker, lines)?;
+    put(write!(lines, "{transactions}, {reads}"))?;
     match counts.elsewhere {
         None => put(writeln!(lines)),
         Some(0) => put(writeln!(lines, ", in the order of their ends")),
@@ -39,8 +70,11 @@ pub(crate) fn put_serial(
 }
 
 /// The line of a history of which nothing is judged.
-pub(crate) fn put_nothing(lines: &mut Vec<u8>) -> Result<(), NoMemory> {
-    put(writeln!(lines, "nothing to judge"))
+pub(crate) fn put_nothing(lines: &mut Vec<u8>) -> Result<(), NoMemory>
+    ensures { OnOk result (lines.new.items ≡ lines.old.items ++ (codes "nothing to judge" ++ 10 ∷ [])) }
+{
+    lines.extend_from_slice(b"nothing to judge\n")?;
+    Ok(())
 }
 
 /// A number of things.
@@ -62,7 +96,7 @@ impl fmt::Display for Counted {
     }
 }
 
-/// The lines of a history that is not serial, or that fails at a weaker level: the anomaly's name, and its cycle.
+/// The rest of the lines of a history that is not serial, or that fails at a weaker level: the anomaly's name, and its cycle.
 pub(crate) fn put_not_serial(
     alloc: Global,
     weaker: Option<Level>,
@@ -71,17 +105,15 @@ pub(crate) fn put_not_serial(
     lines: &mut Vec<u8>,
 ) -> Result<(), NoMemory> {
     let name = anomaly_name(cause.anomaly);
-    match weaker {
-        None => put(writeln!(lines, "not serial: {name}"))?,
-        Some(level) => put(writeln!(lines, "fails at {}: {name}", level.word()))?,
-    }
+    put_level(weaker, lines)?;
+    put(writeln!(lines, "{name}"))?;
     for line in cycle_lines(alloc, log, cause)?.iter() {
         put(writeln!(lines, "{line}"))?;
     }
     Ok(())
 }
 
-/// The line of how many anomalies there are of each name, which is the verdict if it stands alone, and of the rest.
+/// The line of how many anomalies there are of each name, and of the rest. If it stands alone, the words of the verdict are before it.
 pub(crate) fn put_counts(
     weaker: Option<Level>,
     alone: bool,
@@ -89,10 +121,10 @@ pub(crate) fn put_counts(
     is_serial: bool,
     lines: &mut Vec<u8>,
 ) -> Result<(), NoMemory> {
-    match (alone, weaker) {
-        (false, _) => put(write!(lines, "in all: "))?,
-        (true, None) => put(write!(lines, "not serial: "))?,
-        (true, Some(level)) => put(write!(lines, "fails at {}: ", level.word()))?,
+    if alone {
+        put_level(weaker, lines)?;
+    } else {
+        put(write!(lines, "in all: "))?;
     }
     tally.put_words(lines)?;
     put(writeln!(lines, "; the rest {}", rest_words(weaker, is_serial)))
@@ -107,12 +139,12 @@ fn rest_words(weaker: Option<Level>, is_serial: bool) -> &'static str {
     }
 }
 
-/// The line of a history of which nothing is known.
+/// The rest of the line of a history of which nothing is known.
 pub(crate) fn put_unknown(progress: Progress, lines: &mut Vec<u8>) -> Result<(), NoMemory> {
     let conflicts = number_of(progress.conflicts as u64, "conflict");
     put(writeln!(
         lines,
-        "unknown: after {conflicts} the search has no order, and no proof that there is none"
+        "after {conflicts} the search has no order, and no proof that there is none"
     ))
 }
 

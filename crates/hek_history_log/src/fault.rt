@@ -1,4 +1,7 @@
 //! What can be wrong with a log.
+ghost use Rattle.std.specs.Prelude.{◌≡◌, true};
+ghost use Rattle.hek_history_log.specs.Ends.{IsEnd};
+
 use hek_rules::NoMemory;
 use std::alloc::{AllocError, AllocFailed};
 use std::fmt;
@@ -73,24 +76,41 @@ impl LogFault {
     }
 
     /// Whether reading ended there, so that nothing more can be said of the log.
-    pub(crate) fn is_end(&self) -> bool {
+    pub(crate) fn is_end(&self) -> bool
+        ensures { IsEnd self.now → result ≡ true }
+    {
         matches!(self, LogFault::CannotRead | LogFault::NoMemory)
     }
 }
 
 impl From<NoMemory> for LogFault {
+    ghost use Rattle.std.specs.Prelude.{◌≡◌};
+    ghost use Rattle.hek_history_log.specs.declared.fault.LogFault.TheVariants.{NoMemory as no_memory};
+
+    ghost from_gives = { λ _ e. e ≡ no_memory };
+
     fn from(_fault: NoMemory) -> LogFault {
         LogFault::NoMemory
     }
 }
 
 impl From<AllocError> for LogFault {
+    ghost use Rattle.std.specs.Prelude.{◌≡◌};
+    ghost use Rattle.hek_history_log.specs.declared.fault.LogFault.TheVariants.{NoMemory as no_memory};
+
+    ghost from_gives = { λ _ e. e ≡ no_memory };
+
     fn from(_fault: AllocError) -> LogFault {
         LogFault::NoMemory
     }
 }
 
 impl<T: Drop> From<AllocFailed<T>> for LogFault {
+    ghost use Rattle.std.specs.Prelude.{◌≡◌};
+    ghost use Rattle.hek_history_log.specs.declared.fault.LogFault.TheVariants.{NoMemory as no_memory};
+
+    ghost from_gives = { λ _ e. e ≡ no_memory };
+
     fn from(_fault: AllocFailed<T>) -> LogFault {
         LogFault::NoMemory
     }

@@ -5,6 +5,7 @@
 mod fault;
 mod fields;
 mod finish;
+mod input;
 mod log_line;
 mod logged;
 mod numbering;

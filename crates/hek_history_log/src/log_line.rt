@@ -1,4 +1,6 @@
 //! A line of a log, and the faults at its values.
+ghost use Rattle.std.specs.Prelude.{◌≡◌, ℕ, List, [], ◌∷◌, ◌++◌, slice_index, false};
+
 use crate::fault::{LogFault, Wanted};
 use crate::spot::{Spot, column_of};
 use hek_rules::NoMemory;
@@ -17,13 +19,25 @@ pub(crate) struct LogLine<'a> {
 impl<'a> LogLine<'a> {
     /// The line with a number, of these bytes without the line feed at their end, and without a byte order mark before the
     /// first line.
-    pub(crate) fn new(number: u64, bytes: &'a [u8]) -> LogLine<'a> {
-        let bytes = bytes.strip_suffix(b"\n").unwrap_or(bytes);
-        let bytes = match bytes.strip_prefix(BYTE_ORDER_MARK) {
-            Some(rest) if number == 1 => rest,
-            _ => bytes,
+    pub(crate) fn new(number: u64, bytes: &'a [u8]) -> LogLine<'a>
+        ensures number { result.number ≡ number }
+        ensures bytes { (text : List ℕ) → bytes.now ≡ text ++ 10 ∷ []
+            → slice_index text 0 ≡ 123 → result.bytes.now ≡ text }
+    {
+        let bytes = without_feed(bytes);
+        let bytes = if number == 1 {
+            without_mark(bytes)
+        } else {
+            bytes
         };
         LogLine { number, bytes }
+    }
+
+    /// Whether the line has nothing but blanks.
+    pub(crate) fn is_blank(self) -> bool
+        ensures { slice_index self.entry.bytes.now 0 ≡ 123 → result ≡ false }
+    {
+        self.bytes.iter().all(|byte| byte.is_ascii_whitespace())
     }
 
     /// The fault that a value is not what is wanted there.
@@ -36,11 +50,33 @@ impl<'a> LogLine<'a> {
     }
 
     /// The fault of a value.
-    pub(crate) fn fault(self, spot: Spot, misfit: Misfit) -> LogFault {
+    pub(crate) fn fault(self, spot: Spot, misfit: Misfit) -> LogFault
+        ensures { misfit ≡ Misfit.NoMemory → result ≡ LogFault.NoMemory }
+    {
         match misfit {
             Misfit::Wanted(wanted) => self.wants(spot, wanted),
             Misfit::NoMemory => LogFault::NoMemory,
         }
+    }
+}
+
+/// The bytes without the line feed at their end.
+fn without_feed(bytes: &[u8]) -> &[u8]
+    ensures { (text : List ℕ) → bytes.now ≡ text ++ 10 ∷ [] → result.now ≡ text }
+{
+    match bytes.strip_suffix(b"\n") {
+        Some(text) => text,
+        None => bytes,
+    }
+}
+
+/// The bytes without a byte order mark before them.
+fn without_mark(bytes: &[u8]) -> &[u8]
+    ensures { slice_index bytes.now 0 ≡ 123 → result.now ≡ bytes.now }
+{
+    match bytes.strip_prefix(BYTE_ORDER_MARK) {
+        Some(text) => text,
+        None => bytes,
     }
 }
 
@@ -58,18 +94,33 @@ impl From<Wanted> for Misfit {
 }
 
 impl From<NoMemory> for Misfit {
+    ghost use Rattle.std.specs.Prelude.{◌≡◌};
+    ghost use Rattle.hek_history_log.specs.declared.log_line.Misfit.TheVariants.{NoMemory as no_memory};
+
+    ghost from_gives = { λ _ e. e ≡ no_memory };
+
     fn from(_fault: NoMemory) -> Misfit {
         Misfit::NoMemory
     }
 }
 
 impl From<AllocError> for Misfit {
+    ghost use Rattle.std.specs.Prelude.{◌≡◌};
+    ghost use Rattle.hek_history_log.specs.declared.log_line.Misfit.TheVariants.{NoMemory as no_memory};
+
+    ghost from_gives = { λ _ e. e ≡ no_memory };
+
     fn from(_fault: AllocError) -> Misfit {
         Misfit::NoMemory
     }
 }
 
 impl<T: Drop> From<AllocFailed<T>> for Misfit {
+    ghost use Rattle.std.specs.Prelude.{◌≡◌};
+    ghost use Rattle.hek_history_log.specs.declared.log_line.Misfit.TheVariants.{NoMemory as no_memory};
+
+    ghost from_gives = { λ _ e. e ≡ no_memory };
+
     fn from(_fault: AllocFailed<T>) -> Misfit {
         Misfit::NoMemory
     }

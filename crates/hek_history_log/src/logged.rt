@@ -1,5 +1,6 @@
 //! A log that was read.
-ghost use Rattle.std.specs.Prelude.{◌≡◌, ◌<◌, ◌^◌};
+ghost use Rattle.std.specs.Prelude.{◌≡◌, ◌<◌, ◌^◌, [], None, Ok, OnOk};
+ghost use Rattle.hek_history_log.specs.Kept.{KeepsTurns};
 ghost use Rattle.hek_history_log.specs.declared.shown.Label.TheVariants.{Number};
 
 use crate::numbering::Labels;
@@ -44,7 +45,9 @@ pub(crate) struct Names {
 
 impl Names {
     /// No name.
-    pub(crate) fn new(alloc: Global) -> Names {
+    pub(crate) fn new(alloc: Global) -> Names
+        ensures { (result.twins.items ≡ []) × (result.turns.items ≡ []) }
+    {
         Names {
             labels: Labels::new(alloc),
             named: Vec::new(alloc),
@@ -55,14 +58,25 @@ impl Names {
     }
 
     /// Adds who the next transaction is.
-    pub(crate) fn add(&mut self, who: Identity) -> Result<(), NoMemory> {
-        if who.turn.is_some() {
-            for _ in self.turns.len()..self.named.len() {
-                self.turns.push(None)?;
-            }
-            self.turns.push(who.turn)?;
-        }
+    pub(crate) fn add(&mut self, who: Identity) -> Result<(), NoMemory>
+        ensures { who.turn ≡ None → OnOk result (KeepsTurns self.old self.new) }
+    {
+        self.add_turn(who.turn)?;
         self.named.push(who.name)?;
+        Ok(())
+    }
+
+    /// Adds the turn of the next transaction, if it is of a session.
+    fn add_turn(&mut self, turn: Option<Turn>) -> Result<(), NoMemory>
+        ensures { turn ≡ None → (result ≡ Ok tt) × (self.new ≡ self.old) }
+    {
+        if turn.is_none() {
+            return Ok(());
+        }
+        for _ in self.turns.len()..self.named.len() {
+            self.turns.push(None)?;
+        }
+        self.turns.push(turn)?;
         Ok(())
     }
 }

@@ -1,5 +1,7 @@
 //! The numbers that stand for labels.
-ghost use Rattle.std.specs.Prelude.{◌≡◌, ◌<◌, ◌^◌};
+ghost use Rattle.std.specs.Prelude.{◌≡◌, ◌<◌, ◌^◌, ℕ, Ok, None, true, false};
+ghost use Rattle.hek_history_log.specs.HasRead.{HasNoEntry};
+ghost use Rattle.hek_history_log.specs.Readable.{IsOwn};
 ghost use Rattle.hek_history_log.specs.declared.shown.Label.TheVariants.{Number};
 
 use crate::shown::Label;
@@ -31,7 +33,9 @@ pub(crate) struct Labels {
 
 impl Labels {
     /// No label but the numbers that stand for themselves.
-    pub(crate) fn new(alloc: Global) -> Labels {
+    pub(crate) fn new(alloc: Global) -> Labels
+        ensures { HasNoEntry result }
+    {
         Labels {
             texts: IndexSet::new(alloc),
             large: IndexSet::new(alloc),
@@ -40,7 +44,10 @@ impl Labels {
     }
 
     /// The number of a label, which is kept.
-    pub(crate) fn number_of(&mut self, alloc: Global, label: Label<'_>) -> Result<u64, NoMemory> {
+    pub(crate) fn number_of(&mut self, alloc: Global, label: Label<'_>) -> Result<u64, NoMemory>
+        ensures { (n : ℕ) → IsOwn n → label.entry ≡ Number n
+            → (result ≡ Ok n) × (self.new ≡ self.old) }
+    {
         match label {
             Label::Number(number) => self.number_of_number(number),
             Label::Negative(number) => self.number_of_negative(number),
@@ -48,7 +55,9 @@ impl Labels {
         }
     }
 
-    fn number_of_number(&mut self, number: u64) -> Result<u64, NoMemory> {
+    fn number_of_number(&mut self, number: u64) -> Result<u64, NoMemory>
+        ensures { IsOwn number → (result ≡ Ok number) × (self.new ≡ self.old) }
+    {
         if number < ENTRIES {
             return Ok(number);
         }
@@ -90,12 +99,16 @@ impl Labels {
     }
 
     /// Whether a number stands for a text.
-    pub(crate) fn is_text(number: u64) -> bool {
+    pub(crate) fn is_text(number: u64) -> bool
+        ensures { IsOwn number → result ≡ false }
+    {
         Labels::text_place(number).is_some()
     }
 
     /// The place among the texts of the text that a number stands for.
-    pub(crate) fn text_place(number: u64) -> Option<usize> {
+    pub(crate) fn text_place(number: u64) -> Option<usize>
+        ensures { IsOwn number → result ≡ None }
+    {
         match entry_place(number)? {
             (Kind::Text, place) => Some(place),
             _ => None,
@@ -103,12 +116,16 @@ impl Labels {
     }
 
     /// The texts in the order in which they came.
-    pub(crate) fn texts(&self) -> &[String] {
+    pub(crate) fn texts(&self) -> &[String]
+        ensures { result.now ≡ self.now.texts.keys }
+    {
         self.texts.as_slice()
     }
 
     /// Whether each label is its own number.
-    pub(crate) fn are_small(&self) -> bool {
+    pub(crate) fn are_small(&self) -> bool
+        ensures { HasNoEntry self.now → result ≡ true }
+    {
         self.texts.is_empty() && self.large.is_empty() && self.negative.is_empty()
     }
 }
@@ -128,7 +145,9 @@ fn entry_number(place: usize, kind: Kind) -> Result<u64, NoMemory> {
 }
 
 /// The kind and the place of the entry that a number stands for.
-fn entry_place(number: u64) -> Option<(Kind, usize)> {
+fn entry_place(number: u64) -> Option<(Kind, usize)>
+    ensures { IsOwn number → result ≡ None }
+{
     let entry = number.checked_sub(ENTRIES)?;
     let kind = match entry % KINDS {
         0 => Kind::Large,

@@ -1,10 +1,28 @@
 //! The operations of a transaction.
+ghost use Rattle.std.specs.Prelude.{◌≡◌, ◌<◌, ◌≤◌, ◌^◌, ℕ, List, [], ◌∷◌, ◌++◌, All, Some, Ok, Option, IsOkAnd, map, codes, false};
+ghost use Rattle.std.specs.Prelude as prelude;
+ghost use Rattle.json.specs.Json.{Json, boolean, string};
+ghost use Rattle.json.specs.Find.{get};
+ghost use Rattle.json.specs.Value.{value_view};
+ghost use Rattle.hek_history_log.specs.Contents.{content};
+ghost use Rattle.hek_history.specs.declared.history.Operation.{Operation as SpecOperation};
+ghost use Rattle.hek_history.specs.declared.history.Operation.TheVariants.{Read, Put, Insert, Update, Delete, Scan};
+ghost use Rattle.hek_history.specs.declared.history.Scope.{Scope as SpecScope};
+ghost use Rattle.std.specs.Global.{Vec};
+ghost use Rattle.hek_history.specs.declared.history.Scope.TheVariants.{Range, Bucket};
+ghost use Rattle.hek_history_log.specs.Kinds.{kind_of, IsPlain, answers, Adds};
+ghost use Rattle.hek_history_log.specs.Gives.{Gives};
+ghost use Rattle.hek_history_log.specs.declared.shown.Label.TheVariants.{Number};
+ghost use Rattle.hek_history_log.specs.Kept.{KeepsLabels};
+ghost use Rattle.hek_history_log.specs.LogText.{number_json, number_or_null, pairs_json, parts_of, operation_json, array_json};
+ghost use Rattle.hek_history_log.specs.Readable.{IsOwn, IsOwnFound, IsReadable, ArePairs};
+
 use crate::fault::{LogFault, Wanted};
 use crate::log_line::{LogLine, Misfit};
 use crate::numbering::Labels;
 use crate::shown::Label;
 use crate::spot::Spot;
-use crate::symbols::{Symbols, items_of};
+use crate::symbols::{Symbols, items_in, items_of, number_in};
 use hek_history::{Operation, Scope};
 use json::Value;
 use std::alloc::Global;
@@ -26,31 +44,48 @@ pub const OPERATIONS: [&str; 7] = [
     "read", "write", "insert", "update", "delete", "scan", "range",
 ];
 
-const KINDS: [(&str, Kind); 7] = [
-    ("read", Kind::Read),
-    ("write", Kind::Write),
-    ("insert", Kind::Insert),
-    ("update", Kind::Update),
-    ("delete", Kind::Delete),
-    ("scan", Kind::Scan),
-    ("range", Kind::Range),
-];
-
 /// Whether the last operation of a transaction is a write without an answer.
-pub(crate) fn lacks_answer(object: &Value<'_>) -> bool {
-    let Some(Value::Array(items)) = object.get("ops") else {
+pub(crate) fn lacks_answer(object: &Value<'_>) -> bool
+    ensures { (ops : List SpecOperation)
+        → get (codes "ops") (value_view object.now) ≡ Some (array_json (map operation_json ops))
+        → result ≡ false }
+{
+    let Some(items) = items_in(object, "ops") else {
         return false;
     };
-    let Some(Value::Array(parts)) = items.last() else {
-        return false;
-    };
-    let is_null = match parts.last() {
-        Some(answer) => answer.is_null(),
+    match items.last() {
+        Some(item) => is_unanswered(item),
         None => false,
+    }
+}
+
+/// Whether an operation is a write without an answer.
+fn is_unanswered(item: &Value<'_>) -> bool
+    ensures { (op : SpecOperation) → value_view item.now ≡ operation_json op → result ≡ false }
+{
+    let Ok((kind, parts)) = parts_in(item) else {
+        return false;
     };
-    match kind_of(parts.as_slice()) {
-        Some(Kind::Insert | Kind::Update | Kind::Delete) => is_null,
-        _ => false,
+    if has_answer(kind) {
+        return ends_in_null(parts);
+    }
+    false
+}
+
+/// Whether it is a write that answers whether it was done.
+fn has_answer(kind: Kind) -> bool
+    ensures { (op : SpecOperation) → kind ≡ kind_of op → result ≡ answers op }
+{
+    matches!(kind, Kind::Insert | Kind::Update | Kind::Delete)
+}
+
+fn ends_in_null(parts: &[Value<'_>]) -> bool
+    ensures { (js : List Json) (done : prelude.Bool)
+        → map value_view parts.now ≡ js ++ boolean done ∷ [] → result ≡ false }
+{
+    match parts.last() {
+        Some(part) => part.is_null(),
+        None => false,
     }
 }
 
@@ -62,12 +97,17 @@ pub(crate) fn read_operations(
     object: &Value<'_>,
     lacking: Option<bool>,
     symbols: &mut Symbols,
-) -> Result<Vec<Operation>, LogFault> {
-    let Some(Value::Array(items)) = object.get("ops") else {
+) -> Result<Vec<Operation>, LogFault>
+    ensures { (buckets : ℕ) (ops : List SpecOperation) → All (IsReadable buckets) ops
+        → symbols.old.buckets ≡ Some buckets
+        → get (codes "ops") (value_view object.now) ≡ Some (array_json (map operation_json ops))
+        → Gives result LogFault.NoMemory (λ v. KeepsLabels symbols.old symbols.new
+        × (map content v.items ≡ map content ops)) }
+{
+    let Some(items) = items_in(object, "ops") else {
         return Err(line.wants(Spot::Field("ops"), Wanted::Operations));
     };
     let mut operations = Vec::with_capacity(alloc, items.len())?;
-    let items = items.as_slice();
     add_operations(alloc, line, items, lacking, symbols, &mut operations)?;
     Ok(operations)
 }
@@ -79,7 +119,13 @@ fn add_operations(
     lacking: Option<bool>,
     symbols: &mut Symbols,
     operations: &mut Vec<Operation>,
-) -> Result<(), LogFault> {
+) -> Result<(), LogFault>
+    ensures { (buckets : ℕ) (ops : List SpecOperation) → All (IsReadable buckets) ops
+        → symbols.old.buckets ≡ Some buckets → map value_view items.now ≡ map operation_json ops
+        → Gives result LogFault.NoMemory (λ _. KeepsLabels symbols.old symbols.new
+        × (map content operations.new.items
+        ≡ map content operations.old.items ++ map content ops)) }
+{
     for place in 0..items.len() {
         let is_last = place + 1 == items.len();
         let lacking = if is_last { lacking } else { None };
@@ -100,14 +146,40 @@ fn add_operation(
     lacking: Option<bool>,
     symbols: &mut Symbols,
     operations: &mut Vec<Operation>,
-) -> Result<(), Misfit> {
-    let parts = items_of(item).ok_or(Wanted::Operation)?;
-    let kind = kind_of(parts).ok_or(Wanted::Operation)?;
+) -> Result<(), Misfit>
+    ensures { (buckets : ℕ) (op : SpecOperation) → IsReadable buckets op
+        → symbols.old.buckets ≡ Some buckets → value_view item.now ≡ operation_json op
+        → Gives result Misfit.NoMemory (λ _. KeepsLabels symbols.old symbols.new
+        × Adds operations.old.items operations.new.items op) }
+{
+    let (kind, parts) = parts_in(item)?;
     if let Kind::Scan | Kind::Range = kind {
         let may_lack = lacking.is_some();
         return add_scan(alloc, line, kind, parts, may_lack, symbols, operations);
     }
-    operations.push(operation_of(alloc, kind, parts, lacking, symbols)?)?;
+    let operation = operation_of(alloc, kind, parts, lacking, symbols)?;
+    add(operation, operations)
+}
+
+/// What an operation does, and its parts.
+fn parts_in<'v, 'a>(item: &'v Value<'a>) -> Result<(Kind, &'v [Value<'a>]), Misfit>
+    ensures { (op : SpecOperation) → value_view item.now ≡ operation_json op
+        → IsOkAnd result (λ r. (r.0 ≡ kind_of op) × (map value_view r.1.now ≡ parts_of op)) }
+{
+    let Some(parts) = items_of(item) else {
+        return Err(Misfit::Wanted(Wanted::Operation));
+    };
+    let Some(kind) = kind_of(parts) else {
+        return Err(Misfit::Wanted(Wanted::Operation));
+    };
+    Ok((kind, parts))
+}
+
+fn add(operation: Operation, operations: &mut Vec<Operation>) -> Result<(), Misfit>
+    ensures { Gives result Misfit.NoMemory
+        (λ _. Adds operations.old.items operations.new.items operation) }
+{
+    operations.push(operation)?;
     Ok(())
 }
 
@@ -118,7 +190,11 @@ fn operation_of(
     parts: &[Value<'_>],
     lacking: Option<bool>,
     symbols: &mut Symbols,
-) -> Result<Operation, Misfit> {
+) -> Result<Operation, Misfit>
+    ensures { (buckets : ℕ) (op : SpecOperation) → IsPlain op → IsReadable buckets op
+        → kind ≡ kind_of op → map value_view parts.now ≡ parts_of op
+        → (result ≡ Ok op) × KeepsLabels symbols.old symbols.new }
+{
     match kind {
         Kind::Read => read_of(alloc, parts, symbols),
         Kind::Write => write_of(alloc, parts, symbols),
@@ -129,17 +205,40 @@ fn operation_of(
     }
 }
 
-fn kind_of(parts: &[Value<'_>]) -> Option<Kind> {
-    let word = parts.first()?.as_str()?;
-    for (name, kind) in KINDS {
-        if name == word {
-            return Some(kind);
-        }
-    }
-    None
+fn kind_of(parts: &[Value<'_>]) -> Option<Kind>
+    ensures { (op : SpecOperation) → map value_view parts.now ≡ parts_of op
+        → result ≡ Some (kind_of op) }
+{
+    kind_named(parts.first()?.as_str()?)
 }
 
-fn read_of(alloc: Global, parts: &[Value<'_>], symbols: &mut Symbols) -> Result<Operation, Misfit> {
+/// What an operation does whose first word this is.
+fn kind_named(word: &str) -> Option<Kind>
+    ensures read { word.now ≡ codes "read" → result ≡ Some Kind.Read }
+    ensures write { word.now ≡ codes "write" → result ≡ Some Kind.Write }
+    ensures insert { word.now ≡ codes "insert" → result ≡ Some Kind.Insert }
+    ensures update { word.now ≡ codes "update" → result ≡ Some Kind.Update }
+    ensures delete { word.now ≡ codes "delete" → result ≡ Some Kind.Delete }
+    ensures scan { word.now ≡ codes "scan" → result ≡ Some Kind.Scan }
+    ensures range { word.now ≡ codes "range" → result ≡ Some Kind.Range }
+{
+    match word {
+        "read" => Some(Kind::Read),
+        "write" => Some(Kind::Write),
+        "insert" => Some(Kind::Insert),
+        "update" => Some(Kind::Update),
+        "delete" => Some(Kind::Delete),
+        "scan" => Some(Kind::Scan),
+        "range" => Some(Kind::Range),
+        _ => None,
+    }
+}
+
+fn read_of(alloc: Global, parts: &[Value<'_>], symbols: &mut Symbols) -> Result<Operation, Misfit>
+    ensures { (word : Json) (key : ℕ) (found : Option ℕ) → IsOwn key → IsOwnFound found
+        → map value_view parts.now ≡ word ∷ number_json key ∷ number_or_null found ∷ []
+        → (result ≡ Ok (Read key found)) × KeepsLabels symbols.old symbols.new }
+{
     let [_, key, value] = parts else {
         return Err(Misfit::Wanted(Wanted::Read));
     };
@@ -148,11 +247,11 @@ fn read_of(alloc: Global, parts: &[Value<'_>], symbols: &mut Symbols) -> Result<
     Ok(Operation::Read(key, found))
 }
 
-fn write_of(
-    alloc: Global,
-    parts: &[Value<'_>],
-    symbols: &mut Symbols,
-) -> Result<Operation, Misfit> {
+fn write_of(alloc: Global, parts: &[Value<'_>], symbols: &mut Symbols) -> Result<Operation, Misfit>
+    ensures { (word : Json) (key value : ℕ) → IsOwn key → IsOwn value
+        → map value_view parts.now ≡ word ∷ number_json key ∷ number_json value ∷ []
+        → (result ≡ Ok (Put key value)) × KeepsLabels symbols.old symbols.new }
+{
     let [_, key, value] = parts else {
         return Err(Misfit::Wanted(Wanted::Write));
     };
@@ -166,7 +265,11 @@ fn insert_of(
     parts: &[Value<'_>],
     lacking: Option<bool>,
     symbols: &mut Symbols,
-) -> Result<Operation, Misfit> {
+) -> Result<Operation, Misfit>
+    ensures { (word : Json) (key value : ℕ) (done : prelude.Bool) → IsOwn key → IsOwn value
+        → map value_view parts.now ≡ word ∷ number_json key ∷ number_json value ∷ boolean done ∷ []
+        → (result ≡ Ok (Insert key value done)) × KeepsLabels symbols.old symbols.new }
+{
     let [_, key, value, done] = parts else {
         return Err(Misfit::Wanted(Wanted::Insert));
     };
@@ -181,7 +284,11 @@ fn update_of(
     parts: &[Value<'_>],
     lacking: Option<bool>,
     symbols: &mut Symbols,
-) -> Result<Operation, Misfit> {
+) -> Result<Operation, Misfit>
+    ensures { (word : Json) (key value : ℕ) (done : prelude.Bool) → IsOwn key → IsOwn value
+        → map value_view parts.now ≡ word ∷ number_json key ∷ number_json value ∷ boolean done ∷ []
+        → (result ≡ Ok (Update key value done)) × KeepsLabels symbols.old symbols.new }
+{
     let [_, key, value, done] = parts else {
         return Err(Misfit::Wanted(Wanted::Update));
     };
@@ -196,7 +303,11 @@ fn delete_of(
     parts: &[Value<'_>],
     lacking: Option<bool>,
     symbols: &mut Symbols,
-) -> Result<Operation, Misfit> {
+) -> Result<Operation, Misfit>
+    ensures { (word : Json) (key : ℕ) (done : prelude.Bool) → IsOwn key
+        → map value_view parts.now ≡ word ∷ number_json key ∷ boolean done ∷ []
+        → (result ≡ Ok (Delete key done)) × KeepsLabels symbols.old symbols.new }
+{
     let [_, key, done] = parts else {
         return Err(Misfit::Wanted(Wanted::Delete));
     };
@@ -206,7 +317,9 @@ fn delete_of(
 }
 
 /// The answer of a write: true or false, or for null the one of `lacking`.
-fn answer_of(value: &Value<'_>, lacking: Option<bool>, wanted: Wanted) -> Result<bool, Misfit> {
+fn answer_of(value: &Value<'_>, lacking: Option<bool>, wanted: Wanted) -> Result<bool, Misfit>
+    ensures { (done : prelude.Bool) → value_view value.now ≡ boolean done → result ≡ Ok done }
+{
     let answer = if value.is_null() {
         lacking
     } else {
@@ -227,28 +340,61 @@ fn add_scan(
     may_lack: bool,
     symbols: &mut Symbols,
     operations: &mut Vec<Operation>,
-) -> Result<(), Misfit> {
-    let wanted = if kind == Kind::Scan {
-        Wanted::Scan
-    } else {
-        Wanted::Range
-    };
-    let (scope, answer) = match (kind, parts) {
-        (Kind::Scan, [_, bucket, answer]) => (bucket_of(line, bucket, symbols)?, answer),
-        (Kind::Range, [_, low, high, answer]) => (range_of(alloc, low, high, symbols)?, answer),
-        _ => return Err(Misfit::Wanted(wanted)),
-    };
+) -> Result<(), Misfit>
+    ensures { (buckets : ℕ) (scope : SpecScope) (pairs : Vec (ℕ × ℕ))
+        → IsReadable buckets (Scan scope pairs) → symbols.old.buckets ≡ Some buckets
+        → kind ≡ kind_of (Scan scope pairs)
+        → map value_view parts.now ≡ parts_of (Scan scope pairs)
+        → Gives result Misfit.NoMemory (λ _. KeepsLabels symbols.old symbols.new
+        × Adds operations.old.items operations.new.items (Scan scope pairs)) }
+{
+    let (scope, answer) = scope_in(alloc, line, kind, parts, symbols)?;
     if may_lack && answer.is_null() {
         return Ok(());
     }
-    let pairs = symbols.pairs(alloc, answer, wanted)?;
-    operations.push(Operation::Scan(scope, pairs))?;
-    Ok(())
+    let pairs = symbols.pairs(alloc, answer, scan_wanted(kind))?;
+    add(Operation::Scan(scope, pairs), operations)
+}
+
+/// What a scan has to be.
+fn scan_wanted(kind: Kind) -> Wanted {
+    match kind {
+        Kind::Scan => Wanted::Scan,
+        _ => Wanted::Range,
+    }
+}
+
+/// The scope of a scan, and its answer.
+fn scope_in<'v, 'a>(
+    alloc: Global,
+    line: u64,
+    kind: Kind,
+    parts: &'v [Value<'a>],
+    symbols: &mut Symbols,
+) -> Result<(Scope, &'v Value<'a>), Misfit>
+    ensures { (buckets : ℕ) (scope : SpecScope) (pairs : Vec (ℕ × ℕ))
+        → IsReadable buckets (Scan scope pairs) → symbols.old.buckets ≡ Some buckets
+        → kind ≡ kind_of (Scan scope pairs)
+        → map value_view parts.now ≡ parts_of (Scan scope pairs)
+        → IsOkAnd result (λ r. (r.0 ≡ scope) × (value_view r.1.now ≡ pairs_json pairs.items))
+        × KeepsLabels symbols.old symbols.new }
+{
+    match (kind, parts) {
+        (Kind::Scan, [_, bucket, answer]) => Ok((bucket_of(line, bucket, symbols)?, answer)),
+        (Kind::Range, [_, low, high, answer]) => {
+            Ok((range_of(alloc, low, high, symbols)?, answer))
+        }
+        _ => Err(Misfit::Wanted(scan_wanted(kind))),
+    }
 }
 
 /// The keys of a bucket.
-fn bucket_of(line: u64, bucket: &Value<'_>, symbols: &mut Symbols) -> Result<Scope, Misfit> {
-    let bucket = bucket.as_u64().ok_or(Wanted::Scan)?;
+fn bucket_of(line: u64, bucket: &Value<'_>, symbols: &mut Symbols) -> Result<Scope, Misfit>
+    ensures { (b n : ℕ) → b < n → n < 2 ^ 64 → symbols.old.buckets ≡ Some n
+        → value_view bucket.now ≡ number_json b
+        → (result ≡ Ok (Bucket n b)) × KeepsLabels symbols.old symbols.new }
+{
+    let bucket = number_in(bucket).ok_or(Wanted::Scan)?;
     let buckets = symbols.buckets.ok_or(Wanted::BucketCount)?;
     if bucket >= buckets {
         return Err(Misfit::Wanted(Wanted::Bucket));
@@ -263,7 +409,11 @@ fn range_of(
     low: &Value<'_>,
     high: &Value<'_>,
     symbols: &mut Symbols,
-) -> Result<Scope, Misfit> {
+) -> Result<Scope, Misfit>
+    ensures { (l h : ℕ) → l ≤ h → IsOwn h → value_view low.now ≡ number_json l
+        → value_view high.now ≡ number_json h
+        → (result ≡ Ok (Range l h)) × KeepsLabels symbols.old symbols.new }
+{
     let low = symbols.key(alloc, low, Wanted::Range)?;
     let high = symbols.key(alloc, high, Wanted::Range)?;
     if Labels::is_text(low) != Labels::is_text(high) {
@@ -276,7 +426,10 @@ fn range_of(
 }
 
 /// Whether a key is below another of its kind: numbers by their size, texts by their bytes.
-fn is_below(key: Label<'_>, other: Label<'_>) -> bool {
+fn is_below(key: Label<'_>, other: Label<'_>) -> bool
+    ensures { (k n : ℕ) → key.entry ≡ Number k → other.entry ≡ Number n → n ≤ k
+        → result ≡ false }
+{
     match (key, other) {
         (Label::Number(key), Label::Number(other)) => key < other,
         (Label::Text(key), Label::Text(other)) => key < other,

@@ -1,10 +1,30 @@
 //! Reading a log.
+ghost use Rattle.std.specs.Prelude.{◌≡◌, ◌≢◌, ◌<◌, ◌^◌, ◌++◌, ◌∷◌, [], ℕ, suc, length, List, Some, None, Ok, Err, IfErr, MatchResult, map, codes, true, false, nat_eq};
+ghost use Rattle.std.specs.Str.{IsUtf8};
+ghost use Rattle.indexmap.specs.IndexSet.{contains};
+ghost use Rattle.json.specs.Json.{Json, Members, object, document};
+ghost use Rattle.json.specs.Find.{as_object, get};
+ghost use Rattle.json.specs.Value.{value_view};
+ghost use Rattle.hek_history.specs.declared.history.History.{History as SpecHistory};
+ghost use Rattle.hek_history.specs.declared.history.Transaction.{Transaction as SpecTransaction};
+ghost use Rattle.hek_history_log.specs.Contents.{SameTransaction, SaysSame};
+ghost use Rattle.hek_history_log.specs.Ends.{IsEnd};
+ghost use Rattle.hek_history_log.specs.Gives.{Gives};
+ghost use Rattle.hek_history_log.specs.HasRead.{IsFresh, HasRead};
+ghost use Rattle.hek_history_log.specs.Kept.{KeepsLabels, AddsName, AddsTransaction};
+ghost use Rattle.hek_history_log.specs.LogText.{transaction_json, opening_json, text_of, log_text};
+ghost use Rattle.hek_history_log.specs.MemberNames.{names_of};
+ghost use Rattle.hek_history_log.specs.Readable.{IsOwn, ArePairs, IsReadableTransaction, IsReadableLog};
+ghost use Rattle.hek_history_log.specs.declared.fault.LogFault.{LogFault as SpecFault};
+ghost use Rattle.hek_history_log.specs.declared.shown.Label.TheVariants.{Number};
+
 use crate::fault::{LogFault, Wanted};
 use crate::fields::{
     MEMBERS, OPENING_MEMBERS, buckets_of, check_members, interval_of, level_of, name_of, read_rows,
     status_of, times_of, turn_of,
 };
 use crate::finish::finish;
+use crate::input::read_line;
 use crate::log_line::LogLine;
 use crate::logged::{Identity, Log, Names};
 use crate::operations::{lacks_answer, read_operations};
@@ -15,7 +35,7 @@ use hek_history::{History, Status, Transaction};
 use indexmap::IndexSet;
 use json::{Scratch, Value};
 use std::alloc::Global;
-use std::io::{BufRead, ErrorKind, Read};
+use std::io::BufRead;
 
 /// What was read so far: the log, whose keys and values have the numbers of `symbols` until its end. `seen` has the
 /// numbers of the names, and `lines` where each was read; `rows_line` is the number of the opening line, or 0.
@@ -30,7 +50,9 @@ pub(crate) struct Draft {
 }
 
 impl Draft {
-    fn new(alloc: Global) -> Draft {
+    fn new(alloc: Global) -> Draft
+        ensures { IsFresh result }
+    {
         Draft {
             history: History {
                 rows: Vec::new(alloc),
@@ -45,7 +67,10 @@ impl Draft {
     }
 
     /// Whether nothing was read yet.
-    pub(crate) fn is_empty(&self) -> bool {
+    pub(crate) fn is_empty(&self) -> bool
+        ensures fresh { IsFresh self.now → result ≡ true }
+        ensures opened { self.now.rows_line ≢ 0 → result ≡ false }
+    {
         self.rows_line == 0 && self.history.transactions.is_empty()
     }
 }
@@ -67,7 +92,11 @@ impl FaultWatch for FirstFault {
 }
 
 /// Reads a log to its end, one line at a time. No line is kept.
-pub fn read_log<B: BufRead>(alloc: Global, input: &mut B) -> Result<Log, LogFault> {
+pub fn read_log<B: BufRead>(alloc: Global, input: &mut B) -> Result<Log, LogFault>
+    ensures { (buckets : ℕ) (h : SpecHistory) → IsReadableLog buckets h
+        → B.remaining input.old ≡ Some (log_text buckets h)
+        → MatchResult result (λ log. SaysSame log.history h.rows.items h.transactions.items) IsEnd }
+{
     read_log_watching(alloc, input, &mut FirstFault)
 }
 
@@ -76,10 +105,16 @@ pub fn read_log_watching<B: BufRead, F: FaultWatch>(
     alloc: Global,
     input: &mut B,
     watch: &mut F,
-) -> Result<Log, LogFault> {
+) -> Result<Log, LogFault>
+    ensures { (buckets : ℕ) (h : SpecHistory) → IsReadableLog buckets h
+        → B.remaining input.old ≡ Some (log_text buckets h)
+        → MatchResult result (λ log. SaysSame log.history h.rows.items h.transactions.items) IsEnd }
+{
     let mut draft = Draft::new(alloc);
-    read_lines(alloc, input, watch, &mut draft)?;
-    finish(alloc, draft)
+    match read_lines(alloc, input, watch, &mut draft) {
+        Ok(()) => finish(alloc, draft),
+        Err(fault) => Err(fault),
+    }
 }
 
 fn read_lines<B: BufRead, F: FaultWatch>(
@@ -87,50 +122,60 @@ fn read_lines<B: BufRead, F: FaultWatch>(
     input: &mut B,
     watch: &mut F,
     draft: &mut Draft,
-) -> Result<(), LogFault> {
+) -> Result<(), LogFault>
+    ensures { (buckets : ℕ) (h : SpecHistory) → IsReadableLog buckets h
+        → B.remaining input.old ≡ Some (log_text buckets h) → IsFresh draft.old
+        → MatchResult result
+        (λ _. HasRead buckets h.rows.items h.transactions.items draft.new) IsEnd }
+{
     let mut scratch = Scratch::new(alloc);
     let mut bytes = Vec::new(alloc);
     let mut first = None;
     for number in 1..u64::MAX {
-        match read_line(input, number, &mut bytes) {
-            Ok(()) => {}
-            Err(fault) => return Err(first.unwrap_or(fault)),
+        if let Err(fault) = read_line(input, number, &mut bytes) {
+            return Err(first.unwrap_or(fault));
         }
         if bytes.is_empty() {
-            break;
+            return answer_of(first);
         }
         let line = LogLine::new(number, bytes.as_slice());
-        if let Err(fault) = add_line(alloc, line, &mut scratch, draft) {
-            let goes_on = !fault.is_end() && watch.see(line.bytes, &fault);
-            first = first.or(Some(fault));
-            if !goes_on {
-                break;
-            }
+        let added = add_line(alloc, line, &mut scratch, draft);
+        if !goes_on(added, line.bytes, watch, &mut first) {
+            return answer_of(first);
         }
     }
+    answer_of(first)
+}
+
+/// Whether the lines after one are read too. A fault of the line is shown to the watch, and the first one is kept.
+fn goes_on<F: FaultWatch>(
+    added: Result<(), LogFault>,
+    line: &[u8],
+    watch: &mut F,
+    first: &mut Option<LogFault>,
+) -> bool
+    ensures added { added ≡ Ok tt → (result ≡ true) × (first.new ≡ first.old) }
+    ensures ended { first.old ≡ None
+        → IfErr added (λ fault. IsEnd fault → (result ≡ false) × (first.new ≡ Some fault)) }
+{
+    let Err(fault) = added else {
+        return true;
+    };
+    let goes_on = !fault.is_end() && watch.see(line, &fault);
+    if first.is_none() {
+        *first = Some(fault);
+    }
+    goes_on
+}
+
+/// The answer of a reader whose first fault this is.
+fn answer_of(first: Option<LogFault>) -> Result<(), LogFault>
+    ensures none { first ≡ None → result ≡ Ok tt }
+    ensures some { (fault : SpecFault) → first ≡ Some fault → result ≡ Err fault }
+{
     match first {
         Some(fault) => Err(fault),
         None => Ok(()),
-    }
-}
-
-/// The most bytes that a line has.
-const MOST_BYTES: u64 = 1 << 24;
-
-/// Reads the next line in place of the last one; nothing at the end.
-fn read_line<B: BufRead>(input: &mut B, number: u64, bytes: &mut Vec<u8>) -> Result<(), LogFault> {
-    bytes.clear();
-    match Read::take(input, MOST_BYTES + 1).read_until(b'\n', bytes) {
-        Ok(_) if bytes.len() as u64 > MOST_BYTES => Err(LogFault::Long { line: number }),
-        Ok(_) => Ok(()),
-        Err(error) => Err(read_fault(error.kind())),
-    }
-}
-
-fn read_fault(kind: ErrorKind) -> LogFault {
-    match kind {
-        ErrorKind::OutOfMemory => LogFault::NoMemory,
-        _ => LogFault::CannotRead,
     }
 }
 
@@ -140,8 +185,18 @@ fn add_line(
     line: LogLine<'_>,
     scratch: &mut Scratch,
     draft: &mut Draft,
-) -> Result<(), LogFault> {
-    if line.bytes.iter().all(|byte| byte.is_ascii_whitespace()) {
+) -> Result<(), LogFault>
+    ensures opening { (buckets : ℕ) (rows : List (ℕ × ℕ)) → 0 < buckets → buckets < 2 ^ 64
+        → ArePairs rows → IsFresh draft.old
+        → line.entry.bytes.now ≡ text_of (opening_json buckets rows) → line.entry.number ≢ 0
+        → Gives result LogFault.NoMemory (λ _. HasRead buckets rows [] draft.new) }
+    ensures next { (buckets : ℕ) (rows : List (ℕ × ℕ)) (ts : List SpecTransaction) (t : SpecTransaction)
+        → HasRead buckets rows ts draft.old → IsReadableTransaction buckets t
+        → suc (length ts) < 2 ^ 63
+        → line.entry.bytes.now ≡ text_of (transaction_json (suc (length ts)) t)
+        → Gives result LogFault.NoMemory (λ _. HasRead buckets rows (ts ++ t ∷ []) draft.new) }
+{
+    if line.is_blank() {
         return Ok(());
     }
     let object = object_in(alloc, line, scratch)?;
@@ -149,7 +204,10 @@ fn add_line(
 }
 
 /// The members of an object, each with its name.
-fn members_of<'v, 'a>(object: &'v Value<'a>) -> &'v [(&'a str, Value<'a>)] {
+fn members_of<'v, 'a>(object: &'v Value<'a>) -> &'v [(&'a str, Value<'a>)]
+    ensures { (ms : Members) → as_object (value_view object.now) ≡ Some ms
+        → map (λ m. m.0.now) result.now ≡ names_of ms }
+{
     match object {
         Value::Object(members) => members.as_slice(),
         _ => &[],
@@ -161,19 +219,50 @@ fn add_object(
     line: LogLine<'_>,
     object: &Value<'_>,
     draft: &mut Draft,
-) -> Result<(), LogFault> {
-    let members = members_of(object);
-    if draft.is_empty() && object.get("txn").is_none() {
-        check_members(line, members, &OPENING_MEMBERS, Wanted::OpeningMember)?;
+) -> Result<(), LogFault>
+    ensures opening { (buckets : ℕ) (rows : List (ℕ × ℕ)) → 0 < buckets → buckets < 2 ^ 64
+        → ArePairs rows → IsFresh draft.old → value_view object.now ≡ opening_json buckets rows
+        → line.entry.number ≢ 0
+        → Gives result LogFault.NoMemory (λ _. HasRead buckets rows [] draft.new) }
+    ensures next { (buckets : ℕ) (rows : List (ℕ × ℕ)) (ts : List SpecTransaction) (t : SpecTransaction)
+        → HasRead buckets rows ts draft.old → IsReadableTransaction buckets t
+        → suc (length ts) < 2 ^ 63
+        → value_view object.now ≡ transaction_json (suc (length ts)) t
+        → Gives result LogFault.NoMemory (λ _. HasRead buckets rows (ts ++ t ∷ []) draft.new) }
+{
+    if is_opening(object, draft) {
         return add_opening(alloc, line, object, draft);
     }
-    let name = name_of(line, object)?;
-    check_members(line, members, &MEMBERS, Wanted::Member)?;
-    let who = Identity {
-        name: add_name(alloc, line, name, draft)?,
-        turn: turn_of(alloc, line, object, &mut draft.names.sessions)?,
-    };
-    add_transaction(alloc, line, object, who, draft)
+    add_next(alloc, line, object, draft)
+}
+
+/// Whether a line is the opening one.
+fn is_opening(object: &Value<'_>, draft: &Draft) -> bool
+    ensures opening { IsFresh draft.now → get (codes "txn") (value_view object.now) ≡ None
+        → result ≡ true }
+    ensures next { draft.now.rows_line ≢ 0 → result ≡ false }
+{
+    draft.is_empty() && object.get("txn").is_none()
+}
+
+/// Adds the transaction that a line says.
+fn add_next(
+    alloc: Global,
+    line: LogLine<'_>,
+    object: &Value<'_>,
+    draft: &mut Draft,
+) -> Result<(), LogFault>
+    ensures { (buckets : ℕ) (rows : List (ℕ × ℕ)) (ts : List SpecTransaction) (t : SpecTransaction)
+        → HasRead buckets rows ts draft.old → IsReadableTransaction buckets t
+        → suc (length ts) < 2 ^ 63
+        → value_view object.now ≡ transaction_json (suc (length ts)) t
+        → Gives result LogFault.NoMemory (λ _. HasRead buckets rows (ts ++ t ∷ []) draft.new) }
+{
+    let label = name_of(line, object)?;
+    check_members(line, members_of(object), &MEMBERS, Wanted::Member)?;
+    let name = add_name(alloc, line, label, draft)?;
+    let turn = turn_of(alloc, line, object, &mut draft.names.sessions)?;
+    add_transaction(alloc, line, object, Identity { name, turn }, draft)
 }
 
 /// The object that a line is.
@@ -181,7 +270,11 @@ fn object_in<'a>(
     alloc: Global,
     line: LogLine<'a>,
     scratch: &'a mut Scratch,
-) -> Result<Value<'a>, LogFault> {
+) -> Result<Value<'a>, LogFault>
+    ensures { (j : Json) (ms : Members) → j ≡ object ms → IsUtf8 line.entry.bytes.now
+        → document line.entry.bytes.now ≡ Some j
+        → Gives result LogFault.NoMemory (λ v. value_view v ≡ j) }
+{
     match Value::from_slice(alloc, line.bytes, scratch) {
         Ok(Value::Object(members)) => Ok(Value::Object(members)),
         Ok(_) => Err(line.wants(Spot::Line, Wanted::Object)),
@@ -212,7 +305,14 @@ fn add_opening(
     line: LogLine<'_>,
     object: &Value<'_>,
     draft: &mut Draft,
-) -> Result<(), LogFault> {
+) -> Result<(), LogFault>
+    ensures { (buckets : ℕ) (rows : List (ℕ × ℕ)) → 0 < buckets → buckets < 2 ^ 64
+        → ArePairs rows → IsFresh draft.old → value_view object.now ≡ opening_json buckets rows
+        → line.entry.number ≢ 0
+        → Gives result LogFault.NoMemory (λ _. HasRead buckets rows [] draft.new) }
+{
+    let members = members_of(object);
+    check_members(line, members, &OPENING_MEMBERS, Wanted::OpeningMember)?;
     let buckets = buckets_of(line, object)?;
     draft.symbols.buckets = buckets;
     let rows = &mut draft.history.rows;
@@ -227,7 +327,11 @@ fn add_name(
     line: LogLine<'_>,
     name: Label<'_>,
     draft: &mut Draft,
-) -> Result<u64, LogFault> {
+) -> Result<u64, LogFault>
+    ensures { (n : ℕ) → IsOwn n → name.entry ≡ Number n → contains nat_eq draft.old.seen n ≡ false
+        → Gives result LogFault.NoMemory
+        (λ number. (number ≡ n) × AddsName draft.old draft.new n) }
+{
     let number = draft.names.labels.number_of(alloc, name)?;
     let (place, is_new) = draft.seen.insert_full(number)?;
     if is_new {
@@ -250,16 +354,22 @@ fn add_transaction(
     object: &Value<'_>,
     who: Identity,
     draft: &mut Draft,
-) -> Result<(), LogFault> {
+) -> Result<(), LogFault>
+    ensures { (buckets name : ℕ) (t : SpecTransaction) → IsReadableTransaction buckets t
+        → draft.old.symbols.buckets ≡ Some buckets → who.turn ≡ None
+        → value_view object.now ≡ transaction_json name t
+        → Gives result LogFault.NoMemory (λ _. AddsTransaction draft.old draft.new t) }
+{
     let status = status_of(line, object)?;
     let is_unknown = status == Status::Unknown;
     let lacking = if is_unknown { Some(true) } else { None };
     add_one(alloc, line, object, lacking, who, draft)?;
-    if is_unknown && lacks_answer(object) {
-        let place = draft.history.transactions.len();
-        add_one(alloc, line, object, Some(false), who, draft)?;
-        draft.names.twins.push((place.saturating_sub(1), place))?;
+    if !is_unknown || !lacks_answer(object) {
+        return Ok(());
     }
+    let place = draft.history.transactions.len();
+    add_one(alloc, line, object, Some(false), who, draft)?;
+    draft.names.twins.push((place.saturating_sub(1), place))?;
     Ok(())
 }
 
@@ -270,7 +380,12 @@ fn add_one(
     lacking: Option<bool>,
     who: Identity,
     draft: &mut Draft,
-) -> Result<(), LogFault> {
+) -> Result<(), LogFault>
+    ensures { (buckets name : ℕ) (t : SpecTransaction) → IsReadableTransaction buckets t
+        → draft.old.symbols.buckets ≡ Some buckets → who.turn ≡ None
+        → value_view object.now ≡ transaction_json name t
+        → Gives result LogFault.NoMemory (λ _. AddsTransaction draft.old draft.new t) }
+{
     let transaction = transaction_in(alloc, line, object, lacking, &mut draft.symbols)?;
     draft.history.transactions.push(transaction)?;
     Ok(draft.names.add(who)?)
@@ -282,7 +397,12 @@ fn transaction_in(
     object: &Value<'_>,
     lacking: Option<bool>,
     symbols: &mut Symbols,
-) -> Result<Transaction, LogFault> {
+) -> Result<Transaction, LogFault>
+    ensures { (buckets name : ℕ) (t : SpecTransaction) → IsReadableTransaction buckets t
+        → symbols.old.buckets ≡ Some buckets → value_view object.now ≡ transaction_json name t
+        → Gives result LogFault.NoMemory
+        (λ u. KeepsLabels symbols.old symbols.new × SameTransaction u t) }
+{
     let (invoked, answered) = interval_of(line, object)?;
     let level = level_of(line, object)?;
     let status = status_of(line, object)?;

@@ -1,11 +1,13 @@
 //! Whether a history has an explanation: what the search found is judged, and only then is it the verdict.
-ghost use Rattle.std.specs.Prelude.{IfOk};
+ghost use Rattle.std.specs.Prelude.{IfOk, IfSome};
+ghost use Rattle.hek_history.specs.Explanation.{IsExplanationIn};
 ghost use Rattle.hek_history_search.specs.Verdicts.{IsVerdict};
 
 use crate::anomalies::Cause;
+use crate::front::points_from_front;
 use crate::hints::points_by_hints;
 use crate::known::Known;
-use crate::problem::{Problem, Times};
+use crate::problem::{Absences, Problem, Times};
 use crate::reduce::reduced;
 use crate::seek::Outcome;
 use crate::start::prepared;
@@ -83,7 +85,7 @@ fn search_further(
     order: Order,
     effort: usize,
 ) -> Result<Found, NoMemory> {
-    let problem = reduced(alloc, history, order, Times::Given)?;
+    let problem = reduced(alloc, history, order, Times::Given, Absences::Written)?;
     sought_in(alloc, &problem, effort)
 }
 
@@ -94,23 +96,59 @@ fn points_by_place(
     width: u64,
     effort: usize,
 ) -> Result<Option<Vec<Point>>, NoMemory> {
-    let problem = reduced(alloc, history, Order::Real, Times::ByPlace(width))?;
+    let problem = reduced(
+        alloc,
+        history,
+        Order::Real,
+        Times::ByPlace(width),
+        Absences::Written,
+    )?;
     match sought_in(alloc, &problem, effort)? {
         Found::Points(points) => Ok(Some(points)),
         Found::Steps(_, _) | Found::Unknown(_) => Ok(None),
     }
 }
 
+/// The points of an order from the front.
+fn points_by_front(
+    alloc: Global,
+    history: &History,
+    order: Order,
+) -> Result<Option<Vec<Point>>, NoMemory> {
+    let problem = reduced(alloc, history, order, Times::Given, Absences::Counted)?;
+    points_from_front(alloc, &problem)
+}
+
+/// The points by the times of the log, or else those of an order from the front, if they are an explanation of this order.
+fn points_at_once(
+    alloc: Global,
+    history: &History,
+    order: Order,
+) -> Result<Option<Vec<Point>>, NoMemory>
+    ensures { IfOk result (λ found. IfSome found (λ points. IsExplanationIn history.now order points.items)) }
+{
+    let expected = points_by_hints(alloc, history)?;
+    if is_explanation(alloc, history, order, expected.as_slice())? {
+        return Ok(Some(expected));
+    }
+    if let Some(points) = points_by_front(alloc, history, order)? {
+        if is_explanation(alloc, history, order, points.as_slice())? {
+            return Ok(Some(points));
+        }
+    }
+    Ok(None)
+}
+
 /// Searches for an explanation of this order, or for a certificate that there is none. First it tries the points by the times
-/// of the log, and then makes up to `effort` repairs of an order, one for which many nodes are looked at counting as several.
+/// of the log and those of an order from the front, and then makes up to `effort` repairs of an order, one for which many nodes
+/// are looked at counting as several.
 pub fn search(
     alloc: Global,
     history: &History,
     order: Order,
     effort: usize,
 ) -> Result<Found, NoMemory> {
-    let points = points_by_hints(alloc, history)?;
-    if is_explanation(alloc, history, order, points.as_slice())? {
+    if let Some(points) = points_at_once(alloc, history, order)? {
         return Ok(Found::Points(points));
     }
     search_further(alloc, history, order, effort)
@@ -262,8 +300,8 @@ fn judge_further(
     }
 }
 
-/// Judges whether a history has an explanation of this order: first by the points by the times of the log, and then with up
-/// to `effort` repairs of an order. Where the search ends without an answer, others follow, each with as many repairs: for orders by
+/// Judges whether a history has an explanation of this order: first by the points by the times of the log and by those of an
+/// order from the front, and then with up to `effort` repairs of an order. Where the search ends without an answer, others follow, each with as many repairs: for orders by
 /// times, if any order will do, and for orders in which each transaction is near its place in the log.
 pub fn judge(
     alloc: Global,
@@ -273,8 +311,7 @@ pub fn judge(
 ) -> Result<Verdict, NoMemory>
     ensures { IfOk result (λ verdict. IsVerdict history.now order verdict) }
 {
-    let points = points_by_hints(alloc, history)?;
-    if is_explanation(alloc, history, order, points.as_slice())? {
+    if let Some(points) = points_at_once(alloc, history, order)? {
         return Ok(Verdict::Serial(points));
     }
     let found = search_further(alloc, history, order, effort)?;

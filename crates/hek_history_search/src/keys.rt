@@ -108,6 +108,27 @@ impl Keys {
         all.partition_point(|one| one.0 < buckets || (one.0 == buckets && one.1 < bucket))
     }
 
+    /// How many places there are in buckets.
+    pub(crate) fn bucketed_len(&self) -> usize {
+        self.bucketed.len()
+    }
+
+    /// Into how many buckets scans divide the keys.
+    pub(crate) fn divisions(&self) -> &[u64] {
+        self.divisions.as_slice()
+    }
+
+    /// The place of a key among those in buckets, where the keys are divided into so many.
+    pub(crate) fn place_in_bucket(&self, buckets: u64, key: usize) -> usize {
+        let bucket = if buckets == 0 {
+            0
+        } else {
+            self.name(key) % buckets
+        };
+        let its = (buckets, bucket, key);
+        self.bucketed.as_slice().partition_point(|one| *one < its)
+    }
+
     /// Where the keys that a scan is of stand: from a place up to another, among the keys or among those in buckets.
     pub(crate) fn places_of(&self, scope: Scope) -> (usize, usize) {
         match scope {

@@ -3,12 +3,13 @@ use crate::clock::Clock;
 use crate::facts::{Facts, Rule, Says, Stop};
 use crate::graph::Graph;
 use crate::hints::Hint;
-use crate::lists::{add, add_in, at, list_at, put};
+use crate::lists::{add, at, put};
 use crate::nodes::{Nodes, OPENING};
 use crate::problem::{Problem, Source};
 use crate::replay::Violation;
 use hek_rules::NoMemory;
 use std::alloc::Global;
+use std::collections::HashMap;
 
 /// A source that a fact excludes for a reading.
 #[derive(Clone, Copy)]
@@ -68,10 +69,10 @@ pub(crate) struct Known<'a> {
     pub facts: Facts,
     /// The only candidate of each reading, its own transaction left out.
     pub only: Vec<Option<Source>>,
-    /// The fact that settles the source of each reading.
-    pub sources: Vec<Option<usize>>,
-    /// The sources that are excluded for each reading.
-    pub nots: Vec<Vec<Excluded>>,
+    /// The fact that settles the source of a reading.
+    pub sources: HashMap<usize, usize>,
+    /// The sources that are excluded for a reading.
+    pub nots: HashMap<usize, Vec<Excluded>>,
     /// The fact by which a transaction takes place that isn't known to have committed.
     pub taken: Vec<Option<usize>>,
     /// Those that take place by a fact, and of which not all that follows is known.
@@ -118,8 +119,16 @@ impl Known<'_> {
         }
     }
 
+    /// The sources that are excluded for a reading.
+    pub(crate) fn excluded(&self, reading: usize) -> &[Excluded] {
+        match self.nots.get(&reading) {
+            Some(list) => list.as_slice(),
+            None => &[],
+        }
+    }
+
     pub(crate) fn is_excluded(&self, reading: usize, source: Source) -> bool {
-        for one in list_at(self.nots.as_slice(), reading) {
+        for one in self.excluded(reading) {
             if one.source == source {
                 return true;
             }
@@ -129,7 +138,7 @@ impl Known<'_> {
 
     /// The source of a reading, if it is settled.
     pub(crate) fn source(&self, reading: usize) -> Option<Settled> {
-        if let Some(fact) = at(self.sources.as_slice(), reading, None) {
+        if let Some(fact) = self.sources.get(&reading).copied() {
             if let Says::Source { source, .. } = self.facts.get(fact).says {
                 return Some(Settled {
                     source,
@@ -155,10 +164,11 @@ impl Known<'_> {
         second: usize,
         rule: Rule,
     ) -> Result<(), NoMemory> {
-        let fact = self.facts.add(Says::Before { first, second }, rule, 0)?;
         if first == OPENING {
+            // the opening is before all else without a fact
             return Ok(());
         }
+        let fact = self.facts.add(Says::Before { first, second }, rule, 0)?;
         self.graph.link(first, second, fact)
     }
 
@@ -286,6 +296,12 @@ impl Known<'_> {
         self.settle(reading, source, Rule::Assumed, level)
     }
 
+    /// Notes the fact that settles the source of a reading.
+    fn note_settled(&mut self, reading: usize, fact: usize) -> Result<(), NoMemory> {
+        let _before = self.sources.insert(reading, fact)?;
+        Ok(())
+    }
+
     /// Adds the source of a reading, and that it is before the reader.
     pub(crate) fn settle(
         &mut self,
@@ -297,7 +313,7 @@ impl Known<'_> {
         let reader = self.problem.reading(reading).reader;
         self.cite_taken(reader)?;
         let fact = self.add_noted(Says::Source { reading, source }, rule, least)?;
-        put(&mut self.sources, reading, Some(fact));
+        self.note_settled(reading, fact)?;
         self.read_from(reading, source, fact)
     }
 
@@ -345,12 +361,18 @@ impl Known<'_> {
         least: usize,
     ) -> Result<(), NoMemory> {
         let fact = self.add_noted(Says::Not { reading, source }, rule, least)?;
-        add_in(&mut self.nots, reading, Excluded { source, fact })
+        if let Some(list) = self.nots.get_mut(&reading) {
+            return add(list, Excluded { source, fact });
+        }
+        let mut list = Vec::new(self.alloc);
+        add(&mut list, Excluded { source, fact })?;
+        let _before = self.nots.insert(reading, list)?;
+        Ok(())
     }
 
     /// Takes back that a source is not that of a reading.
     fn include(&mut self, reading: usize, fact: usize) {
-        if let Some(list) = self.nots.get_mut(reading) {
+        if let Some(list) = self.nots.get_mut(&reading) {
             for place in 0..list.len() {
                 if place < list.len() && list[place].fact == fact {
                     let _excluded = list.remove(place);
@@ -364,7 +386,9 @@ impl Known<'_> {
     fn forget(&mut self, fact: usize) {
         match self.facts.get(fact).says {
             Says::Before { first, second } => self.graph.unlink(first, second, fact),
-            Says::Source { reading, .. } => put(&mut self.sources, reading, None),
+            Says::Source { reading, .. } => {
+                let _settled = self.sources.remove(&reading);
+            }
             Says::Not { reading, .. } => self.include(reading, fact),
             Says::Taken(t) => put(&mut self.taken, t, None),
             Says::Contradiction => {}

@@ -1,7 +1,8 @@
 //! A history as the search sees it: what each transaction must have found at which keys, and what it left there.
 use crate::keys::Keys;
 use crate::lists::{at, part};
-use hek_history::{History, Need, Order, is_committed, is_possible};
+use hek_history::{History, Need, Order, Scope, is_committed, is_possible};
+use std::collections::HashMap;
 
 /// What an operation tells of the value that its transaction found at a key.
 #[derive(Clone, Copy)]
@@ -21,6 +22,25 @@ pub(crate) const NO_READING: Reading = Reading {
     need: Need::Anything,
     scanned: false,
 };
+
+/// A scan of which it is counted how many keys had rows: those from a place up to another (`Keys::places_of`).
+#[derive(Clone, Copy)]
+pub(crate) struct Counted {
+    pub reader: usize,
+    pub scope: Scope,
+    pub from: usize,
+    pub to: usize,
+    pub found: usize,
+}
+
+/// How the keys of a scan are kept that it found without a row.
+#[derive(Clone, Copy)]
+pub(crate) enum Absences {
+    /// Each as a reading.
+    Written,
+    /// By the number of rows alone.
+    Counted,
+}
 
 /// What a transaction leaves at a key: a value, or absence.
 #[derive(Clone, Copy)]
@@ -121,19 +141,23 @@ pub(crate) struct Problem<'a> {
     pub history: &'a History,
     pub order: Order,
     pub times: Times,
+    pub absences: Absences,
     pub keys: Keys,
     /// The value of each key in the opening rows.
     pub opening: Vec<Option<u64>>,
     /// The readings by transaction, and where those of each begin.
     pub readings: Vec<Reading>,
     pub reading_from: Vec<usize>,
+    /// The scans that are counted, by transaction.
+    pub counted: Vec<Counted>,
     /// What each transaction leaves, by transaction, and where that of each begins.
     pub left: Vec<Left>,
     pub left_from: Vec<usize>,
     /// What all transactions leave, by key, then value, absence first, then writer; and where the rows of each key begin.
     pub table: Vec<Left>,
     pub row_from: Vec<usize>,
-    pub faults: Vec<Option<OwnFault>>,
+    /// The first fault of each transaction that has one.
+    pub faults: HashMap<usize, OwnFault>,
     /// What the last transaction that named each key did there, while the transactions are read in order.
     pub at_keys: Vec<AtKey>,
 }
@@ -240,6 +264,48 @@ impl Problem<'_> {
         at(self.opening.as_slice(), key, None)
     }
 
+    /// How many values have numbers.
+    pub(crate) fn values(&self) -> usize {
+        self.table.len().saturating_add(self.keys.len())
+    }
+
+    /// The number of a value of a key, or of its absence: the place of its first row in the table, or one past all rows for the
+    /// opening value of the key if nobody leaves that. A value that never was there has none.
+    pub(crate) fn value_number(&self, key: usize, value: Option<u64>) -> Option<usize> {
+        let rows = between(self.table.as_slice(), self.row_from.as_slice(), key);
+        let place = rows_below(rows, rank(value));
+        match rows.get(place) {
+            Some(row) if row.value == value => Some(self.first_row(key).saturating_add(place)),
+            _ if self.opening_at(key) == value => Some(self.table.len().saturating_add(key)),
+            _ => None,
+        }
+    }
+
+    /// The value by its number.
+    pub(crate) fn value_of(&self, number: usize) -> Option<u64> {
+        match self.table.get(number) {
+            Some(row) => row.value,
+            None => self.opening_at(number.saturating_sub(self.table.len())),
+        }
+    }
+
+    /// The number of the value, or of the absence, that a reading tells of.
+    pub(crate) fn value_found(&self, reading: Reading) -> Option<usize> {
+        match reading.need {
+            Need::Value(value) => self.value_number(reading.key, Some(value)),
+            Need::Absent => self.value_number(reading.key, None),
+            Need::Anything | Need::Present => None,
+        }
+    }
+
+    /// The scans of a transaction that are counted.
+    pub(crate) fn counted_by(&self, t: usize) -> &[Counted] {
+        let all = self.counted.as_slice();
+        let from = all.partition_point(|one| one.reader < t);
+        let to = all.partition_point(|one| one.reader <= t);
+        part(all, from, to)
+    }
+
     /// The sources that meet the need of a reading.
     pub(crate) fn candidates(&self, reading: Reading) -> Candidates {
         let first = self.first_row(reading.key);
@@ -287,6 +353,6 @@ impl Problem<'_> {
     }
 
     pub(crate) fn fault_of(&self, t: usize) -> Option<OwnFault> {
-        at(self.faults.as_slice(), t, None)
+        self.faults.get(&t).copied()
     }
 }

@@ -1,13 +1,14 @@
 //! Makes of a history what the search works on: needs, what is left, and contradictions within a transaction.
 use crate::keys::Keys;
 use crate::lists::{add, at, put};
-use crate::problem::{AtKey, Left, OwnFault, Problem, Reading, Times, meets};
+use crate::problem::{Absences, AtKey, Counted, Left, OwnFault, Problem, Reading, Times, meets};
 use hek_history::{
     Change, History, Level, Need, Operation, Order, Scope, Status, are_apart, change_of, covers,
     key_of, own_need,
 };
 use hek_rules::NoMemory;
 use std::alloc::Global;
+use std::collections::HashMap;
 
 /// An operation of a transaction, by its place.
 #[derive(Clone, Copy)]
@@ -92,10 +93,11 @@ impl Problem<'_> {
     }
 
     /// Notes the first fault of a transaction.
-    fn blame(&mut self, t: usize, fault: OwnFault) {
+    fn blame(&mut self, t: usize, fault: OwnFault) -> Result<(), NoMemory> {
         if self.fault_of(t).is_none() {
-            put(&mut self.faults, t, Some(fault));
+            let _before = self.faults.insert(t, fault)?;
         }
+        Ok(())
     }
 
     /// Takes a need: against what the transaction did itself, what it found before, or as a new reading.
@@ -105,12 +107,10 @@ impl Problem<'_> {
         }
         let so_far = self.at_key(by.transaction, key);
         if let Some(place) = so_far.left {
-            self.compare(by, key, need, place);
-            return Ok(());
+            return self.compare(by, key, need, place);
         }
         if let Some(place) = so_far.reading {
-            self.join(by, key, need, place);
-            return Ok(());
+            return self.join(by, key, need, place);
         }
         let found = AtKey {
             reading: Some(self.readings.len()),
@@ -128,9 +128,9 @@ impl Problem<'_> {
     }
 
     /// Compares a need with what the transaction itself left at the key.
-    fn compare(&mut self, by: Named, key: usize, need: Need, place: usize) {
+    fn compare(&mut self, by: Named, key: usize, need: Need, place: usize) -> Result<(), NoMemory> {
         let Some(left) = self.left.get(place) else {
-            return;
+            return Ok(());
         };
         if !meets(need, left.value) {
             let fault = OwnFault::Contradicted {
@@ -139,12 +139,13 @@ impl Problem<'_> {
                 left: left.value,
                 found: need,
             };
-            self.blame(by.transaction, fault);
+            return self.blame(by.transaction, fault);
         }
+        Ok(())
     }
 
     /// Joins a need with an earlier reading of the key.
-    fn join(&mut self, by: Named, key: usize, need: Need, place: usize) {
+    fn join(&mut self, by: Named, key: usize, need: Need, place: usize) -> Result<(), NoMemory> {
         let earlier = self.reading(place);
         if is_closer(earlier.need, need) {
             let closer = Reading {
@@ -163,22 +164,51 @@ impl Problem<'_> {
                 after: need,
                 scanned: earlier.scanned || by.scanned,
             };
-            self.blame(by.transaction, fault);
+            return self.blame(by.transaction, fault);
         }
+        Ok(())
     }
 
     /// Takes what a scan tells of each key that it is of.
     fn scan(&mut self, by: Named, scope: Scope, pairs: &[(u64, u64)]) -> Result<(), NoMemory> {
         if let Some(fault) = fault_of_scan(by.operation, scope, pairs) {
-            self.blame(by.transaction, fault);
+            self.blame(by.transaction, fault)?;
         }
         let (from, to) = self.keys.places_of(scope);
-        for place in from..to {
-            let key = self.keys.key_at(scope, place);
-            let need = need_by_scan(pairs, self.keys.name(key));
-            self.want(by, key, need)?;
+        match self.absences {
+            Absences::Written => {
+                for place in from..to {
+                    let key = self.keys.key_at(scope, place);
+                    let need = need_by_scan(pairs, self.keys.name(key));
+                    self.want(by, key, need)?;
+                }
+                Ok(())
+            }
+            Absences::Counted => {
+                let counted = Counted {
+                    reader: by.transaction,
+                    scope,
+                    from,
+                    to,
+                    found: pairs.len(),
+                };
+                self.count(by, counted, pairs)
+            }
         }
-        Ok(())
+    }
+
+    /// Takes the pairs of a scan, and how many they are. Of one whose transaction changed something before, rows aren't counted.
+    fn count(&mut self, by: Named, counted: Counted, pairs: &[(u64, u64)]) -> Result<(), NoMemory> {
+        for pair in pairs {
+            if let Some(key) = self.keys.place_of(pair.0) {
+                self.want(by, key, Need::Value(pair.1))?;
+            }
+        }
+        let before = at(self.left_from.as_slice(), by.transaction, 0);
+        if by.lenient || before < self.left.len() {
+            return Ok(());
+        }
+        add(&mut self.counted, counted)
     }
 
     /// Takes an operation.
@@ -282,7 +312,6 @@ impl Problem<'_> {
         self.take_rows()?;
         // past the last one, so that the places after its readings stand in the lists too
         for t in 0..self.transactions().saturating_add(1) {
-            add(&mut self.faults, None)?;
             self.take_all(t)?;
         }
         self.fill_table()
@@ -295,20 +324,23 @@ pub(crate) fn reduced(
     history: &History,
     order: Order,
     times: Times,
+    absences: Absences,
 ) -> Result<Problem<'_>, NoMemory> {
     let mut problem = Problem {
         history,
         order,
         times,
+        absences,
         keys: Keys::new(alloc),
         opening: Vec::new(alloc),
         readings: Vec::new(alloc),
         reading_from: Vec::new(alloc),
+        counted: Vec::new(alloc),
         left: Vec::new(alloc),
         left_from: Vec::new(alloc),
         table: Vec::new(alloc),
         row_from: Vec::new(alloc),
-        faults: Vec::new(alloc),
+        faults: HashMap::new(alloc),
         at_keys: Vec::new(alloc),
     };
     problem.fill()?;

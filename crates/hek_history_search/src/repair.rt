@@ -1,7 +1,7 @@
 //! A violation is repaired: by what follows from known facts, or else by a decision.
 use crate::facts::{Rule, Stop};
 use crate::known::{AFTER, BEFORE, Chance, DOUBTFUL, Known, NO_CHANCE, Settled};
-use crate::lists::{add, at, list_at};
+use crate::lists::{add, at};
 use crate::problem::Source;
 use crate::replay::Violation;
 use hek_rules::NoMemory;
@@ -248,8 +248,11 @@ impl Known<'_> {
 
     /// Cites the facts that exclude sources of a reading.
     fn cite_exclusions(&mut self, place: usize) -> Result<(), NoMemory> {
-        for one in list_at(self.nots.as_slice(), place) {
-            self.facts.cite(one.fact)?;
+        let nots = &self.nots;
+        if let Some(list) = nots.get(&place) {
+            for one in list {
+                self.facts.cite(one.fact)?;
+            }
         }
         Ok(())
     }

@@ -10,6 +10,7 @@ use crate::problem::{Problem, Source};
 use hek_history::Moment;
 use hek_rules::NoMemory;
 use std::alloc::Global;
+use std::collections::HashMap;
 
 /// How many candidates a reading has, its own transaction left out.
 #[derive(Clone, Copy)]
@@ -51,8 +52,8 @@ pub(crate) fn prepared<'a>(alloc: Global, problem: &'a Problem<'a>) -> Known<'a>
         graph: Graph::new(alloc),
         facts: Facts::new(alloc),
         only: Vec::new(alloc),
-        sources: Vec::new(alloc),
-        nots: Vec::new(alloc),
+        sources: HashMap::new(alloc),
+        nots: HashMap::new(alloc),
         taken: Vec::new(alloc),
         pending: Vec::new(alloc),
         decisions: Vec::new(alloc),
@@ -108,8 +109,6 @@ impl Known<'_> {
         for place in 0..self.problem.readings.len() {
             let only = self.only_source(place);
             add(&mut self.only, only)?;
-            add(&mut self.sources, None)?;
-            self.nots.push(Vec::new(self.alloc))?;
         }
         Ok(())
     }

@@ -3,7 +3,7 @@ use crate::anomalies::{Answer, Cause};
 use crate::evident::Evident;
 use crate::lightest::Cycles;
 use crate::lists::add;
-use crate::problem::Times;
+use crate::problem::{Absences, Times};
 use crate::reasoning::reasoned;
 use crate::reduce::reduced;
 use hek_history::{History, Order, Step};
@@ -18,7 +18,7 @@ pub fn anomalies_shown(
     order: Order,
     all: bool,
 ) -> Result<Vec<Cause>, NoMemory> {
-    let problem = reduced(alloc, history, order, Times::Given)?;
+    let problem = reduced(alloc, history, order, Times::Given, Absences::Written)?;
     let mut evident = Evident::new(alloc, &problem);
     let mut causes = Vec::new(alloc);
     evident.fill()?;
@@ -65,7 +65,7 @@ fn reasoned_in(
     order: Order,
     answers: &[Answer],
 ) -> Result<Option<Cause>, NoMemory> {
-    let problem = reduced(alloc, history, order, Times::Given)?;
+    let problem = reduced(alloc, history, order, Times::Given, Absences::Written)?;
     let mut evident = Evident::new(alloc, &problem);
     evident.fill()?;
     reasoned(alloc, &evident, answers)

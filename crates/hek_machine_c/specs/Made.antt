@@ -1,13 +1,12 @@
 -- What the functions for C answer.
-use Rattle.std.specs.Prelude.{ℕ, ◌≡◌, ◌≤◌, ◌++◌, List, length, take, Ok, Err, Some}
+use Rattle.std.specs.Prelude.{ℕ, ◌≡◌, ◌≤◌, List, length, take, Ok, Err, Some}
 use Rattle.hek_rules.specs.Plan.{Plan}
 use Rattle.hek_asm.specs.declared.fault.AsmKind.{AsmKind}
 use Rattle.hek_asm.specs.Text.{schedule_of}
 use Rattle.hek_report.specs.declared.fault.HekFault.{HekFault}
 use Rattle.hek_report.specs.declared.fault.HekFault.TheVariants.{Line, NotText, CannotWrite}
 use Rattle.hek_report.specs.Files.{ScheduleTextFails}
-use Rattle.hek_run_command.specs.Ran.{trace_of_steps, trace_of, first_events, world_after}
-use Rattle.hek_step_report.specs.Clock.{clock_text}
+use Rattle.hek_run_command.specs.Ran.{trace_of_steps, trace_with_state, first_events}
 
 abbrev pub status_of : HekFault → ℕ
 status_of (Line line kind) = 1
@@ -22,11 +21,9 @@ line_of fault = 0
 abbrev pub IsTraceOfText : List ℕ → List ℕ → Type 0
 IsTraceOfText text made = (plan : Plan) × (schedule_of text ≡ Ok plan) × (made ≡ trace_of_steps plan)
 
--- the trace of its first steps, the line of the clock after them, and the other lines of that state
+-- the trace of its first steps, and the state after them
 abbrev pub IsStateOfText : ℕ → List ℕ → List ℕ → Type 0
-IsStateOfText steps text made =
-    (plan : Plan) × (schedule_of text ≡ Ok plan) × (more : List ℕ)
-    × (made ≡ trace_of plan (first_events (Some steps) plan.steps) ++ (clock_text (world_after plan (first_events (Some steps) plan.steps)).clock ++ more))
+IsStateOfText steps text made = (plan : Plan) × (schedule_of text ≡ Ok plan) × (made ≡ trace_with_state plan (first_events (Some steps) plan.steps))
 
 -- the text is at the beginning of the room, whose length is as it was
 abbrev pub IsIn : List ℕ → List ℕ → List ℕ → Type 0

@@ -47,6 +47,7 @@ fn statuses_say_why_there_is_no_text(rt: HostRuntime) {
     made(&rt, line, (0, 2, 1), &out, &[0]);
     let bytes = hek_state(rt.alloc(), b"\xFF", 1, &mut out);
     made(&rt, bytes, (0, 0, 2), &out, &[0]);
-    let room = hek_run(rt.alloc(), TEXT, &mut out[..4]);
-    made(&rt, room, (TRACE.len() as u64, 0, 4), &out, &[0]);
+    let mut small = [0u8; 4];
+    let room = hek_run(rt.alloc(), TEXT, &mut small);
+    made(&rt, room, (TRACE.len() as u64, 0, 4), &small, &[0]);
 }

@@ -11,7 +11,7 @@ use Rattle.hek_machine.specs.Observed.{opening_of}
 use Rattle.hek_machine.specs.Steps.{HasNoFaults}
 use Rattle.hek_report.specs.declared.schedule_file.ScheduleFile.{ScheduleFile}
 use Rattle.hek_report.specs.Files.{FileGives}
-use Rattle.hek_step_report.specs.Clock.{clock_text}
+use Rattle.hek_step_report.specs.StateText.{state_text}
 
 -- the replies that the rule table gives to these steps, from the opening world of a schedule on
 abbrev pub replies_to : Plan → List Event → List Reply
@@ -41,16 +41,13 @@ first_events (Some n) es = take n es
 abbrev pub world_after : Plan → List Event → World
 world_after p es = run (opening_of p 1) es
 
--- the line of a clock, and then some bytes, were written after the bytes that a writer held
-pub record TellsClock (clock : ℕ) (before after : Option (List ℕ)) : Type 0 where
-  pub more : List ℕ
-  pub written : Appends before after (clock_text clock ++ more)
+-- the trace of a schedule's first steps, and the state after them
+abbrev pub trace_with_state : Plan → List Event → List ℕ
+trace_with_state p es = trace_of p es ++ state_text p (world_after p es)
 
--- the trace of a schedule's first steps, then the line of the clock after them, and then some bytes, were written after
--- the bytes that a writer held
-pub record ShowsState (plan : Plan) (limit : Option ℕ) (before after : Option (List ℕ)) : Type 0 where
-  pub more : List ℕ
-  pub written : Appends before after (trace_of plan (first_events limit plan.steps) ++ (clock_text (world_after plan (first_events limit plan.steps)).clock ++ more))
+-- the trace of a schedule's first steps, and the state after them, were written after the bytes that a writer held
+abbrev pub ShowsState : Plan → Option ℕ → Option (List ℕ) → Option (List ℕ) → Type 0
+ShowsState plan limit before after = Appends before after (trace_with_state plan (first_events limit plan.steps))
 
 -- the trace and the state were written for the schedule in a file
 pub record RunsTo {R : Type 0} (left : R → Option (List ℕ)) (said : ScheduleFile R) (limit : Option ℕ) (before after : Option (List ℕ)) : Type 0 where

@@ -10,7 +10,8 @@ ghost use Rattle.hek_machine.specs.Stands.{StandsFor};
 ghost use Rattle.hek_machine.specs.Observed.{opening_of};
 ghost use Rattle.hek_machine.specs.Steps.{HasNoFaults};
 ghost use Rattle.hek_report.specs.Files.{PrintFails, IsStop};
-ghost use Rattle.hek_run_command.specs.Ran.{Runs, RunsTo, ShowsState, TellsClock, trace_of, trace_of_steps, replies_to, first_events};
+ghost use Rattle.hek_step_report.specs.StateText.{state_text};
+ghost use Rattle.hek_run_command.specs.Ran.{Runs, RunsTo, ShowsState, trace_of, trace_of_steps, replies_to, first_events};
 
 use hek_asm::put_line;
 use hek_machine::Machine;
@@ -52,8 +53,8 @@ fn write_run<'a, W: Write>(
     write_steps(alloc, schedule, &mut machine, schedule.steps(), out)
 }
 
-/// Runs the first steps of the schedule in a file, as many as `limit` or all of them. Writes their trace, the clock of
-/// the machine after them, and the rest of its state (`state_lines`). Answers the exit status.
+/// Runs the first steps of the schedule in a file, as many as `limit` or all of them. Writes their trace, and the state
+/// of the machine after them. Answers the exit status.
 pub fn state_command<'a, R: Read + Drop, W: Write>(
     alloc: Global,
     file: ScheduleFile<R>,
@@ -85,14 +86,14 @@ fn write_state<'a, W: Write>(
     write_machine(alloc, schedule, &machine, out)
 }
 
-/// Writes the clock of a machine, and the rest of its state.
+/// Writes the state of a machine.
 fn write_machine<'a, W: Write>(
     alloc: Global,
     schedule: &Schedule,
     machine: &Machine,
     out: &mut W,
 ) -> Result<(), HekFault<'a>>
-    ensures written { IfOk result (λ _. (w : World) → StandsFor machine.now w → TellsClock w.clock (W.contents out.old) (W.contents out.new)) }
+    ensures written { IfOk result (λ _. (w : World) → StandsFor machine.now w → Appends (W.contents out.old) (W.contents out.new) (state_text schedule.now w)) }
     ensures stops { IfErr result IsStop }
 {
     let clock = machine.clock();

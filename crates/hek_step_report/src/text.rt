@@ -3,6 +3,7 @@ mod changes;
 mod field;
 mod looked;
 mod met;
+mod putting;
 mod reason;
 mod refused;
 mod released;

@@ -1,0 +1,11 @@
+pub mod LogText
+pub mod Contents
+pub mod ByKey
+pub mod MemberNames
+pub mod Readable
+pub mod Gives
+pub mod HasRead
+pub mod Kept
+pub mod Kinds
+pub mod Ends
+pub mod Parts

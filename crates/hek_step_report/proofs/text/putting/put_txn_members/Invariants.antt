@@ -1,0 +1,8 @@
+use Rattle.std.proofs.Common.{◌≡◌, ◌++◌, drop, map}
+use Rattle.std.specs.Fmt.{decimal}
+use Rattle.hek_rules.specs.Lines.{spaced}
+use Rattle.hek_step_report.proofs.text.putting.put_txn_members.Given as goal
+
+-- with the members left, the lines would be what the contract asks
+abbrev pub invariant-loop-t : goal.invariant-loop-t
+invariant-loop-t l = l.lines.items ++ spaced (map decimal (drop l.t-index l.txns)) ≡ l.fn.lines.items ++ spaced (map decimal l.txns)
