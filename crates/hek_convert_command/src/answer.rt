@@ -20,7 +20,7 @@ pub(crate) enum Answer {
 }
 
 impl Answer {
-    /// The exit status that a line with this answer asks for: 0 for a change, 1 for none, 4 for a line of another form.
+    /// The exit status that a line with this answer asks for: 0 for a change, 1 for none or for a broken chain, 4 for another form.
     pub(crate) fn status(&self) -> u8
         ensures { result ≡ status_of_answer self.now }
     {
