@@ -7,7 +7,7 @@ use Rattle.hek_permute.specs.Found.{Line}
 use Rattle.hek_permute.specs.Moves.{Work, AreMoves}
 use Rattle.hek_explore.specs.Counts.{IsCensus, IsCensusOf}
 use Rattle.hek_explore.specs.Steps.{AreRuled}
-use Rattle.hek_explore.proofs.walk.explore.Goals as goal
+use Rattle.hek_explore.proofs.walk.explore_with.Goals as goal
 
 found-all : {E : Type 0} (p : Plan) (rules : List Rule) (form : Form) (works : List Work) (r : Result (Option (List Line)) E) → AreMoves p rules works
     → IfOk r (λ found. IfSome found (IsCensusOf p form works)) → IfOk r (λ found. IfSome found (IsCensus p rules form))

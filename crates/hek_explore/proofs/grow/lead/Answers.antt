@@ -4,7 +4,7 @@ use Rattle.hek_permute.specs.declared.play.Place.{Place}
 use Rattle.hek_explore.specs.Codes.{code_of}
 use Rattle.hek_explore.specs.Steps.{LeadsBy}
 use Rattle.hek_explore.proofs.Classes.{grown-leads}
-use Rattle.hek_explore.proofs.walk.lead.Goals as goal
+use Rattle.hek_explore.proofs.grow.lead.Goals as goal
 
 pub returns : goal.returns
 returns c =
