@@ -155,7 +155,7 @@ fn rivals_of(command: &str, name: &str) -> &'static [&'static str] {
         ("history", "sessions") => &["order", "all", "order-out"],
         ("page", "orders") => &["from", "to", "auto"],
         ("page", "levels") => &["from", "to", "auto", "level", "orders"],
-        ("permute", "jobs") => &["each", "order"],
+        ("permute", "jobs") => &["each", "order", "find"],
         ("permute", "stats") => &["each", "order", "find", "part"],
         ("permute", "add") => &[
             "text", "image", "auto", "level", "split", "grain", "limit", "part", "jobs", "each",
