@@ -1,7 +1,7 @@
 -- What `word --changes` answers, exchange by exchange and line by line.
 use Rattle.std.proofs.Common.{◌≡◌, refl, sym, ap, subst, ◌∙◌, ◌↔◌, ℕ, ◌<◌, ◌==◌, Bool, true, false, cond, nat_eq, max, List, [], ◌∷◌, ◌++◌, length, append_assoc, Option, Some, None}
 use Rattle.std.proofs.lemmas.List.{append-nil}
-use Rattle.std.specs.Prelude.{Result, Ok, Err, IfOk, IfSome, MatchResult}
+use Rattle.std.specs.Prelude.{IfSome}
 use Rattle.std.specs.Io.BufRead.{DropsThrough, drop_through, first_line}
 use Rattle.std.specs.Io.KnownBytes.{Appends, IsAtEnd}
 use Rattle.std.specs.Str.{trim}
@@ -147,11 +147,6 @@ none_more printing earlier line before now status chain blank p = record {
 }
 
 -- ---- the lines of an input
-
--- what holds of the value in an Ok, which a call passed on, holds of what it passed on
-pub ok_of : {T E F : Type 0} (r : Result T E) (x : T) (P : T → Type 0) (Q : E → Type 0) → MatchResult r (λ y. ◌≡◌ {A = Result T F} (Ok x) (Ok y)) Q → ((e : E) → Q e → ⊥) → IfOk r P → P x
-ok_of (Ok y) x P Q is none p = let same : y ≡ x = cc in subst P same p
-ok_of (Err e) x P Q is none p = absurd (none e is)
 
 -- one more line of a text was read
 read_more : (text line : List ℕ) (left after : Option (List ℕ)) (full next : List (List ℕ)) → IfSome left (λ known. (0 < length known) × (line ≡ first_line known)) → DropsThrough left after 10

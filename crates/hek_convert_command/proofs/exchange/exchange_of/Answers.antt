@@ -10,8 +10,8 @@ returns-in_err-second c =
     record {
       words = words;
       first = subst (λ (text : List ℕ). FirstWords 5 text words) c.split_whitespace-words.ensures.rest
-        (word_then 4 c.split_whitespace-words.result c.next.new.self first [] c.in_ok-first.ensures.steps
-        (no_word 3 c.next.new.self c.next-2.new.self c.in_err-second.ensures.steps));
+          (word_then 4 c.split_whitespace-words.result c.next.new.self first [] c.in_ok-first.ensures.steps
+          (no_word 3 c.next.new.self c.next-2.new.self c.in_err-second.ensures.steps));
       is = none_of c.from_residual-in_err-second.result c.from_residual-in_err-second.ensures;
     }
 
@@ -23,9 +23,9 @@ returns-in_err-third c =
     record {
       words = words;
       first = subst (λ (text : List ℕ). FirstWords 5 text words) c.split_whitespace-words.ensures.rest
-        (word_then 4 c.split_whitespace-words.result c.next.new.self first (second.now ∷ []) c.in_ok-first.ensures.steps
-        (word_then 3 c.next.new.self c.next-2.new.self second [] c.in_ok-second.ensures.steps
-        (no_word 2 c.next-2.new.self c.next-3.new.self c.in_err-third.ensures.steps)));
+          (word_then 4 c.split_whitespace-words.result c.next.new.self first (second.now ∷ []) c.in_ok-first.ensures.steps
+          (word_then 3 c.next.new.self c.next-2.new.self second [] c.in_ok-second.ensures.steps
+          (no_word 2 c.next-2.new.self c.next-3.new.self c.in_err-third.ensures.steps)));
       is = none_of c.from_residual-in_err-third.result c.from_residual-in_err-third.ensures;
     }
 
@@ -38,10 +38,10 @@ returns-in_default c =
     record {
       words = words;
       first = subst (λ (text : List ℕ). FirstWords 5 text words) c.split_whitespace-words.ensures.rest
-        (word_then 4 c.split_whitespace-words.result c.next.new.self first (second.now ∷ third.now ∷ []) c.in_ok-first.ensures.steps
-        (word_then 3 c.next.new.self c.next-2.new.self second (third.now ∷ []) c.in_ok-second.ensures.steps
-        (word_then 2 c.next-2.new.self c.next-3.new.self third [] c.in_ok-third.ensures.steps
-        (no_word 1 c.next-3.new.self c.next-4.new.self c.in_default.ensures.steps))));
+          (word_then 4 c.split_whitespace-words.result c.next.new.self first (second.now ∷ third.now ∷ []) c.in_ok-first.ensures.steps
+          (word_then 3 c.next.new.self c.next-2.new.self second (third.now ∷ []) c.in_ok-second.ensures.steps
+          (word_then 2 c.next-2.new.self c.next-3.new.self third [] c.in_ok-third.ensures.steps
+          (no_word 1 c.next-3.new.self c.next-4.new.self c.in_default.ensures.steps))));
       is = c.unnamed.ensures;
     }
 
@@ -56,11 +56,11 @@ returns-then-is_some c =
     record {
       words = words;
       first = subst (λ (text : List ℕ). FirstWords 5 text words) c.split_whitespace-words.ensures.rest
-        (word_then 4 c.split_whitespace-words.result c.next.new.self first (second.now ∷ third.now ∷ fourth.now ∷ fifth.0 ∷ []) c.in_ok-first.ensures.steps
-        (word_then 3 c.next.new.self c.next-2.new.self second (third.now ∷ fourth.now ∷ fifth.0 ∷ []) c.in_ok-second.ensures.steps
-        (word_then 2 c.next-2.new.self c.next-3.new.self third (fourth.now ∷ fifth.0 ∷ []) c.in_ok-third.ensures.steps
-        (word_then 1 c.next-3.new.self c.next-4.new.self fourth (fifth.0 ∷ []) c.in-Some.ensures.steps
-        fifth.1))));
+          (word_then 4 c.split_whitespace-words.result c.next.new.self first (second.now ∷ third.now ∷ fourth.now ∷ fifth.0 ∷ []) c.in_ok-first.ensures.steps
+          (word_then 3 c.next.new.self c.next-2.new.self second (third.now ∷ fourth.now ∷ fifth.0 ∷ []) c.in_ok-second.ensures.steps
+          (word_then 2 c.next-2.new.self c.next-3.new.self third (fourth.now ∷ fifth.0 ∷ []) c.in_ok-third.ensures.steps
+          (word_then 1 c.next-3.new.self c.next-4.new.self fourth (fifth.0 ∷ []) c.in-Some.ensures.steps
+          fifth.1))));
       is = none_of _ refl;
     }
 
@@ -74,10 +74,10 @@ returns c =
     record {
       words = words;
       first = subst (λ (text : List ℕ). FirstWords 5 text words) c.split_whitespace-words.ensures.rest
-        (word_then 4 c.split_whitespace-words.result c.next.new.self first (second.now ∷ third.now ∷ fourth.now ∷ []) c.in_ok-first.ensures.steps
-        (word_then 3 c.next.new.self c.next-2.new.self second (third.now ∷ fourth.now ∷ []) c.in_ok-second.ensures.steps
-        (word_then 2 c.next-2.new.self c.next-3.new.self third (fourth.now ∷ []) c.in_ok-third.ensures.steps
-        (word_then 1 c.next-3.new.self c.next-4.new.self fourth [] c.in-Some.ensures.steps
-        (not_one 0 c.next-4.new.self c.next-5.new.self c.next-5.result c.next-5.ensures.steps (sym c.is_some.ensures ∙ c.if-is_some.false))))));
+          (word_then 4 c.split_whitespace-words.result c.next.new.self first (second.now ∷ third.now ∷ fourth.now ∷ []) c.in_ok-first.ensures.steps
+          (word_then 3 c.next.new.self c.next-2.new.self second (third.now ∷ fourth.now ∷ []) c.in_ok-second.ensures.steps
+          (word_then 2 c.next-2.new.self c.next-3.new.self third (fourth.now ∷ []) c.in_ok-third.ensures.steps
+          (word_then 1 c.next-3.new.self c.next-4.new.self fourth [] c.in-Some.ensures.steps
+          (not_one 0 c.next-4.new.self c.next-5.new.self c.next-5.result c.next-5.ensures.steps (sym c.is_some.ensures ∙ c.if-is_some.false))))));
       is = c.named.ensures;
     }
