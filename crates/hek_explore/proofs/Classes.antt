@@ -221,7 +221,8 @@ module _ (p : Plan) (form : Form) (works : List Work) where
       each = λ i other at. subst (λ (n : ℕ). IsGrownAt p form works g n other) (let e : suc i + so.place ≡ i + (so.place + 1) = omega arith in e)
           (so.left.each (suc i) other (ap (λ (l : List (Option Group)). slice_get l (suc i)) is ∙ at));
     };
-    so_far = to-put g so.place old mid new found (so.left.each 0 found (ap (λ (l : List (Option Group)). slice_get l 0) is)) put so.so_far;
+    so_far = to-put g so.place old mid new found
+        (subst (λ (n : ℕ). IsGrownAt p form works g n found) (let e : 0 + so.place ≡ so.place = omega arith in e) (so.left.each 0 found (ap (λ (l : List (Option Group)). slice_get l 0) is))) put so.so_far;
   }
 
   pub extending-all : (g : Group) (old new : List Group) (rest : List (Option Group)) → rest ≡ [] → IsExtending g old new rest → IsExtended p form works g old new

@@ -14,6 +14,9 @@ use std::thread::{Threads, join};
 
 /// Who plays the beginnings of a layer.
 pub(crate) trait Crew {
+    // When the crew can play.
+    ghost can_play: { Self → Type 0 };
+
     /// What each of these classes becomes by one more move of each transaction.
     fn grow(
         &self,
@@ -23,7 +26,8 @@ pub(crate) trait Crew {
         form: Form,
         classes: &[Class],
     ) -> Result<VecDeque<Grown>, OrderFault>
-        requires { AreRuled schedule.now moves.now }
+        requires are { AreRuled schedule.now moves.now }
+        requires can { can_play self.now }
         ensures { IfOk result (λ all. AreAllGrown schedule.now form moves.now classes.now all.items) };
 }
 
@@ -32,6 +36,8 @@ pub(crate) trait Crew {
 pub(crate) struct Alone;
 
 impl Crew for Alone {
+    ghost can_play = { λ _. Unit {0} };
+
     fn grow(
         &self,
         alloc: Global,
@@ -52,6 +58,8 @@ pub(crate) struct Team<'a, R: Threads + Sync> {
 }
 
 impl<'a, R: Threads + Sync> Crew for Team<'a, R> {
+    ghost can_play = { λ _. IsSync R.row };
+
     fn grow(
         &self,
         alloc: Global,

@@ -1,5 +1,5 @@
 //! What the beginnings of a class become by one more move.
-ghost use Rattle.std.specs.Prelude.{◌≡◌, ◌+◌, ◌++◌, ◌∷◌, ◌<◌, [], IfOk, OnOk, length, option_to_list, reverse, slice_index};
+ghost use Rattle.std.specs.Prelude.{◌≡◌, ◌+◌, ◌++◌, ◌∷◌, ◌<◌, [], IfOk, MatchOption, OnOk, length, reverse, slice_index};
 ghost use Rattle.hek_rules.specs.Checks.{clock_end};
 ghost use Rattle.hek_permute.specs.Plays.{HasMoved, Plays};
 ghost use Rattle.hek_explore.specs.Counts.{AreAllGrown, AreGrown, IsFewer, IsGrown, IsGrownAt, IsReplayed};
@@ -54,7 +54,7 @@ impl Grown {
 
     /// Takes out what the move of the transaction at the first place leads to.
     pub(crate) fn take_first(&mut self) -> Option<Option<Class>>
-        ensures { self.old ≡ option_to_list result ++ self.new }
+        ensures { MatchOption result (self.old ≡ []) (λ found. self.old ≡ found ∷ self.new) }
     {
         self.by_place.pop_front()
     }

@@ -67,6 +67,7 @@ fn explore_with<C: Crew, S: Survey>(
     crew: &C,
     survey: &mut S,
 ) -> Result<Option<Tally>, OrderFault>
+    requires { C.can_play crew.now }
     ensures { IfOk result (λ found. IfSome found (IsCensus schedule.now rules.now form)) }
 {
     let grouped = Grouped::of(alloc, schedule)?;
@@ -84,7 +85,8 @@ fn explore_moves<C: Crew, S: Survey>(
     crew: &C,
     survey: &mut S,
 ) -> Result<Option<Tally>, OrderFault>
-    requires { AreRuled schedule.now moves.now }
+    requires are { AreRuled schedule.now moves.now }
+    requires can { C.can_play crew.now }
     ensures { IfOk result (λ found. IfSome found (IsCensusOf schedule.now form moves.now)) }
 {
     let left = counts_of(alloc, moves, form)?;
@@ -191,7 +193,8 @@ fn next_layer<C: Crew, S: Survey>(
     crew: &C,
     survey: &mut S,
 ) -> Result<Option<Layer>, OrderFault>
-    requires { AreRuled schedule.now moves.now }
+    requires are { AreRuled schedule.now moves.now }
+    requires can { C.can_play crew.now }
     ensures { IfOk result (λ found. IfSome found (IsNextLayer schedule.now form moves.now layer.now)) }
 {
     let mut next = Layer::new(alloc)?;

@@ -137,7 +137,9 @@ fn beginning_of<P: Players, E: Write>(
     wanted: &Wanted,
     limit: u64,
     progress: &mut Progress<'_, E>,
-) -> Result<Option<Search>, OrderFault> {
+) -> Result<Option<Search>, OrderFault>
+    requires { P.can_play players.now }
+{
     let moves = match wanted {
         Wanted::Reply(sought) => find_order(
             alloc,
@@ -175,7 +177,9 @@ fn first_with<P: Players, E: Write>(
     wanted: &Wanted,
     limit: u64,
     progress: &mut Progress<'_, E>,
-) -> Result<Option<Search>, OrderFault> {
+) -> Result<Option<Search>, OrderFault>
+    requires { P.can_play players.now }
+{
     let explored = players.explore(alloc, given.schedule, given.rules, form, limit, progress)?;
     let Some(tally) = explored else {
         return Ok(None);
@@ -297,7 +301,9 @@ pub(crate) fn found_in<'a, P: Players, E: Write>(
     text: &str,
     limit: u64,
     progress: &mut Progress<'_, E>,
-) -> Result<Answer, HekFault<'a>> {
+) -> Result<Answer, HekFault<'a>>
+    requires { P.can_play players.now }
+{
     let wanted = wanted_of(alloc, given.schedule, text)?;
     match beginning_of(players, alloc, given, form, &wanted, limit, progress) {
         Ok(Some(search)) => answer_of(alloc, given, form, &wanted, search),

@@ -50,7 +50,9 @@ fn permute_with<'a, P: Players, R: Read + Drop, W: Write, E: Write>(
     choice: Choice<'_>,
     out: &mut W,
     faults: &mut E,
-) -> Result<u8, HekFault<'a>> {
+) -> Result<u8, HekFault<'a>>
+    requires { P.can_play players.now }
+{
     let program = program_in(alloc, file)?;
     permute(players, alloc, &Given::of(&program), choice, out, faults)
 }
@@ -62,7 +64,9 @@ fn permute<'a, P: Players, W: Write, E: Write>(
     choice: Choice<'_>,
     out: &mut W,
     faults: &mut E,
-) -> Result<u8, HekFault<'a>> {
+) -> Result<u8, HekFault<'a>>
+    requires { P.can_play players.now }
+{
     if let Some(names) = choice.order {
         return at_order(alloc, given, choice, names, out);
     }
@@ -113,7 +117,9 @@ fn put_asked<'a, P: Players, E: Write>(
     extent: Extent,
     progress: &mut Progress<'_, E>,
     lines: &mut Vec<u8>,
-) -> Result<Option<u8>, HekFault<'a>> {
+) -> Result<Option<u8>, HekFault<'a>>
+    requires { P.can_play players.now }
+{
     if choice.levels {
         return put_leveled(players, alloc, given, choice, extent, progress, lines);
     }
@@ -217,7 +223,9 @@ fn put_search<'a, P: Players, E: Write>(
     wanted: &str,
     progress: &mut Progress<'_, E>,
     lines: &mut Vec<u8>,
-) -> Result<Option<u8>, HekFault<'a>> {
+) -> Result<Option<u8>, HekFault<'a>>
+    requires { P.can_play players.now }
+{
     let limit = choice.most_states();
     match found_in(players, alloc, given, choice.form, wanted, limit, progress)? {
         Answer::Found(found) => {
@@ -248,7 +256,9 @@ fn put_counts<'a, P: Players, E: Write>(
     extent: Extent,
     progress: &mut Progress<'_, E>,
     lines: &mut Vec<u8>,
-) -> Result<Option<u8>, HekFault<'a>> {
+) -> Result<Option<u8>, HekFault<'a>>
+    requires { P.can_play players.now }
+{
     let Some(tally) = tally_of(players, alloc, given, choice.form, extent, progress)? else {
         return Ok(None);
     };
@@ -264,7 +274,9 @@ fn tally_of<'a, P: Players, E: Write>(
     form: Form,
     extent: Extent,
     progress: &mut Progress<'_, E>,
-) -> Result<Option<Tally>, HekFault<'a>> {
+) -> Result<Option<Tally>, HekFault<'a>>
+    requires { P.can_play players.now }
+{
     match extent {
         Extent::Orders(from, to) => {
             let played = players.play(alloc, given.schedule, given.rules, form, from, to, progress);
@@ -297,7 +309,9 @@ fn tally_at<'a, P: Players, E: Write>(
     form: Form,
     extent: Extent,
     progress: &mut Progress<'_, E>,
-) -> Result<Option<Tally>, HekFault<'a>> {
+) -> Result<Option<Tally>, HekFault<'a>>
+    requires { P.can_play players.now }
+{
     let leveled = leveled(alloc, given.schedule, Some(level), given.schedule.steps())?;
     tally_of(players, alloc, &given.over(&leveled), form, extent, progress)
 }
@@ -322,7 +336,9 @@ fn put_leveled<'a, P: Players, E: Write>(
     extent: Extent,
     progress: &mut Progress<'_, E>,
     lines: &mut Vec<u8>,
-) -> Result<Option<u8>, HekFault<'a>> {
+) -> Result<Option<u8>, HekFault<'a>>
+    requires { P.can_play players.now }
+{
     let Some(tallies) = tallies_of(players, alloc, given, choice.form, extent, progress)? else {
         return Ok(None);
     };
@@ -338,7 +354,9 @@ fn tallies_of<'a, P: Players, E: Write>(
     form: Form,
     extent: Extent,
     progress: &mut Progress<'_, E>,
-) -> Result<Option<Vec<Tally>>, HekFault<'a>> {
+) -> Result<Option<Vec<Tally>>, HekFault<'a>>
+    requires { P.can_play players.now }
+{
     let mut tallies = Vec::new(alloc);
     for level in Level::ALL {
         let Some(tally) = tally_at(players, alloc, given, level, form, extent, progress)? else {

@@ -1,5 +1,6 @@
 //! Who plays orders: one thread, or many side by side.
 ghost use Rattle.std.specs.Prelude.{IfOk, IfSome};
+ghost use Rattle.std.specs.Thread.{IsSync};
 ghost use Rattle.hek_permute.specs.Wholes.{IsWhole};
 ghost use Rattle.hek_explore.specs.Counts.{IsCensus};
 
@@ -12,6 +13,9 @@ use std::thread::Threads;
 
 /// Who plays orders.
 pub(crate) trait Players {
+    // When they can play.
+    ghost can_play: { Self → Type 0 };
+
     /// The outcomes of all orders, counted by states; None if there are more states than the limit.
     fn explore<S: Survey>(
         &self,
@@ -22,6 +26,7 @@ pub(crate) trait Players {
         limit: u64,
         survey: &mut S,
     ) -> Result<Option<Tally>, OrderFault>
+        requires { can_play self.now }
         ensures { IfOk result (λ found. IfSome found (IsCensus schedule.now rules.now form)) };
 
     /// The outcomes of the orders from a number on, and below another.
@@ -35,6 +40,7 @@ pub(crate) trait Players {
         to: u64,
         watch: &mut W,
     ) -> Result<Tally, OrderFault>
+        requires { can_play self.now }
         ensures { IfOk result (IsWhole schedule.now rules.now form from to) };
 }
 
@@ -43,6 +49,8 @@ pub(crate) trait Players {
 pub(crate) struct Alone;
 
 impl Players for Alone {
+    ghost can_play = { λ _. Unit {0} };
+
     fn explore<S: Survey>(
         &self,
         alloc: Global,
@@ -77,6 +85,8 @@ pub(crate) struct Team<'a, T: Threads + Sync> {
 }
 
 impl<'a, T: Threads + Sync> Players for Team<'a, T> {
+    ghost can_play = { λ _. IsSync T.row };
+
     fn explore<S: Survey>(
         &self,
         alloc: Global,

@@ -15,8 +15,8 @@ found-all p rules form works (Ok (Some rows)) are all = record { moves = works; 
 found-all p rules form works (Ok None) are all = tt
 found-all p rules form works (Err e) are all = tt
 
-pub explore_moves-requires : goal.explore_moves-requires
-explore_moves-requires g c =
+pub explore_moves-requires-clause-are : goal.explore_moves-requires-clause-are
+explore_moves-requires-clause-are g c =
     subst (λ (p : Plan). AreRuled p c.as_slice.result.now) (sym c.in_ok-grouped.ensures)
     (record {
       rules = c.args.rules.now;

@@ -9,8 +9,11 @@ loop-class-init g c = λ p form works are. put-first p form works c.args.classes
 pub loop-class-preserved : goal.loop-class-preserved
 loop-class-preserved g c = λ p form works are.
     let is : c.loop-class.rest.now ≡ c.in-Some.class.now ∷ c.in-Some.later.now = search rules in
-    put-more p form works c.args.classes.now c.args.next.now c.in-Some.class.now c.loop-class.rest.now c.in-Some.later.now c.loop-class.all.items c.in-Some-2.grown c.pop_front.new.self.items c.loop-class.next c.extend.new.next
-    is c.pop_front.ensures.items c.in_ok-extend.ensures (c.loop-class.invariant p form works are)
+    let front : c.loop-class.all.items ≡ c.in-Some-pop_front.grown ∷ c.pop_front.new.self.items = search rules in
+    put-more p form works c.args.classes.now c.args.next.now c.in-Some.class.now c.loop-class.rest.now c.in-Some.later.now c.loop-class.all.items c.in-Some-pop_front.grown c.pop_front.new.self.items c.loop-class.next c.extend.new.next
+    is front c.in_ok-extend.ensures (c.loop-class.invariant p form works are)
 
 pub returns : goal.returns
-returns g c = search rules
+returns g c = λ whole p form works are.
+    let none : c.loop-class.rest.now ≡ [] = none-left c.loop-class.rest.now (search rules) in
+    put-last p form works c.args.classes.now c.args.next.now c.loop-class.rest.now c.loop-class.next c.loop-class.all.items none (c.loop-class.invariant p form works are)
