@@ -1,7 +1,7 @@
 use Rattle.std.proofs.Common.{subst, sym, ◌∙◌, refl, List, ℕ, [], ◌∷◌}
 use Rattle.hek_convert_command.specs.Lines.{FirstWords}
 use Rattle.hek_convert_command.proofs.LineLaws.{word_then, no_word, not_one, one_more, none_of}
-use Rattle.hek_convert_command.proofs.exchange.exchange_of.Goals as goal
+use Rattle.hek_convert_command.proofs.exchange.exchange_by_words.Goals as goal
 
 pub returns-in_err-second : goal.returns-in_err-second
 returns-in_err-second c =
