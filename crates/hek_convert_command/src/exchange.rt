@@ -32,7 +32,6 @@ pub struct Exchange {
 }
 
 /// The exchange of a line `OLD NEW TXN` or `WORD OLD NEW TXN`; None of any other line.
-#[tactic(auto, using(crate::proofs::Spaces::spaced_exchange))]
 pub fn exchange_of(line: &str) -> Option<Exchange>
     ensures on_line { IsExchangeOn line.now result }
     ensures written { (e : SpecExchange) (words : List (List ℕ)) → AreWordsOf e words → line.now ≡ spaced words → result ≡ Some e }
