@@ -1,5 +1,5 @@
 //! A line of a log of exchanges.
-ghost use Rattle.std.specs.Prelude.{◌≡◌, ◌↔◌, ℕ, List, ◌∷◌, [], Some};
+ghost use Rattle.std.specs.Prelude.{◌≡◌, ◌↔◌, ℕ, List, ◌∷◌, [], Option, Some};
 ghost use Rattle.hek_convert_command.specs.Lines.{AreNumbersOf, AreWordsOf, IsExchangeOn, IsNameOf, spaced};
 ghost use Rattle.hek_convert_command.specs.declared.exchange.WordName.{WordName as SpecName};
 ghost use Rattle.hek_convert_command.specs.declared.exchange.Exchange.{Exchange as SpecExchange};
@@ -34,6 +34,7 @@ pub struct Exchange {
 /// The exchange of a line `OLD NEW TXN` or `WORD OLD NEW TXN`; None of any other line.
 pub fn exchange_of(line: &str) -> Option<Exchange>
     ensures on_line { IsExchangeOn line.now result }
+    ensures only { (found : Option SpecExchange) → IsExchangeOn line.now found → found ≡ result }
     ensures written { (e : SpecExchange) (words : List (List ℕ)) → AreWordsOf e words → line.now ≡ spaced words → result ≡ Some e }
 {
     exchange_by_words(line)
