@@ -53,6 +53,15 @@ FirstWords zero text (word ∷ words) = ⊥
 FirstWords (suc n) text [] = NoCharPasses is_not_whitespace text
 FirstWords (suc n) text (word ∷ words) = (rest : List ℕ) × FirstWord text word rest × FirstWords n rest words
 
+-- words, a space between each two
+abbrev pub after_word : List (List ℕ) → List ℕ
+after_word [] = []
+after_word (word ∷ words) = 32 ∷ (word ++ after_word words)
+
+abbrev pub spaced : List (List ℕ) → List ℕ
+spaced [] = []
+spaced (word ∷ words) = word ++ after_word words
+
 -- ---- an exchange
 
 abbrev pub side_text : Side → List ℕ

@@ -1,6 +1,6 @@
 //! A line of a log of exchanges.
-ghost use Rattle.std.specs.Prelude.{◌≡◌, ◌↔◌, ◌∷◌, [], Some};
-ghost use Rattle.hek_convert_command.specs.Lines.{IsNameOf, AreNumbersOf, AreWordsOf, IsExchangeOn};
+ghost use Rattle.std.specs.Prelude.{◌≡◌, ◌↔◌, ℕ, List, ◌∷◌, [], Option, Some};
+ghost use Rattle.hek_convert_command.specs.Lines.{AreNumbersOf, AreWordsOf, IsExchangeOn, IsNameOf, spaced};
 ghost use Rattle.hek_convert_command.specs.declared.exchange.WordName.{WordName as SpecName};
 ghost use Rattle.hek_convert_command.specs.declared.exchange.Exchange.{Exchange as SpecExchange};
 
@@ -33,6 +33,15 @@ pub struct Exchange {
 
 /// The exchange of a line `OLD NEW TXN` or `WORD OLD NEW TXN`; None of any other line.
 pub fn exchange_of(line: &str) -> Option<Exchange>
+    ensures on_line { IsExchangeOn line.now result }
+    ensures only { (found : Option SpecExchange) → IsExchangeOn line.now found → found ≡ result }
+    ensures written { (e : SpecExchange) (words : List (List ℕ)) → AreWordsOf e words → line.now ≡ spaced words → result ≡ Some e }
+{
+    exchange_by_words(line)
+}
+
+/// The exchange that the words of a line are, if they are one.
+fn exchange_by_words(line: &str) -> Option<Exchange>
     ensures { IsExchangeOn line.now result }
 {
     let mut words = line.split_whitespace();

@@ -7,7 +7,7 @@ use Rattle.hek_history.specs.declared.history.Order.{Order}
 use Rattle.hek_history.specs.declared.history.Transaction.{Transaction}
 use Rattle.hek_history_log.specs.Contents.{SameTransaction, SaysSame}
 use Rattle.hek_report.specs.declared.printing.Printing.{Printing}
-use Rattle.hek_history_command.specs.Told.{AnswersLog, IsAnswered, IsOfLog, at_level}
+use Rattle.hek_history_command.specs.Told.{AnswersLog, IsAnswered, at_level}
 
 -- where no level is asked for each transaction stays as it is
 pub own_levels : (level : Option Level) (ts : List Transaction) → level ≡ None → ts ≡ map (at_level level) ts

@@ -1,4 +1,4 @@
-use Rattle.std.proofs.Common.{subst, sym, refl, Option, Some}
+use Rattle.std.proofs.Common.{subst, sym, refl, Option}
 use Rattle.hek_convert_command.specs.declared.answer.Answer.TheVariants.{Changes}
 use Rattle.hek_convert_command.specs.declared.exchange.WordName.{WordName}
 use Rattle.hek_convert_command.specs.Chain.{last_of}

@@ -1,4 +1,4 @@
-use Rattle.std.proofs.Common.{subst, sym, ℕ, Option, Some}
+use Rattle.std.proofs.Common.{subst, sym, ℕ, Option}
 use Rattle.hek_convert_command.specs.declared.exchange.WordName.{WordName}
 use Rattle.hek_convert_command.specs.Chain.{last_of}
 use Rattle.hek_convert_command.specs.Changed.{IsAfter, IsOfNamed}

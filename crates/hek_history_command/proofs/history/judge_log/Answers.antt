@@ -2,7 +2,7 @@ use Rattle.std.proofs.Common.{subst, ap, Option}
 use Rattle.hek_history.specs.declared.history.Level.{Level}
 use Rattle.hek_history.specs.declared.history.Order.{Order}
 use Rattle.hek_report.specs.declared.printing.Printing.{Printing}
-use Rattle.hek_history_command.specs.Told.{IsAnswer, order_for, weaker_of}
+use Rattle.hek_history_command.specs.Told.{IsAnswer, weaker_of}
 use Rattle.hek_history_command.proofs.Judging.{of_same}
 use Rattle.hek_history_command.proofs.history.judge_log.Goals as goal
 
