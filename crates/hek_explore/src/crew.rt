@@ -68,7 +68,15 @@ impl<'a, R: Threads + Sync> Crew for Team<'a, R> {
         form: Form,
         classes: &[Class],
     ) -> Result<VecDeque<Grown>, OrderFault> {
-        grow_parts(self.system, alloc, schedule, moves, form, classes, self.jobs)
+        grow_parts(
+            self.system,
+            alloc,
+            schedule,
+            moves,
+            form,
+            classes,
+            self.jobs,
+        )
     }
 }
 

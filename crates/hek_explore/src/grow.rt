@@ -95,7 +95,16 @@ fn grow_class(
     let count = class.left().len();
     let mut grown = Grown::with_room(alloc, count)?;
     for place in 0..count {
-        let found = grow_at(alloc, schedule, moves, form, class, &book, places.as_slice(), place)?;
+        let found = grow_at(
+            alloc,
+            schedule,
+            moves,
+            form,
+            class,
+            &book,
+            places.as_slice(),
+            place,
+        )?;
         grown.push(found)?;
     }
     Ok(grown)

@@ -97,7 +97,8 @@ fn explore_moves<C: Crew, S: Survey>(
     let mut room = limit;
     survey.begin(most);
     for _ in 0..most {
-        let Some(next) = next_layer(alloc, schedule, moves, form, &layer, room, crew, survey)? else {
+        let Some(next) = next_layer(alloc, schedule, moves, form, &layer, room, crew, survey)?
+        else {
             return Ok(None);
         };
         layer = next;

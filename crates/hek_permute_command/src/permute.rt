@@ -79,7 +79,15 @@ fn permute<'a, P: Players, W: Write, E: Write>(
     let most = most_plays(choice, extent);
     let mut progress = Progress::new(faults, choice.progress, choice.stats, most);
     let mut lines = Vec::new(alloc);
-    let played = put_asked(players, alloc, given, choice, extent, &mut progress, &mut lines);
+    let played = put_asked(
+        players,
+        alloc,
+        given,
+        choice,
+        extent,
+        &mut progress,
+        &mut lines,
+    );
     progress.clear();
     let census = progress.census();
     let status = played?;
@@ -313,7 +321,14 @@ fn tally_at<'a, P: Players, E: Write>(
     requires { P.can_play players.now }
 {
     let leveled = leveled(alloc, given.schedule, Some(level), given.schedule.steps())?;
-    tally_of(players, alloc, &given.over(&leveled), form, extent, progress)
+    tally_of(
+        players,
+        alloc,
+        &given.over(&leveled),
+        form,
+        extent,
+        progress,
+    )
 }
 
 /// The tally with the most frequent outcomes first.

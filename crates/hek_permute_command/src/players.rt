@@ -97,7 +97,16 @@ impl<'a, T: Threads + Sync> Players for Team<'a, T> {
         survey: &mut S,
     ) -> Result<Option<Tally>, OrderFault> {
         let jobs = self.jobs;
-        explore_in_threads(self.system, jobs, alloc, schedule, rules, form, limit, survey)
+        explore_in_threads(
+            self.system,
+            jobs,
+            alloc,
+            schedule,
+            rules,
+            form,
+            limit,
+            survey,
+        )
     }
 
     fn play<W: Watch>(
@@ -110,6 +119,15 @@ impl<'a, T: Threads + Sync> Players for Team<'a, T> {
         to: u64,
         _watch: &mut W,
     ) -> Result<Tally, OrderFault> {
-        play_parts(self.system, alloc, schedule, rules, form, from, to, self.jobs)
+        play_parts(
+            self.system,
+            alloc,
+            schedule,
+            rules,
+            form,
+            from,
+            to,
+            self.jobs,
+        )
     }
 }

@@ -65,9 +65,18 @@ fn of_states<R: Abort + Threads + Sync>(
     schedule: &Schedule,
     jobs: u64,
 ) -> Tally {
-    explore_in_threads(rt, jobs, alloc, schedule, &[], Form::Whole, 1_000, &mut Untold)
-        .expect(rt, "a count")
-        .expect(rt, "few states")
+    explore_in_threads(
+        rt,
+        jobs,
+        alloc,
+        schedule,
+        &[],
+        Form::Whole,
+        1_000,
+        &mut Untold,
+    )
+    .expect(rt, "a count")
+    .expect(rt, "few states")
 }
 
 fn orders_in(tally: &Tally) -> u64 {
