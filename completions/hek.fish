@@ -83,7 +83,7 @@ complete -c hek -n '__fish_seen_subcommand_from permute' -l split -d 'makes fini
 complete -c hek -n '__fish_seen_subcommand_from permute' -l grain -x -a 'move split event' -d 'cuts the end of a transaction into one move (move), two (split), or a move for each event (event)'
 complete -c hek -n '__fish_seen_subcommand_from permute' -l limit -x -d 'counts nothing if there are more than N states (1000000); with --each, --part or --find of a reply, more than N orders (100000)'
 complete -c hek -n '__fish_seen_subcommand_from permute' -l part -x -d 'plays the Kth of N equal parts of the orders'
-complete -c hek -n '__fish_seen_subcommand_from permute' -l jobs -x -d 'with --part: plays the orders with N threads, 1 to 1000'
+complete -c hek -n '__fish_seen_subcommand_from permute' -l jobs -x -d 'counts outcomes with N threads, 1 to 1000'
 complete -c hek -n '__fish_seen_subcommand_from permute' -l each -d 'prints a line for each order'
 complete -c hek -n '__fish_seen_subcommand_from permute' -l order -x -d 'prints the events of one order as a schedule: a name for each move'
 complete -c hek -n '__fish_seen_subcommand_from permute' -l levels -d 'prints the outcomes at each level, side by side'

@@ -70,5 +70,6 @@ class GateCost(Tree):
 
     def test_counts_all_that_a_command_begins(self):
         self.assertIsNone(self.gate.seconds_of(["false"], self.root))
-        work = "import subprocess, sys; subprocess.run([sys.executable, '-c', 'sum(range(4_000_000))'])"
-        self.assertGreater(self.gate.seconds_of(["python3", "-c", work], self.root), self.gate.seconds_of(["python3", "-c", ""], self.root))
+        inner = "import time\nwhile time.process_time() < 1: pass"
+        work = f"import subprocess, sys; subprocess.run([sys.executable, '-c', {inner!r}])"
+        self.assertGreaterEqual(self.gate.seconds_of(["python3", "-c", work], self.root), 1)

@@ -155,7 +155,7 @@ fn rivals_of(command: &str, name: &str) -> &'static [&'static str] {
         ("history", "sessions") => &["order", "all", "order-out"],
         ("page", "orders") => &["from", "to", "auto"],
         ("page", "levels") => &["from", "to", "auto", "level", "orders"],
-        ("permute", "jobs") => &["each", "levels", "order", "find"],
+        ("permute", "jobs") => &["each", "order", "find"],
         ("permute", "stats") => &["each", "order", "find", "part"],
         ("permute", "add") => &[
             "text", "image", "auto", "level", "split", "grain", "limit", "part", "jobs", "each",
@@ -170,7 +170,6 @@ fn rivals_of(command: &str, name: &str) -> &'static [&'static str] {
 /// The arguments of a command without which this one does nothing.
 fn needs_of(command: &str, name: &str) -> &'static [&'static str] {
     match (command, name) {
-        ("permute", "jobs") => &["part"],
         ("permute", "TABLE") => &["add"],
         ("page", "split" | "grain" | "limit") => &["orders"],
         _ => &[],

@@ -50,7 +50,7 @@ The verdict takes all transactions as serializable: `serial` by end time, `seria
         },
         ArgumentText {
             name: "jobs",
-            help: "with --part: plays the orders with N threads, 1 to 1000",
+            help: "counts outcomes with N threads, 1 to 1000",
             form: Form::Number,
         },
         ArgumentText {

@@ -146,7 +146,7 @@ fn parts_of<'a>(found: &ArgMatches<'a>) -> Result<(u64, u64), HekFault<'a>> {
     }
 }
 
-/// Answers `permute` with as many threads of the system as the words ask for, where the outcomes of a part are counted.
+/// Answers `permute` with as many threads of the system as the words ask for, where outcomes are counted.
 pub fn permute_jobs<
     'a,
     T: Threads + Sync,
@@ -164,18 +164,13 @@ pub fn permute_jobs<
     faults: &mut E,
 ) -> Result<u8, HekFault<'a>> {
     let jobs = jobs_of(found)?;
-    if jobs == 1 || !counts_a_part(found) {
+    if jobs == 1 || found.get_flag("add") {
         return permute(alloc, found, disk, input, out, faults);
     }
-    let choice = choice_of(found, false)?;
+    let is_part = found.get_str("part").is_some();
+    let choice = choice_of(found, faults.is_terminal() && !is_part)?;
     let file = schedule_file(alloc, found, disk, input)?;
     permute_in_threads(system, jobs, alloc, file, choice, out, faults)
-}
-
-/// Whether the words ask for the outcomes of a part.
-fn counts_a_part(found: &ArgMatches<'_>) -> bool {
-    let is_part = found.get_str("part").is_some();
-    is_part && !found.get_flag("each") && !found.get_flag("levels")
 }
 
 /// The greatest number of threads that play orders.

@@ -1,5 +1,5 @@
 -- What `word --changes` answers.
-use Rattle.std.specs.Prelude.{◌≡◌, ◌≢◌, ◌⊎◌, ◌↔◌, ◌^◌, ◌-◌, ℕ, nat_eq, max, Bool, true, false, if◌then◌else◌, List, [], ◌∷◌, ◌++◌, codes, Option, Some, None}
+use Rattle.std.specs.Prelude.{◌≡◌, ◌≢◌, ◌⊎◌, ◌↔◌, ◌^◌, ◌-◌, ℕ, nat_eq, max, Bool, true, false, if◌then◌else◌, List, [], ◌∷◌, ◌++◌, map, codes, Option, Some, None}
 use Rattle.std.specs.Fmt.{digits, padded_integral, format_spec}
 use Rattle.std.specs.Io.KnownBytes.{Appends}
 use Rattle.hek_rules.specs.declared.word.BeginRecord.{BeginRecord}
@@ -16,6 +16,7 @@ use Rattle.hek_convert_command.specs.declared.exchange.Exchange.{Exchange}
 use Rattle.hek_convert_command.specs.declared.exchange.Side.{Side}
 use Rattle.hek_convert_command.specs.declared.exchange.Side.TheVariants.{Begin, End}
 use Rattle.hek_convert_command.specs.declared.exchange.WordName.{WordName}
+use Rattle.hek_convert_command.specs.Lines.{AreFullLines, IsExchangeOn}
 
 -- ---- the change of an exchange
 
@@ -105,8 +106,10 @@ IsTold Json answer text = Unit {0}
 
 -- ---- all lines
 
--- what was answered to a line: the exchange on it, if it has one, the answer to it, and the text of this answer
+-- what was answered to a line: the line, without the white space around it, the exchange on it, if it has one, the answer
+-- to it, and the text of this answer
 pub record Answered : Type 0 where
+  pub line : List ℕ
   pub exchange : Option Exchange
   pub answer : Answer
   pub text : List ℕ
@@ -132,11 +135,16 @@ abbrev pub left_by : List Answered → Side → ℕ → Option ℕ
 left_by [] side version = None
 left_by (latest ∷ earlier) side version = left_after latest.exchange side version (left_by earlier side version)
 
--- each of these lines, the latest first, has the answer to its exchange after those before it, and the text of this answer
+-- each of these lines, the latest first, has the exchange on it, the answer to this after those before it, and the text of
+-- this answer
 abbrev pub AreAnswers : Printing → List Answered → Type 0
 AreAnswers printing [] = Unit {0}
 AreAnswers printing (latest ∷ earlier) =
-    IsAnswerTo (left_by earlier) latest.exchange latest.answer × IsTold printing latest.answer latest.text × AreAnswers printing earlier
+    IsExchangeOn latest.line latest.exchange × IsAnswerTo (left_by earlier) latest.exchange latest.answer
+    × IsTold printing latest.answer latest.text × AreAnswers printing earlier
+
+abbrev pub lines_of : List Answered → List (List ℕ)
+lines_of answered = map (λ (a : Answered). a.line) answered
 
 -- the texts of these lines, the latest first
 abbrev pub answers_text : List Answered → List ℕ
@@ -148,10 +156,11 @@ abbrev pub greatest : List Answered → ℕ
 greatest [] = 0
 greatest (latest ∷ earlier) = max (status_of_answer latest.answer) (greatest earlier)
 
--- right answers to some lines were written after the bytes that a writer held, and nothing else; the status is the greatest
--- that one of them asks for
-pub record HasAnswers (printing : Printing) (before after : Option (List ℕ)) (status : ℕ) : Type 0 where
+-- right answers to the lines of an input that aren't blank were written after the bytes that a writer held, and nothing else;
+-- the status is the greatest that one of them asks for. Of an input whose bytes aren't known it may be any lines
+pub record HasAnswers (printing : Printing) (input before after : Option (List ℕ)) (status : ℕ) : Type 0 where
   pub answered : List Answered
+  pub lines : (text : List ℕ) → input ≡ Some text → AreFullLines text (lines_of answered)
   pub right : AreAnswers printing answered
   pub written : Appends before after (answers_text answered)
   pub answer : status ≡ greatest answered

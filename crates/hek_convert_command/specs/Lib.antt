@@ -3,4 +3,5 @@ pub mod Bounds
 pub mod Chain
 pub mod Changed
 pub mod Converted
+pub mod Lines
 pub mod WordText

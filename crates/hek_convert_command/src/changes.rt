@@ -1,7 +1,7 @@
 //! `word --changes`: which change leads from one word to the next.
 ghost use Rattle.std.specs.Prelude.{◌≡◌, Option, List, ℕ, Some, IfOk};
-ghost use Rattle.hek_convert_command.specs.Changed.{HasAnswers, IsAfter, IsBeginChange, IsEndChange, IsOfSide};
-ghost use Rattle.hek_convert_command.specs.Answering.{Answering, IsAnswered, IsReply};
+ghost use Rattle.hek_convert_command.specs.Changed.{Answered, HasAnswers, IsAfter, IsBeginChange, IsEndChange, IsOfSide};
+ghost use Rattle.hek_convert_command.specs.Answering.{Answering, AnswersNext, IsAnswered, IsReply, IsReplyTo};
 
 use crate::answer::Answer;
 use crate::chain::Chain;
@@ -23,24 +23,24 @@ pub fn changes_command<'a, I: Read + Drop, W: Write>(
     printing: Printing,
     out: &mut W,
 ) -> Result<u8, HekFault<'a>>
-    ensures { IfOk result (HasAnswers printing (W.contents out.old) (W.contents out.new)) }
+    ensures { IfOk result (HasAnswers printing (I.remaining input) (W.contents out.old) (W.contents out.new)) }
 {
     if words.len() != 1 || words[0] != INPUT {
         return Err(HekFault::BadArgument);
     }
-    let mut lines = buffered(alloc, input)?;
-    answer_lines(alloc, &mut lines, printing, out)
+    let lines = buffered(alloc, input)?;
+    let status = answer_lines(alloc, lines, printing, out)?;
+    Ok(status)
 }
 
 /// Writes what each line that isn't blank comes to. Answers the greatest status that one asks for.
-#[tactic(auto, using(crate::proofs::ChangeLaws::none_yet, crate::proofs::ChangeLaws::all_answered))]
-fn answer_lines<'a, B: BufRead, W: Write>(
+fn answer_lines<'a, B: BufRead + Drop, W: Write>(
     alloc: Global,
-    lines: &mut B,
+    lines: B,
     printing: Printing,
     out: &mut W,
 ) -> Result<u8, HekFault<'a>>
-    ensures { IfOk result (HasAnswers printing (W.contents out.old) (W.contents out.new)) }
+    ensures { IfOk result (HasAnswers printing (B.remaining lines) (W.contents out.old) (W.contents out.new)) }
 {
     let mut chain = Chain::new(alloc);
     let mut status = 0;
@@ -53,7 +53,7 @@ fn answer_lines<'a, B: BufRead, W: Write>(
 }
 
 /// Writes what a line comes to, unless it is blank. Answers the greatest status that was asked for until then.
-#[tactic(auto, using(crate::proofs::ChangeLaws::one_more))]
+#[tactic(auto, using(crate::proofs::ChangeLaws::one_more, crate::proofs::ChangeLaws::none_more))]
 fn answer_next<'a, W: Write>(
     alloc: Global,
     line: &str,
@@ -62,7 +62,9 @@ fn answer_next<'a, W: Write>(
     printing: Printing,
     out: &mut W,
 ) -> Result<u8, HekFault<'a>>
-    ensures { IfOk result (λ next. (before : Option (List ℕ)) → Answering printing before (W.contents out.old) status chain.old → Answering printing before (W.contents out.new) next chain.new) }
+    ensures { IfOk result (λ next. (earlier : List Answered) (before : Option (List ℕ))
+        → Answering printing earlier before (W.contents out.old) status chain.old
+        → AnswersNext printing earlier line.now before (W.contents out.new) next chain.new) }
 {
     if line.is_empty() {
         return Ok(status);
@@ -79,7 +81,7 @@ fn answer_line<'a, W: Write>(
     printing: Printing,
     out: &mut W,
 ) -> Result<u8, HekFault<'a>>
-    ensures { IfOk result (IsAnswered printing chain.old chain.new (W.contents out.old) (W.contents out.new)) }
+    ensures { IfOk result (IsAnswered printing line.now chain.old chain.new (W.contents out.old) (W.contents out.new)) }
 {
     let answer = answer_to(line, chain)?;
     let mut text = answer.text(alloc, printing)?;
@@ -89,16 +91,19 @@ fn answer_line<'a, W: Write>(
 
 /// The answer to a line. The chain notes what its exchange left.
 fn answer_to<'a>(line: &str, chain: &mut Chain) -> Result<Answer, HekFault<'a>>
-    ensures { IfOk result (IsReply chain.old chain.new) }
+    ensures { IfOk result (IsReply line.now chain.old chain.new) }
 {
     match exchange_of(line) {
         None => Ok(Answer::NotAChange),
-        Some(exchange) => answer_of(&exchange, chain),
+        Some(exchange) => {
+            let answer = answer_of(&exchange, chain)?;
+            Ok(answer)
+        }
     }
 }
 
 fn answer_of<'a>(exchange: &Exchange, chain: &mut Chain) -> Result<Answer, HekFault<'a>>
-    ensures { IfOk result (IsReply chain.old chain.new) }
+    ensures { IfOk result (IsReplyTo (Some exchange.now) chain.old chain.new) }
 {
     match exchange.word {
         None => Ok(Answer::Changes(begin_change_of(exchange), end_change_of(exchange))),
@@ -113,7 +118,7 @@ fn answer_of_named<'a>(
     chain: &mut Chain,
 ) -> Result<Answer, HekFault<'a>>
     requires { exchange.now.word ≡ Some word }
-    ensures { IfOk result (IsReply chain.old chain.new) }
+    ensures { IfOk result (IsReplyTo (Some exchange.now) chain.old chain.new) }
 {
     let last = chain.note(word, exchange.new)?;
     Ok(answer_after(exchange, word.side, last))

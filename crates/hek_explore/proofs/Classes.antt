@@ -1,5 +1,5 @@
 -- Beginnings of orders in classes.
-use Rattle.std.proofs.Common.{◌≡◌, ℕ, zero, suc, ◌+◌, ◌≤◌, ◌<◌, List, [], ◌∷◌, ◌++◌, length, refl, ap, sym, subst, ◌∙◌, map, reverse, arith, Some, inl, inr, get_or, replicate}
+use Rattle.std.proofs.Common.{◌≡◌, ℕ, zero, suc, ◌+◌, ◌≤◌, ◌<◌, List, [], ◌∷◌, ◌++◌, length, refl, ap, sym, subst, ◌∙◌, map, reverse, arith, Option, Some, None, inl, inr, get_or, replicate}
 use Rattle.std.proofs.lemmas.Bool.{cases_Bool}
 use Rattle.std.proofs.lemmas.Bool.Decides.{nat_tests}
 use Rattle.std.proofs.lemmas.List.{length-append, length-map, reverse-append}
@@ -19,8 +19,8 @@ use Rattle.hek_permute.specs.Numbers.{orders_of}
 use Rattle.hek_permute.specs.Orders.{IsAmong, IsBelow}
 use Rattle.hek_permute.specs.Outcomes.{IsOutcomeOf}
 use Rattle.hek_permute.specs.Plays.{HasMoved, first_place}
-use Rattle.hek_explore.specs.Counts.{AreLike, Group, HasLike, IsBefore, IsGrown, IsJoined, IsPut, IsReplayed, IsStart, IsTried, joined}
-use Rattle.hek_explore.specs.Deals.{DealsClasses, FitsClass, IsExtended, IsNextLayer, Measure, left_of, weigh}
+use Rattle.hek_explore.specs.Counts.{AreGrown, AreLike, Group, HasLike, IsBefore, IsGrown, IsGrownAt, IsJoined, IsPut, IsPutIf, IsReplayed, IsStart, joined}
+use Rattle.hek_explore.specs.Deals.{AreExtended, DealsClasses, FitsClass, IsExtended, IsNextLayer, Measure, left_of, weigh}
 use Rattle.hek_explore.specs.Codes.{code_of}
 use Rattle.hek_explore.specs.Steps.{AreRuled, EndsWith, HasKey, LeadsBy}
 use Rattle.hek_permute.proofs.Begun.{among_append}
@@ -184,16 +184,49 @@ module _ (p : Plan) (form : Form) (works : List Work) where
   to-more g c place next old mid new is grown put was n =
       extended-more left_of (FitsClass p form works) n g c place next grown.left.fewer old mid new (omega (arith, is)) grown.left.had grown.left.is (grown-fits g c place grown) (put-dealt mid new c put) (was n)
 
-  pub to-step : (g : Group) (place next : ℕ) (old mid new : List Group) → next ≡ place + 1 → IsTried p form works g place mid new → IsExtendedTo g place old mid → IsExtendedTo g next old new
-  to-step g place next old mid new is tried was = elim tried [
-    | inl none ↦ subst (λ (l : List Group). IsExtendedTo g next old l) (sym none.1) (to-skip g place next old mid is none.0 was)
-    | inr one ↦ to-more g one.0 place next old mid new is one.1 one.2 was
-  ]
+  pub to-put : (g : Group) (place : ℕ) (old mid new : List Group) (found : Option Group) → IsGrownAt p form works g place found → IsPutIf found mid new → IsExtendedTo g place old mid
+      → IsExtendedTo g (place + 1) old new
+  to-put g place old mid new None none put was = subst (λ (l : List Group). IsExtendedTo g (place + 1) old l) (sym put) (to-skip g place (place + 1) old mid refl none was)
+  to-put g place old mid new (Some c) grown put was = to-more g c place (place + 1) old mid new refl grown put was
 
   pub to-all : (g : Group) (count : ℕ) (old new : List Group) → count ≡ length g.left → IsExtendedTo g count old new → IsExtended p form works g old new
   to-all g count old new is was n all qs d fits =
       let whole : IsExtendedTo g (length g.left) old new = subst (λ (m : ℕ). IsExtendedTo g m old new) is was in
       whole n all qs d fits
+
+  -- what the transactions from a place on lead to
+  pub record AreLeft (g : Group) (place : ℕ) (rest : List (Option Group)) : Type 0 where
+    pub long : length rest + place ≡ length g.left
+    pub each : (i : ℕ) (found : Option Group) → slice_get rest i ≡ Some found → IsGrownAt p form works g (i + place) found
+
+  -- what a class becomes was put among the others, as far as this
+  pub record IsExtending (g : Group) (old new : List Group) (rest : List (Option Group)) : Type 0 where
+    pub place : ℕ
+    pub left : AreLeft g place rest
+    pub so_far : IsExtendedTo g place old new
+
+  pub extending-none : (g : Group) (old : List Group) (grown : List (Option Group)) → AreGrown p form works g grown → IsExtending g old old grown
+  extending-none g old grown are = record {
+    place = 0;
+    left = record { long = omega (arith, are.long); each = λ i found at. subst (λ (n : ℕ). IsGrownAt p form works g n found) (let e : i ≡ i + 0 = omega arith in e) (are.each i found at) };
+    so_far = to-none g old;
+  }
+
+  pub extending-more : (g : Group) (old mid new : List Group) (found : Option Group) (rest was : List (Option Group)) → was ≡ found ∷ rest → IsPutIf found mid new → IsExtending g old mid was
+      → IsExtending g old new rest
+  extending-more g old mid new found rest was is put so = record {
+    place = so.place + 1;
+    left = record {
+      long = omega (arith, so.left.long, ap (λ (l : List (Option Group)). length l) is);
+      each = λ i other at. subst (λ (n : ℕ). IsGrownAt p form works g n other) (let e : suc i + so.place ≡ i + (so.place + 1) = omega arith in e)
+          (so.left.each (suc i) other (ap (λ (l : List (Option Group)). slice_get l (suc i)) is ∙ at));
+    };
+    so_far = to-put g so.place old mid new found
+        (subst (λ (n : ℕ). IsGrownAt p form works g n found) (let e : 0 + so.place ≡ so.place = omega arith in e) (so.left.each 0 found (ap (λ (l : List (Option Group)). slice_get l 0) is))) put so.so_far;
+  }
+
+  pub extending-all : (g : Group) (old new : List Group) (rest : List (Option Group)) → rest ≡ [] → IsExtending g old new rest → IsExtended p form works g old new
+  extending-all g old new rest none so = to-all g so.place old new (omega (arith, so.left.long, ap (λ (l : List (Option Group)). length l) none)) so.so_far
 
   -- ---- the classes of a layer
   abbrev pub IsPassedTo : List Group → List Group → List Group → Type 0
@@ -208,6 +241,11 @@ module _ (p : Plan) (form : Form) (works : List Work) where
   pass-more layer old new rest later g is more was n all d =
       passed-more left_of (FitsClass p form works) n all old new g later (length g.left) refl (more n)
       (subst (λ (l : List Group). IsPassed left_of (FitsClass p form works) n all old l) is (was n all d))
+
+  -- one class after another
+  pub pass-each : (layer batch later old new : List Group) → AreExtended p form works batch old new → IsPassedTo layer old (batch ++ later) → IsPassedTo layer new later
+  pass-each layer [] later old new same was = subst (λ (l : List Group). IsPassedTo layer l later) (sym same) was
+  pass-each layer (g ∷ gs) later old new each was = pass-each layer gs later each.0 new each.2 (pass-more layer old each.0 (g ∷ (gs ++ later)) (gs ++ later) g refl each.1 was)
 
   pub pass-all : (layer next rest : List Group) → rest ≡ [] → IsPassedTo layer next rest → IsNextLayer p form works layer next
   pass-all layer next rest none was n all d =

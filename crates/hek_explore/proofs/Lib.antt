@@ -15,4 +15,5 @@ pub mod Shapes
 pub mod Steps
 pub mod Counting
 pub mod Classes
+pub mod Growing
 pub mod Rows

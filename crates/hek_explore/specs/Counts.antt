@@ -1,6 +1,6 @@
 -- How many orders have each outcome, and the classes by which they are counted.
 use Rattle.std.specs.List.{All}
-use Rattle.std.specs.Prelude.{ℕ, suc, ◌≡◌, ◌+◌, ◌<◌, ◌⊎◌, nat_lt, if◌then◌else◌, List, [], ◌∷◌, ◌++◌, Some, count_by, length, map, reverse, slice_get, slice_set, slice_index, sum_by}
+use Rattle.std.specs.Prelude.{ℕ, suc, ◌≡◌, ◌+◌, ◌<◌, ◌⊎◌, nat_lt, if◌then◌else◌, List, [], ◌∷◌, ◌++◌, Option, Some, None, count_by, length, map, reverse, slice_get, slice_set, slice_index, sum_by}
 use Rattle.hek_rules.specs.Checks.{clock_end}
 use Rattle.hek_rules.specs.Plan.{Plan}
 use Rattle.hek_program.specs.declared.rule.Rule.{Rule}
@@ -128,10 +128,27 @@ pub record IsGrown (p : Plan) (form : Form) (works : List Work) (g : Group) (pla
   pub first : c.first ≡ g.first ++ (place + 1) ∷ []
   pub left : IsFewer g.left place c.left
 
--- the class has no move left at the place, or was put among the others with one more such move
-abbrev pub IsTried : Plan → Form → List Work → Group → ℕ → List Group → List Group → Type 0
-IsTried p form works g place old new =
-    ((slice_index g.left place ≡ 0) × (new ≡ old)) ⊎ ((c : Group) × IsGrown p form works g place c × IsPut old new c)
+-- what a class becomes by one more move of the transaction at the place: none, if it has no move left
+abbrev pub IsGrownAt : Plan → Form → List Work → Group → ℕ → Option Group → Type 0
+IsGrownAt p form works g place None = slice_index g.left place ≡ 0
+IsGrownAt p form works g place (Some c) = IsGrown p form works g place c
+
+-- what a class becomes by one more move, by the place of the transaction that moves
+pub record AreGrown (p : Plan) (form : Form) (works : List Work) (g : Group) (grown : List (Option Group)) : Type 0 where
+  pub long : length grown ≡ length g.left
+  pub each : (place : ℕ) (found : Option Group) → slice_get grown place ≡ Some found → IsGrownAt p form works g place found
+
+-- what each of these classes becomes by one more move
+abbrev pub AreAllGrown : Plan → Form → List Work → List Group → List (List (Option Group)) → Type 0
+AreAllGrown p form works [] [] = Unit {0}
+AreAllGrown p form works [] (grown ∷ rest) = ⊥
+AreAllGrown p form works (g ∷ gs) [] = ⊥
+AreAllGrown p form works (g ∷ gs) (grown ∷ rest) = AreGrown p form works g grown × AreAllGrown p form works gs rest
+
+-- the class, if there is one, was put among the others
+abbrev pub IsPutIf : Option Group → List Group → List Group → Type 0
+IsPutIf None old new = new ≡ old
+IsPutIf (Some c) old new = IsPut old new c
 
 -- the class of the beginning without moves
 pub record IsStart (p : Plan) (form : Form) (works : List Work) (left : List ℕ) (g : Group) : Type 0 where

@@ -1,13 +1,13 @@
 -- How beginnings of orders are dealt out to classes, and to rows.
 use Rattle.std.specs.List.{All}
-use Rattle.std.specs.Prelude.{ℕ, suc, ◌≡◌, ◌+◌, ◌⊎◌, List, [], ◌∷◌, ◌++◌, length, map, reverse, sum_by}
+use Rattle.std.specs.Prelude.{ℕ, suc, ◌≡◌, ◌+◌, ◌⊎◌, List, [], ◌∷◌, ◌++◌, Option, length, map, reverse, sum_by}
 use Rattle.hek_rules.specs.Plan.{Plan}
 use Rattle.hek_permute.specs.declared.moves.Form.{Form}
 use Rattle.hek_permute.specs.Found.{Found, Line}
 use Rattle.hek_permute.specs.Moves.{Work}
 use Rattle.hek_permute.specs.Numbers.{orders_of}
 use Rattle.hek_permute.specs.Orders.{IsAmong}
-use Rattle.hek_explore.specs.Counts.{AreApart, AreOf, Group, IsBefore, orders_in}
+use Rattle.hek_explore.specs.Counts.{AreAllGrown, AreApart, AreGrown, AreOf, Group, IsBefore, orders_in}
 use Rattle.hek_explore.specs.Steps.{HasKey}
 
 -- what the orders weigh that begin with q and go on with one of these; q has its last move first, and so do the orders
@@ -47,6 +47,20 @@ abbrev pub IsExtended : Plan → Form → List Work → Group → List Group →
 IsExtended p form works g old new =
     (n : ℕ) (all : Measure) (qs : List (List ℕ)) → DealsClasses p form works n old all → FitsClass p form works g qs
     → DealsClasses p form works n new (λ f. all f + weigh f (orders_of (suc n) g.left) qs)
+
+-- what a class becomes by one more move was dealt out
+abbrev pub IsExtendedBy : Group → List (Option Group) → List Group → List Group → Type 0
+IsExtendedBy g grown old new = (p : Plan) (form : Form) (works : List Work) → AreGrown p form works g grown → IsExtended p form works g old new
+
+-- the beginnings of these classes, each with one more move, were dealt out one class after another
+abbrev pub AreExtended : Plan → Form → List Work → List Group → List Group → List Group → Type 0
+AreExtended p form works [] old new = new ≡ old
+AreExtended p form works (g ∷ gs) old new = (mid : List Group) × IsExtended p form works g old mid × AreExtended p form works gs mid new
+
+-- what these classes become by one more move was dealt out
+abbrev pub AreAllExtended : List Group → List (List (Option Group)) → List Group → List Group → Type 0
+AreAllExtended groups all old new =
+    (p : Plan) (form : Form) (works : List Work) → AreAllGrown p form works groups all → AreExtended p form works groups old new
 
 -- the classes of beginnings with one more move
 abbrev pub IsNextLayer : Plan → Form → List Work → List Group → List Group → Type 0

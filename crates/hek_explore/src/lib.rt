@@ -4,7 +4,9 @@
 
 mod class;
 mod code;
+mod crew;
 mod groups;
+mod grow;
 mod key;
 mod numbers;
 mod spot;
@@ -15,7 +17,7 @@ ghost use Rattle.hek_explore.specs.Laws.{EqualKeysMakeTwins, PlaysExtendAlike, T
 
 pub use key::{Key, Look, TxnKey, VersionKey};
 pub use survey::Survey;
-pub use walk::explore;
+pub use walk::{explore, explore_in_threads};
 
 /// Two plays are twins and have led to the same places. If one goes on by a move, so does the other, to the same
 /// places, and these are twins again, unless the clock comes to its end.

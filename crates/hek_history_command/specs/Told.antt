@@ -1,5 +1,6 @@
--- What the command writes of the verdict on a history.
-use Rattle.std.specs.Prelude.{◌≡◌, ◌⊎◌, ℕ, true, false, List, [], ◌∷◌, ◌++◌, codes, Option, Some, None, IfSome}
+-- What the command judges, and what it writes of the verdict.
+use Rattle.std.specs.Prelude.{◌≡◌, ◌⊎◌, ◌&&◌, ℕ, Bool, true, false, if◌then◌else◌, List, [], ◌∷◌, ◌++◌, map, codes, Option, Some, None, is_none}
+use Rattle.std.specs.List.{list_any}
 use Rattle.std.specs.Io.KnownBytes.{Appends}
 use Rattle.hek_history.specs.declared.history.Level.{Level}
 use Rattle.hek_history.specs.declared.history.Level.TheVariants.{Repeatable, Snapshot, Serializable}
@@ -7,7 +8,11 @@ use Rattle.hek_report.specs.declared.printing.Printing.{Printing}
 use Rattle.hek_report.specs.declared.printing.Printing.TheVariants.{Text, Json}
 use Rattle.hek_history.specs.declared.history.History.{History}
 use Rattle.hek_history.specs.declared.history.Order.{Order}
-use Rattle.hek_history.specs.Histories.{is_committed}
+use Rattle.hek_history.specs.declared.history.Order.TheVariants.{Any, Versions}
+use Rattle.hek_history.specs.declared.history.Transaction.{Transaction}
+use Rattle.hek_history.specs.Histories.{committed_by, is_committed}
+use Rattle.hek_history_log.specs.Contents.{SaysSame}
+use Rattle.hek_history_log.specs.LogText.{level_word}
 use Rattle.hek_history_search.specs.declared.judging.Verdict.{Verdict}
 use Rattle.hek_history_search.specs.declared.judging.Verdict.TheVariants.{Serial, NotSerial, Unknown}
 use Rattle.hek_history_search.specs.Verdicts.{IsVerdict}
@@ -20,17 +25,42 @@ weaker_of (Some Repeatable) = Some Repeatable
 weaker_of (Some Snapshot) = Some Snapshot
 weaker_of (Some Serializable) = None
 
+-- ---- what is judged
+
+-- a transaction at the level that is asked for, if one is
+abbrev pub at_level : Option Level → Transaction → Transaction
+at_level None t = t
+at_level (Some level) t = record t { level = level }
+
+-- a history says the same as that of a log, each transaction at the level that is asked for
+abbrev pub IsOfLog : Option Level → History → History → Type 0
+IsOfLog level log h = SaysSame h log.rows.items (map (at_level level) log.transactions.items)
+
+-- whether a transaction has committed, and has no end
+abbrev pub lacks_end : Transaction → Bool
+lacks_end t = committed_by t.status && is_none t.end
+
+-- the order in which a history is judged if none is asked for: that of versions where each transaction that has committed has
+-- an end, and otherwise any
+abbrev pub default_order : History → Order
+default_order h = if list_any lacks_end h.transactions.items then Any else Versions
+
+-- the order in which a history is judged
+abbrev pub order_for : Option Order → History → Order
+order_for None h = default_order h
+order_for (Some order) h = order
+
 -- ---- what the output begins with
 
 abbrev pub serial_front : Option Level → List ℕ
 serial_front None = codes "serial: "
-serial_front (Some level) = codes "holds at "
+serial_front (Some level) = codes "holds at " ++ level_word level ++ codes ": "
 
 abbrev pub failed_front : Option Level → List ℕ
 failed_front None = codes "not serial: "
-failed_front (Some level) = codes "fails at "
+failed_front (Some level) = codes "fails at " ++ level_word level ++ codes ": "
 
--- the words of a verdict, at a weaker level up to its name
+-- the words of a verdict, with the name of a weaker level
 abbrev pub front_of : Option Level → Verdict → List ℕ
 front_of weaker (Serial points) = serial_front weaker
 front_of weaker (NotSerial steps cause) = failed_front weaker
@@ -78,12 +108,16 @@ abbrev pub IsAnswer : History → Order → Option Level → Printing → Option
 IsAnswer h order weaker printing before after status =
     (HasCommitted h × IsTold h order weaker printing before after status) ⊎ (NoneCommitted h × SaysNothing printing before after × (status ≡ 3))
 
--- what is answered of the history of a log, at the level and in the order that are asked for
+-- the answer of a history that was read, at the level and in the order that are asked for
 pub record IsAnswered (level : Option Level) (asked : Option Order) (printing : Printing) (before after : Option (List ℕ)) (status : ℕ) : Type 0 where
   pub history : History
-  pub order : Order
-  pub is_asked : IfSome asked (λ wanted. order ≡ wanted)
-  pub answer : IsAnswer history order (weaker_of level) printing before after status
+  pub answer : IsAnswer history (order_for asked history) (weaker_of level) printing before after status
+
+-- the answer of the history that a log says, at the level and in the order that are asked for
+pub record AnswersLog (log : History) (level : Option Level) (asked : Option Order) (printing : Printing) (before after : Option (List ℕ)) (status : ℕ) : Type 0 where
+  pub history : History
+  pub is_of_log : IsOfLog level log history
+  pub answer : IsAnswer history (order_for asked history) (weaker_of level) printing before after status
 
 -- after a fault of the log nothing was written, and the status is 4
 abbrev pub Answers : Option Level → Option Order → Printing → Option (List ℕ) → Option (List ℕ) → ℕ → Type 0

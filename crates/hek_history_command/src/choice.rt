@@ -1,8 +1,9 @@
 //! What the command line asks the command to do.
-ghost use Rattle.std.specs.Prelude.{◌≡◌, true, false, IfSome};
-ghost use Rattle.hek_history_command.specs.Told.{HasCommitted, NoneCommitted, weaker_of};
+ghost use Rattle.std.specs.Prelude.{◌≡◌, true, false, map, Some};
+ghost use Rattle.std.specs.List.{list_any};
+ghost use Rattle.hek_history_command.specs.Told.{HasCommitted, NoneCommitted, at_level, lacks_end, order_for, weaker_of};
 
-use hek_history::{History, Level, Order, Status, is_committed};
+use hek_history::{History, Level, Order, Status, Transaction, is_committed};
 use hek_report::Printing;
 
 /// Which anomalies are told.
@@ -60,21 +61,48 @@ pub struct Choice {
 /// The order that is asked for: without a choice, that of versions where each committed transaction has an end, and
 /// any order otherwise.
 pub(crate) fn order_of(choice: Choice, history: &History) -> Order
-    ensures { IfSome choice.order (λ wanted. result ≡ wanted) }
+    ensures { result ≡ order_for choice.order history.now }
 {
-    if let Some(order) = choice.order {
-        return order;
+    match choice.order {
+        Some(order) => order,
+        None if lacks_an_end(history) => Order::Any,
+        None => Order::Versions,
     }
-    for transaction in history.transactions.iter() {
-        if transaction.status == Status::Committed && transaction.end.is_none() {
-            return Order::Any;
-        }
+}
+
+/// Whether a transaction that has committed has no end.
+fn lacks_an_end(history: &History) -> bool
+    ensures { result ≡ list_any lacks_end history.now.transactions.items }
+{
+    history.transactions.iter().any(lacks_end)
+}
+
+/// Whether a transaction has committed, and has no end.
+fn lacks_end(transaction: &Transaction) -> bool
+    ensures { result ≡ lacks_end transaction.now }
+{
+    match transaction.status {
+        Status::Committed => transaction.end.is_none(),
+        Status::Aborted | Status::Unknown => false,
     }
-    Order::Versions
+}
+
+/// Gives all transactions the level that is asked for, if there is one.
+#[tactic(auto, using(crate::proofs::Judging::own_levels))]
+pub(crate) fn set_level_asked(history: &mut History, level: Option<Level>)
+    ensures rows { history.new.rows ≡ history.old.rows }
+    ensures transactions { history.new.transactions.items ≡ map (at_level level) history.old.transactions.items }
+{
+    if let Some(level) = level {
+        set_level(history, level);
+    }
 }
 
 /// Gives all transactions one level.
-pub(crate) fn set_level(history: &mut History, level: Level) {
+fn set_level(history: &mut History, level: Level)
+    ensures rows { history.new.rows ≡ history.old.rows }
+    ensures transactions { history.new.transactions.items ≡ map (at_level (Some level)) history.old.transactions.items }
+{
     for transaction in history.transactions.iter_mut() {
         transaction.level = level;
     }

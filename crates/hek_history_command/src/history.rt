@@ -1,10 +1,15 @@
 //! The command `history`.
-ghost use Rattle.std.specs.Prelude.{◌≡◌, ◌++◌, codes, IfOk, OnOk, IfSome};
+ghost use Rattle.std.specs.Prelude.{◌≡◌, ◌++◌, ℕ, Some, codes, IfOk, OnOk};
+ghost use Rattle.hek_history.specs.declared.history.History.{History as SpecHistory};
+ghost use Rattle.hek_history_log.specs.LogText.{log_text};
+ghost use Rattle.hek_history_log.specs.Readable.{IsReadableLog};
 ghost use Rattle.hek_history_search.specs.Verdicts.{IsVerdict};
 ghost use Rattle.hek_history_command.specs.Answers.{status_of};
-ghost use Rattle.hek_history_command.specs.Told.{Answers, Begins, Grows, IsAnswer, IsAnswered, IsTold, SaysNothing, as_text, failed_front, front_of, serial_front, weaker_of};
+ghost use Rattle.hek_history_command.specs.Told.{Answers, AnswersLog, Begins, Grows, IsAnswer, IsTold, SaysNothing, as_text, failed_front, front_of, order_for, serial_front, weaker_of};
 
-use crate::choice::{Choice, Extent, effort_for, is_judged, order_of, set_level, weaker_level};
+use crate::choice::{
+    Choice, Extent, effort_for, is_judged, order_of, set_level_asked, weaker_level,
+};
 use crate::counted::Tally;
 use crate::counts::{Counts, counts_of};
 use crate::explained::Explained;
@@ -53,7 +58,10 @@ pub fn history_command<'a, R: Read + Drop, W: Write, O: Write, E: Write>(
     out: &mut W,
     faults: &mut E,
 ) -> Result<u8, HekFault<'a>>
-    ensures { IfOk result (Answers choice.level choice.order choice.printing (W.contents out.old) (W.contents out.new)) }
+    ensures told { IfOk result (Answers choice.level choice.order choice.printing (W.contents out.old) (W.contents out.new)) }
+    ensures of_log { (buckets : ℕ) (log : SpecHistory) → IsReadableLog buckets log
+        → R.remaining file ≡ Some (log_text buckets log)
+        → IfOk result (AnswersLog log choice.level choice.order choice.printing (W.contents out.old) (W.contents out.new)) }
 {
     let mut input = buffered(alloc, file)?;
     let mut explained = Explained::new(alloc, name, choice.explains);
@@ -80,7 +88,7 @@ fn answer<'a, W: Write, O: Write>(
     order_out: &mut Option<O>,
     out: &mut W,
 ) -> Result<u8, HekFault<'a>>
-    ensures { IfOk result (IsAnswered choice.level choice.order choice.printing (W.contents out.old) (W.contents out.new)) }
+    ensures { IfOk result (AnswersLog log.history choice.level choice.order choice.printing (W.contents out.old) (W.contents out.new)) }
 {
     judge_log(alloc, &mut log, choice, order_out, out)
 }
@@ -93,7 +101,7 @@ fn judge_log<'a, W: Write, O: Write>(
     order_out: &mut Option<O>,
     out: &mut W,
 ) -> Result<u8, HekFault<'a>>
-    ensures { IfOk result (IsAnswered choice.level choice.order choice.printing (W.contents out.old) (W.contents out.new)) }
+    ensures { IfOk result (AnswersLog log.old.history choice.level choice.order choice.printing (W.contents out.old) (W.contents out.new)) }
 {
     set_level_asked(&mut log.history, choice.level);
     let question = question_of(choice, &log.history);
@@ -101,16 +109,9 @@ fn judge_log<'a, W: Write, O: Write>(
     Ok(status)
 }
 
-/// Gives all transactions the level that is asked for, if there is one.
-fn set_level_asked(history: &mut History, level: Option<Level>) {
-    if let Some(level) = level {
-        set_level(history, level);
-    }
-}
-
 /// What a choice asks of a history.
 fn question_of(choice: Choice, history: &History) -> Question
-    ensures order { IfSome choice.order (λ wanted. result.order ≡ wanted) }
+    ensures order { result.order ≡ order_for choice.order history.now }
     ensures weaker { result.weaker ≡ weaker_of choice.level }
     ensures printing { result.printing ≡ choice.printing }
 {
@@ -353,7 +354,7 @@ fn write_serial<'a, W: Write, O: Write>(
 fn serial_rest(alloc: Global, counts: Counts, question: Question) -> Result<Vec<u8>, NoMemory> {
     let mut lines = Vec::new(alloc);
     match question.printing {
-        Printing::Text => verdict_text::put_serial(question.weaker, counts, &mut lines)?,
+        Printing::Text => verdict_text::put_serial(counts, &mut lines)?,
         Printing::Json => {
             let mut objects = Lines::after(alloc, &mut lines);
             verdict_json::put_serial(question.weaker, question.order, counts, &mut objects);
@@ -515,7 +516,7 @@ fn not_serial_lines(
             if !is_begun {
                 append(verdict_text::failed_front(weaker).as_bytes(), &mut lines)?;
             }
-            verdict_text::put_not_serial(alloc, weaker, log, cause, &mut lines)?;
+            verdict_text::put_not_serial(alloc, log, cause, &mut lines)?;
         }
         Printing::Json => {
             let mut objects = Lines::after(alloc, &mut lines);

@@ -17,43 +17,34 @@ use std::io::Write;
 /// What the line of a history of which nothing is known begins with.
 pub(crate) const UNKNOWN: &str = "unknown: ";
 
-/// What the line of a serial history begins with; at a weaker level, up to its name.
+/// What the line of a serial history begins with, or that of one that holds at a weaker level.
 pub(crate) fn serial_front(weaker: Option<Level>) -> &'static str
     ensures { result.now ≡ serial_front weaker }
 {
     match weaker {
         None => "serial: ",
-        Some(_) => "holds at ",
+        Some(Level::Serializable) => "holds at serializable: ",
+        Some(Level::Snapshot) => "holds at snapshot: ",
+        Some(Level::Repeatable) => "holds at repeatable: ",
     }
 }
 
-/// What the line of a history that is not serial begins with; at a weaker level, up to its name.
+/// What the line of a history that is not serial begins with, or that of one that fails at a weaker level.
 pub(crate) fn failed_front(weaker: Option<Level>) -> &'static str
     ensures { result.now ≡ failed_front weaker }
 {
     match weaker {
         None => "not serial: ",
-        Some(_) => "fails at ",
-    }
-}
-
-/// Appends the level, if it is a weaker one.
-fn put_level(weaker: Option<Level>, lines: &mut Vec<u8>) -> Result<(), NoMemory> {
-    match weaker {
-        None => Ok(()),
-        Some(level) => put(write!(lines, "{}: ", level.word())),
+        Some(Level::Serializable) => "fails at serializable: ",
+        Some(Level::Snapshot) => "fails at snapshot: ",
+        Some(Level::Repeatable) => "fails at repeatable: ",
     }
 }
 
 /// The rest of the line of a serial history, or of one that holds at a weaker level.
-pub(crate) fn put_serial(
-    weaker: Option<Level>,
-    counts: Counts,
-    lines: &mut Vec<u8>,
-) -> Result<(), NoMemory> {
+pub(crate) fn put_serial(counts: Counts, lines: &mut Vec<u8>) -> Result<(), NoMemory> {
     let transactions = number_of(counts.transactions, "transaction");
     let reads = number_of(counts.reads, "read");
-    put_level(weaker, lines)?;
     put(write!(lines, "{transactions}, {reads}"))?;
     match counts.elsewhere {
         None => put(writeln!(lines)),
@@ -99,13 +90,11 @@ impl fmt::Display for Counted {
 /// The rest of the lines of a history that is not serial, or that fails at a weaker level: the anomaly's name, and its cycle.
 pub(crate) fn put_not_serial(
     alloc: Global,
-    weaker: Option<Level>,
     log: &Log,
     cause: &Cause,
     lines: &mut Vec<u8>,
 ) -> Result<(), NoMemory> {
     let name = anomaly_name(cause.anomaly);
-    put_level(weaker, lines)?;
     put(writeln!(lines, "{name}"))?;
     for line in cycle_lines(alloc, log, cause)?.iter() {
         put(writeln!(lines, "{line}"))?;
@@ -121,9 +110,7 @@ pub(crate) fn put_counts(
     is_serial: bool,
     lines: &mut Vec<u8>,
 ) -> Result<(), NoMemory> {
-    if alone {
-        put_level(weaker, lines)?;
-    } else {
+    if !alone {
         put(write!(lines, "in all: "))?;
     }
     tally.put_words(lines)?;

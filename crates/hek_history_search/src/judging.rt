@@ -48,6 +48,9 @@ pub enum Verdict {
 /// How many places after its own in the log a transaction is answered at the latest, in the searches that assume so.
 const WIDTHS: [u64; 2] = [24, 100];
 
+/// Of how many transactions somebody may look at the order.
+const LOOKED_AT: usize = 1_000;
+
 /// Nothing was found, and nothing is known of how far it is.
 const NOWHERE: Progress = Progress {
     conflicts: 0,
@@ -119,7 +122,14 @@ fn points_by_front(
     points_from_front(alloc, &problem)
 }
 
-/// The points by the times of the log, or else those of an order from the front, if they are an explanation of this order.
+/// Whether the order that is nearest to that of the ends is wanted: some transactions have ends, and somebody may look at the
+/// order of so few. An order from the front may be far from it.
+fn wants_nearest(history: &History) -> bool {
+    history.transactions.len() <= LOOKED_AT && has_time(history, Order::Times)
+}
+
+/// The points by the times of the log, or else those of an order from the front, if they are an explanation of this order. No
+/// order from the front is made where the nearest to that of the ends is wanted.
 fn points_at_once(
     alloc: Global,
     history: &History,
@@ -131,12 +141,40 @@ fn points_at_once(
     if is_explanation(alloc, history, order, expected.as_slice())? {
         return Ok(Some(expected));
     }
-    if let Some(points) = points_by_front(alloc, history, order)? {
-        if is_explanation(alloc, history, order, points.as_slice())? {
-            return Ok(Some(points));
-        }
+    if wants_nearest(history) {
+        return Ok(None);
     }
-    Ok(None)
+    explained_from_front(alloc, history, order)
+}
+
+/// The points of an order from the front, if they are an explanation of this order.
+fn explained_from_front(
+    alloc: Global,
+    history: &History,
+    order: Order,
+) -> Result<Option<Vec<Point>>, NoMemory>
+    ensures { IfOk result (λ found. IfSome found (λ points. IsExplanationIn history.now order points.items)) }
+{
+    match points_by_front(alloc, history, order)? {
+        Some(points) => explained(alloc, history, order, points),
+        None => Ok(None),
+    }
+}
+
+/// Points, if they are an explanation of this order.
+fn explained(
+    alloc: Global,
+    history: &History,
+    order: Order,
+    points: Vec<Point>,
+) -> Result<Option<Vec<Point>>, NoMemory>
+    ensures { IfOk result (λ found. IfSome found (λ points. IsExplanationIn history.now order points.items)) }
+{
+    if is_explanation(alloc, history, order, points.as_slice())? {
+        Ok(Some(points))
+    } else {
+        Ok(None)
+    }
 }
 
 /// Searches for an explanation of this order, or for a certificate that there is none. First it tries the points by the times
@@ -275,6 +313,11 @@ fn points_of_others(
     order: Order,
     effort: usize,
 ) -> Result<Option<Vec<Point>>, NoMemory> {
+    if wants_nearest(history) {
+        if let Some(points) = explained_from_front(alloc, history, order)? {
+            return Ok(Some(points));
+        }
+    }
     if order == Order::Any {
         if let Some(points) = stricter_points(alloc, history, order, effort)? {
             return Ok(Some(points));
@@ -301,8 +344,10 @@ fn judge_further(
 }
 
 /// Judges whether a history has an explanation of this order: first by the points by the times of the log and by those of an
-/// order from the front, and then with up to `effort` repairs of an order. Where the search ends without an answer, others follow, each with as many repairs: for orders by
-/// times, if any order will do, and for orders in which each transaction is near its place in the log.
+/// order from the front, and then with up to `effort` repairs of an order. Few transactions with ends get the order from the
+/// front after the search, since this finds one near that of the ends. Where the search ends without an answer, others follow,
+/// each with as many repairs: for orders by times, if any order will do, and for orders in which each transaction is near its
+/// place in the log.
 pub fn judge(
     alloc: Global,
     history: &History,

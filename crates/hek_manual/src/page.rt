@@ -311,7 +311,7 @@ counts nothing if there are more than N states (1000000); with \-\-each, \-\-par
 plays the Kth of N equal parts of the orders
 .TP
 \fB\-\-jobs\fR \fIN\fR
-with \-\-part: plays the orders with N threads, 1 to 1000
+counts outcomes with N threads, 1 to 1000
 .TP
 \fB\-\-each\fR
 prints a line for each order

@@ -109,7 +109,7 @@ _hek() {
                 '--grain[cuts the end of a transaction into one move (move), two (split), or a move for each event (event)]:GRAIN:(move split event)' \
                 '--limit[counts nothing if there are more than N states (1000000); with --each, --part or --find of a reply, more than N orders (100000)]:N:' \
                 '--part[plays the Kth of N equal parts of the orders]:K/N:' \
-                '--jobs[with --part\: plays the orders with N threads, 1 to 1000]:N:' \
+                '--jobs[counts outcomes with N threads, 1 to 1000]:N:' \
                 '--each[prints a line for each order]' \
                 '--order[prints the events of one order as a schedule\: a name for each move]:NAMES:' \
                 '--levels[prints the outcomes at each level, side by side]' \

@@ -3,9 +3,9 @@ use crate::details::details_of;
 use crate::given::Given;
 use crate::kinds::{Beginning as Kind, begins_replies, find_kind};
 use crate::one::{Played, fault_of, leveled};
+use crate::players::Players;
 use crate::progress::Progress;
 use hek_asm::{TraceFault, read_trace};
-use hek_explore::explore;
 use hek_history_report::Together;
 use hek_permute::{
     Form, Moves, OrderFault, Outcome, Play, Sought, find_order, first_order, moves_of, play_order,
@@ -129,14 +129,17 @@ fn detect_line(alloc: Global, text: &str) -> Result<String, NoMemory> {
 }
 
 /// The moves after which it came, if it comes; None if orders lead to more states than the limit.
-fn beginning_of<E: Write>(
+fn beginning_of<P: Players, E: Write>(
+    players: &P,
     alloc: Global,
     given: &Given<'_>,
     form: Form,
     wanted: &Wanted,
     limit: u64,
     progress: &mut Progress<'_, E>,
-) -> Result<Option<Search>, OrderFault> {
+) -> Result<Option<Search>, OrderFault>
+    requires { P.can_play players.now }
+{
     let moves = match wanted {
         Wanted::Reply(sought) => find_order(
             alloc,
@@ -148,7 +151,7 @@ fn beginning_of<E: Write>(
         )?,
         Wanted::Kind(kind) => find_kind(alloc, given, form, kind, progress)?,
         Wanted::Verdict(_) | Wanted::Breaks => {
-            return first_with(alloc, given, form, wanted, limit, progress);
+            return first_with(players, alloc, given, form, wanted, limit, progress);
         }
     };
     Ok(Some(Search {
@@ -166,15 +169,18 @@ fn most_moves<'a>(alloc: Global, given: &Given<'_>, form: Form) -> Result<usize,
 
 /// The first order with a verdict, or that breaks an invariant: a row of the tally of all orders has the first of its own, and
 /// the first row has the first of all. None if orders lead to more states than the limit.
-fn first_with<E: Write>(
+fn first_with<P: Players, E: Write>(
+    players: &P,
     alloc: Global,
     given: &Given<'_>,
     form: Form,
     wanted: &Wanted,
     limit: u64,
     progress: &mut Progress<'_, E>,
-) -> Result<Option<Search>, OrderFault> {
-    let explored = explore(alloc, given.schedule, given.rules, form, limit, progress)?;
+) -> Result<Option<Search>, OrderFault>
+    requires { P.can_play players.now }
+{
+    let explored = players.explore(alloc, given.schedule, given.rules, form, limit, progress)?;
     let Some(tally) = explored else {
         return Ok(None);
     };
@@ -287,16 +293,19 @@ pub(crate) enum Answer {
 
 /// The shortest beginning of an order in which a reply or a verdict comes. A verdict is looked for among at most `limit`
 /// states.
-pub(crate) fn found_in<'a, E: Write>(
+pub(crate) fn found_in<'a, P: Players, E: Write>(
+    players: &P,
     alloc: Global,
     given: &Given<'_>,
     form: Form,
     text: &str,
     limit: u64,
     progress: &mut Progress<'_, E>,
-) -> Result<Answer, HekFault<'a>> {
+) -> Result<Answer, HekFault<'a>>
+    requires { P.can_play players.now }
+{
     let wanted = wanted_of(alloc, given.schedule, text)?;
-    match beginning_of(alloc, given, form, &wanted, limit, progress) {
+    match beginning_of(players, alloc, given, form, &wanted, limit, progress) {
         Ok(Some(search)) => answer_of(alloc, given, form, &wanted, search),
         Ok(None) => Ok(Answer::TooMany),
         Err(fault) => Err(fault_of(fault)),

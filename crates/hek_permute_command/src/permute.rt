@@ -4,14 +4,15 @@ use crate::each::write_each;
 use crate::find::{Answer, found_in};
 use crate::given::{Given, program_in};
 use crate::one::{fault_of, leveled, one_order};
+use crate::players::{Alone, Players, Team};
 use crate::printed::{put_found, put_levels, put_none, put_played, put_tally};
 use crate::progress::{Census, Progress};
-use hek_explore::explore;
-use hek_permute::{Form, OrderFault, Tally, moves_of, order_count, play_all};
+use hek_permute::{Form, OrderFault, Tally, moves_of, order_count};
 use hek_report::{HekFault, ScheduleFile, send};
 use hek_rules::Level;
 use std::alloc::Global;
 use std::io::{Read, Write};
+use std::thread::Threads;
 
 /// Plays all orders of the moves of the schedule in a file, or does what else the choice asks for, and writes the
 /// outcomes. Answers the exit status. The line of each order is written as it is over, and else nothing before the last
@@ -24,17 +25,48 @@ pub fn permute_command<'a, R: Read + Drop, W: Write, E: Write>(
     out: &mut W,
     faults: &mut E,
 ) -> Result<u8, HekFault<'a>> {
-    let program = program_in(alloc, file)?;
-    permute(alloc, &Given::of(&program), choice, out, faults)
+    permute_with(&Alone, alloc, file, choice, out, faults)
 }
 
-fn permute<'a, W: Write, E: Write>(
+/// `permute_command`, where as many threads of the system as there are jobs play the orders that are counted, if they can be
+/// started. Of a part, or where each order is played, `faults` does not show how many orders have been played.
+pub fn permute_in_threads<'a, T: Threads + Sync, R: Read + Drop, W: Write, E: Write>(
+    system: &T,
+    jobs: u64,
+    alloc: Global,
+    file: ScheduleFile<R>,
+    choice: Choice<'_>,
+    out: &mut W,
+    faults: &mut E,
+) -> Result<u8, HekFault<'a>> {
+    permute_with(&Team { system, jobs }, alloc, file, choice, out, faults)
+}
+
+/// `permute_command`, where these players play the orders that are counted.
+fn permute_with<'a, P: Players, R: Read + Drop, W: Write, E: Write>(
+    players: &P,
+    alloc: Global,
+    file: ScheduleFile<R>,
+    choice: Choice<'_>,
+    out: &mut W,
+    faults: &mut E,
+) -> Result<u8, HekFault<'a>>
+    requires { P.can_play players.now }
+{
+    let program = program_in(alloc, file)?;
+    permute(players, alloc, &Given::of(&program), choice, out, faults)
+}
+
+fn permute<'a, P: Players, W: Write, E: Write>(
+    players: &P,
     alloc: Global,
     given: &Given<'_>,
     choice: Choice<'_>,
     out: &mut W,
     faults: &mut E,
-) -> Result<u8, HekFault<'a>> {
+) -> Result<u8, HekFault<'a>>
+    requires { P.can_play players.now }
+{
     if let Some(names) = choice.order {
         return at_order(alloc, given, choice, names, out);
     }
@@ -47,7 +79,15 @@ fn permute<'a, W: Write, E: Write>(
     let most = most_plays(choice, extent);
     let mut progress = Progress::new(faults, choice.progress, choice.stats, most);
     let mut lines = Vec::new(alloc);
-    let played = put_asked(alloc, given, choice, extent, &mut progress, &mut lines);
+    let played = put_asked(
+        players,
+        alloc,
+        given,
+        choice,
+        extent,
+        &mut progress,
+        &mut lines,
+    );
     progress.clear();
     let census = progress.census();
     let status = played?;
@@ -77,22 +117,25 @@ fn put_too_many<E: Write>(choice: Choice<'_>, census: Census, faults: &mut E) {
 
 /// Plays orders, and appends what the choice asks for. Answers the exit status, or None if there are more states than the
 /// limit.
-fn put_asked<'a, E: Write>(
+fn put_asked<'a, P: Players, E: Write>(
+    players: &P,
     alloc: Global,
     given: &Given<'_>,
     choice: Choice<'_>,
     extent: Extent,
     progress: &mut Progress<'_, E>,
     lines: &mut Vec<u8>,
-) -> Result<Option<u8>, HekFault<'a>> {
+) -> Result<Option<u8>, HekFault<'a>>
+    requires { P.can_play players.now }
+{
     if choice.levels {
-        return put_leveled(alloc, given, choice, extent, progress, lines);
+        return put_leveled(players, alloc, given, choice, extent, progress, lines);
     }
     let leveled = leveled(alloc, given.schedule, choice.level, given.schedule.steps())?;
     let given = given.over(&leveled);
     match choice.find {
-        Some(wanted) => put_search(alloc, &given, choice, wanted, progress, lines),
-        None => put_counts(alloc, &given, choice, extent, progress, lines),
+        Some(wanted) => put_search(players, alloc, &given, choice, wanted, progress, lines),
+        None => put_counts(players, alloc, &given, choice, extent, progress, lines),
     }
 }
 
@@ -154,7 +197,7 @@ fn extent_of<'a, E: Write>(
 }
 
 /// The orders of the part: the number of the first and the number after the last; None if there are too many.
-pub(crate) fn range<'a, E: Write>(
+fn range<'a, E: Write>(
     alloc: Global,
     given: &Given<'_>,
     choice: Choice<'_>,
@@ -180,16 +223,19 @@ pub(crate) fn range<'a, E: Write>(
 
 /// Appends the shortest beginning of an order in which a reply or a verdict comes, or that it comes in no order. Answers
 /// the exit status, 1 for none; or None if there are more states than the limit.
-fn put_search<'a, E: Write>(
+fn put_search<'a, P: Players, E: Write>(
+    players: &P,
     alloc: Global,
     given: &Given<'_>,
     choice: Choice<'_>,
     wanted: &str,
     progress: &mut Progress<'_, E>,
     lines: &mut Vec<u8>,
-) -> Result<Option<u8>, HekFault<'a>> {
+) -> Result<Option<u8>, HekFault<'a>>
+    requires { P.can_play players.now }
+{
     let limit = choice.most_states();
-    match found_in(alloc, given, choice.form, wanted, limit, progress)? {
+    match found_in(players, alloc, given, choice.form, wanted, limit, progress)? {
         Answer::Found(found) => {
             put_found(alloc, choice.printing, &found, lines)?;
             Ok(Some(0))
@@ -210,15 +256,18 @@ fn count_of<'a>(alloc: Global, given: &Given<'_>, form: Form) -> Result<u64, Hek
 }
 
 /// The lines of a tally. Answers the exit status, or None if there are more states than the limit.
-fn put_counts<'a, E: Write>(
+fn put_counts<'a, P: Players, E: Write>(
+    players: &P,
     alloc: Global,
     given: &Given<'_>,
     choice: Choice<'_>,
     extent: Extent,
     progress: &mut Progress<'_, E>,
     lines: &mut Vec<u8>,
-) -> Result<Option<u8>, HekFault<'a>> {
-    let Some(tally) = tally_of(alloc, given, choice.form, extent, progress)? else {
+) -> Result<Option<u8>, HekFault<'a>>
+    requires { P.can_play players.now }
+{
+    let Some(tally) = tally_of(players, alloc, given, choice.form, extent, progress)? else {
         return Ok(None);
     };
     put_tally(alloc, choice.printing, given, choice.form, &tally, lines)?;
@@ -226,19 +275,22 @@ fn put_counts<'a, E: Write>(
 }
 
 /// The tally of the orders, the most frequent outcomes first; None if there are more states than the limit.
-fn tally_of<'a, E: Write>(
+fn tally_of<'a, P: Players, E: Write>(
+    players: &P,
     alloc: Global,
     given: &Given<'_>,
     form: Form,
     extent: Extent,
     progress: &mut Progress<'_, E>,
-) -> Result<Option<Tally>, HekFault<'a>> {
+) -> Result<Option<Tally>, HekFault<'a>>
+    requires { P.can_play players.now }
+{
     match extent {
         Extent::Orders(from, to) => {
-            let played = play_all(alloc, given.schedule, given.rules, form, from, to, progress);
+            let played = players.play(alloc, given.schedule, given.rules, form, from, to, progress);
             Ok(Some(sorted(played)?))
         }
-        Extent::States(most) => match explore(
+        Extent::States(most) => match players.explore(
             alloc,
             given.schedule,
             given.rules,
@@ -257,20 +309,30 @@ fn tally_of<'a, E: Write>(
 }
 
 /// The tally of the orders at a level; None if there are more states than the limit.
-fn tally_at<'a, E: Write>(
+fn tally_at<'a, P: Players, E: Write>(
+    players: &P,
     alloc: Global,
     given: &Given<'_>,
     level: Level,
     form: Form,
     extent: Extent,
     progress: &mut Progress<'_, E>,
-) -> Result<Option<Tally>, HekFault<'a>> {
+) -> Result<Option<Tally>, HekFault<'a>>
+    requires { P.can_play players.now }
+{
     let leveled = leveled(alloc, given.schedule, Some(level), given.schedule.steps())?;
-    tally_of(alloc, &given.over(&leveled), form, extent, progress)
+    tally_of(
+        players,
+        alloc,
+        &given.over(&leveled),
+        form,
+        extent,
+        progress,
+    )
 }
 
 /// The tally with the most frequent outcomes first.
-pub(crate) fn sorted<'a>(counted: Result<Tally, OrderFault>) -> Result<Tally, HekFault<'a>> {
+fn sorted<'a>(counted: Result<Tally, OrderFault>) -> Result<Tally, HekFault<'a>> {
     match counted {
         Ok(mut tally) => match tally.sort() {
             Ok(()) => Ok(tally),
@@ -281,15 +343,18 @@ pub(crate) fn sorted<'a>(counted: Result<Tally, OrderFault>) -> Result<Tally, He
 }
 
 /// The outcomes at each level. Answers the exit status, or None if there are more states than the limit.
-fn put_leveled<'a, E: Write>(
+fn put_leveled<'a, P: Players, E: Write>(
+    players: &P,
     alloc: Global,
     given: &Given<'_>,
     choice: Choice<'_>,
     extent: Extent,
     progress: &mut Progress<'_, E>,
     lines: &mut Vec<u8>,
-) -> Result<Option<u8>, HekFault<'a>> {
-    let Some(tallies) = tallies_of(alloc, given, choice.form, extent, progress)? else {
+) -> Result<Option<u8>, HekFault<'a>>
+    requires { P.can_play players.now }
+{
+    let Some(tallies) = tallies_of(players, alloc, given, choice.form, extent, progress)? else {
         return Ok(None);
     };
     put_levels(alloc, choice.printing, given, tallies.as_slice(), lines)?;
@@ -297,16 +362,19 @@ fn put_leveled<'a, E: Write>(
 }
 
 /// The tally of the orders at each level, in the order of the levels; None if there are more states than the limit.
-fn tallies_of<'a, E: Write>(
+fn tallies_of<'a, P: Players, E: Write>(
+    players: &P,
     alloc: Global,
     given: &Given<'_>,
     form: Form,
     extent: Extent,
     progress: &mut Progress<'_, E>,
-) -> Result<Option<Vec<Tally>>, HekFault<'a>> {
+) -> Result<Option<Vec<Tally>>, HekFault<'a>>
+    requires { P.can_play players.now }
+{
     let mut tallies = Vec::new(alloc);
     for level in Level::ALL {
-        let Some(tally) = tally_at(alloc, given, level, form, extent, progress)? else {
+        let Some(tally) = tally_at(players, alloc, given, level, form, extent, progress)? else {
             return Ok(None);
         };
         if tallies.push(tally).is_err() {

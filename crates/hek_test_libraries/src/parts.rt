@@ -1,6 +1,7 @@
 //! Orders that several threads play.
 use crate::asserts::{holds, is};
 use hek_asm::assemble_text;
+use hek_explore::{Survey, explore_in_threads};
 use hek_permute::{Form, Outcome, Tally, Watch, play_all, play_parts};
 use hek_rules::{Schedule, TxnId};
 use std::alloc::Global;
@@ -46,6 +47,38 @@ fn of_jobs<R: Abort + Threads + Sync>(
     play_parts(rt, alloc, schedule, &[], Form::Whole, from, to, jobs).expect(rt, "a tally")
 }
 
+/// Is told how far an exploration has come, and forgets it.
+#[derive(Drop)]
+struct Untold;
+
+impl Survey for Untold {
+    fn begin(&mut self, _moves: u64) {}
+
+    fn count_play(&mut self) {}
+
+    fn end_layer(&mut self, _states: usize) {}
+}
+
+fn of_states<R: Abort + Threads + Sync>(
+    rt: &R,
+    alloc: Global,
+    schedule: &Schedule,
+    jobs: u64,
+) -> Tally {
+    explore_in_threads(
+        rt,
+        jobs,
+        alloc,
+        schedule,
+        &[],
+        Form::Whole,
+        1_000,
+        &mut Untold,
+    )
+    .expect(rt, "a count")
+    .expect(rt, "few states")
+}
+
 fn orders_in(tally: &Tally) -> u64 {
     let mut count = 0u64;
     for row in tally.rows() {
@@ -75,6 +108,16 @@ fn three_jobs_count_as_one(rt: HostRuntime) {
     is(&rt, orders_in(&want), 70);
     for jobs in [0, 1, 2, 3, 100] {
         let got = of_jobs(&rt, rt.alloc(), &schedule, 0, 70, jobs);
+        assert_equal(&rt, &got, &want);
+    }
+}
+
+#[test]
+fn three_jobs_count_states_as_one_plays_orders(rt: HostRuntime) {
+    let schedule = assemble_text(rt.alloc(), WRITE_SKEW).expect(&rt, "a schedule");
+    let want = of_one(&rt, rt.alloc(), &schedule, 0, 70);
+    for jobs in [0, 1, 2, 3, 100] {
+        let got = of_states(&rt, rt.alloc(), &schedule, jobs);
         assert_equal(&rt, &got, &want);
     }
 }

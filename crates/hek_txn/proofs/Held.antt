@@ -103,7 +103,7 @@ module _ {T : Type 0} (eq : T → T → Bool) (laws : IsEquivalence eq) where
           ap (λ b. b || list_any (eq k) (remove_key (eq x) ys)) n ∙ rest ∙ ap (λ b. cond b false (list_any (eq k) ys)) q
       by false false p q rest = ap (λ b. eq k y || b) (rest ∙ ap (λ b. cond b false (list_any (eq k) ys)) q)
 
-  distinct-without : (x : T) (xs : List T) → IsDistinct eq xs → IsDistinct eq (remove_key (eq x) xs)
+  pub distinct-without : (x : T) (xs : List T) → IsDistinct eq xs → IsDistinct eq (remove_key (eq x) xs)
   distinct-without x [] once = once
   distinct-without x (y ∷ ys) once = by (eq x y) (distinct-without x ys (IsDistinct-tail eq y ys once))
     where
@@ -155,7 +155,7 @@ module _ {T : Type 0} (eq : T → T → Bool) (laws : IsEquivalence eq) where
 
   -- ---- one member more
 
-  distinct-with : (x : T) (xs : List T) → list_any (eq x) xs ≡ false → IsDistinct eq xs → IsDistinct eq (xs ++ x ∷ [])
+  pub distinct-with : (x : T) (xs : List T) → list_any (eq x) xs ≡ false → IsDistinct eq xs → IsDistinct eq (xs ++ x ∷ [])
   distinct-with x [] new once = IsDistinct-cons eq x [] tt once
   distinct-with x (y ∷ ys) new once =
       let p = or-none (eq x y) (list_any (eq x) ys) new in

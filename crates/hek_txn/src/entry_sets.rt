@@ -43,7 +43,7 @@ fn growth(len: usize, count: usize) -> usize
 }
 
 /// Takes an item out that is not among the first `gone`, if it is in the list.
-fn take_behind<T: Copy + Eq>(items: &mut Vec<T>, gone: usize, item: T)
+pub(crate) fn take_behind<T: Copy + Eq>(items: &mut Vec<T>, gone: usize, item: T)
     requires within { gone ≤ length items.old.items }
     requires once { IsDistinct T.eq (drop gone items.old.items) }
     ensures items { drop gone items.new.items ≡ remove_key (T.eq item) (drop gone items.old.items) }
@@ -66,15 +66,16 @@ fn set_of<T: Copy + Eq + Hash>(alloc: Global, items: &[T]) -> Result<HashSet<T>,
 }
 
 impl<T: Copy + Eq + Hash> EntrySet<T> {
-    /// A set without members.
-    pub(crate) fn new(alloc: Global) -> EntrySet<T>
-        ensures { result.items ≡ [] }
+    /// A set of these members, each of which comes once.
+    pub(crate) fn of(alloc: Global, items: &[T]) -> Result<EntrySet<T>, NoMemory>
+        requires { IsDistinct T.eq items.now }
+        ensures { IfOk result (λ set. set.items ≡ items.now) }
     {
-        EntrySet {
-            items: Vec::new(alloc),
+        Ok(EntrySet {
+            items: Vec::from_slice(alloc, items)?,
             gone: 0,
-            members: HashSet::new(alloc),
-        }
+            members: set_of(alloc, items)?,
+        })
     }
 
     /// For how many more members there is room.
@@ -229,10 +230,6 @@ impl<T: Copy + Eq + Hash> EntrySet<T> {
     {
         let alloc = *self.items.allocator();
         let (_, left) = self.items.as_slice().split_at(self.gone);
-        Ok(EntrySet {
-            items: Vec::from_slice(alloc, left)?,
-            gone: 0,
-            members: set_of(alloc, left)?,
-        })
+        EntrySet::of(alloc, left)
     }
 }

@@ -48,6 +48,20 @@ impl<'a> Book<'a> {
         })
     }
 
+    /// An equal book, with separate room.
+    pub fn copy(&self) -> Result<Book<'a>, NoMemory>
+        ensures { IfOk result (λ b. b ≡ self.now) }
+    {
+        let machine = self.machine.copy()?;
+        let history = copied(self.alloc, self.history())?;
+        Ok(Book {
+            alloc: self.alloc,
+            schedule: self.schedule,
+            machine,
+            history,
+        })
+    }
+
     /// The machine, which represents the table's world after the history.
     pub fn machine(&self) -> &Machine
         ensures { StandsFor result.now (world_of self.now) }
@@ -151,6 +165,21 @@ impl<'a> Book<'a> {
 
 ghost use Rattle.hek_laws.specs.Runs.{IsPlaced};
 ghost use Rattle.hek_worker.specs.Room.{room_for};
+
+// Equal entries.
+fn copied(alloc: Global, history: &[Entry]) -> Result<Vec<Entry>, NoMemory>
+    ensures { IfOk result (λ entries. entries.items ≡ history.now) }
+{
+    let mut entries = Vec::with_capacity(alloc, history.len())?;
+    for entry in history {
+        entries.push(Entry {
+            worker: entry.worker,
+            event: entry.event,
+            reply: entry.reply.copy()?,
+        })?;
+    }
+    Ok(entries)
+}
 
 // Whether the event is this transaction's, or a search for a deadlock.
 fn owns(worker: TxnId, event: &Event) -> bool

@@ -1,4 +1,4 @@
-use Rattle.std.proofs.Common.{subst, sym, ℕ, Option, Some}
+use Rattle.std.proofs.Common.{subst, sym, ℕ, Option}
 use Rattle.hek_convert_command.specs.declared.exchange.WordName.{WordName}
 use Rattle.hek_convert_command.specs.Chain.{last_of}
 use Rattle.hek_convert_command.specs.Changed.{IsAfter, IsOfNamed}
@@ -11,7 +11,6 @@ returns c =
     let chain = c.args.chain.now in
     let answer = c.answer_after.result in
     record {
-      exchange = Some e;
       right =
           subst (λ (word : Option WordName). IsOfNamed (last_of chain) e word answer) (sym c.requires)
           (subst (λ (last : Option ℕ). IsAfter e c.args.word.side last answer) c.in_ok-last.ensures.last c.answer_after.ensures);

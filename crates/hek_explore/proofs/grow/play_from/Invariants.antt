@@ -1,6 +1,6 @@
 use Rattle.std.proofs.Common.{◌≡◌, reverse, take}
 use Rattle.hek_permute.specs.Plays.{Plays}
-use Rattle.hek_explore.proofs.walk.play_from.Given as goal
+use Rattle.hek_explore.proofs.grow.play_from.Given as goal
 
 abbrev pub invariant-loop-mover : goal.invariant-loop-mover
 invariant-loop-mover l = record {

@@ -2,7 +2,7 @@ use Rattle.std.proofs.Common.{◌∙◌, ◌∷◌, List, ℕ, ap, arith, revers
 use Rattle.hek_worker.specs.Kept.{Kept}
 use Rattle.hek_permute.specs.Plays.{Plays}
 use Rattle.hek_permute.proofs.Plays.{back_more, plays_on}
-use Rattle.hek_explore.proofs.walk.play_from.Goals as goal
+use Rattle.hek_explore.proofs.grow.play_from.Goals as goal
 
 pub loop-mover-init : goal.loop-mover-init
 loop-mover-init c = record {

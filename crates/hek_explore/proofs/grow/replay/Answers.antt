@@ -3,7 +3,7 @@ use Rattle.hek_rules.specs.Plan.{Plan}
 use Rattle.hek_permute.specs.declared.play.Place.{Place}
 use Rattle.hek_explore.specs.Codes.{code_of}
 use Rattle.hek_permute.specs.Plays.{Plays}
-use Rattle.hek_explore.proofs.walk.replay.Goals as goal
+use Rattle.hek_explore.proofs.grow.replay.Goals as goal
 
 pub returns : goal.returns
 returns c =

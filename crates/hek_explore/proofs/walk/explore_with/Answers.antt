@@ -7,7 +7,7 @@ use Rattle.hek_permute.specs.Found.{Line}
 use Rattle.hek_permute.specs.Moves.{Work, AreMoves}
 use Rattle.hek_explore.specs.Counts.{IsCensus, IsCensusOf}
 use Rattle.hek_explore.specs.Steps.{AreRuled}
-use Rattle.hek_explore.proofs.walk.explore.Goals as goal
+use Rattle.hek_explore.proofs.walk.explore_with.Goals as goal
 
 found-all : {E : Type 0} (p : Plan) (rules : List Rule) (form : Form) (works : List Work) (r : Result (Option (List Line)) E) → AreMoves p rules works
     → IfOk r (λ found. IfSome found (IsCensusOf p form works)) → IfOk r (λ found. IfSome found (IsCensus p rules form))
@@ -15,8 +15,8 @@ found-all p rules form works (Ok (Some rows)) are all = record { moves = works; 
 found-all p rules form works (Ok None) are all = tt
 found-all p rules form works (Err e) are all = tt
 
-pub explore_moves-requires : goal.explore_moves-requires
-explore_moves-requires g c =
+pub explore_moves-requires-clause-are : goal.explore_moves-requires-clause-are
+explore_moves-requires-clause-are g c =
     subst (λ (p : Plan). AreRuled p c.as_slice.result.now) (sym c.in_ok-grouped.ensures)
     (record {
       rules = c.args.rules.now;
