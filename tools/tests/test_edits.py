@@ -104,6 +104,18 @@ class Edits(Tree):
         self.assertEqual(self.edits.judged("not refused", "", "NOT REFUSED"), "not refused")
         self.assertEqual(self.edits.few_words("", only), self.edits.GONE)
 
+    def test_an_edit_is_tried_where_it_was_refused_last(self):
+        self.write("crates/cups/specs/Cups.antt", "twice n = n + n\n")
+        edit = self.edit("spec", "file: specs/Cups.antt\nold: n + n\nnew: n\n")
+        self.write("tools/none", "")
+        tried = self.edits.Tried()
+        self.assertEqual(self.edits.last_refused(edit, tried), set())
+        tried.note(edit, "refused", "add: goal returns-clause-sum", "0123456789")
+        self.assertEqual(self.edits.last_refused(edit, tried), {"Cup::add"})
+        tried.note(edit, "refused", "twice: ensures", "0123456789")
+        self.assertEqual(self.edits.last_refused(edit, tried), {"cup::twice"})
+        self.assertEqual(self.edits.edited(edit), {"specs/Cups.antt": "twice n = n\n"})
+
     def test_what_the_gate_says_is_noted(self):
         self.edit("add", self.one("self.count += 1;", "self.count += 2;"), "must-fail")
         self.edit("free", self.one("n + n", "n"), "must-fail")
