@@ -10,6 +10,7 @@ mod grow;
 mod key;
 mod numbers;
 mod spot;
+mod state;
 mod survey;
 mod walk;
 
@@ -17,6 +18,7 @@ ghost use Rattle.hek_explore.specs.Laws.{EqualKeysMakeTwins, PlaysExtendAlike, T
 
 pub use key::{Key, Look, TxnKey, VersionKey};
 pub use survey::Survey;
+pub use state::key_after;
 pub use walk::{explore, explore_in_threads};
 
 /// Two plays are twins and have led to the same places. If one goes on by a move, so does the other, to the same
