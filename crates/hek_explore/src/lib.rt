@@ -17,8 +17,8 @@ mod walk;
 ghost use Rattle.hek_explore.specs.Laws.{EqualKeysMakeTwins, PlaysExtendAlike, TwinsHaveEqualKeys, TwinsHaveOneOutcome};
 
 pub use key::{Key, Look, TxnKey, VersionKey};
-pub use survey::Survey;
 pub use state::key_after;
+pub use survey::Survey;
 pub use walk::{explore, explore_in_threads};
 
 /// Two plays are twins and have led to the same places. If one goes on by a move, so does the other, to the same
