@@ -82,6 +82,24 @@ function outcomeBar(counts) {
   return `<span class="share">${counts.map((it, at) => (it ? `<i class="o${at % 6}" style="flex:${it}"></i>` : "")).join("")}</span>`;
 }
 
+/** The mark of a move that joins. */
+const JOINS = '<svg viewBox="0 0 20 16" class="icon joins" aria-hidden="true"><path d="M2 3.500c5 0 5 4.500 9 4.500M2 12.500c5 0 5 -4.500 9 -4.500h3" fill="none" stroke="currentColor" stroke-width="1.800"/><path d="M13 4.500v7l5 -3.500z"/></svg>';
+const joinSaid = (next) => `joins the state after ${namesOf(tree, pathTo(tree, next)).join(" ")}`;
+const statesSaid = () => (tree.isMerged ? `, ${tree.nodes.length} states` : "");
+
+/** Orders of more moves are said without what they have in common at the start. */
+const MOST_MOVES = 8;
+
+/** That the page shows another order than the one that was asked for. */
+function askedSaid() {
+  if (asked === null) return "";
+  const shown = namesOf(tree, tree.path).slice(0, asked.length);
+  const cut = asked.length > MOST_MOVES ? asked.findIndex((it, index) => it !== shown[index]) : 0;
+  const [one, other] = [asked, shown].map((order) => (cut > 0 ? "\u2026 " : "") + order.slice(cut).map(tagName).join(" "));
+  const isOver = tree.nodes[tree.path[asked.length]].next.length === 0;
+  return `<p class="joined">${JOINS} ${isOver ? `${one} ends as ${other} does: the page shows that order.` : `After ${one} the same can happen as after ${other}: the page goes on from there.`}</p>`;
+}
+
 function showTree() {
   const place = placeHere();
   const ends = endsOfPath();
@@ -106,15 +124,16 @@ function showTree() {
     const it = tree.nodes[next];
     const move = tree.moves[who][done[who]];
     const isTaken = tree.path[place + 1] === next;
-    const idle = it.steps.length === 0 ? ' <span class="soft">(has aborted)</span>' : "";
-    return `<button type="button" class="choice${isTaken ? " taken" : ""}" data-next="${next}"><kbd>${who + 1}</kbd> <span>${tagName(tree.names[who])} <b>${esc(move)}</b>${idle}</span>${outcomeBar(it.counts)}<span class="count">${isSecret ? "" : countsSaid(it.counts)}</span></button>`;
+    const joins = isJoin(tree, node.index, next);
+    const idle = (joins ? hasEnded(tree.names[who]) : it.steps.length === 0) ? ' <span class="soft">(has aborted)</span>' : "";
+    return `<button type="button" class="choice${isTaken ? " taken" : ""}" data-next="${next}"${joins ? ` title="${esc(joinSaid(next))}"` : ""}><kbd>${who + 1}</kbd> <span>${tagName(tree.names[who])} <b>${esc(move)}</b>${idle}${joins ? ` ${JOINS}` : ""}</span>${outcomeBar(it.counts)}<span class="count">${isSecret ? "" : countsSaid(it.counts)}</span></button>`;
   }).join("");
   const found = whole && isAt ? `<p class="whose">This order is complete.</p><p class="final">${outcomeOf(data.outcomes[node.outcome])}</p><p>The checker: <b>${esc(outcomeParts(data.outcomes[node.outcome]).verdict)}</b>. ${reachSaid(node)}</p>` : "";
   const inside = isAt ? "" : `<p class="whose">In the middle of a move</p><p>\u2192 goes on with it.</p>`;
   $("because").innerHTML = `<div class="moves">${found || inside || `<p class="whose">Who moves next?</p><div class="pick" style="--n:${Math.min(node.next.filter((it) => it !== undefined).length, 3)}">${choices}</div>`}</div>`;
   // the outcomes that can still be reached
   if (!pinned) {
-    $("words-title").innerHTML = `Outcomes from here <small>${reach} of ${total(tree.nodes[0].counts)} orders left</small>`;
+    $("words-title").innerHTML = `Outcomes from here <small>${reach} of ${total(tree.nodes[0].counts)} orders left${place === 0 ? statesSaid() : ""}</small>`;
     if (isSecret) $("words-title").textContent = "Outcomes: what do you think?";
     const shown = isSecret ? [] : outcomesShown(node.counts);
     const rows = shown.map((at) => {
@@ -132,28 +151,35 @@ function reachSaid(node) {
   return `${count} of all ${all} orders end so.`;
 }
 
-/** Goes on with a move; another one than the path had takes the rest of the path away. */
+/** Whether a transaction has ended here. */
+const hasEnded = (name) => ["aborted", "terminated"].includes(run.txn(run.ids.get(name), here).kind);
+
+/** Goes on with a move; another one than the path had takes the rest of the path away, and one that joins all of it. */
 function takeMove(next) {
   const place = placeHere();
-  if (tree.path[place + 1] !== next) { tree.path = [...tree.path.slice(0, place + 1), next]; run = runOfPath(); }
-  // A move of a transaction that has aborted does nothing.
-  goToPlace(place + 1);
-}
-
-function goToPlace(place) {
-  tree.cursor = place;
-  move(endsOfPath()[place]);
-}
-
-function findOutcome(outcome) {
-  const place = placeHere();
-  let at = tree.path[place];
-  const path = tree.path.slice(0, place + 1);
-  while (tree.nodes[at].next.length) {
-    at = tree.nodes[at].next.find((it) => it !== undefined && tree.nodes[it].counts[outcome] > 0);
-    path.push(at);
+  let order = null;
+  if (tree.path[place + 1] !== next) {
+    const who = tree.nodes[tree.path[place]].next.indexOf(next);
+    order = [...namesOf(tree, tree.path.slice(0, place + 1)), tree.names[who]];
+    tree.path = pathTo(tree, next);
+    order = askedOf(tree, tree.path, order);
+    run = runOfPath();
   }
-  tree.path = path;
+  // A move of a transaction that has aborted does nothing.
+  goToPlace(place + 1, order);
+}
+
+function goToPlace(place, order = null) {
+  tree.cursor = place;
+  move(endsOfPath()[place], order);
+}
+
+/** Shows the moves from here to an outcome; if one of them joins, it is at the last that does. */
+function findOutcome(outcome) {
+  const path = tree.path.slice(0, placeHere() + 1);
+  const { order, last, joined } = movesOn(tree, path.at(-1), outcome);
+  tree.path = pathTo(tree, last);
   run = runOfPath();
-  move(here);
+  if (joined === 0) move(here);
+  else goToPlace(path.length - 1 + joined, [...namesOf(tree, path), ...order.slice(0, joined)]);
 }
