@@ -30,7 +30,7 @@ function columnAt(at) {
   const lines = steps.map((it) => `<li class="${kindOf(it)}"><b class="t c${Math.max(its.names.indexOf(it.name), 0) % 6}">${esc(it.name ?? "")}</b> ${esc(it.event)} <span aria-hidden="true">\u2192</span> <b>${esc(it.reply)}</b></li>`);
   const outcome = its.nodes[path.at(-1)].outcome;
   const text = outcome === null ? "" : sheet.trees[at].outcomes[outcome];
-  const other = askedOf(its, path, levels.order) === null ? "" : `<p class="soft">The steps are those of ${esc(namesOf(its, path).join(" "))}, after which the same is so.</p>`;
+  const other = askedOf(its, path, levels.order) === null ? "" : `<p class="joined">${JOINS} Shown as ${esc(namesOf(its, path).join(" "))}, which ends the same.</p>`;
   return `<section><h3>${LEVELS[at]} <button type="button" data-level="${at}">story</button></h3>${other}<ol>${lines.join("")}</ol><p class="ends">${endsSaid(text)}</p></section>`;
 }
 

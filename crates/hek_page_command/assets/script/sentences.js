@@ -179,7 +179,7 @@ const KEY_ARROWS = [["free", "", "this step lets the other one go on"], ["abort"
 function legend() {
   const line = ([kind, dash, said]) => `<tr><td><svg class="flow ${kind}" width="48" height="14" viewBox="0 0 48 14" aria-hidden="true"><line x1="2" x2="36" y1="7" y2="7"${dash ? ` stroke-dasharray="${dash}"` : ""}/><path d="M46 7l-11 -6v12z"/></svg><td>${said}`;
   const short = run.txnIds.filter((id) => shortOf(id) !== nameOf(id)).map((id) => `<b class="t ${colourOf(id)}">${esc(shortOf(id))}</b> ${esc(nameOf(id))}`);
-  const merged = tree?.isMerged ? `<p>${JOINS} A move with this mark leads to a state to which another order leads too: the page goes on after that order.</p>` : "";
+  const merged = tree?.isMerged ? `<p>${JOINS} A move with this mark leads to a state to which another order leads too. The page goes on after that order.</p>` : "";
   return `<h2>Legend</h2><p>${KEY}</p><table>${KEY_ARROWS.map(line).join("")}</table><p>A bar of a version goes from its Begin to its End. Dashed: if its maker commits. Crossed out: never valid. Dashed over a bar: what goes if its writer commits.</p>${short.length ? `<p>${short.join(" \u00b7 ")}</p>` : ""}${merged}`;
 }
 
