@@ -62,16 +62,13 @@ function outcomeOf(text) {
 const letterOf = (outcome) => "ABCDEFGHIJKLMNOPQRSTUVWXYZ"[outcome] ?? String(outcome);
 let isSecret = false;
 
-/** Where states are merged a choice has room for so many letters about its orders. */
-const MOST_COUNTED = 20;
-
-/** How many orders, and how many of them lead to each outcome where these are few. */
-function countsSaid(counts) {
+/** How many orders, and how many of them lead to each outcome where these are few and a choice has room for so many letters. */
+function countsSaid(counts, room) {
   const orders = `${total(counts)} ${total(counts) === 1 ? "order" : "orders"}`;
   const each = counts.map((count, at) => (count ? `${count} ${letterOf(at)}` : "")).filter(Boolean);
   const whole = `${orders}: ${each.join(", ")}`;
-  if (tree.isMerged && orders.length > MOST_COUNTED) return String(total(counts));
-  return (counts.length > 3 && each.length > 1) || (tree.isMerged && whole.length > MOST_COUNTED) ? orders : whole;
+  if (orders.length > room) return String(total(counts));
+  return (counts.length > 3 && each.length > 1) || whole.length > room ? orders : whole;
 }
 
 /** The outcomes that have room, the possible ones first if not all have. */
@@ -88,7 +85,7 @@ function outcomeBar(counts) {
 }
 
 /** The mark of a move that joins. */
-const JOINS = '<svg viewBox="0 0 20 16" class="icon joins" aria-hidden="true"><path d="M2 3.500c5 0 5 4.500 9 4.500M2 12.500c5 0 5 -4.500 9 -4.500h3" fill="none" stroke="currentColor" stroke-width="1.800"/><path d="M13 4.500v7l5 -3.500z"/></svg>';
+const JOINS = '<svg viewBox="0 0 20 16" class="icon" aria-hidden="true"><path d="M2 3.500c5 0 5 4.500 9 4.500M2 12.500c5 0 5 -4.500 9 -4.500h3" fill="none" stroke="currentColor" stroke-width="1.800"/><path d="M13 4.500v7l5 -3.500z"/></svg>';
 const shortTag = (name) => `<b class="t ${colourOf(run.ids.get(name))}">${esc(shortOf(run.ids.get(name)))}</b>`;
 const joinSaid = (next) => `joins the state after ${namesOf(tree, pathTo(tree, next)).join(" ")}`;
 const statesSaid = () => (tree.isMerged ? `, ${tree.nodes.length} states` : "");
@@ -137,6 +134,7 @@ function showTree() {
   const ways = node.next.filter((it) => it !== undefined).length;
   // More choices than have room beside one another: there may be so many where states are merged.
   const isCrowd = tree.isMerged && ways > 3;
+  const room = !tree.isMerged ? Infinity : ways > 6 ? 12 : 20;
   const choices = node.next.map((next, who) => {
     if (next === undefined) return "";
     const it = tree.nodes[next];
@@ -144,7 +142,7 @@ function showTree() {
     const isTaken = tree.path[place + 1] === next;
     const joins = isJoin(tree, node.index, next);
     const idle = (joins ? hasEnded(tree.names[who]) : it.steps.length === 0) ? ' <span class="soft">(has aborted)</span>' : "";
-    return `<button type="button" class="choice${isTaken ? " taken" : ""}" data-next="${next}"${joins ? ` title="${esc(joinSaid(next))}"` : ""}><kbd>${who + 1}</kbd> <span>${joins ? `${JOINS} ` : ""}${(isCrowd ? shortTag : tagName)(tree.names[who])} <b>${esc(move)}</b>${idle}</span>${outcomeBar(it.counts)}<span class="count">${isSecret ? "" : countsSaid(it.counts)}</span></button>`;
+    return `<button type="button" class="choice${isTaken ? " taken" : ""}" data-next="${next}"${joins ? ` title="${esc(joinSaid(next))}"` : ""}><kbd>${who + 1}</kbd> <span>${joins ? `${JOINS} ` : ""}${(isCrowd ? shortTag : tagName)(tree.names[who])} <b>${esc(move)}</b>${idle}</span>${outcomeBar(it.counts)}<span class="count">${isSecret ? "" : countsSaid(it.counts, room)}</span></button>`;
   }).join("");
   const found = whole && isAt ? `<p class="whose">This order is complete.</p><p class="final">${outcomeOf(data.outcomes[node.outcome])}</p><p>The checker: <b>${esc(outcomeParts(data.outcomes[node.outcome]).verdict)}</b>. ${reachSaid(node)}</p>` : "";
   const inside = isAt ? "" : `<p class="whose">In the middle of a move</p><p>\u2192 goes on with it.</p>`;
