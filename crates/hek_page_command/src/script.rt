@@ -1,6 +1,6 @@
-//! The script of a page. Written by tools/assets.
+//! The script of a page, in two parts. Written by tools/assets.
 
-pub(crate) const SCRIPT: &str = r##""use strict";
+pub(crate) const SCRIPT: &str = r#""use strict";
 
 /* ================================================================ the data */
 
@@ -1381,7 +1381,9 @@ function versionRow(it, y, h, at) {
     if (lookX !== null && from < lookX + 0.4 * u && from + 4 * u > lookX) from = lookX + 0.4 * u;
     const text = fitting(words, Math.min(x1, close === "written" && !open0 ? futureX : endX - 0.5 * u) - from - 0.1 * u, 0.95 * u, open0 ? 600 : 400);
     if (text) out.push(`<text class="by ${open0 ? colourOf(it.maker) : ""}" x="${f1(from)}" y="${f1(mid + 0.33 * u)}">${esc(text)}</text>`);
-  }
+"#;
+
+pub(crate) const SCRIPT_REST: &str = r##"  }
   if (isNever) {
     const words = maker ? [...namedTexts(it.maker, (name) => `${name} aborted`), "aborted", "\u2717"] : ["never valid", "never", "\u2717"];
     const text = fitting(words, endX - futureX - 0.5 * u, 0.95 * u) || "\u2717";

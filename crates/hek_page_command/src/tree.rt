@@ -255,10 +255,14 @@ impl Tree {
 
     /// Adds the counts of a node to those of its parent, if it has one.
     fn add_to_parent(&mut self, alloc: Global, place: usize) -> Result<(), NoMemory> {
-        match self.nodes.get(place) {
-            Some(node) if place > 0 => self.add_to(alloc, node.parent, place),
-            _ => Ok(()),
+        let Some(node) = self.nodes.get(place) else {
+            return Ok(());
+        };
+        let parent = node.parent;
+        if place == 0 {
+            return Ok(());
         }
+        self.add_to(alloc, parent, place)
     }
 
     /// Adds the counts of the node at a place to those of another.
