@@ -8,6 +8,7 @@ use Rattle.hek_permute.specs.declared.moves.Form.{Form}
 use Rattle.hek_permute.specs.declared.play.Place.{Place}
 use Rattle.hek_permute.specs.Found.{Found}
 use Rattle.hek_permute.specs.Moves.{Work, AreMoves}
+use Rattle.hek_permute.specs.Plays.{Plays}
 use Rattle.hek_permute.specs.Tallies.{IsPlayed}
 use Rattle.hek_explore.specs.Codes.{code_of}
 use Rattle.hek_explore.specs.Twins.{HasPlayed}
@@ -24,6 +25,13 @@ pub record HasKey (p : Plan) (form : Form) (works : List Work) (past : List ℕ)
   pub played : HasPlayed p form works past places history
   pub is : code_of p places history ≡ key
   pub short : length history ≤ longest
+
+-- the key of a play of these moves, in this order
+pub record IsKeyAfter (p : Plan) (form : Form) (works : List Work) (order : List ℕ) (key : List ℕ) : Type 0 where
+  pub places : List Place
+  pub history : List Entry
+  pub come : Plays form works (reverse order) places history
+  pub is : key ≡ code_of p places history
 
 -- Moves with a play of the first key have, with one more move of t, a play of the second key, at most so many events
 -- longer, unless the clock comes to its end.

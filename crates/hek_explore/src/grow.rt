@@ -234,7 +234,7 @@ pub(crate) fn replay<'a>(
 }
 
 /// The play of these moves.
-fn play_from<'a>(
+pub(crate) fn play_from<'a>(
     alloc: Global,
     schedule: &Grouped<'a>,
     moves: &[Moves],

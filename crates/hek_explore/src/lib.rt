@@ -10,12 +10,14 @@ mod grow;
 mod key;
 mod numbers;
 mod spot;
+mod state;
 mod survey;
 mod walk;
 
 ghost use Rattle.hek_explore.specs.Laws.{EqualKeysMakeTwins, PlaysExtendAlike, TwinsHaveEqualKeys, TwinsHaveOneOutcome};
 
 pub use key::{Key, Look, TxnKey, VersionKey};
+pub use state::key_after;
 pub use survey::Survey;
 pub use walk::{explore, explore_in_threads};
 

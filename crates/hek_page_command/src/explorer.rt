@@ -5,10 +5,10 @@ ghost use Rattle.hek_page_command.specs.Explorers.{Explores, ExploreFails, IsExp
 
 use crate::comments::{Comments, comments_in};
 use crate::heading::Heading;
-use crate::prefixes::prefixes_of;
 use crate::sheet::write_sheet;
+use crate::states::nodes_of;
 use crate::texts::{add_invariants, step_texts};
-use crate::tree::tree_of;
+use crate::tree::{fault_of, tree_of};
 use crate::tree_data::{levels_data, tree_data};
 use hek_permute::{Form, moves_of, schedule_with};
 use hek_permute_command::{Given, leveled, program_in};
@@ -19,7 +19,8 @@ use serde_json::Value;
 use std::alloc::Global;
 use std::io::{Read, Write};
 
-/// How many nodes an explorer has at most, if the caller gives no other limit: a node is a prefix of orders.
+/// How many nodes an explorer has at most, if the caller gives no other limit: a node is a prefix of orders, or, where
+/// these are more, a state to which prefixes lead.
 pub const MOST_NODES: u64 = 5_000;
 
 /// How the end of a transaction is cut into moves, and how many nodes there may be.
@@ -29,7 +30,7 @@ pub struct Extent {
     pub limit: u64,
 }
 
-/// Writes the explorer of the orders of the moves of the schedule in a file. Answers the exit status. If the tree has
+/// Writes the explorer of the orders of the moves of the schedule in a file. Answers the exit status. If there are
 /// more nodes than the limit, `faults` says so, nothing is written, and the status is 1.
 pub fn explorer_command<'a, R: Read + Drop, W: Write, E: Write>(
     alloc: Global,
@@ -81,7 +82,7 @@ fn write_explorer<'a, W: Write, E: Write>(
     write_data(alloc, extent, heading, data, out, faults)
 }
 
-/// The data of the explorer of a schedule; none if the tree has more nodes than the limit.
+/// The data of the explorer of a schedule; none if there are more nodes than the limit.
 fn explorer_data<'a>(
     alloc: Global,
     given: &Given<'_>,
@@ -95,10 +96,12 @@ fn explorer_data<'a>(
     let Extent { form, limit } = extent;
     let moves = moves_of(alloc, given.schedule, given.rules)?;
     let moves = moves.as_slice();
-    let Some(prefixes) = prefixes_of(alloc, moves, form, limit)? else {
-        return Ok(None);
+    let nodes = match nodes_of(alloc, given.schedule, moves, form, limit) {
+        Ok(Some(nodes)) => nodes,
+        Ok(None) => return Ok(None),
+        Err(fault) => return Err(fault_of(fault)),
     };
-    let tree = tree_of(alloc, given, moves, form, prefixes.as_slice())?;
+    let tree = tree_of(alloc, given, moves, form, &nodes)?;
     some_data(tree_data(alloc, given, texts, moves, form, &tree, heading, comments))
 }
 
@@ -246,7 +249,7 @@ fn write_levels<'a, W: Write, E: Write>(
     write_data(alloc, extent, heading, data, out, faults)
 }
 
-/// The data of the explorers at all levels; none if a tree has more nodes than the limit.
+/// The data of the explorers at all levels; none if an explorer has more nodes than the limit.
 fn all_levels<'a>(
     alloc: Global,
     given: &Given<'_>,

@@ -15,6 +15,7 @@ mod prefixes;
 mod script;
 mod sees;
 mod sheet;
+mod states;
 mod step_text;
 mod story;
 mod style;

@@ -46,7 +46,7 @@ fn add_longer(
     let order = order_of(alloc, prefixes.as_slice(), parent)?;
     for (place, of_one) in moves.iter().enumerate() {
         let who = TxnId::new((place as u64).saturating_add(1));
-        if times(order.as_slice(), who) < move_count(of_one, form) {
+        if has_left(order.as_slice(), who, of_one, form) {
             prefixes.push(Prefix { parent, who })?;
         }
     }
@@ -75,8 +75,13 @@ pub(crate) fn order_of(
     Ok(order)
 }
 
+/// Whether a transaction with these moves has one left after an order.
+pub(crate) fn has_left(order: &[TxnId], who: TxnId, of_one: &Moves, form: Form) -> bool {
+    times(order, who) < move_count(of_one, form)
+}
+
 /// How many moves of a transaction an order has.
-fn times(order: &[TxnId], who: TxnId) -> usize {
+pub(crate) fn times(order: &[TxnId], who: TxnId) -> usize {
     let mut count = 0usize;
     for txn in order {
         if *txn == who {

@@ -1,6 +1,6 @@
-//! The script of a page. Written by tools/assets.
+//! The script of a page, in two parts. Written by tools/assets.
 
-pub(crate) const SCRIPT: &str = r##""use strict";
+pub(crate) const SCRIPT: &str = r#""use strict";
 
 /* ================================================================ the data */
 
@@ -184,17 +184,71 @@ class Run {
 
 const isTree = data.kind === "tree";
 let tree = null;
+/** The names of those that move in the order that was asked for, where the page shows another one after which the same can happen; else null. */
+let asked = null;
 
-/** The tree in some data. */
+/** The tree in some data. Where it has a node for each state, a move may join the state of a node whose parent is another: the path to a node
+    is the first order that comes to it, and its steps are those of that order. */
 function treeOf(data) {
   const text = (at) => data.texts[at];
   const steps = data.steps.map(([line, changed, gone, why, sees, waits, ends, rule, sentence, definition, comes]) => ({
     line: text(line), changed: text(changed), gone: text(gone), why: text(why), sees: text(sees), waits: waits === null ? null : text(waits), ends: text(ends), rule: text(rule),
     sentence: text(sentence), definition: text(definition), comes: text(comes),
   }));
-  const nodes = data.nodes.map(([parent, who, places, outcome, counts], index) => ({ index, parent, who: who - 1, steps: places.map((at) => steps[at]), outcome, next: [], counts }));
+  const nodes = data.nodes.map(([parent, who, places, outcome, counts, joins = []], index) => ({ index, parent, who: who - 1, steps: places.map((at) => steps[at]), outcome, next: [], counts, joins, own: new Set() }));
   for (const node of nodes.slice(1)) nodes[node.parent].next[node.who] = node.index;
-  return { nodes, names: data.names, moves: data.moves, path: [0] };
+  for (const node of nodes) for (const [who, joined] of node.joins) node.next[who - 1] = joined;
+  // the outcomes to which moves lead from a node without a join
+  for (const node of [...nodes].reverse()) {
+    if (node.outcome !== null) node.own.add(node.outcome);
+    for (const outcome of node.own) nodes[node.parent].own.add(outcome);
+  }
+  return { nodes, names: data.names, moves: data.moves, path: [0], isMerged: nodes.some((it) => it.joins.length > 0) };
+}
+
+/** The path to a node, from the start. */
+function pathTo(its, at) {
+  const path = [at];
+  while (path[0] > 0) path.unshift(its.nodes[path[0]].parent);
+  return path;
+}
+
+/** The names of those that move along a path. */
+const namesOf = (its, path) => path.slice(1).map((at) => its.names[its.nodes[at].who]);
+
+/** Whether a move from one node to another joins. */
+const isJoin = (its, at, next) => its.nodes[next].parent !== at;
+
+/** The path to the node at which an order arrives, as far as there are such moves. */
+function pathOf(its, order) {
+  let at = 0;
+  for (const name of order) {
+    const next = its.nodes[at].next[its.names.indexOf(name)];
+    if (next === undefined) break;
+    at = next;
+  }
+  return pathTo(its, at);
+}
+
+/** As much of an order as a path has, if the path is that of another order; else null. */
+function askedOf(its, path, order) {
+  const part = order.slice(0, path.length - 1);
+  return part.join() === namesOf(its, path).join() ? null : part;
+}
+
+/** The first moves from a node to the end, without a join where that can be: to an outcome, or to any. `order` has the names of those that move,
+    `last` the last node, `joined` how many moves there are up to the last that joins. */
+function movesOn(its, at, outcome = null) {
+  const order = [];
+  let [node, joined] = [its.nodes[at], 0];
+  while (node.next.length) {
+    const ways = node.next.filter((it) => it !== undefined && (outcome === null || its.nodes[it].counts[outcome] > 0));
+    const next = ways.find((it) => !isJoin(its, node.index, it) && (outcome === null || its.nodes[it].own.has(outcome))) ?? ways[0];
+    order.push(its.names[node.next.indexOf(next)]);
+    if (isJoin(its, node.index, next)) joined = order.length;
+    node = its.nodes[next];
+  }
+  return { order, last: node.index, joined };
 }
 
 /** How many moves of each transaction have come at a node. */
@@ -418,7 +472,7 @@ function showSay() {
   $("say").className = step ? kindOf(step) : "";
   if (!step) {
     const about = (isSpoilerHidden() ? data.question : data.about) || "The rows are loaded, and nobody has begun.";
-    $("said").innerHTML = `<p class="event"><span class="num">start</span> Before the first step</p><p class="plain${about.length > 150 ? " longer" : about.length > 105 ? " long" : ""}">${esc(about)}</p>`;
+    $("said").innerHTML = `${askedSaid()}<p class="event"><span class="num">start</span> Before the first step</p><p class="plain${about.length > 150 ? " longer" : about.length > 105 ? " long" : ""}">${esc(about)}</p>`;
     $("because").innerHTML = opening();
     fitSay();
     return;
@@ -429,7 +483,7 @@ function showSay() {
   const folded = isFolded(shown) && shown === spanOf(shown).to;
   const sentence = folded ? foldedSentence(shown) : sentenceOf(step, shown);
   const isLong = sentence.replace(/<[^>]*>/g, "").length > 92;
-  $("said").innerHTML = `${onward}<p class="event"><span class="num">${folded ? `${run.done + spanOf(shown).from}\u2013` : ""}${run.done + shown}</span> <code>${step.name ? tagName(step.name) + " " : ""}${esc(step.event)}</code> <span class="arrow">\u2192</span> ${reply}</p>
+  $("said").innerHTML = `${onward}${askedSaid()}<p class="event"><span class="num">${folded ? `${run.done + spanOf(shown).from}\u2013` : ""}${run.done + shown}</span> <code>${step.name ? tagName(step.name) + " " : ""}${esc(step.event)}</code> <span class="arrow">\u2192</span> ${reply}</p>
     <p class="plain${isLong ? " long" : ""}">${sentence}</p>${isTree ? eventsOfMove(shown) : ""}${noteOf(step)}${verdict}`;
   const why = linesOf(step.why).filter((it) => !/(begin|end) [0-9A-F]{16}/.test(it)).map((it) => `<li>${reasonOf(it)}</li>`);
   why.sort((a, b) => b.includes("<b>seen") - a.includes("<b>seen"));
@@ -504,11 +558,12 @@ const KEY_ARROWS = [["free", "", "this step lets the other one go on"], ["abort"
 function legend() {
   const line = ([kind, dash, said]) => `<tr><td><svg class="flow ${kind}" width="48" height="14" viewBox="0 0 48 14" aria-hidden="true"><line x1="2" x2="36" y1="7" y2="7"${dash ? ` stroke-dasharray="${dash}"` : ""}/><path d="M46 7l-11 -6v12z"/></svg><td>${said}`;
   const short = run.txnIds.filter((id) => shortOf(id) !== nameOf(id)).map((id) => `<b class="t ${colourOf(id)}">${esc(shortOf(id))}</b> ${esc(nameOf(id))}`);
-  return `<h2>Legend</h2><p>${KEY}</p><table>${KEY_ARROWS.map(line).join("")}</table><p>A bar of a version goes from its Begin to its End. Dashed: if its maker commits. Crossed out: never valid. Dashed over a bar: what goes if its writer commits.</p>${short.length ? `<p>${short.join(" \u00b7 ")}</p>` : ""}`;
+  const merged = tree?.isMerged ? `<p>${JOINS} A move with this mark leads to a state to which another order leads too. The page goes on after that order.</p>` : "";
+  return `<h2>Legend</h2><p>${KEY}</p><table>${KEY_ARROWS.map(line).join("")}</table><p>A bar of a version goes from its Begin to its End. Dashed: if its maker commits. Crossed out: never valid. Dashed over a bar: what goes if its writer commits.</p>${short.length ? `<p>${short.join(" \u00b7 ")}</p>` : ""}${merged}`;
 }
 
 function opening() {
-  if (isTree) return `<p class="soft">Choose which moves first. ${data.outcomes.length} outcomes, ${total(tree.nodes[0].counts)} orders.</p>`;
+  if (isTree) return `<p class="soft">Choose which moves first. ${data.outcomes.length} outcomes, ${total(tree.nodes[0].counts)} orders${statesSaid()}.</p>`;
   return `<p>${KEY}</p><p class="soft">\u2192, Space, Page Down: on. \u2190, Page Up: back. ?: guess. f: what is to come. p: larger. h: all keys.</p>`;
 }
 
@@ -998,8 +1053,8 @@ function nextMoves({ u, x, cell, laneY, cellY, cellH, tight }) {
     const inner = cell - CARD.padding * u;
     const [op, about] = [fitting(LABELS[words[0]] ?? [words[0]], inner, CARD.size * u, 600), fitting([words.slice(1).join(" "), words.slice(1).join("="), words[1] ?? ""], inner, 0.93 * u)];
     const [two, three] = [cellY(id) + cellH / 2 - 0.14 * u, cellY(id) + cellH / 2 + (tight ? 0.78 : 0.9) * u];
-    return `<g class="cell ghost next" data-next="${next}" role="button" tabindex="0" aria-label="${esc(tree.names[who])} moves: ${esc(words.join(" "))}"><rect x="${f1(x(run.last + 1) + 0.1 * u)}" y="${f1(cellY(id))}" width="${f1(cell - 0.2 * u)}" height="${f1(cellH)}" rx="${f1(0.3 * u)}"/><text class="op" x="${f1(cx)}" y="${f1(two)}" text-anchor="middle">${esc(op)}</text><text class="detail" x="${f1(cx)}" y="${f1(three)}" text-anchor="middle">${esc(about)}</text></g>`;
-  });
+    return `<g class="cell ghost next" data-next="${next}" role="button" tabindex="0" aria-label="${esc(tree.names[who])} moves: ${esc(words.join(" "))}${isJoin(tree, node.index, next) ? `, ${esc(joinSaid(next))}` : ""}"><rect x="${f1(x(run.last + 1) + 0.1 * u)}" y="${f1(cellY(id))}" width="${f1(cell - 0.2 * u)}" height="${f1(cellH)}" rx="${f1(0.3 * u)}"/><text class="op" x="${f1(cx)}" y="${f1(two)}" text-anchor="middle">${esc(op)}</text><text class="detail" x="${f1(cx)}" y="${f1(three)}" text-anchor="middle">${esc(about)}</text></g>`;
+  }).filter(Boolean);
 }
 
 /** The head of a lane: name, its short form where it has one, level, and those of its fields that say something. */
@@ -1326,7 +1381,9 @@ function versionRow(it, y, h, at) {
     if (lookX !== null && from < lookX + 0.4 * u && from + 4 * u > lookX) from = lookX + 0.4 * u;
     const text = fitting(words, Math.min(x1, close === "written" && !open0 ? futureX : endX - 0.5 * u) - from - 0.1 * u, 0.95 * u, open0 ? 600 : 400);
     if (text) out.push(`<text class="by ${open0 ? colourOf(it.maker) : ""}" x="${f1(from)}" y="${f1(mid + 0.33 * u)}">${esc(text)}</text>`);
-  }
+"#;
+
+pub(crate) const SCRIPT_REST: &str = r##"  }
   if (isNever) {
     const words = maker ? [...namedTexts(it.maker, (name) => `${name} aborted`), "aborted", "\u2717"] : ["never valid", "never", "\u2717"];
     const text = fitting(words, endX - futureX - 0.5 * u, 0.95 * u) || "\u2717";
@@ -1936,11 +1993,13 @@ function outcomeOf(text) {
 const letterOf = (outcome) => "ABCDEFGHIJKLMNOPQRSTUVWXYZ"[outcome] ?? String(outcome);
 let isSecret = false;
 
-/** How many orders, and how many of them lead to each outcome where these are few. */
-function countsSaid(counts) {
+/** How many orders, and how many of them lead to each outcome where these are few and a choice has room for so many letters. */
+function countsSaid(counts, room) {
   const orders = `${total(counts)} ${total(counts) === 1 ? "order" : "orders"}`;
   const each = counts.map((count, at) => (count ? `${count} ${letterOf(at)}` : "")).filter(Boolean);
-  return counts.length > 3 && each.length > 1 ? orders : `${orders}: ${each.join(", ")}`;
+  const whole = `${orders}: ${each.join(", ")}`;
+  if (orders.length > room) return String(total(counts));
+  return (counts.length > 3 && each.length > 1) || whole.length > room ? orders : whole;
 }
 
 /** The outcomes that have room, the possible ones first if not all have. */
@@ -1954,6 +2013,34 @@ function outcomesShown(counts) {
 function outcomeBar(counts) {
   if (isSecret) return "";
   return `<span class="share">${counts.map((it, at) => (it ? `<i class="o${at % 6}" style="flex:${it}"></i>` : "")).join("")}</span>`;
+}
+
+/** The mark of a move that joins. */
+const JOINS = '<svg viewBox="0 0 20 16" class="icon" aria-hidden="true"><path d="M2 3.500c5 0 5 4.500 9 4.500M2 12.500c5 0 5 -4.500 9 -4.500h3" fill="none" stroke="currentColor" stroke-width="1.800"/><path d="M13 4.500v7l5 -3.500z"/></svg>';
+const shortTag = (name) => `<b class="t ${colourOf(run.ids.get(name))}">${esc(shortOf(run.ids.get(name)))}</b>`;
+const joinSaid = (next) => `joins the state after ${namesOf(tree, pathTo(tree, next)).join(" ")}`;
+const statesSaid = () => (tree.isMerged ? `, ${tree.nodes.length} states` : "");
+
+/** How many orders are left; where states are merged, at the start how many states there are. */
+function ordersSaid(reach, place) {
+  const all = total(tree.nodes[0].counts);
+  if (tree.isMerged && place === 0) return `${all} orders${statesSaid()}`;
+  return tree.isMerged && all > 1e9 ? `${reach} orders left` : `${reach} of ${all} orders left`;
+}
+
+/** Two orders of more moves are said without what they have in common at the start; their names, if they have more letters, in short. */
+const MOST_MOVES = 8;
+const MOST_LETTERS_SAID = 40;
+
+/** That the page shows another order than the one that was asked for. */
+function askedSaid() {
+  if (asked === null) return "";
+  const shown = namesOf(tree, tree.path).slice(0, asked.length);
+  const cut = asked.length > MOST_MOVES ? asked.findIndex((it, index) => it !== shown[index]) : 0;
+  const isLong = 2 * asked.slice(cut).join(" ").length > MOST_LETTERS_SAID;
+  const [one, other] = [asked, shown].map((order) => (cut > 0 ? "\u2026 " : "") + order.slice(cut).map(isLong ? shortTag : tagName).join(" "));
+  const isOver = tree.nodes[tree.path[asked.length]].next.length === 0;
+  return `<p class="joined">${JOINS} ${isOver ? `${one} ends as ${other} does: the page shows that order.` : `After ${one} the same can happen as after ${other}: the page goes on from there.`}</p>`;
 }
 
 function showTree() {
@@ -1975,20 +2062,25 @@ function showTree() {
   // the choices
   const whole = node.next.length === 0;
   const reach = total(node.counts);
+  const ways = node.next.filter((it) => it !== undefined).length;
+  // More choices than have room beside one another: there may be so many where states are merged.
+  const isCrowd = tree.isMerged && ways > 3;
+  const room = !tree.isMerged ? Infinity : ways > 6 ? 12 : 20;
   const choices = node.next.map((next, who) => {
     if (next === undefined) return "";
     const it = tree.nodes[next];
     const move = tree.moves[who][done[who]];
     const isTaken = tree.path[place + 1] === next;
-    const idle = it.steps.length === 0 ? ' <span class="soft">(has aborted)</span>' : "";
-    return `<button type="button" class="choice${isTaken ? " taken" : ""}" data-next="${next}"><kbd>${who + 1}</kbd> <span>${tagName(tree.names[who])} <b>${esc(move)}</b>${idle}</span>${outcomeBar(it.counts)}<span class="count">${isSecret ? "" : countsSaid(it.counts)}</span></button>`;
+    const joins = isJoin(tree, node.index, next);
+    const idle = (joins ? hasEnded(tree.names[who]) : it.steps.length === 0) ? ' <span class="soft">(has aborted)</span>' : "";
+    return `<button type="button" class="choice${isTaken ? " taken" : ""}" data-next="${next}"${joins ? ` title="${esc(joinSaid(next))}"` : ""}><kbd>${who + 1}</kbd> <span>${joins ? `${JOINS} ` : ""}${(isCrowd ? shortTag : tagName)(tree.names[who])} <b>${esc(move)}</b>${idle}</span>${outcomeBar(it.counts)}<span class="count">${isSecret ? "" : countsSaid(it.counts, room)}</span></button>`;
   }).join("");
   const found = whole && isAt ? `<p class="whose">This order is complete.</p><p class="final">${outcomeOf(data.outcomes[node.outcome])}</p><p>The checker: <b>${esc(outcomeParts(data.outcomes[node.outcome]).verdict)}</b>. ${reachSaid(node)}</p>` : "";
   const inside = isAt ? "" : `<p class="whose">In the middle of a move</p><p>\u2192 goes on with it.</p>`;
-  $("because").innerHTML = `<div class="moves">${found || inside || `<p class="whose">Who moves next?</p><div class="pick" style="--n:${Math.min(node.next.filter((it) => it !== undefined).length, 3)}">${choices}</div>`}</div>`;
+  $("because").innerHTML = `<div class="moves">${found || inside || `<p class="whose">Who moves next?</p><div class="pick${tree.isMerged ? " merged" : ""}${isCrowd ? " crowd" : ""}" style="--n:${isCrowd ? Math.ceil(ways / 2) : Math.min(ways, 3)}">${choices}</div>`}</div>`;
   // the outcomes that can still be reached
   if (!pinned) {
-    $("words-title").innerHTML = `Outcomes from here <small>${reach} of ${total(tree.nodes[0].counts)} orders left</small>`;
+    $("words-title").innerHTML = `Outcomes from here <small>${ordersSaid(reach, place)}</small>`;
     if (isSecret) $("words-title").textContent = "Outcomes: what do you think?";
     const shown = isSecret ? [] : outcomesShown(node.counts);
     const rows = shown.map((at) => {
@@ -1996,7 +2088,8 @@ function showTree() {
       return `<li class="${count ? "" : "out"}"><span class="n">${count}</span><span class="swatch o${at % 6}"></span><b>${letterOf(at)}</b><span class="what">${outcomeOf(text)}</span><button type="button" data-find="${at}"${count ? "" : " disabled"}>find one</button><span class="rail"><i class="o${at % 6}" style="width:${f1((100 * count) / Math.max(reach, 1))}%"></i></span></li>`;
     });
     const left = isSecret ? 0 : data.outcomes.length - shown.length;
-    put("word", `<ul class="outcomes${data.outcomes.length > 3 ? " many" : ""}">${rows.join("")}${left ? `<li class="rest soft">and ${left} more</li>` : ""}</ul>`);
+    const digits = Math.max(...shown.map((at) => String(tree.nodes[0].counts[at]).length));
+    put("word", `<ul class="outcomes${data.outcomes.length > 3 ? " many" : ""}"${digits > 3 ? ` style="--digits:${digits}"` : ""}>${rows.join("")}${left ? `<li class="rest soft">and ${left} more</li>` : ""}</ul>`);
   }
 }
 
@@ -2006,30 +2099,37 @@ function reachSaid(node) {
   return `${count} of all ${all} orders end so.`;
 }
 
-/** Goes on with a move; another one than the path had takes the rest of the path away. */
+/** Whether a transaction has ended here. */
+const hasEnded = (name) => ["aborted", "terminated"].includes(run.txn(run.ids.get(name), here).kind);
+
+/** Goes on with a move; another one than the path had takes the rest of the path away, and one that joins all of it. */
 function takeMove(next) {
   const place = placeHere();
-  if (tree.path[place + 1] !== next) { tree.path = [...tree.path.slice(0, place + 1), next]; run = runOfPath(); }
-  // A move of a transaction that has aborted does nothing.
-  goToPlace(place + 1);
-}
-
-function goToPlace(place) {
-  tree.cursor = place;
-  move(endsOfPath()[place]);
-}
-
-function findOutcome(outcome) {
-  const place = placeHere();
-  let at = tree.path[place];
-  const path = tree.path.slice(0, place + 1);
-  while (tree.nodes[at].next.length) {
-    at = tree.nodes[at].next.find((it) => it !== undefined && tree.nodes[it].counts[outcome] > 0);
-    path.push(at);
+  let order = null;
+  if (tree.path[place + 1] !== next) {
+    const who = tree.nodes[tree.path[place]].next.indexOf(next);
+    order = [...namesOf(tree, tree.path.slice(0, place + 1)), tree.names[who]];
+    tree.path = pathTo(tree, next);
+    order = askedOf(tree, tree.path, order);
+    run = runOfPath();
   }
-  tree.path = path;
+  // A move of a transaction that has aborted does nothing.
+  goToPlace(place + 1, order);
+}
+
+function goToPlace(place, order = null) {
+  tree.cursor = place;
+  move(endsOfPath()[place], order);
+}
+
+/** Shows the moves from here to an outcome; if one of them joins, it is at the last that does. */
+function findOutcome(outcome) {
+  const path = tree.path.slice(0, placeHere() + 1);
+  const { order, last, joined } = movesOn(tree, path.at(-1), outcome);
+  tree.path = pathTo(tree, last);
   run = runOfPath();
-  move(here);
+  if (joined === 0) move(here);
+  else goToPlace(path.length - 1 + joined, [...namesOf(tree, path), ...order.slice(0, joined)]);
 }
 
 /* ================================================================ the same moves at all levels */
@@ -2054,26 +2154,7 @@ function outcomesAtLevels() {
 }
 
 /** The first order of a tree that has an outcome: the names of those that move. */
-function orderTo(its, outcome) {
-  const names = [];
-  let node = its.nodes[0];
-  while (node.next.length) {
-    node = its.nodes[node.next.find((it) => it !== undefined && its.nodes[it].counts[outcome] > 0)];
-    names.push(its.names[node.who]);
-  }
-  return names;
-}
-
-/** The nodes of a tree along an order. */
-function pathOf(its, order) {
-  const path = [0];
-  for (const name of order) {
-    const next = its.nodes[path.at(-1)].next[its.names.indexOf(name)];
-    if (next === undefined) break;
-    path.push(next);
-  }
-  return path;
-}
+const orderTo = (its, outcome) => movesOn(its, 0, outcome).order;
 
 /** The steps of an order at a level that tell something, and its outcome. */
 function columnAt(at) {
@@ -2083,7 +2164,8 @@ function columnAt(at) {
   const lines = steps.map((it) => `<li class="${kindOf(it)}"><b class="t c${Math.max(its.names.indexOf(it.name), 0) % 6}">${esc(it.name ?? "")}</b> ${esc(it.event)} <span aria-hidden="true">\u2192</span> <b>${esc(it.reply)}</b></li>`);
   const outcome = its.nodes[path.at(-1)].outcome;
   const text = outcome === null ? "" : sheet.trees[at].outcomes[outcome];
-  return `<section><h3>${LEVELS[at]} <button type="button" data-level="${at}">story</button></h3><ol>${lines.join("")}</ol><p class="ends">${endsSaid(text)}</p></section>`;
+  const other = askedOf(its, path, levels.order) === null ? "" : `<p class="joined">${JOINS} Shown as ${esc(namesOf(its, path).join(" "))}, which ends the same.</p>`;
+  return `<section><h3>${LEVELS[at]} <button type="button" data-level="${at}">story</button></h3>${other}<ol>${lines.join("")}</ol><p class="ends">${endsSaid(text)}</p></section>`;
 }
 
 /** Whether a step says what its transaction hasn't said last. */
@@ -2115,7 +2197,7 @@ function goToLevel(at, outcome) {
   takeLevel(at);
   tree.path = pathOf(tree, levels.order);
   run = runOfPath();
-  move(0);
+  move(0, askedOf(tree, tree.path, levels.order));
 }
 
 function takeLevel(at) {
@@ -2130,21 +2212,10 @@ function takeLevel(at) {
 /** Back to the table of all levels. */
 function leaveLevel() {
   if (!isLevels) return;
-  levels.order = tree.path.slice(1).map((at) => tree.names[tree.nodes[at].who]);
-  if (!isWhole()) levels.order = orderFrom(tree, tree.path.at(-1), levels.order);
+  levels.order = [...namesOf(tree, tree.path), ...movesOn(tree, tree.path.at(-1)).order];
   levels.shown = null;
   document.body.classList.add("levels");
   show();
-}
-
-/** An order, completed by the first moves that there are. */
-function orderFrom(its, at, order) {
-  const names = [...order];
-  for (let node = its.nodes[at]; node.next.length; ) {
-    node = its.nodes[node.next.find((it) => it !== undefined)];
-    names.push(its.names[node.who]);
-  }
-  return names;
 }
 
 /* ================================================================ a step as one picture: SVG with its style inside */
@@ -2309,15 +2380,7 @@ function tableInPrint() {
 }
 
 /** The first order that leads to an outcome, as its transactions one after another. */
-function firstOrder(outcome) {
-  const names = [];
-  let node = tree.nodes[0];
-  while (node.next.length) {
-    node = tree.nodes[node.next.find((it) => it !== undefined && tree.nodes[it].counts[outcome] > 0)];
-    names.push(tree.names[node.who]);
-  }
-  return names.join(" ");
-}
+const firstOrder = (outcome) => movesOn(tree, 0, outcome).order.join(" ");
 
 function outcomesInPrint() {
   const counts = tree.nodes[0].counts;
@@ -2360,7 +2423,9 @@ function show() {
   tellParent();
 }
 
-function move(position) {
+/** Goes to a position; `order` is the one that was asked for, where the page shows another one. */
+function move(position, order = null) {
+  asked = order;
   here = Math.min(Math.max(position, 0), run.last);
   show();
   clearTimeout(telling);
@@ -2372,7 +2437,7 @@ function placeSaid() {
   if (!isTree) return String(run.done + here);
   const level = !isLevels ? "" : levels.shown === null ? "" : `${LEVELS[levels.shown]}:`;
   if (isLevels && level === "") return "";
-  return level + tree.path.slice(1).map((at) => tree.names[tree.nodes[at].who]).join(".") + (here < run.last ? "@" + here : "");
+  return level + namesOf(tree, tree.path).join(".") + (here < run.last ? "@" + here : "");
 }
 
 let telling = 0;
@@ -2396,7 +2461,7 @@ function back() {
   move(positionBack(here));
 }
 
-function jump(position) { guess = null; move(position); }
+function jump(position, order = null) { guess = null; move(position, order); }
 
 function press(name, isOn) { document.querySelector(`[data-do="${name}"]`).setAttribute("aria-pressed", String(isOn)); }
 
@@ -2570,15 +2635,13 @@ function fromHash(hash = decodeURIComponent(location.hash.slice(1))) {
     if (!LEVELS.includes(level)) { document.body.classList.add("levels"); levels.shown = null; show(); return; }
     takeLevel(LEVELS.indexOf(level));
   }
-  const [order, at] = place.split("@");
-  tree.path = [0];
-  for (const name of order.split(".").filter(Boolean)) {
-    const next = tree.nodes[tree.path.at(-1)].next[tree.names.indexOf(name)];
-    if (next === undefined) break;
-    tree.path.push(next);
-  }
+  const [moves, at] = place.split("@");
+  const order = moves.split(".").filter(Boolean);
+  tree.path = pathOf(tree, order);
   run = runOfPath();
-  jump(at === undefined ? run.last : Number(at));
+  const other = askedOf(tree, tree.path, order);
+  // A number of steps is one of the order in the address.
+  jump(at === undefined || other !== null ? run.last : Number(at), other);
 }
 
 function resized() {

@@ -7,7 +7,7 @@ ghost use Rattle.hek_page_command.specs.Sheets.{escaped};
 
 use crate::frame::{BACK, END, FRONT, HEAD, MIDDLE};
 use crate::heading::Heading;
-use crate::script::SCRIPT;
+use crate::script::{SCRIPT, SCRIPT_REST};
 use crate::style::STYLE;
 use hek_report::{HekFault, send};
 use hek_rules::NoMemory;
@@ -50,6 +50,7 @@ fn put_head(alloc: Global, heading: &Heading<'_>, sheet: &mut Vec<u8>) -> Result
 fn put_foot(sheet: &mut Vec<u8>) -> Result<(), NoMemory> {
     put_part(BACK, sheet)?;
     put_part(script_text(), sheet)?;
+    put_part(rest_of_script(), sheet)?;
     put_part(END, sheet)
 }
 
@@ -69,6 +70,10 @@ fn body_text() -> &'static str {
 
 fn script_text() -> &'static str {
     SCRIPT
+}
+
+fn rest_of_script() -> &'static str {
+    SCRIPT_REST
 }
 
 fn put_title_of(alloc: Global, heading: &Heading<'_>, sheet: &mut Vec<u8>) -> Result<(), NoMemory> {

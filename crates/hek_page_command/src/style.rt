@@ -251,6 +251,8 @@ kbd { display: inline-block; min-width: 1.5em; text-align: center; border: 1px s
 .tree #say { grid-template-columns: minmax(0, 1.2fr) minmax(0, 1fr); height: 9.1rem; } .pick { display: grid; grid-template-columns: repeat(var(--n), minmax(0, 1fr)); gap: 0.5rem; } .pick[style="--n:3"] .choice { font-size: 1rem; padding-left: 0.45rem; padding-right: 0.45rem; column-gap: 0.4rem; }
 .choice { display: grid; grid-template-columns: auto 1fr; gap: 0.1rem 0.6rem; align-items: center; text-align: left; border-width: 2px; font-size: 1.12rem; padding: 0.25rem 0.6rem 0.35rem; }
 .choice.taken { border-style: dashed; }
+.joined { font-size: 1rem; line-height: 1.2; } #said[data-fit] .joined { font-size: 0.94rem; line-height: 1.1; } #said[data-fit="2"] .joined { font-size: 0.88rem; white-space: nowrap; overflow: hidden; text-overflow: ellipsis; } .columns .joined { margin: 0 0 0.3rem; color: var(--soft); }
+.pick.merged .count { white-space: nowrap; overflow: hidden; text-overflow: ellipsis; } .pick.crowd { gap: 0.3rem; } .pick.crowd .choice { font-size: 1rem; line-height: 1.15; padding: 0.05rem 0.4rem 0.1rem; gap: 0.05rem 0.4rem; } .pick.crowd .choice > span:not(.share) { white-space: nowrap; overflow: hidden; text-overflow: ellipsis; } .pick.crowd .share { height: 0.4rem; }
 .choice .share, .choice .count { grid-column: 1 / -1; } .choice .count { color: var(--soft); font-size: 0.95rem; }
 .share { display: flex; height: 0.6rem; background: var(--bg);  } .share i { display: block; border-right: 1px solid var(--bg); }
 .o0 { background: var(--o0); } .o1 { background: repeating-linear-gradient(45deg, var(--o1) 0 5px, var(--bg) 5px 7px); } .o2 { background: radial-gradient(var(--bg) 1.2px, var(--o2) 1.6px) 0 0 / 6px 6px; }
@@ -260,6 +262,7 @@ kbd { display: inline-block; min-width: 1.5em; text-align: center; border: 1px s
 .outcomes .n { font-size: 1.5rem; font-weight: 700; text-align: right; font-variant-numeric: tabular-nums; } .swatch { width: 1rem; height: 1rem; }
 .outcomes .what { font-size: 1.05rem; line-height: 1.2; } .outcomes .rail { grid-column: 4 / -1; height: 0.5rem; background: var(--bg); } .rail i { display: block; height: 100%; }
 .outcomes .out { color: var(--soft); } .outcomes .out .swatch { visibility: hidden; }
+.outcomes[style] li { grid-template-columns: calc(var(--digits) * 0.63rem) 1rem 1rem 1fr auto; } .outcomes[style] .n { font-size: 1.1rem; } @media (max-width: 62rem) { .outcomes[style] li { grid-template-columns: calc(var(--digits) * 0.52rem) 1rem 1rem 1fr auto; } .outcomes[style] .n { font-size: 0.9rem; } }
 .outcomes.many { gap: 0.2rem; margin-top: 0; } .many .rail { display: none; } .many .what { white-space: nowrap; overflow: hidden; text-overflow: ellipsis; } .many .n { font-size: 1.2rem; line-height: 1.2; } .many button { padding-top: 0.1rem; padding-bottom: 0.1rem; }
 .many .rest { display: block; padding-left: 3.1rem; }
 .tree main { grid-template-rows: auto minmax(7.4rem, 0.7fr) minmax(0, 1.3fr); }

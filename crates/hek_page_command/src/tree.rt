@@ -1,9 +1,11 @@
-//! The tree of all orders of a schedule's moves: each node is a prefix of orders, played.
+//! The tree of all orders of a schedule's moves: each node is a prefix of orders, played. Where nodes are states, a move
+//! can also lead to a node of another branch.
 ghost use Rattle.std.specs.Prelude.{IfErr};
 ghost use Rattle.hek_page_command.specs.Explorers.{IsExploreStop};
 
 use crate::played::{OrderStory, order_story};
 use crate::prefixes::{Prefix, order_of};
+use crate::states::{Join, Nodes};
 use crate::step_text::StepText;
 use crate::story::{StepRange, Story, story_of};
 use hek_permute::{Form, Moves, OrderFault};
@@ -25,7 +27,7 @@ pub(crate) struct Tree {
 }
 
 /// A node: the prefix, the steps that its last move makes, by their places, the place of its outcome if the order is
-/// whole, and for each outcome how many orders that begin so have it.
+/// whole, for each outcome how many orders that begin so have it, and the moves that lead to nodes of other branches.
 #[derive(Drop)]
 pub(crate) struct Node {
     pub parent: usize,
@@ -33,6 +35,7 @@ pub(crate) struct Node {
     pub steps: Vec<usize>,
     pub outcome: Option<usize>,
     pub counts: Vec<u64>,
+    pub joins: Vec<Join>,
     /// How many events the play of the prefix has.
     events: usize,
 }
@@ -53,13 +56,13 @@ pub(crate) struct StepPlaces {
     pub comes: usize,
 }
 
-/// The tree of these prefixes.
+/// The tree of these nodes.
 pub(crate) fn tree_of<'a>(
     alloc: Global,
     given: &Given<'_>,
     moves: &[Moves],
     form: Form,
-    prefixes: &[Prefix],
+    nodes: &Nodes,
 ) -> Result<Tree, HekFault<'a>>
     ensures stops { IfErr result IsExploreStop }
 {
@@ -70,7 +73,9 @@ pub(crate) fn tree_of<'a>(
         steps: IndexSet::new(alloc),
         texts: IndexSet::new(alloc),
     };
-    tree.grow(alloc, given, moves, form, prefixes)?;
+    tree.grow(alloc, given, moves, form, nodes.prefixes.as_slice())?;
+    tree.add_joins(nodes.joins.as_slice())?;
+    tree.add_counts(alloc)?;
     Ok(tree)
 }
 
@@ -99,7 +104,7 @@ fn played_at<'a>(
 }
 
 /// The fault of an order as that of a command.
-fn fault_of<'a>(fault: OrderFault) -> HekFault<'a>
+pub(crate) fn fault_of<'a>(fault: OrderFault) -> HekFault<'a>
     ensures stops { IsExploreStop result }
 {
     match fault {
@@ -109,7 +114,7 @@ fn fault_of<'a>(fault: OrderFault) -> HekFault<'a>
 }
 
 impl Tree {
-    /// Plays each prefix, and adds its node; then counts the outcomes of each.
+    /// Plays each prefix, and adds its node.
     fn grow<'a>(
         &mut self,
         alloc: Global,
@@ -125,7 +130,6 @@ impl Tree {
             let played = played_at(alloc, given, moves, form, prefixes, place, done)?;
             self.add_node(alloc, prefixes[place], &played)?;
         }
-        self.add_counts(alloc)?;
         Ok(())
     }
 
@@ -143,6 +147,7 @@ impl Tree {
             steps: self.add_steps(alloc, &played.story)?,
             outcome,
             counts: Vec::new(alloc),
+            joins: Vec::new(alloc),
             events: played.events.len(),
         };
         self.nodes.push(node)?;
@@ -209,7 +214,17 @@ impl Tree {
         Ok(Some(place))
     }
 
-    /// Counts the outcomes of each node: its own, and those of the nodes below it, which come after it.
+    /// Adds the moves that lead to nodes of other branches.
+    fn add_joins(&mut self, joins: &[Join]) -> Result<(), NoMemory> {
+        for join in joins {
+            if let Some(node) = self.nodes.get_mut(join.from) {
+                node.joins.push(*join)?;
+            }
+        }
+        Ok(())
+    }
+
+    /// Counts the outcomes of each node: its own, and those of the nodes to which its moves lead, which come after it.
     fn add_counts(&mut self, alloc: Global) -> Result<(), NoMemory> {
         let outcomes = self.outcomes.len();
         for node in self.nodes.as_mut_slice() {
@@ -219,21 +234,45 @@ impl Tree {
             }
         }
         let count = self.nodes.len();
-        for back in 1..count {
-            self.add_to_parent(alloc, count - back)?;
+        for back in 0..count {
+            self.add_joined(alloc, count - 1 - back)?;
+            self.add_to_parent(alloc, count - 1 - back)?;
         }
         Ok(())
     }
 
-    /// Adds the counts of a node to those of its parent.
+    /// Adds to the counts of a node those of the nodes of other branches to which its moves lead.
+    fn add_joined(&mut self, alloc: Global, place: usize) -> Result<(), NoMemory> {
+        let Some(node) = self.nodes.get(place) else {
+            return Ok(());
+        };
+        let joins = Vec::from_slice(alloc, node.joins.as_slice())?;
+        for join in joins.as_slice() {
+            self.add_to(alloc, place, join.to)?;
+        }
+        Ok(())
+    }
+
+    /// Adds the counts of a node to those of its parent, if it has one.
     fn add_to_parent(&mut self, alloc: Global, place: usize) -> Result<(), NoMemory> {
         let Some(node) = self.nodes.get(place) else {
             return Ok(());
         };
-        let counts = Vec::from_slice(alloc, node.counts.as_slice())?;
         let parent = node.parent;
-        if let Some(parent) = self.nodes.get_mut(parent) {
-            add_all(parent.counts.as_mut_slice(), counts.as_slice());
+        if place == 0 {
+            return Ok(());
+        }
+        self.add_to(alloc, parent, place)
+    }
+
+    /// Adds the counts of the node at a place to those of another.
+    fn add_to(&mut self, alloc: Global, other: usize, place: usize) -> Result<(), NoMemory> {
+        let Some(node) = self.nodes.get(place) else {
+            return Ok(());
+        };
+        let counts = Vec::from_slice(alloc, node.counts.as_slice())?;
+        if let Some(node) = self.nodes.get_mut(other) {
+            add_all(node.counts.as_mut_slice(), counts.as_slice());
         }
         Ok(())
     }

@@ -4,6 +4,7 @@ use crate::heading::{Heading, put_heading};
 use crate::members::{
     Members, number_value, put_lines, put_number, put_text, put_value, text_of, text_value,
 };
+use crate::states::Join;
 use crate::tree::{Node, StepPlaces, Tree};
 use hek_permute::{Form, Moves};
 use hek_permute_command::Given;
@@ -254,7 +255,8 @@ fn node_values(alloc: Global, nodes: &[Node]) -> Result<Value, NoMemory> {
 }
 
 /// A node: its parent's place, the number of the transaction that moves, the places of its steps, the place of its
-/// outcome or null, and how many orders lead to each outcome.
+/// outcome or null, how many orders lead to each outcome, and the moves that lead to nodes of other branches, if there
+/// are some.
 fn node_value(alloc: Global, node: &Node) -> Result<Value, NoMemory> {
     let mut values = Vec::new(alloc);
     push_node(alloc, node, &mut values)?;
@@ -267,7 +269,22 @@ fn push_node(alloc: Global, node: &Node, values: &mut Vec<Value>) -> Result<(), 
     values.push(places_value(alloc, node.steps.as_slice())?)?;
     values.push(place_value(alloc, node.outcome)?)?;
     values.push(counts_value(alloc, node.counts.as_slice())?)?;
+    if !node.joins.is_empty() {
+        values.push(joins_value(alloc, node.joins.as_slice())?)?;
+    }
     Ok(())
+}
+
+/// Moves that lead to nodes of other branches: the number of the transaction, and the place of the node.
+fn joins_value(alloc: Global, joins: &[Join]) -> Result<Value, NoMemory> {
+    let mut values = Vec::new(alloc);
+    for join in joins {
+        let mut pair = Vec::new(alloc);
+        pair.push(number_value(alloc, join.who.number())?)?;
+        pair.push(number_value(alloc, join.to as u64)?)?;
+        values.push(Value::Array(pair))?;
+    }
+    Ok(Value::Array(values))
 }
 
 fn places_value(alloc: Global, places: &[usize]) -> Result<Value, NoMemory> {

@@ -1,8 +1,8 @@
 //! Orders that several threads play.
 use crate::asserts::{holds, is};
 use hek_asm::assemble_text;
-use hek_explore::{Survey, explore_in_threads};
-use hek_permute::{Form, Outcome, Tally, Watch, play_all, play_parts};
+use hek_explore::{Key, Survey, explore_in_threads, key_after};
+use hek_permute::{Form, Outcome, Tally, Watch, moves_of, play_all, play_parts};
 use hek_rules::{Schedule, TxnId};
 use std::alloc::Global;
 use std::process::Abort;
@@ -130,4 +130,30 @@ fn three_jobs_play_a_part(rt: HostRuntime) {
         let got = of_jobs(&rt, rt.alloc(), &schedule, from, to, 3);
         assert_equal(&rt, &got, &want);
     }
+}
+
+fn key_of(rt: &impl Abort, alloc: Global, schedule: &Schedule, numbers: &[u64]) -> Key {
+    let moves = moves_of(alloc, schedule, &[]).expect(rt, "moves");
+    let mut order = Vec::new(alloc);
+    for number in numbers {
+        holds(rt, order.push(TxnId::new(*number)).is_ok());
+    }
+    key_after(
+        alloc,
+        schedule,
+        moves.as_slice(),
+        Form::Whole,
+        order.as_slice(),
+    )
+    .expect(rt, "a key")
+}
+
+#[test]
+fn reads_lead_to_one_state_in_either_order(rt: HostRuntime) {
+    let alloc = rt.alloc();
+    let schedule = assemble_text(alloc, WRITE_SKEW).expect(&rt, "a schedule");
+    let first = key_of(&rt, alloc, &schedule, &[1, 2]);
+    holds(&rt, first.same(&key_of(&rt, alloc, &schedule, &[2, 1])));
+    holds(&rt, !first.same(&key_of(&rt, alloc, &schedule, &[1, 1])));
+    holds(&rt, !first.same(&key_of(&rt, alloc, &schedule, &[1, 2, 1])));
 }

@@ -62,11 +62,13 @@ function outcomeOf(text) {
 const letterOf = (outcome) => "ABCDEFGHIJKLMNOPQRSTUVWXYZ"[outcome] ?? String(outcome);
 let isSecret = false;
 
-/** How many orders, and how many of them lead to each outcome where these are few. */
-function countsSaid(counts) {
+/** How many orders, and how many of them lead to each outcome where these are few and a choice has room for so many letters. */
+function countsSaid(counts, room) {
   const orders = `${total(counts)} ${total(counts) === 1 ? "order" : "orders"}`;
   const each = counts.map((count, at) => (count ? `${count} ${letterOf(at)}` : "")).filter(Boolean);
-  return counts.length > 3 && each.length > 1 ? orders : `${orders}: ${each.join(", ")}`;
+  const whole = `${orders}: ${each.join(", ")}`;
+  if (orders.length > room) return String(total(counts));
+  return (counts.length > 3 && each.length > 1) || whole.length > room ? orders : whole;
 }
 
 /** The outcomes that have room, the possible ones first if not all have. */
@@ -80,6 +82,34 @@ function outcomesShown(counts) {
 function outcomeBar(counts) {
   if (isSecret) return "";
   return `<span class="share">${counts.map((it, at) => (it ? `<i class="o${at % 6}" style="flex:${it}"></i>` : "")).join("")}</span>`;
+}
+
+/** The mark of a move that joins. */
+const JOINS = '<svg viewBox="0 0 20 16" class="icon" aria-hidden="true"><path d="M2 3.500c5 0 5 4.500 9 4.500M2 12.500c5 0 5 -4.500 9 -4.500h3" fill="none" stroke="currentColor" stroke-width="1.800"/><path d="M13 4.500v7l5 -3.500z"/></svg>';
+const shortTag = (name) => `<b class="t ${colourOf(run.ids.get(name))}">${esc(shortOf(run.ids.get(name)))}</b>`;
+const joinSaid = (next) => `joins the state after ${namesOf(tree, pathTo(tree, next)).join(" ")}`;
+const statesSaid = () => (tree.isMerged ? `, ${tree.nodes.length} states` : "");
+
+/** How many orders are left; where states are merged, at the start how many states there are. */
+function ordersSaid(reach, place) {
+  const all = total(tree.nodes[0].counts);
+  if (tree.isMerged && place === 0) return `${all} orders${statesSaid()}`;
+  return tree.isMerged && all > 1e9 ? `${reach} orders left` : `${reach} of ${all} orders left`;
+}
+
+/** Two orders of more moves are said without what they have in common at the start; their names, if they have more letters, in short. */
+const MOST_MOVES = 8;
+const MOST_LETTERS_SAID = 40;
+
+/** That the page shows another order than the one that was asked for. */
+function askedSaid() {
+  if (asked === null) return "";
+  const shown = namesOf(tree, tree.path).slice(0, asked.length);
+  const cut = asked.length > MOST_MOVES ? asked.findIndex((it, index) => it !== shown[index]) : 0;
+  const isLong = 2 * asked.slice(cut).join(" ").length > MOST_LETTERS_SAID;
+  const [one, other] = [asked, shown].map((order) => (cut > 0 ? "\u2026 " : "") + order.slice(cut).map(isLong ? shortTag : tagName).join(" "));
+  const isOver = tree.nodes[tree.path[asked.length]].next.length === 0;
+  return `<p class="joined">${JOINS} ${isOver ? `${one} ends as ${other} does: the page shows that order.` : `After ${one} the same can happen as after ${other}: the page goes on from there.`}</p>`;
 }
 
 function showTree() {
@@ -101,20 +131,25 @@ function showTree() {
   // the choices
   const whole = node.next.length === 0;
   const reach = total(node.counts);
+  const ways = node.next.filter((it) => it !== undefined).length;
+  // More choices than have room beside one another: there may be so many where states are merged.
+  const isCrowd = tree.isMerged && ways > 3;
+  const room = !tree.isMerged ? Infinity : ways > 6 ? 12 : 20;
   const choices = node.next.map((next, who) => {
     if (next === undefined) return "";
     const it = tree.nodes[next];
     const move = tree.moves[who][done[who]];
     const isTaken = tree.path[place + 1] === next;
-    const idle = it.steps.length === 0 ? ' <span class="soft">(has aborted)</span>' : "";
-    return `<button type="button" class="choice${isTaken ? " taken" : ""}" data-next="${next}"><kbd>${who + 1}</kbd> <span>${tagName(tree.names[who])} <b>${esc(move)}</b>${idle}</span>${outcomeBar(it.counts)}<span class="count">${isSecret ? "" : countsSaid(it.counts)}</span></button>`;
+    const joins = isJoin(tree, node.index, next);
+    const idle = (joins ? hasEnded(tree.names[who]) : it.steps.length === 0) ? ' <span class="soft">(has aborted)</span>' : "";
+    return `<button type="button" class="choice${isTaken ? " taken" : ""}" data-next="${next}"${joins ? ` title="${esc(joinSaid(next))}"` : ""}><kbd>${who + 1}</kbd> <span>${joins ? `${JOINS} ` : ""}${(isCrowd ? shortTag : tagName)(tree.names[who])} <b>${esc(move)}</b>${idle}</span>${outcomeBar(it.counts)}<span class="count">${isSecret ? "" : countsSaid(it.counts, room)}</span></button>`;
   }).join("");
   const found = whole && isAt ? `<p class="whose">This order is complete.</p><p class="final">${outcomeOf(data.outcomes[node.outcome])}</p><p>The checker: <b>${esc(outcomeParts(data.outcomes[node.outcome]).verdict)}</b>. ${reachSaid(node)}</p>` : "";
   const inside = isAt ? "" : `<p class="whose">In the middle of a move</p><p>\u2192 goes on with it.</p>`;
-  $("because").innerHTML = `<div class="moves">${found || inside || `<p class="whose">Who moves next?</p><div class="pick" style="--n:${Math.min(node.next.filter((it) => it !== undefined).length, 3)}">${choices}</div>`}</div>`;
+  $("because").innerHTML = `<div class="moves">${found || inside || `<p class="whose">Who moves next?</p><div class="pick${tree.isMerged ? " merged" : ""}${isCrowd ? " crowd" : ""}" style="--n:${isCrowd ? Math.ceil(ways / 2) : Math.min(ways, 3)}">${choices}</div>`}</div>`;
   // the outcomes that can still be reached
   if (!pinned) {
-    $("words-title").innerHTML = `Outcomes from here <small>${reach} of ${total(tree.nodes[0].counts)} orders left</small>`;
+    $("words-title").innerHTML = `Outcomes from here <small>${ordersSaid(reach, place)}</small>`;
     if (isSecret) $("words-title").textContent = "Outcomes: what do you think?";
     const shown = isSecret ? [] : outcomesShown(node.counts);
     const rows = shown.map((at) => {
@@ -122,7 +157,8 @@ function showTree() {
       return `<li class="${count ? "" : "out"}"><span class="n">${count}</span><span class="swatch o${at % 6}"></span><b>${letterOf(at)}</b><span class="what">${outcomeOf(text)}</span><button type="button" data-find="${at}"${count ? "" : " disabled"}>find one</button><span class="rail"><i class="o${at % 6}" style="width:${f1((100 * count) / Math.max(reach, 1))}%"></i></span></li>`;
     });
     const left = isSecret ? 0 : data.outcomes.length - shown.length;
-    put("word", `<ul class="outcomes${data.outcomes.length > 3 ? " many" : ""}">${rows.join("")}${left ? `<li class="rest soft">and ${left} more</li>` : ""}</ul>`);
+    const digits = Math.max(...shown.map((at) => String(tree.nodes[0].counts[at]).length));
+    put("word", `<ul class="outcomes${data.outcomes.length > 3 ? " many" : ""}"${digits > 3 ? ` style="--digits:${digits}"` : ""}>${rows.join("")}${left ? `<li class="rest soft">and ${left} more</li>` : ""}</ul>`);
   }
 }
 
@@ -132,28 +168,35 @@ function reachSaid(node) {
   return `${count} of all ${all} orders end so.`;
 }
 
-/** Goes on with a move; another one than the path had takes the rest of the path away. */
+/** Whether a transaction has ended here. */
+const hasEnded = (name) => ["aborted", "terminated"].includes(run.txn(run.ids.get(name), here).kind);
+
+/** Goes on with a move; another one than the path had takes the rest of the path away, and one that joins all of it. */
 function takeMove(next) {
   const place = placeHere();
-  if (tree.path[place + 1] !== next) { tree.path = [...tree.path.slice(0, place + 1), next]; run = runOfPath(); }
-  // A move of a transaction that has aborted does nothing.
-  goToPlace(place + 1);
-}
-
-function goToPlace(place) {
-  tree.cursor = place;
-  move(endsOfPath()[place]);
-}
-
-function findOutcome(outcome) {
-  const place = placeHere();
-  let at = tree.path[place];
-  const path = tree.path.slice(0, place + 1);
-  while (tree.nodes[at].next.length) {
-    at = tree.nodes[at].next.find((it) => it !== undefined && tree.nodes[it].counts[outcome] > 0);
-    path.push(at);
+  let order = null;
+  if (tree.path[place + 1] !== next) {
+    const who = tree.nodes[tree.path[place]].next.indexOf(next);
+    order = [...namesOf(tree, tree.path.slice(0, place + 1)), tree.names[who]];
+    tree.path = pathTo(tree, next);
+    order = askedOf(tree, tree.path, order);
+    run = runOfPath();
   }
-  tree.path = path;
+  // A move of a transaction that has aborted does nothing.
+  goToPlace(place + 1, order);
+}
+
+function goToPlace(place, order = null) {
+  tree.cursor = place;
+  move(endsOfPath()[place], order);
+}
+
+/** Shows the moves from here to an outcome; if one of them joins, it is at the last that does. */
+function findOutcome(outcome) {
+  const path = tree.path.slice(0, placeHere() + 1);
+  const { order, last, joined } = movesOn(tree, path.at(-1), outcome);
+  tree.path = pathTo(tree, last);
   run = runOfPath();
-  move(here);
+  if (joined === 0) move(here);
+  else goToPlace(path.length - 1 + joined, [...namesOf(tree, path), ...order.slice(0, joined)]);
 }

@@ -20,26 +20,7 @@ function outcomesAtLevels() {
 }
 
 /** The first order of a tree that has an outcome: the names of those that move. */
-function orderTo(its, outcome) {
-  const names = [];
-  let node = its.nodes[0];
-  while (node.next.length) {
-    node = its.nodes[node.next.find((it) => it !== undefined && its.nodes[it].counts[outcome] > 0)];
-    names.push(its.names[node.who]);
-  }
-  return names;
-}
-
-/** The nodes of a tree along an order. */
-function pathOf(its, order) {
-  const path = [0];
-  for (const name of order) {
-    const next = its.nodes[path.at(-1)].next[its.names.indexOf(name)];
-    if (next === undefined) break;
-    path.push(next);
-  }
-  return path;
-}
+const orderTo = (its, outcome) => movesOn(its, 0, outcome).order;
 
 /** The steps of an order at a level that tell something, and its outcome. */
 function columnAt(at) {
@@ -49,7 +30,8 @@ function columnAt(at) {
   const lines = steps.map((it) => `<li class="${kindOf(it)}"><b class="t c${Math.max(its.names.indexOf(it.name), 0) % 6}">${esc(it.name ?? "")}</b> ${esc(it.event)} <span aria-hidden="true">\u2192</span> <b>${esc(it.reply)}</b></li>`);
   const outcome = its.nodes[path.at(-1)].outcome;
   const text = outcome === null ? "" : sheet.trees[at].outcomes[outcome];
-  return `<section><h3>${LEVELS[at]} <button type="button" data-level="${at}">story</button></h3><ol>${lines.join("")}</ol><p class="ends">${endsSaid(text)}</p></section>`;
+  const other = askedOf(its, path, levels.order) === null ? "" : `<p class="joined">${JOINS} Shown as ${esc(namesOf(its, path).join(" "))}, which ends the same.</p>`;
+  return `<section><h3>${LEVELS[at]} <button type="button" data-level="${at}">story</button></h3>${other}<ol>${lines.join("")}</ol><p class="ends">${endsSaid(text)}</p></section>`;
 }
 
 /** Whether a step says what its transaction hasn't said last. */
@@ -81,7 +63,7 @@ function goToLevel(at, outcome) {
   takeLevel(at);
   tree.path = pathOf(tree, levels.order);
   run = runOfPath();
-  move(0);
+  move(0, askedOf(tree, tree.path, levels.order));
 }
 
 function takeLevel(at) {
@@ -96,19 +78,8 @@ function takeLevel(at) {
 /** Back to the table of all levels. */
 function leaveLevel() {
   if (!isLevels) return;
-  levels.order = tree.path.slice(1).map((at) => tree.names[tree.nodes[at].who]);
-  if (!isWhole()) levels.order = orderFrom(tree, tree.path.at(-1), levels.order);
+  levels.order = [...namesOf(tree, tree.path), ...movesOn(tree, tree.path.at(-1)).order];
   levels.shown = null;
   document.body.classList.add("levels");
   show();
-}
-
-/** An order, completed by the first moves that there are. */
-function orderFrom(its, at, order) {
-  const names = [...order];
-  for (let node = its.nodes[at]; node.next.length; ) {
-    node = its.nodes[node.next.find((it) => it !== undefined)];
-    names.push(its.names[node.who]);
-  }
-  return names;
 }

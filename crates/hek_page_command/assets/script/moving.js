@@ -22,7 +22,9 @@ function show() {
   tellParent();
 }
 
-function move(position) {
+/** Goes to a position; `order` is the one that was asked for, where the page shows another one. */
+function move(position, order = null) {
+  asked = order;
   here = Math.min(Math.max(position, 0), run.last);
   show();
   clearTimeout(telling);
@@ -34,7 +36,7 @@ function placeSaid() {
   if (!isTree) return String(run.done + here);
   const level = !isLevels ? "" : levels.shown === null ? "" : `${LEVELS[levels.shown]}:`;
   if (isLevels && level === "") return "";
-  return level + tree.path.slice(1).map((at) => tree.names[tree.nodes[at].who]).join(".") + (here < run.last ? "@" + here : "");
+  return level + namesOf(tree, tree.path).join(".") + (here < run.last ? "@" + here : "");
 }
 
 let telling = 0;
@@ -58,7 +60,7 @@ function back() {
   move(positionBack(here));
 }
 
-function jump(position) { guess = null; move(position); }
+function jump(position, order = null) { guess = null; move(position, order); }
 
 function press(name, isOn) { document.querySelector(`[data-do="${name}"]`).setAttribute("aria-pressed", String(isOn)); }
 

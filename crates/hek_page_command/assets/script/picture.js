@@ -160,15 +160,7 @@ function tableInPrint() {
 }
 
 /** The first order that leads to an outcome, as its transactions one after another. */
-function firstOrder(outcome) {
-  const names = [];
-  let node = tree.nodes[0];
-  while (node.next.length) {
-    node = tree.nodes[node.next.find((it) => it !== undefined && tree.nodes[it].counts[outcome] > 0)];
-    names.push(tree.names[node.who]);
-  }
-  return names.join(" ");
-}
+const firstOrder = (outcome) => movesOn(tree, 0, outcome).order.join(" ");
 
 function outcomesInPrint() {
   const counts = tree.nodes[0].counts;

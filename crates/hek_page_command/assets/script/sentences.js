@@ -93,7 +93,7 @@ function showSay() {
   $("say").className = step ? kindOf(step) : "";
   if (!step) {
     const about = (isSpoilerHidden() ? data.question : data.about) || "The rows are loaded, and nobody has begun.";
-    $("said").innerHTML = `<p class="event"><span class="num">start</span> Before the first step</p><p class="plain${about.length > 150 ? " longer" : about.length > 105 ? " long" : ""}">${esc(about)}</p>`;
+    $("said").innerHTML = `${askedSaid()}<p class="event"><span class="num">start</span> Before the first step</p><p class="plain${about.length > 150 ? " longer" : about.length > 105 ? " long" : ""}">${esc(about)}</p>`;
     $("because").innerHTML = opening();
     fitSay();
     return;
@@ -104,7 +104,7 @@ function showSay() {
   const folded = isFolded(shown) && shown === spanOf(shown).to;
   const sentence = folded ? foldedSentence(shown) : sentenceOf(step, shown);
   const isLong = sentence.replace(/<[^>]*>/g, "").length > 92;
-  $("said").innerHTML = `${onward}<p class="event"><span class="num">${folded ? `${run.done + spanOf(shown).from}\u2013` : ""}${run.done + shown}</span> <code>${step.name ? tagName(step.name) + " " : ""}${esc(step.event)}</code> <span class="arrow">\u2192</span> ${reply}</p>
+  $("said").innerHTML = `${onward}${askedSaid()}<p class="event"><span class="num">${folded ? `${run.done + spanOf(shown).from}\u2013` : ""}${run.done + shown}</span> <code>${step.name ? tagName(step.name) + " " : ""}${esc(step.event)}</code> <span class="arrow">\u2192</span> ${reply}</p>
     <p class="plain${isLong ? " long" : ""}">${sentence}</p>${isTree ? eventsOfMove(shown) : ""}${noteOf(step)}${verdict}`;
   const why = linesOf(step.why).filter((it) => !/(begin|end) [0-9A-F]{16}/.test(it)).map((it) => `<li>${reasonOf(it)}</li>`);
   why.sort((a, b) => b.includes("<b>seen") - a.includes("<b>seen"));
@@ -179,11 +179,12 @@ const KEY_ARROWS = [["free", "", "this step lets the other one go on"], ["abort"
 function legend() {
   const line = ([kind, dash, said]) => `<tr><td><svg class="flow ${kind}" width="48" height="14" viewBox="0 0 48 14" aria-hidden="true"><line x1="2" x2="36" y1="7" y2="7"${dash ? ` stroke-dasharray="${dash}"` : ""}/><path d="M46 7l-11 -6v12z"/></svg><td>${said}`;
   const short = run.txnIds.filter((id) => shortOf(id) !== nameOf(id)).map((id) => `<b class="t ${colourOf(id)}">${esc(shortOf(id))}</b> ${esc(nameOf(id))}`);
-  return `<h2>Legend</h2><p>${KEY}</p><table>${KEY_ARROWS.map(line).join("")}</table><p>A bar of a version goes from its Begin to its End. Dashed: if its maker commits. Crossed out: never valid. Dashed over a bar: what goes if its writer commits.</p>${short.length ? `<p>${short.join(" \u00b7 ")}</p>` : ""}`;
+  const merged = tree?.isMerged ? `<p>${JOINS} A move with this mark leads to a state to which another order leads too. The page goes on after that order.</p>` : "";
+  return `<h2>Legend</h2><p>${KEY}</p><table>${KEY_ARROWS.map(line).join("")}</table><p>A bar of a version goes from its Begin to its End. Dashed: if its maker commits. Crossed out: never valid. Dashed over a bar: what goes if its writer commits.</p>${short.length ? `<p>${short.join(" \u00b7 ")}</p>` : ""}${merged}`;
 }
 
 function opening() {
-  if (isTree) return `<p class="soft">Choose which moves first. ${data.outcomes.length} outcomes, ${total(tree.nodes[0].counts)} orders.</p>`;
+  if (isTree) return `<p class="soft">Choose which moves first. ${data.outcomes.length} outcomes, ${total(tree.nodes[0].counts)} orders${statesSaid()}.</p>`;
   return `<p>${KEY}</p><p class="soft">\u2192, Space, Page Down: on. \u2190, Page Up: back. ?: guess. f: what is to come. p: larger. h: all keys.</p>`;
 }
 

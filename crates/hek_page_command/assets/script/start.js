@@ -7,15 +7,13 @@ function fromHash(hash = decodeURIComponent(location.hash.slice(1))) {
     if (!LEVELS.includes(level)) { document.body.classList.add("levels"); levels.shown = null; show(); return; }
     takeLevel(LEVELS.indexOf(level));
   }
-  const [order, at] = place.split("@");
-  tree.path = [0];
-  for (const name of order.split(".").filter(Boolean)) {
-    const next = tree.nodes[tree.path.at(-1)].next[tree.names.indexOf(name)];
-    if (next === undefined) break;
-    tree.path.push(next);
-  }
+  const [moves, at] = place.split("@");
+  const order = moves.split(".").filter(Boolean);
+  tree.path = pathOf(tree, order);
   run = runOfPath();
-  jump(at === undefined ? run.last : Number(at));
+  const other = askedOf(tree, tree.path, order);
+  // A number of steps is one of the order in the address.
+  jump(at === undefined || other !== null ? run.last : Number(at), other);
 }
 
 function resized() {

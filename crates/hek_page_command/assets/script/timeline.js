@@ -244,8 +244,8 @@ function nextMoves({ u, x, cell, laneY, cellY, cellH, tight }) {
     const inner = cell - CARD.padding * u;
     const [op, about] = [fitting(LABELS[words[0]] ?? [words[0]], inner, CARD.size * u, 600), fitting([words.slice(1).join(" "), words.slice(1).join("="), words[1] ?? ""], inner, 0.93 * u)];
     const [two, three] = [cellY(id) + cellH / 2 - 0.14 * u, cellY(id) + cellH / 2 + (tight ? 0.78 : 0.9) * u];
-    return `<g class="cell ghost next" data-next="${next}" role="button" tabindex="0" aria-label="${esc(tree.names[who])} moves: ${esc(words.join(" "))}"><rect x="${f1(x(run.last + 1) + 0.1 * u)}" y="${f1(cellY(id))}" width="${f1(cell - 0.2 * u)}" height="${f1(cellH)}" rx="${f1(0.3 * u)}"/><text class="op" x="${f1(cx)}" y="${f1(two)}" text-anchor="middle">${esc(op)}</text><text class="detail" x="${f1(cx)}" y="${f1(three)}" text-anchor="middle">${esc(about)}</text></g>`;
-  });
+    return `<g class="cell ghost next" data-next="${next}" role="button" tabindex="0" aria-label="${esc(tree.names[who])} moves: ${esc(words.join(" "))}${isJoin(tree, node.index, next) ? `, ${esc(joinSaid(next))}` : ""}"><rect x="${f1(x(run.last + 1) + 0.1 * u)}" y="${f1(cellY(id))}" width="${f1(cell - 0.2 * u)}" height="${f1(cellH)}" rx="${f1(0.3 * u)}"/><text class="op" x="${f1(cx)}" y="${f1(two)}" text-anchor="middle">${esc(op)}</text><text class="detail" x="${f1(cx)}" y="${f1(three)}" text-anchor="middle">${esc(about)}</text></g>`;
+  }).filter(Boolean);
 }
 
 /** The head of a lane: name, its short form where it has one, level, and those of its fields that say something. */
