@@ -5,7 +5,6 @@ use crate::convert::{asm, dis, release, word};
 use crate::disk::{Disk, open};
 use crate::explain::finish;
 use crate::explaining::{Colouring, CommandWords, Explaining, Wishes};
-use crate::import::import;
 use crate::kept::{Kept, KeptDisk, KeptReader};
 use crate::log::history;
 use crate::opening::without_mark;
@@ -355,7 +354,6 @@ fn run<'a, D: Disk, I: Read + IsTerminal + Drop, W: Write + IsTerminal, E: Write
         Some(("run", found)) => run_schedule(alloc, found, disk, input, out),
         Some(("debug", found)) => debug(alloc, found, explains, disk, input, out, faults),
         Some(("history", found)) => history(alloc, found, explains, disk, input, out, faults),
-        Some(("import", found)) => import(alloc, found, explains, disk, input, out, faults),
         Some(("completions", found)) => completions(alloc, found, out),
         Some(("man", _)) => print(manual_page(), out),
         Some((name, found)) => run_noting(alloc, name, found, explains, disk, input, out, faults),

@@ -125,11 +125,11 @@ impl Failure {
 /// The exit status of a fault, where 1 isn't.
 const AT_FAULT: u8 = 4;
 
-/// Whether a fault of a command has the status 4, since it answers yes or no by 0 or 1, or reads what isn't Hek's. The statuses of
-/// the other commands are those of the formats that are fixed.
+/// Whether a fault of a command has the status 4, since it answers yes or no by 0 or 1. The statuses of the
+/// other commands are those of the formats that are fixed.
 fn is_question(command: &str, found: &ArgMatches<'_>) -> bool {
     match command {
-        "history" | "import" => true,
+        "history" => true,
         "permute" => found.get_str("find").is_some(),
         "word" => found.get_flag("changes"),
         _ => false,
