@@ -37,8 +37,8 @@ def narrow_pipe(room):
 
 
 def typed(given):
-    """What is typed to come to these bytes, and to the end of them: after an unfinished line hek asks once more than others do."""
-    return given + (b"\x04" if given.endswith(b"\n") or not given else b"\x04\x04\x04")
+    """What is typed to come to these bytes, and to the end of them: ^D ends an unfinished line first."""
+    return given + (b"\x04" if given.endswith(b"\n") or not given else b"\x04\x04")
 
 
 def take_all(pipes, given, process):

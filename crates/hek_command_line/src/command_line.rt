@@ -5,7 +5,7 @@ use crate::convert::{asm, dis, release, word};
 use crate::disk::{Disk, open};
 use crate::explain::finish;
 use crate::explaining::{Colouring, CommandWords, Explaining, Wishes};
-use crate::kept::{Kept, KeptDisk, KeptReader};
+use crate::kept::{Kept, KeptDisk, KeptReader, asks_question, status_at_fault};
 use crate::log::history;
 use crate::opening::without_mark;
 use crate::options::{count_from, level_of, number_of, printing_of, text};
@@ -64,6 +64,8 @@ pub fn program<
             out,
             faults,
         ),
+        // Of no command is known that 1 isn't an answer of it.
+        Err(HekFault::NoMemory) => status_at_fault(report(HekFault::NoMemory, faults), true),
         Err(fault) => report(fault, faults),
     }
 }
@@ -100,9 +102,10 @@ pub fn answer_in_threads<
     out: &mut W,
     faults: &mut E,
 ) -> u8 {
+    let asks = asks_question(words);
     let words = match CommandWords::of(alloc, words, wishes) {
         Ok(words) => words,
-        Err(_) => return report(HekFault::NoMemory, faults),
+        Err(_) => return status_at_fault(report(HekFault::NoMemory, faults), asks),
     };
     let CommandWords { words, wishes } = words;
     answer_words(
@@ -157,7 +160,7 @@ fn answer_words<
         Err(error) => {
             let mut out = NotedOutput::new(out);
             let ran = refused(alloc, &error, words, explains, &mut out, &mut faults);
-            status_of(ran, &out, &mut faults)
+            status_at_fault(status_of(ran, &out, &mut faults), asks_question(words))
         }
     };
     let _ = faults.flush();
