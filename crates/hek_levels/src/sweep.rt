@@ -64,12 +64,12 @@ fn mark_before(
     q: usize,
 ) -> Result<(), NoMemory>
     ensures kept { OnOk result (AreKept (get_in ◌==◌ marked.old) (get_in ◌==◌ marked.new)) }
-    ensures there { OnOk result ((x : ℕ) → (read : TheRead) → read_there log.now t q ≡ Some read → read.operation < n → (explanation certificate.now).source t q ≡ TransactionOf x → IsMarked (get_in ◌==◌ marked.new) x) }
+    ensures there { OnOk result ((x : ℕ) → (read : TheRead) → read_there log.now t q ≡ Some read → read.operation ≤ n → (explanation certificate.now).source t q ≡ TransactionOf x → IsMarked (get_in ◌==◌ marked.new) x) }
 {
     let Some(read) = read_at(log, t, q) else {
         return Ok(());
     };
-    if n <= read.operation {
+    if n < read.operation {
         return Ok(());
     }
     mark_writer(marked, source_in(certificate.sources.as_slice(), t, q))
