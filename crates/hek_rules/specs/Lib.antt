@@ -25,7 +25,6 @@ pub mod Faults
 pub mod WorkedRuns
 pub mod Name
 pub mod Plan
-pub mod Indexed
 pub mod Scheduled
 pub mod Devices
 pub mod MemoryDevices
