@@ -1,4 +1,5 @@
 pub mod Words
+pub mod Holders
 pub mod Events
 pub mod Names
 pub mod Lines
