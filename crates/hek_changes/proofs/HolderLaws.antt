@@ -1,5 +1,5 @@
 -- How read locks and words follow the changes of a lock.
-use Rattle.std.proofs.Common.{◌≡◌, ◌≢◌, refl, sym, ap, ◌∙◌, subst, ℕ, ◌+◌, ◌-◌, ◌<◌, ◌≤◌, Bool, true, false, cond, List, [], ◌∷◌, ◌++◌, length, get_or, arith, Option, Some, None}
+use Rattle.std.proofs.Common.{◌≡◌, refl, ap, ℕ, ◌-◌, ◌≤◌, Bool, true, false, cond, List, [], ◌∷◌, length, get_or, arith, Option, Some, None}
 use Rattle.std.specs.Prelude.{◌==◌, count_by, position}
 use Rattle.std.specs.List.{swap_remove, position_or_len}
 use Rattle.std.specs.Option.{option_map_or}
@@ -16,7 +16,7 @@ use Rattle.hek_rules.specs.Holders.{reads_after, reads_after_all, writer_after_a
 use Rattle.hek_changes.specs.declared.change.EndChange.{EndChange}
 use Rattle.hek_changes.specs.declared.change.EndChange.TheVariants as on_end
 use Rattle.hek_changes.specs.Changes.{EndLeads}
-use Rattle.hek_changes.specs.Holders.{changes_of, reads_of, readers_after, without_one, HoldersFollow}
+use Rattle.hek_changes.specs.Holders.{changes_of, reads_of, readers_after}
 
 -- ---- the fields of a word
 

@@ -1,5 +1,5 @@
 -- Read locks in slots.
-use Rattle.std.proofs.Common.{◌≡◌, refl, sym, ap, ◌∙◌, ℕ, ◌+◌, ◌-◌, ◌<◌, ◌≤◌, List, length, get_or, take, set, arith, Option, Some, None}
+use Rattle.std.proofs.Common.{◌≡◌, sym, ap, ◌∙◌, ℕ, ◌-◌, ◌<◌, ◌≤◌, List, length, get_or, take, set, arith, Option, Some, None}
 use Rattle.std.specs.Prelude.{◌==◌, position}
 use Rattle.std.specs.List.{swap_remove}
 use Rattle.std.specs.Option.{option_map_or}

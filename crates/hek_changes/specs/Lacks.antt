@@ -1,7 +1,9 @@
 -- What keeps a transaction from a change of an End word.
-use Rattle.std.specs.Prelude.{◌≡◌, ◌≢◌, ℕ, ◌<◌, true, Some, None, IsSome, IsSomeAnd}
+use Rattle.std.specs.Prelude.{◌≡◌, ◌≢◌, ℕ, ◌<◌, true, Some, None, IsSome, IsSomeAnd, MatchResult}
 use Rattle.hek_rules.specs.declared.word.EndRecord.{EndRecord}
 use Rattle.hek_rules.specs.Words.{IsTxn, infinity, end_time, readers_of, writer_of, no_more_of}
+use Rattle.hek_changes.specs.declared.nearest.Nearest.{Nearest}
+use Rattle.hek_changes.specs.Changes.{EndLeads, IsEndOf}
 use Rattle.hek_changes.specs.declared.lack.Lack.{Lack}
 use Rattle.hek_changes.specs.declared.lack.Lack.TheVariants.{IsWriter, IsNotWriter, HasWriter, HasNoWriter, HasNoReader, HasReaders, IsFull, NoMoreReads, HasEnded, IsNotDrawn, IsNoTxn}
 
@@ -18,3 +20,9 @@ IsSo NoMoreReads e t = no_more_of e ≡ true
 IsSo HasEnded e t = IsSomeAnd (end_time e) (λ time. time ≢ infinity)
 IsSo IsNotDrawn e t = Unit {0}
 IsSo IsNoTxn e t = ¬ (IsTxn t)
+
+-- the change leads from an old number to the word that it leaves, or what it lacks is so
+pub record IsNearest (t old : ℕ) (nearest : Nearest) : Type 0 where
+  pub before : EndRecord
+  pub is_old : IsEndOf before old
+  pub left : MatchResult nearest.left (λ w. EndLeads t nearest.change before w) (λ lack. IsSo lack before t)

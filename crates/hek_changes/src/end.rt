@@ -1,8 +1,7 @@
 //! Changes of End words.
 ghost use Rattle.std.specs.Prelude.{◌≡◌, ℕ, ◌↔◌, ◌<◌, Some, IsTrue};
-ghost use Rattle.hek_rules.specs.declared.word.EndRecord.{EndRecord as SpecRecord};
 ghost use Rattle.hek_changes.specs.declared.change.EndChange.{EndChange as SpecChange};
-ghost use Rattle.hek_changes.specs.Changes.{EndLeads, IsStamped};
+ghost use Rattle.hek_changes.specs.Changes.{EndLeads, IsEndChange, IsStamped};
 
 use crate::change::EndChange;
 use crate::intended::intended;
@@ -10,8 +9,18 @@ use crate::left::left_by;
 use hek_rules::{Time, TxnId};
 use hek_word::EndWord;
 
-/// The change of this transaction that leads from the word `before` to the word `after`; None if none does.
-pub fn end_change(before: EndWord, after: EndWord, txn: TxnId) -> Option<EndChange>
+/// The change of an End word by this transaction that leads from the number `old` to the number `new`. None if none does, or if one
+/// of them is no End word.
+#[tactic(auto, using(crate::proofs::WordLaws::not_old_end, crate::proofs::WordLaws::not_new_end, crate::proofs::WordLaws::end_found))]
+pub fn end_change(old: u64, new: u64, txn: TxnId) -> Option<EndChange>
+    ensures { IsEndChange txn old new result }
+{
+    let before = EndWord::read(old)?;
+    let after = EndWord::read(new)?;
+    change_of_words(before, after, txn)
+}
+
+fn change_of_words(before: EndWord, after: EndWord, txn: TxnId) -> Option<EndChange>
     ensures { (c : SpecChange) → (result ≡ Some c) ↔ EndLeads txn c before after }
 {
     let change = intended(before, after.content(), txn);

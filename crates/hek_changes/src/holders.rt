@@ -1,14 +1,12 @@
 //! Who read-locks a word, exchange after exchange.
 ghost use Rattle.std.specs.Prelude.{◌≡◌, ◌-◌, ◌≤◌, ◌++◌, ◌∷◌, [], if◌then◌else◌, true, Some, ◌==◌, length, take, position, MatchOption};
-ghost use Rattle.hek_rules.specs.Words.{readers_of};
 ghost use Rattle.hek_changes.specs.Holders.{fault_of, has, is_add, is_clear, is_drop, is_taken, reads_of, readers_then, without_one};
 
 use crate::change::EndChange;
 use hek_rules::TxnId;
-use hek_word::EndWord;
 
 /// What an exchange of an End word does wrong by who holds the word (section 4 of the paper: record locks).
-#[derive(Clone, Copy, Debug, PartialEq, Eq)]
+#[derive(Clone, Copy)]
 pub enum HolderFault {
     /// The name of a writer is taken out that isn't over.
     WriterLives,
@@ -21,7 +19,7 @@ pub enum HolderFault {
 }
 
 /// What is known of transactions before one of them exchanges a word.
-#[derive(Clone, Copy, Debug)]
+#[derive(Clone, Copy)]
 pub struct Standing {
     /// Whether the word has another writer, which isn't over.
     pub writer_lives: bool,
@@ -29,19 +27,19 @@ pub struct Standing {
     pub is_over: bool,
 }
 
-/// What an exchange does wrong that is this change of the word `before`, by a transaction, where these are the read locks of the
-/// word that are known, each by its holder's number.
+/// What an exchange does wrong that is this change, by a transaction, of a word that counts so many readers before it, where these are
+/// the read locks of the word that are known, each by its holder's number.
 pub fn holder_fault(
     change: EndChange,
-    before: EndWord,
+    counted: u8,
     readers: &[u64],
     txn: TxnId,
     standing: Standing,
 ) -> Option<HolderFault>
-    ensures { result ≡ fault_of txn change (readers_of before) readers.now standing }
+    ensures { result ≡ fault_of txn change counted readers.now standing }
 {
     let held = reads_held(readers, txn);
-    let all_known = usize::from(before.readers()) <= readers.len();
+    let all_known = usize::from(counted) <= readers.len();
     if clears(change) && standing.writer_lives {
         Some(HolderFault::WriterLives)
     } else if drops(change) && held == 0 && all_known {

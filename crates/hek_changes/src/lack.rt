@@ -1,7 +1,7 @@
 //! What keeps a transaction from a change of an End word.
 
 /// Why a change of an End word by a transaction isn't allowed (section 4 of the paper: record locks).
-#[derive(Clone, Copy, Debug, PartialEq, Eq)]
+#[derive(Clone, Copy)]
 pub enum Lack {
     /// The transaction is the writer, and a writer holds no read lock.
     IsWriter,

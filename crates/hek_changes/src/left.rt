@@ -164,6 +164,19 @@ fn cleared_then_became(before: EndWord, txn: TxnId) -> Result<EndWord, Lack>
     }
 }
 
+/// What keeps a transaction from a stamp: of a time, nothing else can.
+pub(crate) fn stamp_lack(before: EndWord, txn: TxnId) -> Lack
+    ensures { IsSo result before txn }
+{
+    if !is_writer(before, txn) {
+        Lack::IsNotWriter
+    } else if before.readers() > 0 {
+        Lack::HasReaders
+    } else {
+        Lack::IsNotDrawn
+    }
+}
+
 fn is_writer(before: EndWord, txn: TxnId) -> bool
     ensures { IsTrue result ↔ (writer_of before ≡ Some txn) }
 {
