@@ -1,29 +1,25 @@
 //! Whether no read sees a writer of its key that is newer than its source.
-ghost use Rattle.std.specs.Prelude.{◌≡◌, ◌==◌, ◌<◌, ◌≤◌, ◌+◌, ◌++◌, ◌∷◌, [], ℕ, true, false, is_some, Some, List, length, IsTrue, OnOk, IfOk, if◌then◌else◌};
-ghost use Rattle.std.specs.HashMap.{get as get_in};
-ghost use Rattle.hek_levels.specs.declared.log.Log.{Log as TheLog};
-ghost use Rattle.hek_levels.specs.Logs.{left_in, does_write as writes_it, read_at as read_there};
-ghost use Rattle.hek_levels.specs.Seen.{At, TakesPlace, rank, IsOrdered};
-ghost use Rattle.hek_levels.specs.Explanations.{explanation};
-ghost use Rattle.hek_levels.specs.Places.{IsPlacing, IsPlacedBefore, AreLast};
-ghost use Rattle.hek_levels.specs.Sweeps.{IsSwept, IsNewestFrom, IsNewestAt};
-
+use crate::absent::{Touched, are_missing_right, touch_all, touch_rows};
 use crate::certificate::{Certificate, Writer};
-use crate::log::{Change, Log, Read};
-use crate::logged::{at, does_write, read_at, reads_of, source_in, writes_of};
+use crate::log::{Change, Log, Place, Read};
+use crate::logged::{at, does_write, read_at, reads_of, writes_of};
 use crate::places::place_of;
-use crate::rules::Rules;
-use crate::sweep::{carry, mark_own, may_see, show};
+use crate::rules::{Asked, Rules};
+use crate::sourced::listed_source;
+use crate::sweep::{Sight, carry, mark_own, may_see, may_see_at_once, show};
 use hek_rules::NoMemory;
 use std::alloc::Global;
-use std::collections::HashMap;
+use std::collections::{BTreeSet, HashMap};
 
-/// y is listed from now on.
-fn list(seen: &mut Vec<usize>, y: usize) -> Result<(), NoMemory>
-    ensures { OnOk result (seen.new.items ≡ seen.old.items ++ y ∷ []) }
-{
-    seen.push(y)?;
-    Ok(())
+/// The places in the order of the writers of each key, so far.
+pub(crate) type Written = HashMap<u64, Vec<usize>>;
+
+/// A read of t, which stands at the place i of the order.
+#[derive(Clone, Copy)]
+pub(crate) struct At {
+    pub i: usize,
+    pub t: usize,
+    pub read: Read,
 }
 
 /// The sweep comes to the place p.
@@ -32,85 +28,94 @@ fn visit(
     log: &Log,
     certificate: &Certificate,
     p: usize,
-    t: usize,
-    r: usize,
-    read: Read,
-    marked: &mut HashMap<usize, usize>,
-    seen: &mut Vec<usize>,
-) -> Result<bool, NoMemory>
-    requires ordered { IsOrdered log.now (explanation certificate.now) }
-    requires takes { TakesPlace (explanation certificate.now) t }
-    requires there { read_there log.now t r ≡ Some read }
-    requires swept { IsSwept rules log.now (explanation certificate.now) t r read (p + 1) (get_in ◌==◌ marked.old) seen.old.items }
-    ensures { IfOk result (λ yes. IsTrue yes → IsSwept rules log.now (explanation certificate.now) t r read p (get_in ◌==◌ marked.new) seen.new.items) }
-{
+    here: At,
+    sight: &mut Sight,
+) -> Result<bool, NoMemory> {
     let Some(y) = at(certificate.order.as_slice(), p) else {
         return Ok(false);
     };
-    carry(rules, log, certificate, t, marked, seen.as_slice(), y)?;
-    if !may_see(rules, log, t, marked, seen.as_slice(), y) {
+    carry(rules, log, certificate, here.t, sight, y)?;
+    if !may_see(rules, log, here.t, sight, y) {
         return Ok(true);
     }
-    if does_write(log, y, read.key) {
+    if does_write(log, y, here.read.key) {
         return Ok(false);
     }
-    show(rules, log, certificate, marked, y)?;
-    list(seen, y)?;
+    show(rules, log, certificate, sight, y)?;
     Ok(true)
 }
 
-/// Whether no writer of its key from the place low on is seen by the r-th read of t, which stands at the place i.
+/// Whether no writer of its key from the place low on is seen by a read.
 fn sweep(
     alloc: Global,
     rules: Rules,
     log: &Log,
     certificate: &Certificate,
-    i: usize,
-    t: usize,
-    r: usize,
-    read: Read,
+    here: At,
     low: usize,
-) -> Result<bool, NoMemory>
-    requires ordered { IsOrdered log.now (explanation certificate.now) }
-    requires stands { At certificate.now.order.items i t }
-    requires there { read_there log.now t r ≡ Some read }
-    ensures { IfOk result (λ yes. IsTrue yes → IsNewestFrom rules log.now (explanation certificate.now) t r read low) }
-{
-    let mut marked = HashMap::new(alloc);
-    let mut seen = Vec::new(alloc);
+) -> Result<bool, NoMemory> {
+    let mut sight = Sight::new(alloc);
     mark_own(
         rules.own,
         log,
         certificate,
-        &mut marked,
-        t,
-        r,
-        read.operation,
+        &mut sight,
+        here.t,
+        here.read.operation,
     )?;
-    let mut p = i;
+    let mut p = here.i;
     while low < p {
         p -= 1;
-        if !visit(
-            rules,
-            log,
-            certificate,
-            p,
-            t,
-            r,
-            read,
-            &mut marked,
-            &mut seen,
-        )? {
+        if !visit(rules, log, certificate, p, here, &mut sight)? {
             return Ok(false);
         }
     }
     Ok(true)
 }
 
+/// Whether a read sees nobody by others.
+fn is_direct(rules: Rules) -> bool {
+    let next = rules.next;
+    let brings = rules.first.turn_reads || next.writers || next.turns || next.turn_reads;
+    !brings && !rules.causes && !rules.prefix
+}
+
+/// Whether none of the writers of its key from the place low on is seen at once by a read.
+fn is_none_at_once(
+    alloc: Global,
+    rules: Rules,
+    log: &Log,
+    certificate: &Certificate,
+    here: At,
+    low: usize,
+    places: &[usize],
+) -> Result<bool, NoMemory> {
+    let mut sight = Sight::new(alloc);
+    mark_own(
+        rules.own,
+        log,
+        certificate,
+        &mut sight,
+        here.t,
+        here.read.operation,
+    )?;
+    let mut n = places.len();
+    while n > 0 {
+        n -= 1;
+        if places[n] < low {
+            return Ok(true);
+        }
+        if let Some(y) = at(certificate.order.as_slice(), places[n]) {
+            if may_see_at_once(rules, log, here.t, &sight, y) {
+                return Ok(false);
+            }
+        }
+    }
+    Ok(true)
+}
+
 /// A place after a writer's, or before it.
-fn low_of(places: &HashMap<usize, usize>, i: usize, writer: Writer) -> usize
-    ensures { (log : TheLog) (order : List ℕ) → IsPlacing log order (length order) (get_in ◌==◌ places.now) → result ≤ rank order writer }
-{
+fn low_of(places: &HashMap<usize, usize>, i: usize, writer: Writer) -> usize {
     match writer {
         Writer::Opening => 0,
         Writer::Transaction(x) => match place_of(places, x) {
@@ -120,83 +125,98 @@ fn low_of(places: &HashMap<usize, usize>, i: usize, writer: Writer) -> usize
     }
 }
 
-/// Whether the last place of a key is from low on.
-fn is_written_since(last: &HashMap<u64, usize>, key: u64, low: usize) -> bool
-    ensures { result ≡ false → (m : ℕ) → get_in ◌==◌ last.now key ≡ Some m → m < low }
-{
-    match last.get(&key).copied() {
-        Some(m) => low <= m,
+/// The places of the writers of a key.
+fn writers_of(written: &Written, key: u64) -> &[usize] {
+    match written.get(&key) {
+        Some(list) => list.as_slice(),
+        None => &[],
+    }
+}
+
+/// Whether the last of these places is from low on.
+fn is_written_since(places: &[usize], low: usize) -> bool {
+    match places.last() {
+        Some(m) => low <= *m,
         None => false,
     }
 }
 
-/// Whether no writer of its key that the r-th read of t sees is newer than its source.
-fn is_newest(
+/// Whether no writer of its key that a read sees is newer than its source.
+pub(crate) fn is_newest(
     alloc: Global,
     rules: Rules,
     log: &Log,
     certificate: &Certificate,
     places: &HashMap<usize, usize>,
-    last: &HashMap<u64, usize>,
-    i: usize,
-    t: usize,
-    r: usize,
-) -> Result<bool, NoMemory>
-    requires ordered { IsOrdered log.now (explanation certificate.now) }
-    requires placing { IsPlacing log.now certificate.now.order.items (length certificate.now.order.items) (get_in ◌==◌ places.now) }
-    requires last { AreLast log.now certificate.now.order.items i (get_in ◌==◌ last.now) }
-    requires stands { At certificate.now.order.items i t }
-    ensures { IfOk result (λ yes. IsTrue yes → IsNewestAt rules log.now (explanation certificate.now) t r) }
-{
-    let Some(read) = read_at(log, t, r) else {
-        return Ok(true);
-    };
-    let low = low_of(places, i, source_in(certificate.sources.as_slice(), t, r));
-    if !is_written_since(last, read.key, low) {
+    written: &Written,
+    here: At,
+    source: Writer,
+) -> Result<bool, NoMemory> {
+    let low = low_of(places, here.i, source);
+    let writers = writers_of(written, here.read.key);
+    if !is_written_since(writers, low) {
         return Ok(true);
     }
-    sweep(alloc, rules, log, certificate, i, t, r, read, low)
+    if rules.whole {
+        return Ok(false);
+    }
+    if is_direct(rules) {
+        return is_none_at_once(alloc, rules, log, certificate, here, low, writers);
+    }
+    sweep(alloc, rules, log, certificate, here, low)
 }
 
-/// The same of each read of t.
+/// The same of each read in the list of t.
 fn is_each_newest(
     alloc: Global,
-    rules: Rules,
+    asked: &Asked,
     log: &Log,
     certificate: &Certificate,
     places: &HashMap<usize, usize>,
-    last: &HashMap<u64, usize>,
+    written: &Written,
     i: usize,
     t: usize,
-) -> Result<bool, NoMemory>
-    requires ordered { IsOrdered log.now (explanation certificate.now) }
-    requires placing { IsPlacing log.now certificate.now.order.items (length certificate.now.order.items) (get_in ◌==◌ places.now) }
-    requires last { AreLast log.now certificate.now.order.items i (get_in ◌==◌ last.now) }
-    requires stands { At certificate.now.order.items i t }
-    ensures { IfOk result (λ yes. IsTrue yes → (r : ℕ) → IsNewestAt rules log.now (explanation certificate.now) t r) }
-{
+) -> Result<bool, NoMemory> {
     for r in 0..reads_of(log, t).len() {
-        if !is_newest(alloc, rules, log, certificate, places, last, i, t, r)? {
+        let Some(read) = read_at(log, t, Place::Listed(r)) else {
+            return Ok(false);
+        };
+        let here = At { i, t, read };
+        let source = listed_source(certificate, t, r);
+        let rules = asked.of(t);
+        if !is_newest(alloc, rules, log, certificate, places, written, here, source)? {
             return Ok(false);
         }
     }
     Ok(true)
 }
 
-/// The last place of the key of a change is i from now on.
-fn mark_write(last: &mut HashMap<u64, usize>, change: Change, i: usize) -> Result<(), NoMemory>
-    ensures { OnOk result ((k : ℕ) → get_in ◌==◌ last.new k ≡ (if change.key == k then Some i else get_in ◌==◌ last.old k)) }
-{
-    let _before = last.insert(change.key, i)?;
+/// One writer of the key of a change more.
+fn mark_write(
+    alloc: Global,
+    written: &mut Written,
+    change: Change,
+    i: usize,
+) -> Result<(), NoMemory> {
+    if let Some(list) = written.get_mut(&change.key) {
+        list.push(i)?;
+        return Ok(());
+    }
+    let mut list = Vec::new(alloc);
+    list.push(i)?;
+    let _before = written.insert(change.key, list)?;
     Ok(())
 }
 
 /// The same of each of these.
-fn mark_writes(last: &mut HashMap<u64, usize>, changes: &[Change], i: usize) -> Result<(), NoMemory>
-    ensures { OnOk result ((k : ℕ) → get_in ◌==◌ last.new k ≡ (if is_some (left_in changes.now k) then Some i else get_in ◌==◌ last.old k)) }
-{
+pub(crate) fn mark_writes(
+    alloc: Global,
+    written: &mut Written,
+    changes: &[Change],
+    i: usize,
+) -> Result<(), NoMemory> {
     for change in changes {
-        mark_write(last, *change, i)?;
+        mark_write(alloc, written, *change, i)?;
     }
     Ok(())
 }
@@ -204,44 +224,41 @@ fn mark_writes(last: &mut HashMap<u64, usize>, changes: &[Change], i: usize) -> 
 /// Whether no read of the transaction at the place i sees a newer writer; its writes are the last then.
 fn advance(
     alloc: Global,
-    rules: Rules,
+    asked: &Asked,
     log: &Log,
     certificate: &Certificate,
     places: &HashMap<usize, usize>,
-    last: &mut HashMap<u64, usize>,
+    written: &mut Written,
+    touched: &mut Touched,
     i: usize,
-) -> Result<bool, NoMemory>
-    requires ordered { IsOrdered log.now (explanation certificate.now) }
-    requires placing { IsPlacing log.now certificate.now.order.items (length certificate.now.order.items) (get_in ◌==◌ places.now) }
-    requires last { AreLast log.now certificate.now.order.items i (get_in ◌==◌ last.old) }
-    ensures newest { IfOk result (λ yes. IsTrue yes → (t r : ℕ) → At certificate.now.order.items i t → IsNewestAt rules log.now (explanation certificate.now) t r) }
-    ensures last { IfOk result (λ yes. IsTrue yes → AreLast log.now certificate.now.order.items (i + 1) (get_in ◌==◌ last.new)) }
-{
+) -> Result<bool, NoMemory> {
     let Some(t) = at(certificate.order.as_slice(), i) else {
         return Ok(false);
     };
-    if !is_each_newest(alloc, rules, log, certificate, places, last, i, t)? {
+    if !is_each_newest(alloc, asked, log, certificate, places, written, i, t)? {
         return Ok(false);
     }
-    mark_writes(last, writes_of(log, t), i)?;
+    if !are_missing_right(alloc, asked, log, certificate, places, written, touched, i, t)? {
+        return Ok(false);
+    }
+    mark_writes(alloc, written, writes_of(log, t), i)?;
+    touch_all(touched, writes_of(log, t))?;
     Ok(true)
 }
 
 /// Whether no read sees a newer writer.
 pub(crate) fn are_newest(
     alloc: Global,
-    rules: Rules,
+    asked: &Asked,
     log: &Log,
     certificate: &Certificate,
     places: &HashMap<usize, usize>,
-) -> Result<bool, NoMemory>
-    requires ordered { IsOrdered log.now (explanation certificate.now) }
-    requires placing { IsPlacing log.now certificate.now.order.items (length certificate.now.order.items) (get_in ◌==◌ places.now) }
-    ensures { IfOk result (λ yes. IsTrue yes → (i t r : ℕ) → At certificate.now.order.items i t → IsNewestAt rules log.now (explanation certificate.now) t r) }
-{
-    let mut last = HashMap::new(alloc);
+) -> Result<bool, NoMemory> {
+    let mut written = HashMap::new(alloc);
+    let mut touched = BTreeSet::new(alloc);
+    touch_rows(&mut touched, log.rows.as_slice())?;
     for i in 0..certificate.order.len() {
-        if !advance(alloc, rules, log, certificate, places, &mut last, i)? {
+        if !advance(alloc, asked, log, certificate, places, &mut written, &mut touched, i)? {
             return Ok(false);
         }
     }

@@ -1,37 +1,47 @@
 //! Whom a read sees: from its transaction back along the order.
-ghost use Rattle.std.specs.Prelude.{◌≡◌, ◌==◌, ◌<◌, ◌≤◌, ◌+◌, ℕ, true, false, Option, Some, None, List, length, slice_get, IsTrue, OnOk, IfOk, if◌then◌else◌};
-ghost use Rattle.std.specs.HashMap.{get as get_in};
-ghost use Rattle.hek_levels.specs.Logs.{does_write as writes_it, is_earlier as earlier_there, read_at as read_there};
-ghost use Rattle.hek_levels.specs.declared.log.Read.{Read as TheRead};
-ghost use Rattle.hek_levels.specs.declared.rules.Own.TheVariants.{Earlier};
-ghost use Rattle.hek_levels.specs.Seen.{At, SeesByOwn, ReadBefore};
-ghost use Rattle.hek_levels.specs.Explanations.{explanation};
-ghost use Rattle.hek_levels.specs.Places.{IsPlaced};
-ghost use Rattle.hek_levels.specs.Sweeps.{IsMarked, IsListed, AreMarked, AreKept, MayLink, MaySee, MayCarry, IsSwept};
-ghost use Rattle.hek_levels.specs.declared.certificate.Writer.TheVariants.{Transaction as TransactionOf};
-
 use crate::certificate::{Certificate, Writer};
-use crate::log::{Log, Read};
-use crate::logged::{at, does_write, is_earlier, read_at, reads_of, source_in, writes_of};
-use crate::places::place_of;
+use crate::log::{Change, Log, Place, Turn};
+use crate::logged::{does_write, is_earlier, read_at, reads_of, turns_of, writes_of};
 use crate::rules::{Links, Own, Rules};
+use crate::sourced::{listed_source, missing_of};
+use crate::turns::begin;
 use hek_rules::NoMemory;
 use std::alloc::Global;
 use std::collections::HashMap;
 
+/// What is known of those whom a read sees, as far as the sweep has come.
+#[derive(Drop)]
+pub(crate) struct Sight {
+    /// Sources that are seen.
+    marked: HashMap<usize, usize>,
+    /// In each lane where turns are seen, the latest first number of a turn of one that is seen.
+    lanes: HashMap<usize, u64>,
+    /// The keys that those who are seen write.
+    keys: HashMap<u64, usize>,
+    /// Whether anybody is seen.
+    is_any: bool,
+}
+
+impl Sight {
+    /// Nobody is seen.
+    pub(crate) fn new(alloc: Global) -> Sight {
+        Sight {
+            marked: HashMap::new(alloc),
+            lanes: HashMap::new(alloc),
+            keys: HashMap::new(alloc),
+            is_any: false,
+        }
+    }
+}
+
 /// x is marked from now on.
-fn mark(marked: &mut HashMap<usize, usize>, x: usize) -> Result<(), NoMemory>
-    ensures { OnOk result ((k : ℕ) → get_in ◌==◌ marked.new k ≡ (if x == k then Some x else get_in ◌==◌ marked.old k)) }
-{
+fn mark(marked: &mut HashMap<usize, usize>, x: usize) -> Result<(), NoMemory> {
     let _before = marked.insert(x, x)?;
     Ok(())
 }
 
 /// The writer is marked from now on, if it is a transaction.
-fn mark_writer(marked: &mut HashMap<usize, usize>, writer: Writer) -> Result<(), NoMemory>
-    ensures kept { OnOk result (AreKept (get_in ◌==◌ marked.old) (get_in ◌==◌ marked.new)) }
-    ensures there { OnOk result ((x : ℕ) → writer ≡ TransactionOf x → IsMarked (get_in ◌==◌ marked.new) x) }
-{
+fn mark_writer(marked: &mut HashMap<usize, usize>, writer: Writer) -> Result<(), NoMemory> {
     match writer {
         Writer::Opening => Ok(()),
         Writer::Transaction(x) => mark(marked, x),
@@ -44,92 +54,71 @@ fn mark_sources(
     certificate: &Certificate,
     marked: &mut HashMap<usize, usize>,
     y: usize,
-) -> Result<(), NoMemory>
-    ensures kept { OnOk result (AreKept (get_in ◌==◌ marked.old) (get_in ◌==◌ marked.new)) }
-    ensures there { OnOk result (AreMarked log.now (explanation certificate.now) (get_in ◌==◌ marked.new) y) }
-{
+) -> Result<(), NoMemory> {
     for r in 0..reads_of(log, y).len() {
-        mark_writer(marked, source_in(certificate.sources.as_slice(), y, r))?;
+        mark_writer(marked, listed_source(certificate, y, r))?;
+    }
+    for one in missing_of(certificate, y) {
+        mark_writer(marked, one.writer)?;
     }
     Ok(())
 }
 
-/// The source of the q-th read of t is marked from now on, if that is of an operation before the n-th.
-fn mark_before(
+/// The source of a read of t is marked from now on, if that is of the n-th operation or one before it.
+fn mark_to(
     log: &Log,
-    certificate: &Certificate,
     marked: &mut HashMap<usize, usize>,
     t: usize,
     n: usize,
-    q: usize,
-) -> Result<(), NoMemory>
-    ensures kept { OnOk result (AreKept (get_in ◌==◌ marked.old) (get_in ◌==◌ marked.new)) }
-    ensures there { OnOk result ((x : ℕ) → (read : TheRead) → read_there log.now t q ≡ Some read → read.operation ≤ n → (explanation certificate.now).source t q ≡ TransactionOf x → IsMarked (get_in ◌==◌ marked.new) x) }
-{
-    let Some(read) = read_at(log, t, q) else {
-        return Ok(());
-    };
-    if n < read.operation {
-        return Ok(());
+    place: Place,
+    source: Writer,
+) -> Result<(), NoMemory> {
+    match read_at(log, t, place) {
+        Some(read) if read.operation <= n => mark_writer(marked, source),
+        _ => Ok(()),
     }
-    mark_writer(marked, source_in(certificate.sources.as_slice(), t, q))
 }
 
-/// Each source of t by an operation before the n-th is marked from now on.
-fn mark_all_before(
+/// Each source of t by the n-th operation or one before it is marked from now on.
+fn mark_all_to(
     log: &Log,
     certificate: &Certificate,
     marked: &mut HashMap<usize, usize>,
     t: usize,
     n: usize,
-) -> Result<(), NoMemory>
-    ensures kept { OnOk result (AreKept (get_in ◌==◌ marked.old) (get_in ◌==◌ marked.new)) }
-    ensures there { OnOk result ((x : ℕ) → ReadBefore log.now (explanation certificate.now) t n x → IsMarked (get_in ◌==◌ marked.new) x) }
-{
+) -> Result<(), NoMemory> {
     for q in 0..reads_of(log, t).len() {
-        mark_before(log, certificate, marked, t, n, q)?;
+        let source = listed_source(certificate, t, q);
+        mark_to(log, marked, t, n, Place::Listed(q), source)?;
+    }
+    for one in missing_of(certificate, t) {
+        let place = Place::Missing {
+            scan: one.scan,
+            key: one.key,
+        };
+        mark_to(log, marked, t, n, place, one.writer)?;
     }
     Ok(())
 }
 
-/// What the r-th read of t, of the n-th operation, sees by earlier reads of t is marked from now on.
-fn mark_earlier(
-    log: &Log,
-    certificate: &Certificate,
-    marked: &mut HashMap<usize, usize>,
-    t: usize,
-    r: usize,
-    n: usize,
-) -> Result<(), NoMemory>
-    ensures { OnOk result ((x : ℕ) → SeesByOwn Earlier log.now (explanation certificate.now) t r n x → IsMarked (get_in ◌==◌ marked.new) x) }
-{
-    mark_writer(marked, source_in(certificate.sources.as_slice(), t, r))?;
-    mark_all_before(log, certificate, marked, t, n)
-}
-
-/// What the r-th read of t, of the n-th operation, sees by the reads of t is marked from now on.
+/// What a read of t, of the n-th operation, sees by the reads of t is marked from now on.
 pub(crate) fn mark_own(
     own: Own,
     log: &Log,
     certificate: &Certificate,
-    marked: &mut HashMap<usize, usize>,
+    sight: &mut Sight,
     t: usize,
-    r: usize,
     n: usize,
-) -> Result<(), NoMemory>
-    ensures { OnOk result ((x : ℕ) → SeesByOwn own log.now (explanation certificate.now) t r n x → IsMarked (get_in ◌==◌ marked.new) x) }
-{
+) -> Result<(), NoMemory> {
     match own {
         Own::Nothing => Ok(()),
-        Own::Earlier => mark_earlier(log, certificate, marked, t, r, n),
-        Own::All => mark_sources(log, certificate, marked, t),
+        Own::Earlier => mark_all_to(log, certificate, &mut sight.marked, t, n),
+        Own::All => mark_sources(log, certificate, &mut sight.marked, t),
     }
 }
 
 /// Whether both write a key.
-fn share_key(log: &Log, y: usize, x: usize) -> bool
-    ensures { (key : ℕ) → writes_it log.now x key ≡ true → writes_it log.now y key ≡ true → IsTrue result }
-{
+fn share_key(log: &Log, y: usize, x: usize) -> bool {
     let changes = writes_of(log, x);
     for n in 0..changes.len() {
         if does_write(log, y, changes[n].key) {
@@ -139,128 +128,108 @@ fn share_key(log: &Log, y: usize, x: usize) -> bool
     false
 }
 
-/// Whether y may see x by writes or by its session.
-fn may_link(links: Links, log: &Log, y: usize, x: usize) -> bool
-    ensures { MayLink links log.now y x → IsTrue result }
-{
-    links.writers && share_key(log, y, x) || links.session && is_earlier(log, x, y)
+/// Whether y may see x by writes or by its turns.
+fn may_link(links: Links, log: &Log, y: usize, x: usize) -> bool {
+    links.writers && share_key(log, y, x) || links.turns && is_earlier(log, x, y)
 }
 
-/// Whether the n-th of these may see x by writes or by its session.
-fn may_link_at(links: Links, log: &Log, seen: &[usize], n: usize, x: usize) -> bool
-    ensures { (y : ℕ) → slice_get seen.now n ≡ Some y → MayLink links log.now y x → IsTrue result }
-{
-    match at(seen, n) {
-        Some(y) => may_link(links, log, y, x),
+/// Whether one who is seen writes a key of x.
+fn is_any_key(log: &Log, sight: &Sight, x: usize) -> bool {
+    writes_of(log, x).iter().any(|change| sight.keys.contains_key(&change.key))
+}
+
+/// Whether a turn is before one of somebody who is seen.
+fn is_before_any(sight: &Sight, turn: Turn) -> bool {
+    match sight.lanes.get(&turn.lane).copied() {
+        Some(first) => turn.last < first,
         None => false,
     }
 }
 
-/// Whether one of these may see x by writes or by its session.
-fn may_any_link(links: Links, log: &Log, seen: &[usize], x: usize) -> bool
-    ensures { (y : ℕ) → IsListed seen.now y → MayLink links log.now y x → IsTrue result }
-{
-    for n in 0..seen.len() {
-        if may_link_at(links, log, seen, n, x) {
-            return true;
-        }
-    }
-    false
+/// Whether a turn of x is before one of somebody who is seen.
+fn is_any_later(log: &Log, sight: &Sight, x: usize) -> bool {
+    turns_of(log, x).iter().any(|turn| is_before_any(sight, *turn))
 }
 
-/// The same; nobody is looked at where writes and sessions show nothing.
-fn may_link_any(links: Links, log: &Log, seen: &[usize], x: usize) -> bool
-    ensures { (y : ℕ) → IsListed seen.now y → MayLink links log.now y x → IsTrue result }
-{
-    if links.writers {
-        return may_any_link(links, log, seen, x);
-    }
-    if links.session {
-        return may_any_link(links, log, seen, x);
-    }
-    false
+/// Whether somebody who is seen may see x by writes or by turns.
+fn may_any_link(links: Links, log: &Log, sight: &Sight, x: usize) -> bool {
+    links.writers && is_any_key(log, sight, x) || links.turns && is_any_later(log, sight, x)
 }
 
-/// Whether y may be seen.
-pub(crate) fn may_see(
+/// Whether t may see y at once.
+pub(crate) fn may_see_at_once(
     rules: Rules,
     log: &Log,
     t: usize,
-    marked: &HashMap<usize, usize>,
-    seen: &[usize],
+    sight: &Sight,
     y: usize,
-) -> bool
-    ensures { MaySee rules log.now t (get_in ◌==◌ marked.now) seen.now y → IsTrue result }
-{
-    if rules.whole {
-        return true;
-    }
-    if rules.prefix && !seen.is_empty() {
-        return true;
-    }
-    if place_of(marked, y).is_some() {
-        return true;
-    }
-    if may_link(rules.first, log, t, y) {
-        return true;
-    }
-    may_link_any(rules.next, log, seen, y)
+) -> bool {
+    sight.marked.contains_key(&y) || may_link(rules.first, log, t, y)
 }
 
-/// Whether z is before one of these in its session.
-fn is_any_later(log: &Log, seen: &[usize], z: usize) -> bool
-    ensures { (y : ℕ) → IsListed seen.now y → earlier_there log.now z y ≡ true → IsTrue result }
-{
-    for n in 0..seen.len() {
-        if is_earlier(log, z, seen[n]) {
-            return true;
-        }
-    }
-    false
-}
-
-/// Whether the sources of z may be brought by sessions.
-fn may_carry(rules: Rules, log: &Log, t: usize, seen: &[usize], z: usize) -> bool
-    ensures { MayCarry rules log.now t seen.now z → IsTrue result }
-{
-    if rules.first.session_reads && is_earlier(log, z, t) {
+/// Whether y may be seen.
+pub(crate) fn may_see(rules: Rules, log: &Log, t: usize, sight: &Sight, y: usize) -> bool {
+    if rules.prefix && sight.is_any {
         return true;
     }
-    rules.next.session_reads && is_any_later(log, seen, z)
+    may_see_at_once(rules, log, t, sight, y) || may_any_link(rules.next, log, sight, y)
 }
 
-/// The sources of z are marked from now on, if sessions may bring them.
+/// Whether the sources of z may be brought by turns.
+fn may_carry(rules: Rules, log: &Log, t: usize, sight: &Sight, z: usize) -> bool {
+    if rules.first.turn_reads && is_earlier(log, z, t) {
+        return true;
+    }
+    rules.next.turn_reads && is_any_later(log, sight, z)
+}
+
+/// The sources of z are marked from now on, if turns may bring them.
 pub(crate) fn carry(
     rules: Rules,
     log: &Log,
     certificate: &Certificate,
     t: usize,
-    marked: &mut HashMap<usize, usize>,
-    seen: &[usize],
+    sight: &mut Sight,
     z: usize,
-) -> Result<(), NoMemory>
-    ensures kept { OnOk result (AreKept (get_in ◌==◌ marked.old) (get_in ◌==◌ marked.new)) }
-    ensures there { OnOk result (MayCarry rules log.now t seen.now z → AreMarked log.now (explanation certificate.now) (get_in ◌==◌ marked.new) z) }
-{
-    if !may_carry(rules, log, t, seen, z) {
+) -> Result<(), NoMemory> {
+    if !may_carry(rules, log, t, sight, z) {
         return Ok(());
     }
-    mark_sources(log, certificate, marked, z)
+    mark_sources(log, certificate, &mut sight.marked, z)
 }
 
-/// The sources of y are marked from now on, if what is seen shows them.
+/// A key is one that somebody writes who is seen.
+fn mark_key(keys: &mut HashMap<u64, usize>, change: Change) -> Result<(), NoMemory> {
+    let _before = keys.insert(change.key, 0)?;
+    Ok(())
+}
+
+/// A turn is one of somebody who is seen.
+fn mark_turn(lanes: &mut HashMap<usize, u64>, turn: Turn) -> Result<(), NoMemory> {
+    if turn.seen {
+        begin(lanes, turn)
+    } else {
+        Ok(())
+    }
+}
+
+/// y is seen from now on, with what it shows.
 pub(crate) fn show(
     rules: Rules,
     log: &Log,
     certificate: &Certificate,
-    marked: &mut HashMap<usize, usize>,
+    sight: &mut Sight,
     y: usize,
-) -> Result<(), NoMemory>
-    ensures kept { OnOk result (AreKept (get_in ◌==◌ marked.old) (get_in ◌==◌ marked.new)) }
-    ensures there { OnOk result (rules.causes ≡ true → AreMarked log.now (explanation certificate.now) (get_in ◌==◌ marked.new) y) }
-{
-    if !rules.causes {
-        return Ok(());
+) -> Result<(), NoMemory> {
+    sight.is_any = true;
+    if rules.causes {
+        mark_sources(log, certificate, &mut sight.marked, y)?;
     }
-    mark_sources(log, certificate, marked, y)
+    for change in writes_of(log, y) {
+        mark_key(&mut sight.keys, *change)?;
+    }
+    for turn in turns_of(log, y) {
+        mark_turn(&mut sight.lanes, *turn)?;
+    }
+    Ok(())
 }

@@ -7,7 +7,7 @@ ghost use Rattle.hek_levels.specs.Logs.{meets as meets_it, reads_of as reads_the
 ghost use Rattle.hek_levels.specs.Uncommitted.{is_read_uncommitted as is_so, is_right as is_right_there, is_found as is_found_there, are_found as are_found_there, does_meet, with_one, is_other as is_another, who_in, who_by, who_with, who_below, IsIndex, either};
 
 use crate::log::{Change, Log, Need, Read};
-use crate::logged::{is_committed, is_possible, meets, passing_of, reads_of, writes_of};
+use crate::logged::{is_committed, meets, passing_of, reads_of, writes_of};
 use hek_rules::NoMemory;
 use std::alloc::Global;
 use std::collections::HashMap;
@@ -200,7 +200,7 @@ fn is_right(log: &Log, rows: &HashMap<u64, u64>, changers: &Changers, t: usize) 
     if !is_committed(log, t) {
         return true;
     }
-    is_possible(log, t) && are_found(log, rows, changers, t)
+    are_found(log, rows, changers, t)
 }
 
 /// Whether a log is read uncommitted: whoever is known to have committed fits its own changes, and each of its reads found what
