@@ -5,3 +5,4 @@ pub mod Places
 pub mod Sweeps
 pub mod Levels
 pub mod Uncommitted
+pub mod Absences

@@ -1,148 +1,258 @@
-//! Keys that scans say are absent: who wrote them before has a source that is given, and all others have the opening.
-use crate::certificate::{Certificate, Missing};
+//! Keys that scans say are absent: of each that is touched before the reader the source is given, and all others have the opening.
+ghost use Rattle.std.specs.Prelude.{◌≡◌, ◌==◌, ◌&&◌, ◌||◌, ◌+◌, ◌<◌, ◌≤◌, ℕ, true, Some, None, slice_get, length, is_some, IsTrue, IfOk, OnOk, if◌then◌else◌};
+ghost use Rattle.std.specs.Ordering.{nat_cmp};
+ghost use Rattle.std.specs.HashMap.{get as get_in};
+ghost use Rattle.hek_levels.specs.declared.log.Place.TheVariants.{Missing as MissingAt};
+ghost use Rattle.hek_levels.specs.declared.certificate.Writer.{Writer as TheWriter};
+ghost use Rattle.hek_levels.specs.declared.log.Scan.{Scan as TheScan};
+ghost use Rattle.hek_levels.specs.Logs.{left_in, misses as misses_it, scans_of as scans_there};
+ghost use Rattle.hek_levels.specs.Seen.{At};
+ghost use Rattle.hek_levels.specs.Explanations.{given_at, given_of};
+ghost use Rattle.hek_levels.specs.Places.{IsSourcedBy, AreMissingSourced, AreAllMissingSourced, AreTouched};
+ghost use Rattle.hek_rules.specs.Listing.{value_of as value_in};
+ghost use Rattle.hek_levels.specs.Absences.{given_in_map, row_of, AreGiven};
+
+use crate::certificate::{Certificate, Missing, Writer};
 use crate::log::{Change, Log, Place, Scan};
-use crate::logged::{is_excepted, read_at, scans_of};
-use crate::newest::{At, Written, is_newest};
-use crate::rules::Asked;
-use crate::sourced::{Missings, by_place, is_sourced, missing_of, missing_source};
-use hek_history::{Scope, covers};
+use crate::logged::{at, is_excepted, misses, scans_of, writes_of};
+use crate::sourced::{is_sourced, missing_of};
+use hek_history::Scope;
 use hek_rules::NoMemory;
 use std::alloc::Global;
-use std::collections::{BTreeSet, HashMap};
+use std::collections::{BTreeMap, HashMap};
 
-/// The keys that have rows at the opening, or were written so far.
-pub(crate) type Touched = BTreeSet<u64>;
+/// The source that is given of a scan and a key.
+fn given(map: &HashMap<(usize, u64), Writer>, scan: usize, key: u64) -> Option<Writer>
+    ensures { result ≡ given_in_map map.now scan key }
+{
+    map.get(&(scan, key)).copied()
+}
 
-/// A key is touched from now on.
-fn touch(touched: &mut Touched, key: u64) -> Result<(), NoMemory> {
-    let _is_new = touched.insert(key)?;
+/// One source more, unless its scan and key have one.
+fn note(map: &mut HashMap<(usize, u64), Writer>, one: Missing) -> Result<(), NoMemory>
+    ensures { OnOk result ((s k : ℕ) → given_in_map map.new s k ≡ (if is_some (given_in_map map.old s k) then given_in_map map.old s k else (if (one.scan == s) && (one.key == k) then Some one.writer else None))) }
+{
+    if given(map, one.scan, one.key).is_some() {
+        return Ok(());
+    }
+    let _before = map.insert((one.scan, one.key), one.writer)?;
     Ok(())
 }
 
-/// The keys of the opening rows are touched.
-pub(crate) fn touch_rows(touched: &mut Touched, rows: &[(u64, u64)]) -> Result<(), NoMemory> {
+/// The first source that is given of each scan and key.
+fn by_place(alloc: Global, list: &[Missing]) -> Result<HashMap<(usize, u64), Writer>, NoMemory>
+    ensures { IfOk result (λ map. (s k : ℕ) → given_in_map map s k ≡ given_at list.now s k) }
+{
+    let mut map = HashMap::new(alloc);
+    for one in list {
+        note(&mut map, *one)?;
+    }
+    Ok(map)
+}
+
+/// Whether a key that the scan misses, which is the n-th, has a source that is given.
+fn is_given(map: &HashMap<(usize, u64), Writer>, n: usize, scan: &Scan, key: u64) -> bool
+    ensures { IsTrue result → misses_it scan.now key ≡ true → is_some (given_in_map map.now n key) ≡ true }
+{
+    is_excepted(scan, key) || given(map, n, key).is_some()
+}
+
+/// The same of each of these rows in a range.
+fn are_given_within(
+    rows: &BTreeMap<u64, u64>,
+    map: &HashMap<(usize, u64), Writer>,
+    n: usize,
+    scan: &Scan,
+    from: u64,
+    to: u64,
+) -> bool
+    requires { from ≤ to }
+    ensures { IsTrue result → (key : ℕ) → from ≤ key → key < to → misses_it scan.now key ≡ true → is_some (row_of rows.now key) ≡ true → is_some (given_in_map map.now n key) ≡ true }
+{
+    for (key, _value) in rows.range(from..to) {
+        if !is_given(map, n, scan, *key) {
+            return false;
+        }
+    }
+    true
+}
+
+/// The same of each of these rows.
+fn are_all_given(
+    rows: &BTreeMap<u64, u64>,
+    map: &HashMap<(usize, u64), Writer>,
+    n: usize,
+    scan: &Scan,
+) -> bool
+    ensures { IsTrue result → AreGiven rows.now (given_in_map map.now) n scan.now }
+{
+    for (key, _value) in rows {
+        if misses(scan, *key) && !is_given(map, n, scan, *key) {
+            return false;
+        }
+    }
+    true
+}
+
+/// Whether each key with a row that the scan misses, which is the n-th, has a source that is given.
+pub(crate) fn are_given(
+    rows: &BTreeMap<u64, u64>,
+    map: &HashMap<(usize, u64), Writer>,
+    n: usize,
+    scan: &Scan,
+) -> bool
+    ensures { IsTrue result → AreGiven rows.now (given_in_map map.now) n scan.now }
+{
+    match scan.scope {
+        Scope::Range(from, to) if from <= to => are_given_within(rows, map, n, scan, from, to),
+        Scope::Range(_, _) => true,
+        Scope::Bucket(_, _) => are_all_given(rows, map, n, scan),
+    }
+}
+
+/// The same of each scan.
+pub(crate) fn are_each_given(
+    rows: &BTreeMap<u64, u64>,
+    map: &HashMap<(usize, u64), Writer>,
+    scans: &[Scan],
+) -> bool
+    ensures { IsTrue result → (n : ℕ) (scan : TheScan) → slice_get scans.now n ≡ Some scan → AreGiven rows.now (given_in_map map.now) n scan }
+{
+    for n in 0..scans.len() {
+        if !are_given(rows, map, n, &scans[n]) {
+            return false;
+        }
+    }
+    true
+}
+
+/// A key is touched from now on.
+fn touch(touched: &mut BTreeMap<u64, u64>, key: u64) -> Result<(), NoMemory>
+    ensures { OnOk result ((k : ℕ) → is_some (row_of touched.new k) ≡ ((key == k) || is_some (row_of touched.old k))) }
+{
+    let _before = touched.insert(key, key)?;
+    Ok(())
+}
+
+/// The keys of rows are touched from now on.
+fn touch_rows(touched: &mut BTreeMap<u64, u64>, rows: &[(u64, u64)]) -> Result<(), NoMemory>
+    ensures { OnOk result ((k : ℕ) → is_some (row_of touched.new k) ≡ (is_some (value_in rows.now k) || is_some (row_of touched.old k))) }
+{
     for row in rows {
         touch(touched, row.0)?;
     }
     Ok(())
 }
 
-/// The keys of changes are touched.
-pub(crate) fn touch_all(touched: &mut Touched, changes: &[Change]) -> Result<(), NoMemory> {
+/// The keys of changes are touched from now on.
+fn touch_all(touched: &mut BTreeMap<u64, u64>, changes: &[Change]) -> Result<(), NoMemory>
+    ensures { OnOk result ((k : ℕ) → is_some (row_of touched.new k) ≡ (is_some (left_in changes.now k) || is_some (row_of touched.old k))) }
+{
     for change in changes {
         touch(touched, change.key)?;
     }
     Ok(())
 }
 
-/// Whether a key that a scan misses has a source that is given.
-fn is_given(map: &Missings, scans: &[Scan], scan: usize, key: u64) -> bool {
-    match scans.get(scan) {
-        Some(one) => is_excepted(one, key) || missing_source(map, scan, key).is_some(),
-        None => true,
-    }
-}
-
-/// Whether each touched key of a range that the scan misses has a source that is given.
-fn is_range_given(
-    touched: &Touched,
-    map: &Missings,
-    scans: &[Scan],
-    scan: usize,
-    from: u64,
-    to: u64,
-) -> bool {
-    if to < from {
-        return true;
-    }
-    for key in touched.range(from..to) {
-        if !is_given(map, scans, scan, *key) {
-            return false;
-        }
-    }
-    true
-}
-
-/// Whether each touched key of a bucket that the scan misses has a source that is given.
-fn is_bucket_given(
-    touched: &Touched,
-    map: &Missings,
-    scans: &[Scan],
-    scan: usize,
-    scope: Scope,
-) -> bool {
-    for key in touched.iter() {
-        if covers(scope, *key) && !is_given(map, scans, scan, *key) {
-            return false;
-        }
-    }
-    true
-}
-
-/// Whether each key that is touched so far and that a scan misses has a source that is given.
-fn is_all_given(touched: &Touched, map: &Missings, scans: &[Scan], scan: usize) -> bool {
-    let Some(one) = scans.get(scan) else {
-        return true;
-    };
-    match one.scope {
-        Scope::Range(from, to) => is_range_given(touched, map, scans, scan, from, to),
-        Scope::Bucket(_, _) => is_bucket_given(touched, map, scans, scan, one.scope),
-    }
-}
-
-/// Whether the source that is given at a place is one, before i, and no newer writer is seen.
+/// Whether the source that is given of a scan and a key is one, before i.
 fn is_right(
-    alloc: Global,
-    asked: &Asked,
     log: &Log,
-    certificate: &Certificate,
     places: &HashMap<usize, usize>,
-    written: &Written,
-    map: &Missings,
+    map: &HashMap<(usize, u64), Writer>,
     i: usize,
     t: usize,
     one: Missing,
-) -> Result<bool, NoMemory> {
+) -> bool
+    ensures { IsTrue result → (w : TheWriter) → given_in_map map.now one.scan one.key ≡ Some w → IsSourcedBy log.now (get_in ◌==◌ places.now) i t (MissingAt one.scan one.key) w }
+{
     let place = Place::Missing {
         scan: one.scan,
         key: one.key,
     };
-    let Some(source) = missing_source(map, one.scan, one.key) else {
-        return Ok(false);
-    };
-    let Some(read) = read_at(log, t, place) else {
-        return Ok(true);
-    };
-    if !is_sourced(log, places, i, t, place, source) {
-        return Ok(false);
+    match given(map, one.scan, one.key) {
+        Some(source) => is_sourced(log, places, i, t, place, source),
+        None => true,
     }
-    let here = At { i, t, read };
-    is_newest(alloc, asked.of(t), log, certificate, places, written, here, source)
 }
 
-/// Whether the reads of t, which stands at the place i, of keys that are missing in its scans have sources, before i and not older
-/// than what they see.
-pub(crate) fn are_missing_right(
+/// The same of each of these.
+fn are_right(
+    log: &Log,
+    places: &HashMap<usize, usize>,
+    map: &HashMap<(usize, u64), Writer>,
+    i: usize,
+    t: usize,
+    list: &[Missing],
+) -> bool
+    requires { (s k : ℕ) → given_in_map map.now s k ≡ given_at list.now s k }
+    ensures { IsTrue result → (s k : ℕ) (w : TheWriter) → given_at list.now s k ≡ Some w → IsSourcedBy log.now (get_in ◌==◌ places.now) i t (MissingAt s k) w }
+{
+    for n in 0..list.len() {
+        if !is_right(log, places, map, i, t, list[n]) {
+            return false;
+        }
+    }
+    true
+}
+
+/// Whether the keys that the scans of t miss, which stands at the place i, have their sources before i: all that are touched so far
+/// one that is given.
+fn are_missing_sourced_at(
     alloc: Global,
-    asked: &Asked,
     log: &Log,
     certificate: &Certificate,
     places: &HashMap<usize, usize>,
-    written: &Written,
-    touched: &Touched,
+    touched: &BTreeMap<u64, u64>,
     i: usize,
     t: usize,
-) -> Result<bool, NoMemory> {
+) -> Result<bool, NoMemory>
+    requires { AreTouched log.now certificate.now.order.items i (λ k. is_some (row_of touched.now k)) }
+    ensures { IfOk result (λ yes. IsTrue yes → AreMissingSourced log.now certificate.now (get_in ◌==◌ places.now) i t) }
+{
     let list = missing_of(certificate, t);
-    let scans = scans_of(log, t);
     let map = by_place(alloc, list)?;
-    for scan in 0..scans.len() {
-        if !is_all_given(touched, &map, scans, scan) {
-            return Ok(false);
-        }
+    if !are_each_given(touched, &map, scans_of(log, t)) {
+        return Ok(false);
     }
-    for one in list {
-        if !is_right(alloc, asked, log, certificate, places, written, &map, i, t, *one)? {
+    Ok(are_right(log, places, &map, i, t, list))
+}
+
+/// The same of the transaction at the place i, whose keys are touched then.
+fn advance(
+    alloc: Global,
+    log: &Log,
+    certificate: &Certificate,
+    places: &HashMap<usize, usize>,
+    touched: &mut BTreeMap<u64, u64>,
+    i: usize,
+) -> Result<bool, NoMemory>
+    requires { AreTouched log.now certificate.now.order.items i (λ k. is_some (row_of touched.old k)) }
+    ensures sourced { IfOk result (λ yes. IsTrue yes → (t : ℕ) → At certificate.now.order.items i t → AreMissingSourced log.now certificate.now (get_in ◌==◌ places.now) i t) }
+    ensures touched { IfOk result (λ yes. IsTrue yes → AreTouched log.now certificate.now.order.items (i + 1) (λ k. is_some (row_of touched.new k))) }
+{
+    let Some(t) = at(certificate.order.as_slice(), i) else {
+        return Ok(false);
+    };
+    if !are_missing_sourced_at(alloc, log, certificate, places, touched, i, t)? {
+        return Ok(false);
+    }
+    touch_all(touched, writes_of(log, t))?;
+    Ok(true)
+}
+
+/// Whether the keys that scans miss have their sources before their readers: all that are touched there one that is given.
+pub(crate) fn are_missing_sourced(
+    alloc: Global,
+    log: &Log,
+    certificate: &Certificate,
+    places: &HashMap<usize, usize>,
+) -> Result<bool, NoMemory>
+    ensures { IfOk result (λ yes. IsTrue yes → AreAllMissingSourced log.now certificate.now (get_in ◌==◌ places.now)) }
+{
+    let mut touched = BTreeMap::new(alloc);
+    touch_rows(&mut touched, log.rows.as_slice())?;
+    for i in 0..certificate.order.len() {
+        if !advance(alloc, log, certificate, places, &mut touched, i)? {
             return Ok(false);
         }
     }

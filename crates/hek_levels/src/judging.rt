@@ -1,4 +1,8 @@
 //! Whether a certificate is an explanation.
+ghost use Rattle.std.specs.Prelude.{IsTrue, IfOk};
+ghost use Rattle.hek_levels.specs.Explanations.{explanation, Explains};
+
+use crate::absent::are_missing_sourced;
 use crate::certificate::Certificate;
 use crate::log::Log;
 use crate::newest::are_newest;
@@ -16,7 +20,9 @@ pub fn explains(
     asked: &Asked,
     log: &Log,
     certificate: &Certificate,
-) -> Result<bool, NoMemory> {
+) -> Result<bool, NoMemory>
+    ensures { IfOk result (λ yes. IsTrue yes → Explains asked.now log.now (explanation certificate.now)) }
+{
     let order = certificate.order.as_slice();
     let mut places = HashMap::new(alloc);
     if !find_places(log, order, &mut places)? {
@@ -26,6 +32,9 @@ pub fn explains(
         return Ok(false);
     }
     if !are_sourced(log, certificate, &places) {
+        return Ok(false);
+    }
+    if !are_missing_sourced(alloc, log, certificate, &places)? {
         return Ok(false);
     }
     if !are_in_turn(alloc, log, order)? {

@@ -1,10 +1,10 @@
 //! What a log says of a transaction.
-ghost use Rattle.std.specs.Prelude.{◌≡◌, slice_get};
+ghost use Rattle.std.specs.Prelude.{◌≡◌, slice_get, Some, true, false, IsTrue};
+ghost use Rattle.std.specs.List.{list_any};
 ghost use Rattle.hek_rules.specs.Listing.{value_of as value_in};
 ghost use Rattle.hek_levels.specs.Logs.{meets as meets_it, left_in, reads_of as reads_there, scans_of as scans_there, writes_of as writes_there, turns_of as turns_there, read_at as read_there, missing_in, misses as misses_it, is_committed as committed_there, is_possible as possible_there, is_earlier as earlier_there, is_kept as kept_there, is_before_turn, is_seen_turn, does_write as writes_it, left_by as left_there, offers as offers_it};
 ghost use Rattle.hek_levels.specs.Uncommitted.{passing_of as passing_there};
-ghost use Rattle.hek_levels.specs.Explanations.{source_in as source_there};
-ghost use Rattle.hek_levels.specs.declared.log.Scan.{Scan as TheScan};
+ghost use Rattle.hek_levels.specs.Sweeps.{HasNoSeenTurns};
 
 use crate::certificate::Writer;
 use crate::log::{Change, Log, Need, Place, Read, Scan, Turn};
@@ -67,8 +67,10 @@ pub fn misses(scan: &Scan, key: u64) -> bool
     covers(scan.scope, key) && !scan.except.contains(&key)
 }
 
-/// Whether a key is among those of which a scan does not say that they are absent.
-pub(crate) fn is_excepted(scan: &Scan, key: u64) -> bool {
+/// Whether a key is among those of which a scan does not say that they are absent, which rise.
+pub(crate) fn is_excepted(scan: &Scan, key: u64) -> bool
+    ensures { IsTrue result → misses_it scan.now key ≡ false }
+{
     scan.except.binary_search(&key).is_ok()
 }
 
@@ -133,12 +135,54 @@ fn is_before(turn: Turn, other: Turn) -> bool
     turn.lane == other.lane && turn.last < other.first
 }
 
+/// Whether a turn is before one of these.
+fn is_before_one(turn: Turn, others: &[Turn]) -> bool
+    ensures { result ≡ list_any (λ b. is_before_turn turn b) others.now }
+{
+    for other in others {
+        if is_before(turn, *other) {
+            return true;
+        }
+    }
+    false
+}
+
+/// Whether a turn is before one of these that is seen.
+fn is_seen_by_one(turn: Turn, others: &[Turn]) -> bool
+    ensures { result ≡ list_any (λ b. is_seen_turn turn b) others.now }
+{
+    for other in others {
+        if other.seen && is_before(turn, *other) {
+            return true;
+        }
+    }
+    false
+}
+
+/// Whether some turn of t is seen.
+pub(crate) fn has_seen_turns(log: &Log, t: usize) -> bool
+    ensures { result ≡ false → HasNoSeenTurns log.now t }
+{
+    let turns = turns_of(log, t);
+    for n in 0..turns.len() {
+        if turns[n].seen {
+            return true;
+        }
+    }
+    false
+}
+
 /// Whether a turn of x is before one of t.
 pub fn is_kept(log: &Log, x: usize, t: usize) -> bool
     ensures { result ≡ kept_there log.now x t }
 {
     let others = turns_of(log, t);
-    turns_of(log, x).iter().any(|turn| others.iter().any(|other| is_before(*turn, *other)))
+    for turn in turns_of(log, x) {
+        if is_before_one(*turn, others) {
+            return true;
+        }
+    }
+    false
 }
 
 /// Whether a turn of x is before one of t in a lane where turns are seen.
@@ -146,9 +190,12 @@ pub fn is_earlier(log: &Log, x: usize, t: usize) -> bool
     ensures { result ≡ earlier_there log.now x t }
 {
     let others = turns_of(log, t);
-    turns_of(log, x)
-        .iter()
-        .any(|turn| others.iter().any(|other| other.seen && is_before(*turn, *other)))
+    for turn in turns_of(log, x) {
+        if is_seen_by_one(*turn, others) {
+            return true;
+        }
+    }
+    false
 }
 
 /// Whether a value, or its absence, meets the need.
