@@ -4,7 +4,7 @@
 use hek_history::{History, Level as HistoryLevel, Status};
 use hek_history_levels::log_of;
 use hek_history_log::{Log, read_log};
-use hek_levels::{Asked, Guarantees, Level, Rules, Turn, is_read_uncommitted};
+use hek_levels::{Asked, Guarantees, Level, Rules, Turn, bare, find_lost};
 use hek_levels_search::{Guess, Hint, Shown, Verdict, judge};
 use hek_rules::NoMemory;
 use std::alloc::Global;
@@ -225,10 +225,22 @@ fn run(
     for word in wanted.iter() {
         let word: &str = word;
         if word == "read-uncommitted" {
-            if is_read_uncommitted(alloc, &seen)? {
-                let _ = println!(rt; "holds at {word}");
-            } else {
+            if find_lost(alloc, &seen)?.is_some() {
                 let _ = println!(rt; "fails at {word}");
+                continue;
+            }
+            let turns = bare(alloc, &seen)?;
+            let plain = Level::Serializable.rules();
+            match judge(alloc, &Asked::All(plain), &turns, guesses.as_slice(), 100_000)? {
+                Verdict::Holds(_) => {
+                    let _ = println!(rt; "holds at {word}");
+                }
+                Verdict::Fails(_) => {
+                    let _ = println!(rt; "fails at {word}");
+                }
+                Verdict::Unknown(_) => {
+                    let _ = println!(rt; "unknown at {word}");
+                }
             }
             continue;
         }

@@ -3,19 +3,15 @@ use Rattle.std.specs.Prelude.{ℕ, ◌≡◌, ◌==◌, ◌&&◌, Bool, true, Op
 use Rattle.std.specs.declared.hash.FoldHasher.{FoldHasher}
 use Rattle.std.specs.declared.hash.BuildHasherDefault.{BuildHasherDefault}
 use Rattle.std.specs.HashMap.{get as get_in, HashMap}
-use Rattle.std.specs.BTreeMap.{get, BTreeMap}
-use Rattle.std.specs.Ordering.{nat_cmp}
+use Rattle.std.specs.BTreeMap.{BTreeMap}
 use Rattle.hek_levels.specs.declared.log.Scan.{Scan}
 use Rattle.hek_levels.specs.declared.certificate.Writer.{Writer}
 use Rattle.hek_levels.specs.Logs.{misses}
+use Rattle.hek_levels.specs.Rows.{row_of}
 
 -- what a map has of a scan and a key
 abbrev pub given_in_map : HashMap (ℕ × ℕ) Writer (BuildHasherDefault FoldHasher) → ℕ → ℕ → Option Writer
 given_in_map map scan key = get_in (λ (a b : ℕ × ℕ). (a.0 == b.0) && (a.1 == b.1)) map (scan, key)
-
--- the value of a key in rows
-abbrev pub row_of : BTreeMap ℕ ℕ → ℕ → Option ℕ
-row_of rows key = get nat_cmp rows key
 
 -- each key with a row that the scan misses, which is the n-th, has a source that is given
 abbrev pub AreGiven : BTreeMap ℕ ℕ → (ℕ → ℕ → Option Writer) → ℕ → Scan → Type 0

@@ -1,22 +1,22 @@
 //! Keys that scans say are absent: of each that is touched before the reader the source is given, and all others have the opening.
 ghost use Rattle.std.specs.Prelude.{◌≡◌, ◌==◌, ◌&&◌, ◌||◌, ◌+◌, ◌<◌, ◌≤◌, ℕ, true, Some, None, slice_get, length, is_some, IsTrue, IfOk, OnOk, if◌then◌else◌};
-ghost use Rattle.std.specs.Ordering.{nat_cmp};
 ghost use Rattle.std.specs.HashMap.{get as get_in};
 ghost use Rattle.hek_levels.specs.declared.log.Place.TheVariants.{Missing as MissingAt};
 ghost use Rattle.hek_levels.specs.declared.certificate.Writer.{Writer as TheWriter};
 ghost use Rattle.hek_levels.specs.declared.log.Scan.{Scan as TheScan};
-ghost use Rattle.hek_levels.specs.Logs.{left_in, misses as misses_it, scans_of as scans_there};
+ghost use Rattle.hek_levels.specs.Logs.{left_in};
 ghost use Rattle.hek_levels.specs.Seen.{At};
 ghost use Rattle.hek_levels.specs.Explanations.{given_at, given_of};
 ghost use Rattle.hek_levels.specs.Places.{IsSourcedBy, AreMissingSourced, AreAllMissingSourced, AreTouched};
 ghost use Rattle.hek_rules.specs.Listing.{value_of as value_in};
-ghost use Rattle.hek_levels.specs.Absences.{given_in_map, row_of, AreGiven};
+ghost use Rattle.hek_levels.specs.Absences.{given_in_map, AreGiven};
+ghost use Rattle.hek_levels.specs.Rows.{row_of};
 
 use crate::certificate::{Certificate, Missing, Writer};
 use crate::log::{Change, Log, Place, Scan};
-use crate::logged::{at, is_excepted, misses, scans_of, writes_of};
+use crate::logged::{at, scans_of, writes_of};
+use crate::rows::missed;
 use crate::sourced::{is_sourced, missing_of};
-use hek_history::Scope;
 use hek_rules::NoMemory;
 use std::alloc::Global;
 use std::collections::{BTreeMap, HashMap};
@@ -50,80 +50,40 @@ fn by_place(alloc: Global, list: &[Missing]) -> Result<HashMap<(usize, u64), Wri
     Ok(map)
 }
 
-/// Whether a key that the scan misses, which is the n-th, has a source that is given.
-fn is_given(map: &HashMap<(usize, u64), Writer>, n: usize, scan: &Scan, key: u64) -> bool
-    ensures { IsTrue result → misses_it scan.now key ≡ true → is_some (given_in_map map.now n key) ≡ true }
-{
-    is_excepted(scan, key) || given(map, n, key).is_some()
-}
-
-/// The same of each of these rows in a range.
-fn are_given_within(
-    rows: &BTreeMap<u64, u64>,
-    map: &HashMap<(usize, u64), Writer>,
-    n: usize,
-    scan: &Scan,
-    from: u64,
-    to: u64,
-) -> bool
-    requires { from ≤ to }
-    ensures { IsTrue result → (key : ℕ) → from ≤ key → key < to → misses_it scan.now key ≡ true → is_some (row_of rows.now key) ≡ true → is_some (given_in_map map.now n key) ≡ true }
-{
-    for (key, _value) in rows.range(from..to) {
-        if !is_given(map, n, scan, *key) {
-            return false;
-        }
-    }
-    true
-}
-
-/// The same of each of these rows.
-fn are_all_given(
-    rows: &BTreeMap<u64, u64>,
-    map: &HashMap<(usize, u64), Writer>,
-    n: usize,
-    scan: &Scan,
-) -> bool
-    ensures { IsTrue result → AreGiven rows.now (given_in_map map.now) n scan.now }
-{
-    for (key, _value) in rows {
-        if misses(scan, *key) && !is_given(map, n, scan, *key) {
-            return false;
-        }
-    }
-    true
-}
-
 /// Whether each key with a row that the scan misses, which is the n-th, has a source that is given.
-pub(crate) fn are_given(
+fn are_given(
+    alloc: Global,
     rows: &BTreeMap<u64, u64>,
     map: &HashMap<(usize, u64), Writer>,
     n: usize,
     scan: &Scan,
-) -> bool
-    ensures { IsTrue result → AreGiven rows.now (given_in_map map.now) n scan.now }
+) -> Result<bool, NoMemory>
+    ensures { IfOk result (λ yes. IsTrue yes → AreGiven rows.now (given_in_map map.now) n scan.now) }
 {
-    match scan.scope {
-        Scope::Range(from, to) if from <= to => are_given_within(rows, map, n, scan, from, to),
-        Scope::Range(_, _) => true,
-        Scope::Bucket(_, _) => are_all_given(rows, map, n, scan),
+    let keys = missed(alloc, rows, scan)?;
+    for m in 0..keys.len() {
+        if given(map, n, keys[m]).is_none() {
+            return Ok(false);
+        }
     }
+    Ok(true)
 }
 
 /// The same of each scan.
-pub(crate) fn are_each_given(
+fn are_each_given(
+    alloc: Global,
     rows: &BTreeMap<u64, u64>,
     map: &HashMap<(usize, u64), Writer>,
     scans: &[Scan],
-) -> bool
-    ensures { IsTrue result → (n : ℕ) (scan : TheScan) → slice_get scans.now n ≡ Some scan → AreGiven rows.now (given_in_map map.now) n scan }
+) -> Result<bool, NoMemory>
+    ensures { IfOk result (λ yes. IsTrue yes → (n : ℕ) (scan : TheScan) → slice_get scans.now n ≡ Some scan → AreGiven rows.now (given_in_map map.now) n scan) }
 {
     for n in 0..scans.len() {
-        if !are_given(rows, map, n, &scans[n]) {
-            return false;
+        if !are_given(alloc, rows, map, n, &scans[n])? {
+            return Ok(false);
         }
     }
-    true
+    Ok(true)
 }
 
 /// A key is touched from now on.
@@ -211,7 +171,7 @@ fn are_missing_sourced_at(
 {
     let list = missing_of(certificate, t);
     let map = by_place(alloc, list)?;
-    if !are_each_given(touched, &map, scans_of(log, t)) {
+    if !are_each_given(alloc, touched, &map, scans_of(log, t))? {
         return Ok(false);
     }
     Ok(are_right(log, places, &map, i, t, list))

@@ -10,6 +10,7 @@ mod logged;
 mod newest;
 mod places;
 mod points;
+mod rows;
 mod rules;
 mod sourced;
 mod sweep;
@@ -25,4 +26,4 @@ pub use logged::{
 pub use points::explains_by_points;
 pub use rules::{Asked, Guarantees, Level, Links, Own, Rules};
 pub use sourced::source_at;
-pub use uncommitted::is_read_uncommitted;
+pub use uncommitted::{bare, find_lost};

@@ -194,7 +194,7 @@ fn low_of(places: &HashMap<usize, usize>, i: usize, writer: Writer) -> usize
 }
 
 /// Whether the last place of a key is from low on.
-fn is_written_since(last: &HashMap<u64, usize>, key: u64, low: usize) -> bool
+pub(crate) fn is_written_since(last: &HashMap<u64, usize>, key: u64, low: usize) -> bool
     ensures { result ≡ false → (m : ℕ) → get_in ◌==◌ last.now key ≡ Some m → m < low }
 {
     match last.get(&key).copied() {

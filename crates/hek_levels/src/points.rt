@@ -1,10 +1,25 @@
 //! Whether points explain a log: a transaction reads at one point what those that committed before it left, and commits at another.
-use crate::log::{Change, Log, Read, Scan, Turn};
-use crate::logged::{is_excepted, is_possible, meets, reads_of, scans_of, turns_of, writes_of};
-use crate::places::{have_all_places, place_of};
+ghost use Rattle.std.specs.Prelude.{◌≡◌, ◌==◌, ◌+◌, ◌<◌, ◌≤◌, ℕ, true, false, Some, length, slice_get, IsTrue, IfOk, OnOk, if◌then◌else◌};
+ghost use Rattle.std.specs.HashMap.{get as get_in};
+ghost use Rattle.hek_levels.specs.declared.log.Read.{Read as TheRead};
+ghost use Rattle.hek_levels.specs.declared.log.Place.{Place as ThePlace};
+ghost use Rattle.hek_levels.specs.declared.log.Place.TheVariants.{Listed as ListedAt, Missing as MissingAt};
+ghost use Rattle.hek_levels.specs.Levels.{asked_of};
+ghost use Rattle.hek_levels.specs.Logs.{meets as meets_it, does_write as writes_it, is_earlier as earlier_there, read_at as read_there};
+ghost use Rattle.hek_levels.specs.Seen.{At};
+ghost use Rattle.hek_levels.specs.Rows.{row_of};
+ghost use Rattle.hek_levels.specs.Sweeps.{AreLast, AreLaned, AreRaised};
+ghost use Rattle.hek_levels.specs.Points.{commits_of as commits_there, sees_turns as sees_them, IsClosed, IsReplay, HasReplay, IsExplainedBy};
+
+use crate::log::{Log, Place};
+use crate::logged::{at, meets, read_at, reads_of, scans_of, turns_of, writes_of};
+use crate::newest::{is_written_since, mark_writes};
+use crate::places::{find_places, have_all_places, is_absent, mark, place_of};
+use crate::rows::{by_key, change_rows, missed, row_of as value_at};
 use crate::rules::{Asked, Rules};
-use crate::turns::{begin, has_come};
-use hek_history::{Point, Scope, covers};
+use crate::sweep::show_turns;
+use crate::turns::{are_in_turn, have_come};
+use hek_history::Point;
 use hek_rules::NoMemory;
 use std::alloc::Global;
 use std::collections::{BTreeMap, HashMap};
@@ -12,192 +27,225 @@ use std::collections::{BTreeMap, HashMap};
 /// What is known of the points so far.
 #[derive(Drop)]
 struct Replay {
-    /// The rows that those who committed left.
-    rows: BTreeMap<u64, u64>,
-    /// How many had committed where each began that has begun.
-    begun: HashMap<usize, usize>,
-    /// The place of each that has committed in the order of commits, and how many they are.
-    places: HashMap<usize, usize>,
+    /// How many have committed.
     count: usize,
+    /// The rows that they left.
+    rows: BTreeMap<u64, u64>,
+    /// How many had committed where each began that has.
+    begun: HashMap<usize, usize>,
     /// The place of the last writer of each key.
     last: HashMap<u64, usize>,
-    /// In each lane the latest first number of a turn of those that have committed, and of those that have begun and see turns.
-    committed: HashMap<usize, u64>,
+    /// In each lane the latest first number of a turn of one that has begun and sees turns.
     looking: HashMap<usize, u64>,
 }
 
-/// A row more, if the key has none.
-fn add_row(rows: &mut BTreeMap<u64, u64>, row: (u64, u64)) -> Result<(), NoMemory> {
-    if rows.contains_key(&row.0) {
-        return Ok(());
-    }
-    let _before = rows.insert(row.0, row.1)?;
-    Ok(())
-}
-
-/// A key gets a value, or goes.
-fn change_row(rows: &mut BTreeMap<u64, u64>, change: Change) -> Result<(), NoMemory> {
-    match change.value {
-        None => {
-            let _value = rows.remove(&change.key);
-            Ok(())
-        }
-        Some(value) => {
-            let _before = rows.insert(change.key, value)?;
-            Ok(())
+/// Who commits, in order.
+fn commits_of(alloc: Global, points: &[Point]) -> Result<Vec<usize>, NoMemory>
+    ensures { IfOk result (λ order. order.items ≡ commits_there points.now) }
+{
+    let mut order = Vec::new(alloc);
+    for point in points {
+        match point {
+            Point::Begin(_) => {}
+            Point::Commit(t) => order.push(*t)?,
         }
     }
+    Ok(order)
 }
 
-/// Whether a read finds what the rows have.
-fn is_met(rows: &BTreeMap<u64, u64>, read: Read) -> bool {
-    meets(read.need, rows.get(&read.key).copied())
-}
-
-/// Whether the rows have no key of a range that a scan misses.
-fn lacks_range(rows: &BTreeMap<u64, u64>, scan: &Scan, from: u64, to: u64) -> bool {
-    if to < from {
-        return true;
+/// Whether the r-th read in the list of t finds what the rows have.
+fn is_met(log: &Log, rows: &BTreeMap<u64, u64>, t: usize, r: usize) -> bool
+    ensures { IsTrue result → (read : TheRead) → read_there log.now t (ListedAt r) ≡ Some read → meets_it read.need (row_of rows.now read.key) ≡ true }
+{
+    match read_at(log, t, Place::Listed(r)) {
+        Some(read) => meets(read.need, value_at(rows, read.key)),
+        None => true,
     }
-    for (key, _value) in rows.range(from..to) {
-        if !is_excepted(scan, *key) {
+}
+
+/// Whether each read in the list of t finds what the rows have.
+fn is_each_met(log: &Log, rows: &BTreeMap<u64, u64>, t: usize) -> bool
+    ensures { IsTrue result → (r : ℕ) (read : TheRead) → read_there log.now t (ListedAt r) ≡ Some read → meets_it read.need (row_of rows.now read.key) ≡ true }
+{
+    for r in 0..reads_of(log, t).len() {
+        if !is_met(log, rows, t, r) {
             return false;
         }
     }
     true
 }
 
-/// Whether the rows have no key of a bucket that a scan misses.
-fn lacks_bucket(rows: &BTreeMap<u64, u64>, scan: &Scan) -> bool {
-    for (key, _value) in rows.iter() {
-        if covers(scan.scope, *key) && !is_excepted(scan, *key) {
-            return false;
+/// Whether the rows have no key that a scan of t misses.
+fn is_each_lacked(
+    alloc: Global,
+    log: &Log,
+    rows: &BTreeMap<u64, u64>,
+    t: usize,
+) -> Result<bool, NoMemory>
+    ensures { IfOk result (λ yes. IsTrue yes → (s key : ℕ) (read : TheRead) → read_there log.now t (MissingAt s key) ≡ Some read → meets_it read.need (row_of rows.now read.key) ≡ true) }
+{
+    let scans = scans_of(log, t);
+    for n in 0..scans.len() {
+        let keys = missed(alloc, rows, &scans[n])?;
+        if !keys.is_empty() {
+            return Ok(false);
         }
     }
-    true
-}
-
-/// Whether the rows have no key that a scan misses.
-fn lacks(rows: &BTreeMap<u64, u64>, scan: &Scan) -> bool {
-    match scan.scope {
-        Scope::Range(from, to) => lacks_range(rows, scan, from, to),
-        Scope::Bucket(_, _) => lacks_bucket(rows, scan),
-    }
+    Ok(true)
 }
 
 /// Whether all reads of t find what the rows have.
-fn are_met(log: &Log, rows: &BTreeMap<u64, u64>, t: usize) -> bool {
-    for read in reads_of(log, t) {
-        if !is_met(rows, *read) {
-            return false;
-        }
+fn are_met(
+    alloc: Global,
+    log: &Log,
+    rows: &BTreeMap<u64, u64>,
+    t: usize,
+) -> Result<bool, NoMemory>
+    ensures { IfOk result (λ yes. IsTrue yes → (r : ThePlace) (read : TheRead) → read_there log.now t r ≡ Some read → meets_it read.need (row_of rows.now read.key) ≡ true) }
+{
+    if !is_each_met(log, rows, t) {
+        return Ok(false);
     }
-    for scan in scans_of(log, t) {
-        if !lacks(rows, scan) {
-            return false;
-        }
-    }
-    true
+    is_each_lacked(alloc, log, rows, t)
 }
 
 /// Whether a transaction sees those before it in lanes where turns are seen.
-fn sees_turns(rules: Rules) -> bool {
+fn sees_turns(rules: Rules) -> bool
+    ensures { result ≡ sees_them rules }
+{
     rules.first.turns || rules.first.turn_reads
 }
 
-/// Whether no key that t writes was written from the place low on.
-fn is_unwritten_since(last: &HashMap<u64, usize>, changes: &[Change], low: usize) -> bool {
-    for change in changes {
-        match last.get(&change.key).copied() {
-            Some(place) if low <= place => return false,
-            _ => {}
-        }
+/// The turns of t are those of one that has begun, if it sees turns.
+fn look(
+    rules: Rules,
+    log: &Log,
+    looking: &mut HashMap<usize, u64>,
+    t: usize,
+) -> Result<(), NoMemory>
+    ensures raised { OnOk result (AreRaised (get_in ◌==◌ looking.old) (get_in ◌==◌ looking.new)) }
+    ensures there { OnOk result (sees_them rules ≡ true → AreLaned log.now (get_in ◌==◌ looking.new) t) }
+{
+    if !sees_turns(rules) {
+        return Ok(());
     }
-    true
-}
-
-/// Whether t, which began where so many had committed, may commit where these have.
-fn may_commit(rules: Rules, log: &Log, replay: &Replay, t: usize, low: usize) -> bool {
-    if rules.whole && low != replay.count {
-        return false;
-    }
-    if rules.first.writers && !is_unwritten_since(&replay.last, writes_of(log, t), low) {
-        return false;
-    }
-    for turn in turns_of(log, t) {
-        if !has_come(&replay.committed, *turn) || !has_come(&replay.looking, *turn) {
-            return false;
-        }
-    }
-    true
-}
-
-/// A turn of one that has begun and sees turns.
-fn look(lanes: &mut HashMap<usize, u64>, turn: Turn) -> Result<(), NoMemory> {
-    if turn.seen {
-        begin(lanes, turn)
-    } else {
-        Ok(())
-    }
+    show_turns(log, looking, t)
 }
 
 /// t reads, if it may.
 fn begin_at(
-    rules: Rules,
+    alloc: Global,
+    asked: &Asked,
     log: &Log,
+    order: &[usize],
     replay: &mut Replay,
     t: usize,
-) -> Result<bool, NoMemory> {
-    if !is_possible(log, t) || replay.begun.contains_key(&t) {
+) -> Result<bool, NoMemory>
+    requires { IsReplay asked.now log.now order.now replay.old.count (row_of replay.old.rows) (get_in ◌==◌ replay.old.begun) (get_in ◌==◌ replay.old.last) (get_in ◌==◌ replay.old.looking) }
+    ensures { IfOk result (λ yes. IsTrue yes → IsReplay asked.now log.now order.now replay.new.count (row_of replay.new.rows) (get_in ◌==◌ replay.new.begun) (get_in ◌==◌ replay.new.last) (get_in ◌==◌ replay.new.looking)) }
+{
+    if !is_absent(&replay.begun, t) {
         return Ok(false);
     }
-    if !are_met(log, &replay.rows, t) {
+    if !are_met(alloc, log, &replay.rows, t)? {
         return Ok(false);
     }
-    let _before = replay.begun.insert(t, replay.count)?;
-    if sees_turns(rules) {
-        for turn in turns_of(log, t) {
-            look(&mut replay.looking, *turn)?;
+    mark(&mut replay.begun, t, replay.count)?;
+    look(asked.of(t), log, &mut replay.looking, t)?;
+    Ok(true)
+}
+
+/// Whether no key that t writes was written from the place low on.
+fn is_unwritten_since(log: &Log, last: &HashMap<u64, usize>, t: usize, low: usize) -> bool
+    ensures { IsTrue result → (key m : ℕ) → writes_it log.now t key ≡ true → get_in ◌==◌ last.now key ≡ Some m → m < low }
+{
+    let changes = writes_of(log, t);
+    for n in 0..changes.len() {
+        if is_written_since(last, changes[n].key, low) {
+            return false;
         }
     }
-    Ok(true)
+    true
+}
+
+/// Whether t, which began where the first `low` had committed, sees nobody else but by its turns, where the first i have.
+fn is_closed(
+    rules: Rules,
+    log: &Log,
+    order: &[usize],
+    last: &HashMap<u64, usize>,
+    t: usize,
+    low: usize,
+    i: usize,
+) -> bool
+    requires before { low ≤ i }
+    requires last { AreLast log.now order.now i (get_in ◌==◌ last.now) }
+    ensures { IsTrue result → IsClosed rules log.now order.now low i t }
+{
+    let _count = order.len();
+    if rules.whole && low != i {
+        return false;
+    }
+    !rules.first.writers || is_unwritten_since(log, last, t, low)
 }
 
 /// t commits, if it may.
 fn commit_at(
-    rules: Rules,
+    asked: &Asked,
     log: &Log,
+    order: &[usize],
     replay: &mut Replay,
     t: usize,
-) -> Result<bool, NoMemory> {
+) -> Result<bool, NoMemory>
+    requires { IsReplay asked.now log.now order.now replay.old.count (row_of replay.old.rows) (get_in ◌==◌ replay.old.begun) (get_in ◌==◌ replay.old.last) (get_in ◌==◌ replay.old.looking) }
+    ensures { IfOk result (λ yes. IsTrue yes → IsReplay asked.now log.now order.now replay.new.count (row_of replay.new.rows) (get_in ◌==◌ replay.new.begun) (get_in ◌==◌ replay.new.last) (get_in ◌==◌ replay.new.looking)) }
+{
+    let i = replay.count;
+    if at(order, i) != Some(t) {
+        return Ok(false);
+    }
     let Some(low) = place_of(&replay.begun, t) else {
         return Ok(false);
     };
-    if replay.places.contains_key(&t) || !may_commit(rules, log, replay, t, low) {
+    if !is_closed(asked.of(t), log, order, &replay.last, t, low, i) {
         return Ok(false);
     }
-    let _before = replay.places.insert(t, replay.count)?;
-    for change in writes_of(log, t) {
-        change_row(&mut replay.rows, *change)?;
-        let _last = replay.last.insert(change.key, replay.count)?;
+    if !have_come(&replay.looking, turns_of(log, t)) {
+        return Ok(false);
     }
-    for turn in turns_of(log, t) {
-        begin(&mut replay.committed, *turn)?;
-    }
-    replay.count += 1;
+    change_rows(&mut replay.rows, writes_of(log, t))?;
+    mark_writes(&mut replay.last, writes_of(log, t), i)?;
+    replay.count = i + 1;
     Ok(true)
 }
 
-/// Whether all who have begun have committed.
-fn have_all_committed(points: &[Point], places: &HashMap<usize, usize>) -> bool {
+/// Whether at each point who begins or commits there may do so, and all commit.
+fn is_replayed(
+    alloc: Global,
+    asked: &Asked,
+    log: &Log,
+    order: &[usize],
+    points: &[Point],
+) -> Result<bool, NoMemory>
+    ensures { IfOk result (λ yes. IsTrue yes → HasReplay asked.now log.now order.now) }
+{
+    let mut replay = Replay {
+        count: 0,
+        rows: by_key(alloc, log.rows.as_slice())?,
+        begun: HashMap::new(alloc),
+        last: HashMap::new(alloc),
+        looking: HashMap::new(alloc),
+    };
     for point in points {
-        if let Point::Begin(t) = point {
-            if place_of(places, *t).is_none() {
-                return false;
-            }
+        let is_right = match *point {
+            Point::Begin(t) => begin_at(alloc, asked, log, order, &mut replay, t)?,
+            Point::Commit(t) => commit_at(asked, log, order, &mut replay, t)?,
+        };
+        if !is_right {
+            return Ok(false);
         }
     }
-    true
+    Ok(replay.count == order.len())
 }
 
 /// Whether points explain a log by the rules that are asked for: each transaction reads what those that committed before it began
@@ -207,30 +255,20 @@ pub fn explains_by_points(
     asked: &Asked,
     log: &Log,
     points: &[Point],
-) -> Result<bool, NoMemory> {
-    let mut replay = Replay {
-        rows: BTreeMap::new(alloc),
-        begun: HashMap::new(alloc),
-        places: HashMap::new(alloc),
-        count: 0,
-        last: HashMap::new(alloc),
-        committed: HashMap::new(alloc),
-        looking: HashMap::new(alloc),
-    };
-    for row in &log.rows {
-        add_row(&mut replay.rows, *row)?;
-    }
-    for point in points {
-        let is_right = match *point {
-            Point::Begin(t) => begin_at(asked.of(t), log, &mut replay, t)?,
-            Point::Commit(t) => commit_at(asked.of(t), log, &mut replay, t)?,
-        };
-        if !is_right {
-            return Ok(false);
-        }
-    }
-    if !have_all_committed(points, &replay.places) {
+) -> Result<bool, NoMemory>
+    ensures { IfOk result (λ yes. IsTrue yes → IsExplainedBy asked.now log.now (commits_there points.now)) }
+{
+    let list = commits_of(alloc, points)?;
+    let order = list.as_slice();
+    let mut places = HashMap::new(alloc);
+    if !find_places(log, order, &mut places)? {
         return Ok(false);
     }
-    Ok(have_all_places(log, &replay.places))
+    if !have_all_places(log, &places) {
+        return Ok(false);
+    }
+    if !are_in_turn(alloc, log, order)? {
+        return Ok(false);
+    }
+    is_replayed(alloc, asked, log, order, points)
 }
