@@ -1,13 +1,15 @@
 -- A line of a trace, in the parts that are written.
-use Rattle.std.proofs.Common.{◌≡◌, ℕ, List, [], ◌∷◌, ◌++◌, refl, sym, ap, ◌∙◌, append_assoc, codes}
+use Rattle.std.proofs.Common.{◌≡◌, ℕ, List, [], ◌∷◌, ◌++◌, refl, sym, ap, ◌∙◌, append_assoc, append-nil, codes}
 use Rattle.std.specs.Fmt.{decimal}
 use Rattle.hek_rules.specs.declared.event.Event.{Event}
 use Rattle.hek_rules.specs.declared.reply.Reply.{Reply}
+use Rattle.hek_rules.specs.declared.reply.Reply.TheVariants as reply
 use Rattle.hek_rules.specs.Plan.{Plan}
 use Rattle.hek_rules.specs.Forms.{first_word, second_word, word_or_none, form_text}
 use Rattle.hek_rules.specs.Lines.{spaced, joined_words}
 use Rattle.hek_rules.specs.Replies.{form_of}
 use Rattle.hek_asm.specs.Canonical.{step_words}
+use Rattle.hek_asm.specs.Pieces.{first_operands, later_operands}
 use Rattle.hek_asm.specs.Trace.{reply_operands, reply_words, line_front, line_rest, trace_line}
 
 pub spaced_append : (vs ws : List (List ℕ)) → spaced (vs ++ ws) ≡ spaced vs ++ spaced ws
@@ -20,6 +22,17 @@ reply_parts r =
     let f = form_of r in
     let behind = word_or_none (second_word f) in
     ap (λ (bs : List ℕ). first_word f ++ bs) (spaced_append behind (reply_operands r)) ∙ sym (append_assoc (first_word f) (spaced behind) (spaced (reply_operands r)))
+
+operand_words : (r : Reply) → reply_operands r ≡ first_operands r ++ later_operands r
+operand_words (reply.ReleasedRead v writer) = refl
+operand_words (reply.Victim t cycle) = refl
+operand_words (reply.Refused why) = refl
+operand_words (reply.Aborted cause) = refl
+operand_words r = sym (append-nil (reply_operands r))
+
+-- the operands of a reply in two parts
+pub operand_parts : (r : Reply) → spaced (reply_operands r) ≡ spaced (first_operands r) ++ spaced (later_operands r)
+operand_parts r = ap spaced (operand_words r) ∙ spaced_append (first_operands r) (later_operands r)
 
 pub line_parts : (p : Plan) (n : ℕ) (e : Event) (r : Reply) → trace_line p n e r ≡ decimal n ++ (spaced (step_words p e) ++ (codes " -> " ++ (joined_words (reply_words r) ++ 10 ∷ [])))
 line_parts p n e r =
