@@ -6,7 +6,7 @@ ghost use Rattle.hek_asm.specs.Canonical.{step_words};
 ghost use Rattle.hek_asm.specs.Trace.{NamesDeclared, trace_line, trace};
 
 use crate::piece::{front_pieces, rest_pieces, step_pieces};
-use crate::writing::{appending, put_pieces, write_pieces};
+use crate::writing::{appending, put_back, put_pieces, write_pieces};
 use hek_rules::{Event, NoMemory, Reply, Schedule, Sink, WriteFault};
 
 /// Appends a step as a trace has it, with a space before each word. After NoMemory a part of it may have been appended.
@@ -48,8 +48,9 @@ pub fn put_line(
     requires { NamesDeclared (length schedule.now.txns) event.now }
     ensures { OnOk result (out.new.items ≡ out.old.items ++ trace_line schedule.now number event.now reply.now) }
 {
-    put_pieces(front_pieces(schedule, number, event).as_slice(), out)?;
-    put_pieces(rest_pieces(reply).as_slice(), out)
+    let mut sink = appending(out);
+    let written = write_line(schedule, number, event, reply, &mut sink);
+    put_back(sink, written, out)
 }
 
 /// Writes the trace of events with their replies, a line each. After a fault it is unknown how many bytes went out.
@@ -91,9 +92,5 @@ pub fn put_trace(
 {
     let mut sink = appending(out);
     let written = write_trace(schedule, events, replies, &mut sink);
-    *out = sink.into_inner();
-    match written {
-        Ok(()) => Ok(()),
-        Err(_) => Err(NoMemory),
-    }
+    put_back(sink, written, out)
 }

@@ -1,66 +1,52 @@
 //! Lines that go out part by part, to any sink: a list of bytes is one.
-ghost use Rattle.std.specs.Prelude.{◌≡◌, ◌++◌, ◌∷◌, [], false, codes, map, IsTrue, OnOk, Some, is_err};
+ghost use Rattle.std.specs.Prelude.{◌≡◌, ◌++◌, ◌∷◌, [], false, codes, map, IsOk, IsTrue, OnOk, is_err};
 ghost use Rattle.std.specs.Fmt.{decimal};
+ghost use Rattle.std.specs.List.{flat_map};
 ghost use Rattle.hek_rules.specs.Lines.{spaced};
 ghost use Rattle.hek_asm.specs.Pieces.{piece_bytes, pieces_bytes};
-ghost use Rattle.hek_asm.specs.Trace.{pair_word, writer_words};
+ghost use Rattle.hek_asm.specs.Trace.{pair_word};
 
 use crate::piece::Piece;
 use hek_rules::{FromWrite, NoMemory, Sink, TxnId, WriteFault, put_all};
 use itoa::Buffer;
 use std::mem;
 
-fn write_text<S: Sink>(text: &str, sink: &mut S) -> Result<(), WriteFault>
+fn write_texts<S: Sink>(texts: &[&str], sink: &mut S) -> Result<(), WriteFault>
     requires { S.failed sink.old ≡ false }
-    ensures ok { OnOk result (IsTrue (S.tells sink.old) → S.holds sink.new ≡ S.holds sink.old ++ text.now) }
+    ensures ok { OnOk result (IsTrue (S.tells sink.old) → S.holds sink.new ≡ S.holds sink.old ++ flat_map (λ text. text.now) texts.now) }
     ensures tells { IsTrue (S.tells sink.old) → IsTrue (S.tells sink.new) }
     ensures fails { S.failed sink.new ≡ is_err result }
 {
-    put_all(sink, text.as_bytes())
+    for text in texts {
+        put_all(sink, text.as_bytes())?;
+    }
+    Ok(())
 }
 
-fn write_number<S: Sink>(number: u64, sink: &mut S) -> Result<(), WriteFault>
+// A text, and a number behind it.
+fn write_number<S: Sink>(front: &str, number: u64, sink: &mut S) -> Result<(), WriteFault>
     requires { S.failed sink.old ≡ false }
-    ensures ok { OnOk result (IsTrue (S.tells sink.old) → S.holds sink.new ≡ S.holds sink.old ++ decimal number) }
+    ensures ok { OnOk result (IsTrue (S.tells sink.old) → S.holds sink.new ≡ S.holds sink.old ++ (front.now ++ decimal number)) }
     ensures tells { IsTrue (S.tells sink.old) → IsTrue (S.tells sink.new) }
     ensures fails { S.failed sink.new ≡ is_err result }
 {
-    let mut buffer = Buffer::new();
-    write_text(buffer.format(number), sink)
+    let mut digits = Buffer::new();
+    write_texts([front, digits.format(number)].as_slice(), sink)
 }
 
-// A space and a word.
-fn write_word<S: Sink>(word: &str, sink: &mut S) -> Result<(), WriteFault>
-    requires { S.failed sink.old ≡ false }
-    ensures ok { OnOk result (IsTrue (S.tells sink.old) → S.holds sink.new ≡ S.holds sink.old ++ spaced (word.now ∷ [])) }
-    ensures tells { IsTrue (S.tells sink.old) → IsTrue (S.tells sink.new) }
-    ensures fails { S.failed sink.new ≡ is_err result }
-{
-    write_text(" ", sink)?;
-    write_text(word, sink)
-}
-
-// A space and a number.
-fn write_item<S: Sink>(number: u64, sink: &mut S) -> Result<(), WriteFault>
-    requires { S.failed sink.old ≡ false }
-    ensures ok { OnOk result (IsTrue (S.tells sink.old) → S.holds sink.new ≡ S.holds sink.old ++ spaced (decimal number ∷ [])) }
-    ensures tells { IsTrue (S.tells sink.old) → IsTrue (S.tells sink.new) }
-    ensures fails { S.failed sink.new ≡ is_err result }
-{
-    write_text(" ", sink)?;
-    write_number(number, sink)
-}
-
-// A space and `KEY=VALUE`.
 fn write_pair<S: Sink>(pair: (u64, u64), sink: &mut S) -> Result<(), WriteFault>
     requires { S.failed sink.old ≡ false }
     ensures ok { OnOk result (IsTrue (S.tells sink.old) → S.holds sink.new ≡ S.holds sink.old ++ spaced (pair_word pair ∷ [])) }
     ensures tells { IsTrue (S.tells sink.old) → IsTrue (S.tells sink.new) }
     ensures fails { S.failed sink.new ≡ is_err result }
 {
-    write_item(pair.0, sink)?;
-    write_text("=", sink)?;
-    write_number(pair.1, sink)
+    let (key, value) = pair;
+    let mut key_digits = Buffer::new();
+    let mut value_digits = Buffer::new();
+    write_texts(
+        [" ", key_digits.format(key), "=", value_digits.format(value)].as_slice(),
+        sink,
+    )
 }
 
 fn write_pairs<S: Sink>(pairs: &[(u64, u64)], sink: &mut S) -> Result<(), WriteFault>
@@ -75,17 +61,6 @@ fn write_pairs<S: Sink>(pairs: &[(u64, u64)], sink: &mut S) -> Result<(), WriteF
     Ok(())
 }
 
-// The word `writer` and the transaction.
-fn write_writer<S: Sink>(txn: u64, sink: &mut S) -> Result<(), WriteFault>
-    requires { S.failed sink.old ≡ false }
-    ensures ok { OnOk result (IsTrue (S.tells sink.old) → S.holds sink.new ≡ S.holds sink.old ++ spaced (writer_words (Some txn))) }
-    ensures tells { IsTrue (S.tells sink.old) → IsTrue (S.tells sink.new) }
-    ensures fails { S.failed sink.new ≡ is_err result }
-{
-    write_word("writer", sink)?;
-    write_item(txn, sink)
-}
-
 // The word `cycle` and the transactions.
 fn write_cycle<S: Sink>(members: &[TxnId], sink: &mut S) -> Result<(), WriteFault>
     requires { S.failed sink.old ≡ false }
@@ -93,9 +68,9 @@ fn write_cycle<S: Sink>(members: &[TxnId], sink: &mut S) -> Result<(), WriteFaul
     ensures tells { IsTrue (S.tells sink.old) → IsTrue (S.tells sink.new) }
     ensures fails { S.failed sink.new ≡ is_err result }
 {
-    write_word("cycle", sink)?;
+    put_all(sink, b" cycle".as_slice())?;
     for member in members {
-        write_item(member.number(), sink)?;
+        write_number(" ", member.number(), sink)?;
     }
     Ok(())
 }
@@ -108,12 +83,12 @@ fn write_piece<S: Sink>(piece: Piece<'_>, sink: &mut S) -> Result<(), WriteFault
 {
     match piece {
         Piece::Nothing => Ok(()),
-        Piece::Text(text) => write_text(text, sink),
-        Piece::Word(word) => write_word(word, sink),
-        Piece::Number(number) => write_number(number, sink),
-        Piece::Item(number) => write_item(number, sink),
+        Piece::Text(text) => put_all(sink, text.as_bytes()),
+        Piece::Word(word) => write_texts([" ", word].as_slice(), sink),
+        Piece::Number(number) => write_number("", number, sink),
+        Piece::Item(number) => write_number(" ", number, sink),
+        Piece::Writer(number) => write_number(" writer ", number, sink),
         Piece::Pairs(pairs) => write_pairs(pairs, sink),
-        Piece::Writer(txn) => write_writer(txn, sink),
         Piece::Cycle(members) => write_cycle(members, sink),
     }
 }
@@ -139,15 +114,27 @@ pub(crate) fn appending(out: &mut Vec<u8>) -> FromWrite<Vec<u8>>
     FromWrite::new(mem::replace(out, Vec::new(alloc)))
 }
 
+/// Puts the bytes back that a sink has, and answers what came of the writing.
+pub(crate) fn put_back(
+    sink: FromWrite<Vec<u8>>,
+    written: Result<(), WriteFault>,
+    out: &mut Vec<u8>,
+) -> Result<(), NoMemory>
+    ensures written { OnOk result (IsOk written) }
+    ensures bytes { out.new.items ≡ sink.inner.items }
+{
+    *out = sink.into_inner();
+    match written {
+        Ok(()) => Ok(()),
+        Err(_) => Err(NoMemory),
+    }
+}
+
 /// Appends the parts of a line. After NoMemory some of them may have been appended.
 pub(crate) fn put_pieces(pieces: &[Piece<'_>], out: &mut Vec<u8>) -> Result<(), NoMemory>
     ensures { OnOk result (out.new.items ≡ out.old.items ++ pieces_bytes pieces.now) }
 {
     let mut sink = appending(out);
     let written = write_pieces(pieces, &mut sink);
-    *out = sink.into_inner();
-    match written {
-        Ok(()) => Ok(()),
-        Err(_) => Err(NoMemory),
-    }
+    put_back(sink, written, out)
 }
