@@ -1,5 +1,5 @@
 -- The parts of a line, and the bytes that each stands for.
-use Rattle.std.specs.Prelude.{ℕ, List, [], ◌∷◌, codes, map, Some}
+use Rattle.std.specs.Prelude.{ℕ, List, [], ◌∷◌, ◌++◌, codes, map, Some}
 use Rattle.std.specs.Fmt.{decimal}
 use Rattle.std.specs.List.{flat_map}
 use Rattle.hek_rules.specs.Lines.{spaced}
@@ -14,6 +14,7 @@ abbrev pub piece_bytes : Piece → List ℕ
 piece_bytes piece.Nothing = []
 piece_bytes (piece.Text text) = text.now
 piece_bytes (piece.Word word) = spaced (word.now ∷ [])
+piece_bytes (piece.Name name) = name.now ++ 32 ∷ []
 piece_bytes (piece.Number number) = decimal number
 piece_bytes (piece.Item number) = spaced (decimal number ∷ [])
 piece_bytes (piece.Pairs pairs) = spaced (map pair_word pairs.now)

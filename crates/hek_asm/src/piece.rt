@@ -3,7 +3,7 @@ ghost use Rattle.std.specs.Prelude.{◌≡◌, length, if◌then◌else◌, ◌�
 ghost use Rattle.std.specs.Fmt.{decimal};
 ghost use Rattle.hek_rules.specs.Plan.{IsDeclared};
 ghost use Rattle.hek_rules.specs.Lines.{spaced, joined_words};
-ghost use Rattle.hek_asm.specs.Canonical.{name_words, step_words};
+ghost use Rattle.hek_asm.specs.Canonical.{name_front, step_words};
 ghost use Rattle.hek_asm.specs.Pieces.{piece_bytes, pieces_bytes, first_operands, later_operands};
 ghost use Rattle.hek_asm.specs.Trace.{NamesDeclared, line_front, line_rest, reply_words, writer_words};
 
@@ -16,6 +16,8 @@ pub(crate) enum Piece<'a> {
     Text(&'a str),
     /// A space and a word.
     Word(&'a str),
+    /// A name and a space.
+    Name(&'a str),
     Number(u64),
     /// A space and a number.
     Item(u64),
@@ -27,14 +29,14 @@ pub(crate) enum Piece<'a> {
     Cycle(&'a [TxnId]),
 }
 
-// The name of a transaction, if there is one.
+// The name at the front of a step, if its event has a transaction.
 fn name_piece(schedule: &Schedule, txn: Option<TxnId>) -> Piece<'_>
     requires { IfSome txn (λ t. IsDeclared (length schedule.now.txns) t) }
-    ensures { piece_bytes result ≡ spaced (name_words schedule.now txn) }
+    ensures { piece_bytes result ≡ name_front schedule.now txn }
 {
     match txn {
         None => Piece::Nothing,
-        Some(txn) => Piece::Word(schedule.name_of(txn)),
+        Some(txn) => Piece::Name(schedule.name_of(txn)),
     }
 }
 
@@ -49,29 +51,32 @@ fn operand_piece<'a>(is_there: bool, operand: u64) -> Piece<'a>
     }
 }
 
-/// A step as a trace has it, with a space before each word.
+/// A step as a line has it.
+#[tactic(auto, using(crate::proofs::LineLemmas::step_parts))]
 pub(crate) fn step_pieces<'a>(schedule: &'a Schedule, event: &Event) -> [Piece<'a>; 4]
     requires { NamesDeclared (length schedule.now.txns) event.now }
-    ensures { pieces_bytes result ≡ spaced (step_words schedule.now event.now) }
+    ensures { pieces_bytes result ≡ joined_words (step_words schedule.now event.now) }
 {
     let kind = event.kind();
     let count = kind.operand_count();
     [
         name_piece(schedule, event.txn()),
-        Piece::Word(kind.word()),
+        Piece::Text(kind.word()),
         operand_piece(count > 0, event.first()),
         operand_piece(count > 1, event.second()),
     ]
 }
 
 /// A line up to the reply: the number, the step and the arrow.
-pub(crate) fn front_pieces<'a>(schedule: &'a Schedule, number: u64, event: &Event) -> [Piece<'a>; 6]
+#[tactic(auto, using(crate::proofs::LineLemmas::spaced_step))]
+pub(crate) fn front_pieces<'a>(schedule: &'a Schedule, number: u64, event: &Event) -> [Piece<'a>; 7]
     requires { NamesDeclared (length schedule.now.txns) event.now }
     ensures { pieces_bytes result ≡ line_front schedule.now number event.now }
 {
     let [name, kind, first, second] = step_pieces(schedule, event);
     [
         Piece::Number(number),
+        Piece::Text(" "),
         name,
         kind,
         first,

@@ -5,16 +5,21 @@ ghost use Rattle.hek_rules.specs.Lines.{spaced};
 ghost use Rattle.hek_asm.specs.Canonical.{step_words};
 ghost use Rattle.hek_asm.specs.Trace.{NamesDeclared, trace_line, trace};
 
-use crate::piece::{front_pieces, rest_pieces, step_pieces};
+use crate::piece::{Piece, front_pieces, rest_pieces, step_pieces};
 use crate::writing::{appending, put_back, put_pieces, write_pieces};
 use hek_rules::{Event, NoMemory, Reply, Schedule, Sink, WriteFault};
 
 /// Appends a step as a trace has it, with a space before each word. After NoMemory a part of it may have been appended.
+#[tactic(auto, using(crate::proofs::LineLemmas::spaced_step))]
 pub fn put_step(schedule: &Schedule, event: &Event, out: &mut Vec<u8>) -> Result<(), NoMemory>
     requires { NamesDeclared (length schedule.now.txns) event.now }
     ensures { OnOk result (out.new.items ≡ out.old.items ++ spaced (step_words schedule.now event.now)) }
 {
-    put_pieces(step_pieces(schedule, event).as_slice(), out)
+    let [name, kind, first, second] = step_pieces(schedule, event);
+    put_pieces(
+        [Piece::Text(" "), name, kind, first, second].as_slice(),
+        out,
+    )
 }
 
 /// Writes the line of the event that has this number, with its reply. After a fault it is unknown how many bytes went

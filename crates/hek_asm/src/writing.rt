@@ -85,6 +85,7 @@ fn write_piece<S: Sink>(piece: Piece<'_>, sink: &mut S) -> Result<(), WriteFault
         Piece::Nothing => Ok(()),
         Piece::Text(text) => put_all(sink, text.as_bytes()),
         Piece::Word(word) => write_texts([" ", word].as_slice(), sink),
+        Piece::Name(name) => write_texts([name, " "].as_slice(), sink),
         Piece::Number(number) => write_number("", number, sink),
         Piece::Item(number) => write_number(" ", number, sink),
         Piece::Writer(number) => write_number(" writer ", number, sink),
