@@ -9,6 +9,7 @@ use hek_convert_command::{
     Bounds, asm_command, changes_command, dis_command, release_command, word_command,
 };
 use hek_report::{HekFault, INPUT};
+use hek_rules::FromWrite;
 use std::alloc::Global;
 use std::io::{IsTerminal, Read, Write};
 
@@ -57,11 +58,11 @@ pub fn asm<'a, D: Disk, I: Read + Drop, W: Write + IsTerminal, E: Write>(
     let bytes = schedule_text(alloc, open(disk, input, name)?, name)?;
     plain_text(alloc, bytes.as_slice())?;
     if image == OUTPUT {
-        return asm_command(alloc, bytes.as_slice(), out);
+        return asm_command(alloc, bytes.as_slice(), &mut FromWrite::new(out));
     }
-    let mut file = LateFile::new(disk, image);
+    let mut file = FromWrite::new(LateFile::new(disk, image));
     let ran = asm_command(alloc, bytes.as_slice(), &mut file);
-    file.settle(ran.is_ok(), ran)
+    file.into_inner().settle(ran.is_ok(), ran)
 }
 
 /// Answers `dis`.
