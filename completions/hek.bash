@@ -5,7 +5,7 @@ _hek() {
     local word=${COMP_WORDS[COMP_CWORD]} before=${COMP_WORDS[COMP_CWORD - 1]} command=${COMP_WORDS[1]} words="" files=""
     COMPREPLY=()
     if [ "$COMP_CWORD" -eq 1 ]; then
-        words="run debug page figure permute check history drive threads word release asm dis import completions man help --help --version"
+        words="run debug page figure permute check history drive threads word release asm dis completions man help --help --version"
         mapfile -t COMPREPLY < <(compgen -W "$words" -- "$word")
         return
     fi
@@ -16,8 +16,7 @@ _hek() {
         before="${COMP_WORDS[COMP_CWORD - 2]}="
     fi
     case "$command $before" in
-    "help help") words="run debug page figure permute check history drive threads word release asm dis import completions man" ;;
-    "import import") words="spec elle" ;;
+    "help help") words="run debug page figure permute check history drive threads word release asm dis completions man" ;;
     "completions completions") words="bash zsh fish words" ;;
     "run --explain=") words="always never" ;;
     "run --color=") words="always never auto" ;;
@@ -74,10 +73,6 @@ _hek() {
     "word --readers") return ;;
     "asm --explain=") words="always never" ;;
     "dis --explain=") words="always never" ;;
-    "import --explain=") words="always never" ;;
-    "import --permutation") return ;;
-    "import --level") words="serializable repeatable snapshot" ;;
-    "import --output" | "import -o") compopt -o default; return ;;
     esac
     if [ -n "$words" ]; then
         mapfile -t COMPREPLY < <(compgen -W "$words" -- "$word")
@@ -97,7 +92,6 @@ _hek() {
     release) words="--help" ;;
     asm) words="--explain --help" files=yes ;;
     dis) words="--text --image --explain --help" files=yes ;;
-    import) words="--explain --permutation --level --output --help" files=yes ;;
     completions) words="--help" ;;
     man) words="--help" ;;
     esac

@@ -1,6 +1,6 @@
 //! The words of the command line: the commands, their arguments and help.
 use crate::build::VERSION;
-use crate::file_texts::{ASM, COMPLETIONS, DIS, IMPORT, MAN, RELEASE, WORD};
+use crate::file_texts::{ASM, COMPLETIONS, DIS, MAN, RELEASE, WORD};
 use crate::order_texts::{CHECK, HISTORY, PERMUTE};
 use crate::page_texts::{FIGURE, PAGE};
 use crate::run_texts::{DEBUG, DRIVE, RUN, THREADS};
@@ -22,7 +22,7 @@ const ENGINE_COMMANDS: &[CommandText] = &[HISTORY, DRIVE, THREADS];
 
 const WORD_COMMANDS: &[CommandText] = &[WORD, RELEASE, ASM];
 
-const FILE_COMMANDS: &[CommandText] = &[DIS, IMPORT];
+const FILE_COMMANDS: &[CommandText] = &[DIS];
 
 const SHELL_COMMANDS: &[CommandText] = &[COMPLETIONS, MAN];
 

@@ -5,8 +5,7 @@ use crate::convert::{asm, dis, release, word};
 use crate::disk::{Disk, open};
 use crate::explain::finish;
 use crate::explaining::{Colouring, CommandWords, Explaining, Wishes};
-use crate::import::import;
-use crate::kept::{Kept, KeptDisk, KeptReader};
+use crate::kept::{Kept, KeptDisk, KeptReader, asks_question, status_at_fault};
 use crate::log::history;
 use crate::opening::without_mark;
 use crate::options::{count_from, level_of, number_of, printing_of, text};
@@ -65,6 +64,8 @@ pub fn program<
             out,
             faults,
         ),
+        // Of no command is known that 1 isn't an answer of it.
+        Err(HekFault::NoMemory) => status_at_fault(report(HekFault::NoMemory, faults), true),
         Err(fault) => report(fault, faults),
     }
 }
@@ -101,9 +102,10 @@ pub fn answer_in_threads<
     out: &mut W,
     faults: &mut E,
 ) -> u8 {
+    let asks = asks_question(words);
     let words = match CommandWords::of(alloc, words, wishes) {
         Ok(words) => words,
-        Err(_) => return report(HekFault::NoMemory, faults),
+        Err(_) => return status_at_fault(report(HekFault::NoMemory, faults), asks),
     };
     let CommandWords { words, wishes } = words;
     answer_words(
@@ -158,7 +160,7 @@ fn answer_words<
         Err(error) => {
             let mut out = NotedOutput::new(out);
             let ran = refused(alloc, &error, words, explains, &mut out, &mut faults);
-            status_of(ran, &out, &mut faults)
+            status_at_fault(status_of(ran, &out, &mut faults), asks_question(words))
         }
     };
     let _ = faults.flush();
@@ -355,7 +357,6 @@ fn run<'a, D: Disk, I: Read + IsTerminal + Drop, W: Write + IsTerminal, E: Write
         Some(("run", found)) => run_schedule(alloc, found, disk, input, out),
         Some(("debug", found)) => debug(alloc, found, explains, disk, input, out, faults),
         Some(("history", found)) => history(alloc, found, explains, disk, input, out, faults),
-        Some(("import", found)) => import(alloc, found, explains, disk, input, out, faults),
         Some(("completions", found)) => completions(alloc, found, out),
         Some(("man", _)) => print(manual_page(), out),
         Some((name, found)) => run_noting(alloc, name, found, explains, disk, input, out, faults),

@@ -36,9 +36,12 @@ pub fn finish<W: Write, E: Write>(
             status
         }
         Err(HekFault::CannotWrite) if out.has_lost_reader() => 0,
+        Err(HekFault::CannotWrite) if kept.failure() == Some(ErrorKind::OutOfMemory) => {
+            kept.status_after(report(HekFault::NoMemory, faults))
+        }
         Err(fault) => {
             let status = report(fault, faults);
-            if kept.explains {
+            if kept.explains && kept.is_whole() {
                 explain(alloc, fault, matches, kept, out.failure(), faults);
             }
             kept.status_after(status)

@@ -11,8 +11,6 @@ mod disk;
 mod explain;
 mod explaining;
 mod file_texts;
-mod import;
-mod import_elle;
 mod kept;
 mod log;
 mod notes;

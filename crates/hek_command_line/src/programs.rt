@@ -3,7 +3,7 @@ use crate::opening::without_mark;
 use clap::ArgMatches;
 use hek_asm::AsmKind;
 use hek_diagnostics::{Excerpt, explain_text};
-use hek_program::{ComputedLine, bare_text, computed_line, read_program};
+use hek_program::{ComputedLine, ProgramFault, bare_text, computed_line, read_program};
 use hek_report::{HekFault, ScheduleFile};
 use hek_rules::next_line;
 use std::alloc::Global;
@@ -42,6 +42,7 @@ pub fn plain_text<'a>(alloc: Global, text: &[u8]) -> Result<(), HekFault<'a>> {
     };
     match read_program(alloc, text) {
         Ok(_) => Err(HekFault::Computed { line: number, what }),
+        Err(ProgramFault::NoMemory) => Err(HekFault::NoMemory),
         Err(_) => Ok(()),
     }
 }

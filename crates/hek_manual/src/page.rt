@@ -715,60 +715,6 @@ Where first.img is the image of a schedule with one bucket and nothing else, it 
 buckets 1
 .fi
 .RE
-.SS import
-Makes schedules of a spec of PostgreSQL's isolation tests, or a log of a history of Jepsen.
-.PP
-\fBhek import [OPTIONS] <FORM> <FILE>\fR
-.TP
-\fIFORM\fR
-what FILE is [possible values: spec, elle]
-.TP
-\fIFILE\fR
-a spec or a history, or \- for standard input
-.TP
-\fB\-\-explain\fR[=\fIHOW\fR]
-says of each fault what is wrong, what is wanted and what is meant, as at a terminal; =never only names it (always, never)
-.TP
-\fB\-\-permutation\fR \fIN\fR
-makes the schedule of the Nth permutation, from 1
-.TP
-\fB\-\-level\fR \fIL\fR
-takes all transactions as serializable, repeatable or snapshot
-.TP
-\fB\-o\fR, \fB\-\-output\fR \fIOUT\fR
-writes the schedule or the log to a file; where OUT ends with /, a file for each permutation to this folder
-.PP
-\(gahek import elle FILE\(ga makes a log for \(gahek history\(ga of a history of Jepsen or Elle, in EDN or JSON: reads and writes of registers, or appends to lists.
-.PP
-Of a spec: rows of a table with a primary key become rows; select, insert, update and delete become steps: reads where a condition names the key, otherwise scans. Serializable stays so, repeatable read becomes snapshot, and read committed isn't there: \-\-level says which level to take. What can't be translated is left out and named, in comments too, with status 1; with status 4 if nothing is left. Without \-\-permutation the sessions follow one another: \(gahek permute\(ga plays all their orders.
-.PP
-Example:
-.RS 4
-.nf
-hek import spec skew.spec
-.fi
-.RE
-Where skew.spec has the lines
-.RS 4
-.nf
-setup { CREATE TABLE t (id int PRIMARY KEY, v int); INSERT INTO t VALUES (1, 10); }
-session "a"
-setup { BEGIN ISOLATION LEVEL SERIALIZABLE; }
-step "read" { SELECT v FROM t WHERE id = 1; }
-step "commit" { COMMIT; }
-.fi
-.RE
-it prints a schedule whose first lines are
-.RS 4
-.nf
-# skew: one session after another; permutations of the spec: 0
-buckets 1
-row 1 10
-txn a serializable
-a begin
-a read 1
-.fi
-.RE
 .SS completions
 Prints what a shell reads to complete the words of a command line.
 .PP

@@ -18,7 +18,6 @@ _hek() {
         'release:Gives up one read lock of an End word'
         'asm:Makes the image of a schedule text'
         'dis:Prints the canonical text of a schedule'
-        'import:Makes schedules of a spec of PostgreSQL'\''s isolation tests, or a log of a history of Jepsen'
         'completions:Prints what a shell reads to complete the words of a command line'
         'man:Prints the manual page'
         'help:Print this message or the help of the given subcommand(s)'
@@ -211,16 +210,6 @@ _hek() {
                 '--explain=-[says of each fault what is wrong, what is wanted and what is meant, as at a terminal; =never only names it]::HOW:(always never)' \
                 '(- *)'{-h,--help}'[Print help]' \
                 '1:FILE:_files'
-            ;;
-        import)
-            _arguments \
-                '--explain=-[says of each fault what is wrong, what is wanted and what is meant, as at a terminal; =never only names it]::HOW:(always never)' \
-                '--permutation[makes the schedule of the Nth permutation, from 1]:N:' \
-                '--level[takes all transactions as serializable, repeatable or snapshot]:L:(serializable repeatable snapshot)' \
-                {-o,--output}'[writes the schedule or the log to a file; where OUT ends with /, a file for each permutation to this folder]:OUT:_files' \
-                '(- *)'{-h,--help}'[Print help]' \
-                '1:FORM:(spec elle)' \
-                '2:FILE:_files'
             ;;
         completions)
             _arguments \

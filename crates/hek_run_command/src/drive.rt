@@ -147,6 +147,11 @@ fn drive<'a, B: BufRead, W: Write, E: Write>(
             text,
             faults,
         );
+        // A line without an end is the last one: at a terminal another read would wait.
+        if !line.ends_with(b"\n") {
+            prompt(driving.prompts, b"\n", out)?;
+            return Ok(status);
+        }
     }
     Ok(status)
 }
