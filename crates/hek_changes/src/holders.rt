@@ -31,7 +31,7 @@ pub struct Standing {
 /// the read locks of the word that are known, each by its holder's number.
 pub fn holder_fault(
     change: EndChange,
-    counted: u8,
+    counted: u64,
     readers: &[u64],
     txn: TxnId,
     standing: Standing,
@@ -39,7 +39,7 @@ pub fn holder_fault(
     ensures { result ≡ fault_of txn change counted readers.now standing }
 {
     let held = reads_held(readers, txn);
-    let all_known = usize::from(counted) <= readers.len();
+    let all_known = counted <= readers.len() as u64;
     if clears(change) && standing.writer_lives {
         Some(HolderFault::WriterLives)
     } else if drops(change) && held == 0 && all_known {
