@@ -1,11 +1,11 @@
--- A line has one list of words, and so at most one exchange.
+-- A line has one list of words, and so at most one entry.
 use Rattle.std.proofs.Common.{◌≡◌, refl, sym, ap, subst, ◌∙◌, ◌↔◌, ℕ, suc, zero, ◌<◌, true, false, List, [], ◌∷◌, ◌++◌, length, append_assoc, not, arith, Option, Some, None}
 use Rattle.std.specs.Char.{is_not_whitespace, is_whitespace}
 use Rattle.std.specs.Str.{IsUtf8, NoCharPasses, NonePass, EmptyOrStartsWithPassing}
 use Rattle.std.proofs.lemmas.Str.{cons_from_encodes, encodes_same}
 use lib.Utf8.{encode, encodes}
-use Rattle.hek_convert_command.specs.declared.exchange.Exchange.{Exchange}
-use Rattle.hek_convert_command.specs.Lines.{AreWordsOf, FirstWord, FirstWords, IsExchangeOn}
+use Rattle.hek_convert_command.specs.declared.entry.Entry.{Entry}
+use Rattle.hek_convert_command.specs.Lines.{AreWordsOf, FirstWord, FirstWords, IsEntryOn}
 
 -- ---- the characters of a text
 
@@ -125,7 +125,7 @@ no_word_first ts text w r e h p =
     let all : h.0 ≡ a.gap ++ (a.chars ++ a.left) = encodes_same h.0 ts (h.1 ∙ sym e) ∙ a.is in
     white_word a.chars a.left (none_after a.gap (a.chars ++ a.left) (subst (λ (cs : List ℕ). NonePass is_not_whitespace cs) all h.2)) a.dense a.some
 
--- ---- the words of a line, and its exchange
+-- ---- the words of a line, and its entry
 
 same_list : (x y : List ℕ) (xs ys : List (List ℕ)) → x ≡ y → xs ≡ ys → x ∷ xs ≡ y ∷ ys
 same_list x y xs ys p q = cc
@@ -141,13 +141,13 @@ lists_same (suc n) ts text (x ∷ xs) (y ∷ ys) e p q =
     let same = word_same ts text x y p.0 q.0 e p.1 q.1 in
     same_list x y xs ys same.0 (lists_same n same.2.0 p.0 xs ys same.2.1 p.2 (subst (λ (rest : List ℕ). FirstWords n rest ys) (sym same.1) q.2))
 
-at_most_one : (a b : Option Exchange) (words : List (List ℕ)) → ((e : Exchange) → (a ≡ Some e) ↔ AreWordsOf e words) → ((e : Exchange) → (b ≡ Some e) ↔ AreWordsOf e words) → a ≡ b
+at_most_one : (a b : Option Entry) (words : List (List ℕ)) → ((e : Entry) → (a ≡ Some e) ↔ AreWordsOf e words) → ((e : Entry) → (b ≡ Some e) ↔ AreWordsOf e words) → a ≡ b
 at_most_one None None words p q = refl
 at_most_one None (Some e) words p q = (p e).1 ((q e).0 refl)
 at_most_one (Some e) b words p q = sym ((q e).1 ((p e).0 refl))
 
--- a line has one exchange, or none
-pub one_exchange : (line : List ℕ) (a b : Option Exchange) → IsUtf8 line → IsExchangeOn line a → IsExchangeOn line b → a ≡ b
-one_exchange line a b u p q =
+-- a line has one entry, or none
+pub one_entry : (line : List ℕ) (a b : Option Entry) → IsUtf8 line → IsEntryOn line a → IsEntryOn line b → a ≡ b
+one_entry line a b u p q =
     let same : q.words ≡ p.words = lists_same 5 u.0 line q.words p.words u.1.1 q.first p.first in
-    at_most_one a b p.words p.is (subst (λ (words : List (List ℕ)). (e : Exchange) → (b ≡ Some e) ↔ AreWordsOf e words) same q.is)
+    at_most_one a b p.words p.is (subst (λ (words : List (List ℕ)). (e : Entry) → (b ≡ Some e) ↔ AreWordsOf e words) same q.is)
