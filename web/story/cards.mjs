@@ -30,6 +30,7 @@ function small({ kind, t, value, by, rows }, x, y, w, h, size) {
     case "scan": return rect(...box, `box s${own}`, 3) + said(rows.length, "b");
     case "write": return rect(...box, `f${own}`, 3) + said(value ?? NONE, "b on");
     case "skip": case "miss": case "refused": return rect(...box, "chip") + rect(...box, "ghost", 3);
+    case "unknown": return rect(middle - size * 0.6, y, size * 1.2, h, "chip") + text(middle, base, size, "?", "b soft");
     case "commit": return rect(middle - size * 0.6, y, size * 1.2, h, "chip") + text(middle, base, size, "✓", `b f${own}`);
     case "abort": return rect(...box, "bad", 3) + text(middle, base, size, "✗", "b on");
     default: return "";

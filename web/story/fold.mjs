@@ -64,7 +64,7 @@ class Fold {
     for (const it of work.slice(me.next, at)) {
       if (it.when === undefined || it.kind === "fail") continue;
       this.add(txn, "skip", null, { op: it.kind, key: it.key, term: it.term ?? null, line: it.line, saw: [...me.saw].map(([key, value]) => [key, value]),
-        say: `${named(txn)} leaves out line ${it.line}.`, why: "" });
+        say: `${named(txn)} leaves out line ${it.line}`, why: "" });
     }
     me.next = isIt === NONE ? at : at + 1;
     return work[at];
@@ -79,14 +79,14 @@ class Fold {
     const { kind } = step.event, { txn } = step, reply = step.reply.kind, me = this.txns.get(txn);
     const at = this.moves.length;
     if (kind === "detect") { if (reply === "victim") this.victim(step); else this.join(null, step.step); }
-    else if (reply === "refused") this.add(txn, "refused", step.step, { op: kind, key: step.event.key ?? null, say: `${named(txn)} may not ${kind} now.`, why: `It is refused: ${step.reply.refusal}.` });
+    else if (reply === "refused") this.add(txn, "refused", step.step, { op: kind, key: step.event.key ?? null, say: `${named(txn)} may not ${kind} now`, why: `It is refused: ${step.reply.refusal}` });
     else if (me.end) this.join(txn, step.step);
-    else if (reply === "began") this.add(txn, "begin", step.step, { say: `${named(txn)} begins.`, why: "" });
+    else if (reply === "began") this.add(txn, "begin", step.step, { say: `${named(txn)} begins`, why: "" });
     else if (reply === "aborted" || reply === "failed") this.abort(txn, step);
     else if (WORK.test(kind)) this.work(step);
     else if (kind === "finish") { this.lineOf(txn, NONE); this.join(txn, step.step); }
     else if (/^waiting/.test(reply)) this.wait(step);
-    else if (reply === "precommitted") this.add(txn, "precommit", step.step, { time: step.reply.time, say: `${named(txn)} draws its end time.`, why: "" });
+    else if (reply === "precommitted") this.add(txn, "precommit", step.step, { time: step.reply.time, say: `${named(txn)} draws its end time`, why: "" });
     else if (reply === "committed") this.commit(step);
     else this.join(txn, step.step);
     this.free(step, at);
@@ -107,7 +107,7 @@ class Fold {
     const { txn } = step, { key } = step.event, found = step.reply.kind === "found" ? step.reply.value : null;
     const seen = step.why.filter((it) => it.kind === "looked" && it.sight === "seen").at(-1), version = this.versions[seen?.version], writer = version?.writer ?? null;
     me.saw.set(key, found);
-    this.add(txn, "read", step.step, { key, value: found, line, writer, say: `${named(txn)} reads ${key}: ${found ?? "no such row"}.`, why: this.whyRead(txn, key, found, writer) });
+    this.add(txn, "read", step.step, { key, value: found, line, writer, say: `${named(txn)} reads ${key}: ${found ?? "no such row"}`, why: this.whyRead(txn, key, found, writer) });
   }
 
   whyRead(txn, key, found, writer) {
@@ -115,14 +115,14 @@ class Fold {
     if (writer?.txn === txn) return "It sees its own write.";
     if (other && this.txns.get(other).end?.kind !== "commit") return `${named(other)} wrote it and is about to commit: ${named(txn)} may commit only if ${named(other)} does.`;
     if (found !== (this.rows.get(key) ?? null)) return `It looks at the rows as they were when it began; by now ${key} is ${this.rows.get(key) ?? "gone"}.`;
-    if (pending) return `${named(pending)} has written ${key}, but hasn’t committed: its value isn’t seen.`;
+    if (pending) return `${named(pending)} has written ${key}, but hasn't committed: its value isn't seen.`;
     return other ? `${named(other)} wrote it.` : "";
   }
 
   write(step, line, me) {
     const { txn } = step, { kind, key } = step.event, value = kind === "delete" ? null : step.event.value, isDone = step.reply.kind === "done";
     if (!isDone) {
-      this.add(txn, "miss", step.step, { op: kind, key, value, line, say: `${named(txn)} writes nothing: ${key} ${step.reply.kind === "exists" ? "is there already" : "isn’t there"}.`, why: "" });
+      this.add(txn, "miss", step.step, { op: kind, key, value, line, say: `${named(txn)} writes nothing: ${key} ${step.reply.kind === "exists" ? "is there already" : "isn't there"}`, why: "" });
       return;
     }
     const others = [...new Set(step.changes.filter((it) => it.kind === "txn" && it.field === "waiting" && it.after.includes(txn) && it.txn !== txn).map((it) => it.txn))];
@@ -143,8 +143,8 @@ class Fold {
       if (it.kind === "listed" && !on.has(it.holder)) on.set(it.holder, { txn: it.holder, bucket: it.bucket });
       if (it.kind === "depends") on.set(it.on, { txn: it.on, commit: true });
     }
-    const all = [...on.values()], what = (it) => `${named(it.txn)}, which ${it.key !== undefined ? `read ${it.key}` : it.commit ? "hasn’t committed what it read" : "looked where it writes"}`;
-    this.add(txn, "wait", step.step, { for: all, say: `${named(txn)} wants to commit, and waits for ${list(all.map(what))}.`, why: "" });
+    const all = [...on.values()], what = (it) => `${named(it.txn)}, which ${it.key !== undefined ? `read ${it.key}` : it.commit ? "hasn't committed what it read" : "looked where it writes"}`;
+    this.add(txn, "wait", step.step, { for: all, say: `${named(txn)} wants to commit, and waits for ${list(all.map(what))}`, why: "" });
     me.wait = this.moves.length - 1;
   }
 
@@ -155,7 +155,7 @@ class Fold {
     const rows = [...me.wrote].map(([key, value]) => [key, value]);
     for (const [key, value] of rows) if (value === null) this.rows.delete(key); else this.rows.set(key, value);
     const always = this.judged();
-    Object.assign(me.end, { rows, always, say: `${named(txn)} commits${rows.length ? `: ${list(rows.map(([key, value]) => `${key} is ${value ?? "gone"}`))}` : ""}.`, why: "" });
+    Object.assign(me.end, { committed: [...this.rows].sort(([one], [other]) => one - other), always, say: `${named(txn)} commits${rows.length ? `: ${list(rows.map(([key, value]) => `${key} is ${value ?? "gone"}`))}` : ""}.`, why: "" });
   }
 
   abort(txn, step) {
@@ -170,7 +170,7 @@ class Fold {
   cause(step) {
     const met = step.why.find((it) => it.kind === "stopped") ?? {}, other = met.writer?.txn ?? met.maker?.txn, { key } = step.event, me = named(step.txn);
     switch (step.reply.cause ?? "asked") {
-      case "conflict": return other ? `${named(other)} has written ${key} already, and isn’t over: the first writer wins.` : `Somebody has written ${key} since ${me} began: the first to commit wins.`;
+      case "conflict": return other ? `${named(other)} has written ${key} already, and isn't over: the first writer wins.` : `Somebody has written ${key} since ${me} began: the first to commit wins.`;
       case "no-more-reads": return `${other ? named(other) : "Somebody"} overwrites ${key} and is about to commit: it takes no more readers.`;
       case "no-more-waits": return `${other ? named(other) : "Somebody"} has finished and waits for nobody new; this read would have made it wait.`;
       case "readers-full": return `${key} has as many readers as can be counted.`;
@@ -182,7 +182,7 @@ class Fold {
 
   victim(step) {
     const { txn, cycle } = step.reply, me = this.txns.get(txn);
-    me.end = this.add(txn, "abort", step.step, { cause: "deadlock", op: null, key: null, value: null, line: null, say: `${named(txn)} aborts.`,
+    me.end = this.add(txn, "abort", step.step, { cause: "deadlock", op: null, key: null, value: null, line: null, say: `${named(txn)} aborts`,
       why: `Deadlock: ${list(cycle.map((name, index) => `${named(name)} waits for ${named(cycle[(index + 1) % cycle.length])}`))}. One of them has to go, and it is ${named(txn)}.` });
     me.wait = null;
   }
@@ -205,5 +205,6 @@ export function fold({ text, names, steps }) {
   const made = new Fold(text, names);
   const opening = made.judged();
   for (const step of steps) made.step(step);
+  for (const it of made.moves) Object.assign(it, { say: it.say.replace(/\.$/, ""), why: (it.why ?? "").replace(/\.$/, "") });
   return { rows: made.source.rows, always: opening, moves: made.moves };
 }

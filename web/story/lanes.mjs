@@ -51,6 +51,7 @@ function boxOf(column, at, index) {
     case "skip": return frame("ghost") + said(["soft", "soft strike"], L);
     case "refused": return frame("ghost") + said(["soft", "b soft"], L);
     case "commit": return frame(`box s${own}`, at.high / 2) + said([`f${own}`, `b f${own}`]);
+    case "unknown": return frame("ghost", at.high / 2) + said(["soft", "b soft"]);
     case "abort": return frame("bad") + said(["on", "b on"]);
     default: return "";
   }
@@ -121,7 +122,7 @@ function edges(story, at) {
 function life(story, at, t, step) {
   const own = story.columns.flatMap((column, index) => (column.t === t && index < step ? [index] : []));
   if (!own.length) return "";
-  const last = own.at(-1), isOver = /commit|abort/.test(story.columns[last].kind), y = r1(at.y(t) + at.high / 2);
+  const last = own.at(-1), isOver = /commit|abort|unknown/.test(story.columns[last].kind), y = r1(at.y(t) + at.high / 2);
   return path(`M${r1(at.left(own[0]) + 3)} ${y}H${r1(isOver ? at.mid(last) : at.right(step))}`, `life s${colour(t)}`);
 }
 

@@ -13,6 +13,7 @@ export function wordsOf(column) {
     case "skip": return { tops: ["left out", "out"], value: `${key ?? ""}` };
     case "refused": return { tops: ["refused", "ref."], value: "⊘" };
     case "commit": return { tops: ["commit", ""], value: "✓" };
+    case "unknown": return { tops: ["commit", ""], value: "?" };
     case "abort": return { tops: column.op ? [...(/read|scan/.test(column.op) ? [`${column.op} ${key}`, `r ${key}`] : [`${key} :=`]), `${key}`] : ["abort", ""], value: "✗" };
     default: return { tops: [""], value: "" };
   }

@@ -1,8 +1,8 @@
 // A play, as `--json` has it -> a story: what is drawn of it, column by column. Pure.
-import { list } from "./text.mjs";
+import { list, sentences } from "./text.mjs";
 
-const DRAWN = /^(read|scan|write|miss|skip|wait|commit|abort|refused)$/;
-const ENDS = /^(commit|abort)$/;
+const DRAWN = /^(read|scan|write|miss|skip|wait|commit|abort|unknown|refused)$/;
+const ENDS = /^(commit|abort|unknown)$/;
 const named = (name) => `{${name}}`;
 const unique = (all) => [...new Set(all)];
 
@@ -72,10 +72,18 @@ function viewsOf({ moves, names, levels }, columns, at) {
   });
 }
 
+/** The keys whose committed value a column changes, each with its value then; null for a row that is gone. */
+function changesOf({ committed }, before) {
+  if (!committed) return [];
+  const now = new Map(committed), keys = unique([...before.keys(), ...now.keys()]);
+  return keys.filter((key) => before.get(key) !== now.get(key)).map((key) => [key, now.get(key) ?? null]);
+}
+
 /** A track for each key: `segments` of committed values, and `pending` ones that their transaction has written and not committed. */
 function tracksOf({ rows }, columns) {
-  const tracks = new Map((rows ?? []).map(([key, value]) => [key, trackOf(key, value)]));
   if (!rows) return [];
+  const tracks = new Map(rows.map(([key, value]) => [key, trackOf(key, value)]));
+  let before = new Map(rows);
   columns.forEach((column, index) => {
     const { t, kind, key } = column;
     if (kind === "write") {
@@ -86,11 +94,12 @@ function tracksOf({ rows }, columns) {
     }
     if (!ENDS.test(kind)) return;
     for (const { pending } of tracks.values()) for (const it of pending) if (it.t === t && it.to === null) Object.assign(it, { to: index, end: kind });
-    for (const [changed, value] of column.rows ?? []) {
+    for (const [changed, value] of changesOf(column, before)) {
       const { segments } = tracks.get(changed);
       segments.at(-1).to = index;
       segments.push({ from: index, to: null, value, t });
     }
+    before = new Map(column.committed ?? before);
   });
   return [...tracks.values()].sort(({ key: one }, { key: other }) => (typeof one === "number" && typeof other === "number" ? one - other : 0));
 }
@@ -105,9 +114,10 @@ const valueIn = (pairs, word) => pairs.find(([key]) => String(key) === word.slic
 
 /** What is to hold, with the columns from which on it does or doesn't, and its words with the values of the committed rows. */
 function alwaysOf({ always = [], rows, names }, columns, lines) {
-  const now = new Map(rows), done = new Set();
+  const done = new Set();
+  let now = rows ?? [];
   const all = always.map(({ line }) => ({ line, text: (lines[line - 1] ?? "").replace(/^\s*\S+\s*/, "").trim(), states: [] }));
-  const valueOf = (word) => (word[0] === "@" ? valueIn([...now], word) : names.includes(word) ? Number(done.has(word)) : undefined);
+  const valueOf = (word) => (word[0] === "@" ? valueIn(now, word) : names.includes(word) ? Number(done.has(word)) : undefined);
   const note = (judged, from) => judged.forEach(({ holds }, index) => {
     const { text, states } = all[index], words = filled(text, valueOf), last = states.at(-1);
     if (!last || last.holds !== holds || last.words !== words) states.push({ from, holds, words });
@@ -116,7 +126,7 @@ function alwaysOf({ always = [], rows, names }, columns, lines) {
   columns.forEach((column, index) => {
     if (column.kind !== "commit" || !column.always) return;
     done.add(column.txn);
-    for (const [key, value] of column.rows) if (value === null) now.delete(key); else now.set(key, value);
+    now = column.committed;
     const held = all.map(({ states }) => states.at(-1).holds);
     note(column.always, index);
     column.breaks = all.find(({ states }, which) => held[which] && !states.at(-1).holds)?.line ?? null;
@@ -128,19 +138,30 @@ function alwaysOf({ always = [], rows, names }, columns, lines) {
 function sayMore({ columns, always, names }, lines) {
   columns.forEach((column, index) => {
     const said = [column.why];
-    if (column.kind === "skip") said.push(whySkipped(column, lines));
+    if (column.kind === "skip") said.push(whySkipped(column, sawBefore(column, index, columns), lines));
     if (column.breaks !== null) {
       const { text, states } = always.find((it) => it.line === column.breaks);
-      said.push(`What is to hold is broken: ${text} is now ${states.findLast((it) => it.from <= index).words}.`);
+      said.push(`What is to hold is broken: ${text} is now ${states.findLast((it) => it.from <= index).words}`);
     }
-    if (column.frees.length) said.push(`The wait of ${list(unique(column.frees).map((t) => named(names[t])))} is over.`);
-    column.why = said.filter(Boolean).join(" ");
+    if (column.frees.length) said.push(`The wait of ${list(unique(column.frees).map((t) => named(names[t])))} is over`);
+    column.why = sentences(said);
   });
 }
 
-function whySkipped({ line, saw = [] }, lines) {
+/** What a transaction has last seen or written at each key, before a column. */
+function sawBefore({ t }, index, columns) {
+  const saw = new Map();
+  for (const it of columns.slice(0, index)) {
+    if (it.t !== t) continue;
+    if (it.kind === "scan") for (const [key, value] of it.rows) saw.set(key, value);
+    else if (it.kind === "read" || it.kind === "write") saw.set(it.key, it.value ?? null);
+  }
+  return [...saw];
+}
+
+function whySkipped({ line }, saw, lines) {
   const words = (lines[line - 1] ?? "").split(/\sif\s/)[1]?.trim();
-  return words ? `Its condition doesn’t hold: ${words} is ${filled(words, (word) => (word[0] === "@" ? valueIn(saw, word) : undefined))}.` : "Its condition doesn’t hold.";
+  return words ? `Its condition doesn’t hold: ${words} is ${filled(words, (word) => (word[0] === "@" ? valueIn(saw, word) : undefined))}` : "Its condition doesn’t hold";
 }
 
 /** The place in the order of the move that each column makes; what ends a wait makes none. By it the plays of one order at several levels are compared. */
@@ -189,8 +210,8 @@ function edgeOf(edge, { names, columns }, at) {
     wr: `${other} read what ${one} wrote to ${key}: ${then}`,
     ww: `${other} wrote ${key} after ${one}: ${then}`,
   };
-  const [a, b] = moves.length === 2 ? moves.map(at) : endsOf(edge, columns, from, to);
-  return { kind: kind === "own" ? "twice" : kind, key, from, to, a, b, say: says[kind] ?? `${edge.words}.` };
+  const [a, b] = moves.length === 2 ? moves.map((it) => (it === null ? null : at(it))) : endsOf(edge, columns, from, to), isKnown = edge.from !== null && edge.to !== null;
+  return { kind: kind === "own" ? "twice" : kind, key, from, to, a: from < 0 ? null : a, b: to < 0 ? null : b, say: isKnown && says[kind] ? says[kind] : `${edge.words}.` };
 }
 
 /** The columns at the two ends of an edge that names none: by its kind, its key and what was read. */

@@ -43,6 +43,9 @@ export const parse = (json) => JSON.parse(json.replace(/"(?:[^"\\]|\\.)*"|-?\d{1
 /** Names in a row: `a, b and c`. */
 export const list = (texts) => (texts.length < 2 ? texts.join("") : `${texts.slice(0, -1).join(", ")} and ${texts.at(-1)}`);
 
+/** Sentences one after another, each with its full stop; empty ones are none. */
+export const sentences = (all) => all.filter(Boolean).map((it) => (/[.!?]$/.test(it) ? it : `${it}.`)).join(" ");
+
 // A transaction's name stands in braces in a sentence, which no name has.
 const NAMED = /\{([^{}]*)\}/g;
 
@@ -53,7 +56,7 @@ export const plain = (sentence) => sentence.replace(NAMED, "$1");
 export function rich(sentence, names) {
   return sentence.split(NAMED).map((part, index) => {
     const t = index % 2 ? names.indexOf(part) : -1;
-    return t < 0 ? esc(part) : `<b class="n${t % COLOURS_IN_USE}">${esc(part)}</b>`;
+    return t < 0 ? esc(part.replace(/'/g, "’")) : `<b class="n${t % COLOURS_IN_USE}">${esc(part)}</b>`;
   }).join("");
 }
 

@@ -2,7 +2,7 @@
 //
 // A model is what is known of one schedule and one order of its moves: `stories` and `outcomes` by level, `levels` in the order of their cards, `text`, `about`, `question`,
 // `asides` ({at, html, level, verdict}) and `order`. A place is a level of it, `step`, and what is open.
-import { esc, plain, rich } from "./text.mjs";
+import { esc, plain, rich, sentences } from "./text.mjs";
 import { layout } from "./layout.mjs";
 import { lanes, names } from "./lanes.mjs";
 import { keys, tracks } from "./rows.mjs";
@@ -37,7 +37,7 @@ export function sentence(model, story, { step, mode }) {
     return `<p>${esc(asked)}</p>${more ? `<p class="why">${esc(more)}</p>` : ""}`;
   }
   if (column) return `<p class="${column.breaks === null ? "" : "not"}">${rich(column.say, story.names)}</p>${column.why ? `<p class="why">${rich(column.why, story.names)}</p>` : ""}`;
-  const isBad = verdict.kind === "not" || verdict.breaks !== null, tail = [verdict.kind === "not" ? verdict.name : "", verdict.tail].filter(Boolean).join(". ");
+  const isBad = verdict.kind === "not" || verdict.breaks !== null, tail = sentences([verdict.kind === "not" ? verdict.name : "", verdict.tail]);
   return `<p class="verdict ${isBad ? "not" : ""}">${rich(verdict.say, story.names)}</p>${tail ? `<p class="why">${rich(tail, story.names)}</p>` : ""}${edgesHtml(story)}`;
 }
 
@@ -103,10 +103,10 @@ export function told(model, story, { level }, hidesAfter = Infinity) {
   const asides = model.asides.filter((it) => (!it.level || it.level === level) && (!it.verdict || it.verdict === story.verdict.kind) && (isOwn || it.isGeneral));
   const beside = (position) => asides.filter((it) => positionOf(it.at, story) === position).map((it) => `<div class="aside">${it.html}</div>`).join("");
   const tell = (position, html) => (position > hidesAfter ? "" : `<div class="tell" data-step="${position}">${html}</div>${beside(position)}`);
-  const moves = story.columns.map((it, index) => tell(index + 1, `<p><b>${index + 1}</b> ${rich(it.say, story.names)} ${rich(it.why ?? "", story.names)}</p>`));
+  const moves = story.columns.map((it, index) => tell(index + 1, `<p><b>${index + 1}</b> ${rich(sentences([it.say, it.why]), story.names)}</p>`));
   const { verdict } = story, said = `<p><b>${rich(verdict.say, story.names)}.</b> ${rich([verdict.tail, ...verdict.edges.map((it) => it.say)].filter(Boolean).join(" "), story.names)}</p>`;
   return tell(0, model.intro ?? `<p>${esc(model.about)}</p>${model.question ? `<p class="ask">${esc(model.question)}</p>` : ""}`) + moves.join("") + tell(end, said) + (hidesAfter < end ? "" : model.after ?? "");
 }
 
 /** The run in plain lines, for a file or the clipboard. */
-export const lines = (story) => [...story.columns.map((it, index) => `${index + 1}. ${plain(it.say)} ${plain(it.why ?? "")}`.trim()), `${plain(story.verdict.say)}.`].join("\n");
+export const lines = (story) => [...story.columns.map((it, index) => `${index + 1}. ${plain(sentences([it.say, it.why]))}`), `${plain(story.verdict.say)}.`].join("\n");

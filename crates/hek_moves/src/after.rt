@@ -1,0 +1,54 @@
+//! What is committed after a step.
+use hek_machine::Machine;
+use hek_program::{Always, AtEnd};
+use hek_rules::{NoMemory, Pairs};
+use std::alloc::Global;
+
+/// The committed rows, who has committed, and whether each invariant holds of them; and the move after which it is so, none before
+/// the first step.
+#[derive(Drop)]
+pub struct After {
+    pub made_by: Option<usize>,
+    pub rows: Pairs,
+    pub committed: Vec<bool>,
+    pub holds: Vec<bool>,
+}
+
+impl After {
+    /// Whether the same is committed.
+    pub(crate) fn same(&self, other: &After) -> bool {
+        self.committed == other.committed && self.rows.same(&other.rows)
+    }
+}
+
+/// What is committed on a machine, of whose transactions the flags say who has committed.
+pub(crate) fn after_of(
+    alloc: Global,
+    machine: &Machine,
+    always: &[Always],
+    committed: &[bool],
+    made_by: Option<usize>,
+) -> Result<After, NoMemory> {
+    let rows = machine.rows()?;
+    let holds = judged(alloc, always, rows.items(), committed)?;
+    Ok(After {
+        made_by,
+        rows,
+        committed: Vec::from_slice(alloc, committed)?,
+        holds,
+    })
+}
+
+/// Whether each invariant holds of these rows, where these have committed.
+fn judged(
+    alloc: Global,
+    always: &[Always],
+    rows: &[(u64, u64)],
+    committed: &[bool],
+) -> Result<Vec<bool>, NoMemory> {
+    let mut holds = Vec::new(alloc);
+    for one in always {
+        holds.push(one.condition.holds(&AtEnd { rows, committed }))?;
+    }
+    Ok(holds)
+}

@@ -1,0 +1,185 @@
+//! Moves, as values.
+use crate::after::After;
+use hek_rules::{Cause, Event, NoMemory, Pairs, Refusal, Time, TxnId, VersionId};
+use std::alloc::Global;
+
+/// Why a transaction waits for another.
+#[derive(Clone, Copy, PartialEq, Eq)]
+pub enum Hold {
+    /// The other has read the row with this key, which it writes.
+    Read(u64),
+    /// The other has looked where it makes a row.
+    Looked,
+    /// It has read what the other wrote and hasn't committed.
+    Uncommitted,
+}
+
+/// For whom a transaction waits, and why.
+#[derive(Clone, Copy)]
+pub struct Holder {
+    pub txn: TxnId,
+    pub hold: Hold,
+}
+
+/// What a move is.
+#[derive(Drop)]
+pub enum Kind {
+    Begins,
+    /// A read: the value that it found, and the move that wrote it if one did.
+    Reads(Option<u64>, Option<usize>),
+    Scans(Pairs),
+    /// A write, with the version that it made; a deletion makes none.
+    Writes(Option<VersionId>),
+    /// A write that wrote nothing: its row is there already, or isn't there.
+    Misses,
+    /// A step that a program left out, since its condition didn't hold.
+    Skips,
+    /// The transaction wants to commit, and waits for these.
+    Waits(Vec<Holder>),
+    /// It draws its end time.
+    Precommits(Time),
+    Commits,
+    Aborts(Cause),
+    Refused(Refusal),
+    /// Steps before any other move.
+    Idles,
+}
+
+/// A move of a transaction.
+#[derive(Drop)]
+pub struct Move {
+    pub txn: TxnId,
+    /// The event of the step that makes it; of one that is left out, the event that it would have been.
+    pub event: Event,
+    pub kind: Kind,
+    /// The place, among the steps of the text, of the one that it comes from.
+    pub source: Option<usize>,
+    /// Why it came out so, in words; empty where there is nothing to say.
+    pub why: Vec<u8>,
+}
+
+/// The end of a wait: the places of the wait's move, and of the one whose step ended it.
+#[derive(Clone, Copy)]
+pub struct WaitEnd {
+    pub wait: usize,
+    pub by: usize,
+}
+
+/// The moves of a run, in order.
+#[derive(Drop)]
+pub struct Moves {
+    pub(crate) items: Vec<Move>,
+    /// For each step of the run the place of the move that it belongs to.
+    pub(crate) of_step: Vec<usize>,
+    pub(crate) ends: Vec<WaitEnd>,
+    /// The committed rows at the start, and after each step that changed them or ended a transaction.
+    pub(crate) after: Vec<After>,
+}
+
+impl Moves {
+    /// No moves.
+    pub(crate) fn new(alloc: Global) -> Moves {
+        Moves {
+            items: Vec::new(alloc),
+            of_step: Vec::new(alloc),
+            ends: Vec::new(alloc),
+            after: Vec::new(alloc),
+        }
+    }
+
+    /// The moves, in order.
+    pub fn items(&self) -> &[Move] {
+        self.items.as_slice()
+    }
+
+    /// For each step the place of its move.
+    pub fn of_step(&self) -> &[usize] {
+        self.of_step.as_slice()
+    }
+
+    /// The waits that ended, in order.
+    pub fn ends(&self) -> &[WaitEnd] {
+        self.ends.as_slice()
+    }
+
+    /// The committed rows at the start, and after each step that changed them or committed a transaction.
+    pub fn after(&self) -> &[After] {
+        self.after.as_slice()
+    }
+
+    /// Adds a move, and answers its place.
+    pub(crate) fn open(&mut self, made: Move) -> Result<usize, NoMemory> {
+        let place = self.items.len();
+        self.items.push(made)?;
+        Ok(place)
+    }
+
+    /// The place of the last move of a transaction.
+    pub(crate) fn last_of(&self, txn: TxnId) -> Option<usize> {
+        let mut found = None;
+        for (place, it) in self.items.iter().enumerate() {
+            if it.txn == txn {
+                found = Some(place);
+            }
+        }
+        found
+    }
+
+    /// Whether a transaction has committed or aborted.
+    pub(crate) fn is_over(&self, txn: TxnId) -> bool {
+        for it in &self.items {
+            if it.txn == txn && matches!(it.kind, Kind::Commits | Kind::Aborts(_)) {
+                return true;
+            }
+        }
+        false
+    }
+
+    /// The place of the wait that goes on for a transaction.
+    pub(crate) fn wait_of(&self, txn: TxnId) -> Option<usize> {
+        let mut found = None;
+        for (place, it) in self.items.iter().enumerate() {
+            if it.txn == txn && matches!(it.kind, Kind::Waits(_)) && !self.has_ended(place) {
+                found = Some(place);
+            }
+        }
+        found
+    }
+
+    fn has_ended(&self, wait: usize) -> bool {
+        for end in &self.ends {
+            if end.wait == wait {
+                return true;
+            }
+        }
+        false
+    }
+
+    /// The place of the move that made a version of this key with this value.
+    pub(crate) fn writer_of(&self, version: VersionId, key: u64, value: u64) -> Option<usize> {
+        for (place, it) in self.items.iter().enumerate() {
+            if it.made(version) && wrote(it.event, key, value) {
+                return Some(place);
+            }
+        }
+        None
+    }
+}
+
+impl Move {
+    /// Whether the move made a version.
+    fn made(&self, version: VersionId) -> bool {
+        match self.kind {
+            Kind::Writes(Some(made)) => made == version,
+            _ => false,
+        }
+    }
+}
+
+/// Whether an event writes a value at a key.
+fn wrote(event: Event, key: u64, value: u64) -> bool {
+    match event {
+        Event::Insert(_, at, its) | Event::Update(_, at, its) => at == key && its == value,
+        _ => false,
+    }
+}
