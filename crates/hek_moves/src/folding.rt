@@ -7,8 +7,8 @@ use crate::waiting::end_waits;
 use crate::why::say_why;
 use hek_machine::Machine;
 use hek_program::Always;
-use hek_rules::{Event, NoMemory, Schedule, TxnId};
-use hek_why::{Dooms, Reason, Step, reasons};
+use hek_rules::{Event, NoMemory, Reply, Schedule, TxnId};
+use hek_why::{Dooms, Step, reasons};
 use std::alloc::Global;
 
 /// Where the steps of a run come from: for each the place of the step of the text that it makes; and the steps of the text that were left out, each
@@ -120,25 +120,40 @@ fn note_step(
     step: &Step<'_>,
     folding: &mut Folding<'_>,
 ) -> Result<usize, NoMemory> {
-    let reasons = reasons(alloc, step, &folding.dooms)?;
-    let txn = mover(step);
-    let kind = match txn {
-        Some(txn) => kind_of(alloc, step, txn, reasons.as_slice(), &folding.moves)?,
-        None => None,
+    let at = match kind_in(alloc, step, folding)? {
+        Some((kind, why)) => open_move(place, step, kind, why, folding)?,
+        None => joined(alloc, step, folding)?,
     };
-    let at = match kind {
-        Some(kind) => {
-            note_commit(&kind, txn, folding);
-            open_move(alloc, place, step, kind, txn, reasons.as_slice(), folding)?
-        }
-        None => joined(alloc, step, txn, folding)?,
-    };
+    note_commit(step, folding);
     folding.moves.of_step.push(at)?;
     Ok(at)
 }
 
-fn note_commit(kind: &Kind, txn: Option<TxnId>, folding: &mut Folding<'_>) {
-    let (Kind::Commits, Some(txn)) = (kind, txn) else {
+/// The kind of the move that a step makes, and why it came out so; None if it belongs to a move before it.
+fn kind_in(
+    alloc: Global,
+    step: &Step<'_>,
+    folding: &Folding<'_>,
+) -> Result<Option<(Kind, Vec<u8>)>, NoMemory> {
+    let Some(txn) = mover(step) else {
+        return Ok(None);
+    };
+    let list = reasons(alloc, step, &folding.dooms)?;
+    let moves = &folding.moves;
+    match kind_of(alloc, step, txn, list.as_slice(), moves)? {
+        Some(kind) => {
+            let mut words = Sentence::new(alloc, folding.schedule);
+            say_why(alloc, step, &kind, list.as_slice(), moves, &mut words)?;
+            let why = words.text().ok_or(NoMemory)?;
+            Ok(Some((kind, why)))
+        }
+        None => Ok(None),
+    }
+}
+
+/// Keeps that a transaction has committed, if a step says so.
+fn note_commit(step: &Step<'_>, folding: &mut Folding<'_>) {
+    let (Reply::Committed, Some(txn)) = (step.reply, step.event.txn()) else {
         return;
     };
     let place = txn.number().saturating_sub(1) as usize;
@@ -149,23 +164,18 @@ fn note_commit(kind: &Kind, txn: Option<TxnId>, folding: &mut Folding<'_>) {
 
 /// Adds the move that a step makes.
 fn open_move(
-    alloc: Global,
     place: usize,
     step: &Step<'_>,
     kind: Kind,
-    txn: Option<TxnId>,
-    reasons: &[Reason],
+    why: Vec<u8>,
     folding: &mut Folding<'_>,
 ) -> Result<usize, NoMemory> {
-    let mut words = Sentence::new(alloc, folding.schedule);
-    say_why(alloc, step, &kind, reasons, &folding.moves, &mut words)?;
-    let why = words.text().ok_or(NoMemory)?;
     let source = match folding.origin.makes.get(place) {
         Some(source) => *source,
         None => None,
     };
     folding.moves.open(Move {
-        txn: txn.unwrap_or(TxnId::new(0)),
+        txn: mover(step).unwrap_or(TxnId::new(0)),
         event: step.event,
         kind,
         source,
@@ -174,21 +184,16 @@ fn open_move(
 }
 
 /// The move before it that a step belongs to: its transaction's last one, or the last of all; a new one where there is none.
-fn joined(
-    alloc: Global,
-    step: &Step<'_>,
-    txn: Option<TxnId>,
-    folding: &mut Folding<'_>,
-) -> Result<usize, NoMemory> {
+fn joined(alloc: Global, step: &Step<'_>, folding: &mut Folding<'_>) -> Result<usize, NoMemory> {
     let moves = &mut folding.moves;
-    let found = match txn {
+    let found = match mover(step) {
         Some(txn) => moves.last_of(txn),
         None => moves.items.len().checked_sub(1),
     };
     match found {
         Some(place) => Ok(place),
         None => moves.open(Move {
-            txn: txn.unwrap_or(TxnId::new(0)),
+            txn: mover(step).unwrap_or(TxnId::new(0)),
             event: step.event,
             kind: Kind::Idles,
             source: None,

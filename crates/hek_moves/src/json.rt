@@ -60,23 +60,23 @@ fn word(kind: &Kind) -> &'static str {
 fn put_move(schedule: &Schedule, made: &Move, lines: &[u64], out: &mut Lines) {
     out.put_name("txn", schedule, made.txn);
     out.put_text("kind", word(&made.kind));
-    put_event(made.event, out);
+    put_event(made, out);
     if let Some(line) = line_of(made, lines) {
         out.put_number("line", line);
     }
 }
 
 /// The operation of a read or a write, with its key and the value that it writes.
-fn put_event(event: Event, out: &mut Lines) {
-    let place = match event {
+fn put_event(made: &Move, out: &mut Lines) {
+    let place = match made.event {
         Event::Scan(_, _) => "bucket",
         Event::Read(_, _) | Event::Insert(_, _, _) | Event::Update(_, _, _) | Event::Delete(_, _) =>
             "key",
         _ => return,
     };
-    out.put_text("op", event.kind().word());
-    out.put_number(place, key_of(event));
-    if let Some(value) = value_of(event) {
+    out.put_text("op", made.event.kind().word());
+    out.put_number(place, key_of(made.event));
+    if let Some(value) = value_of(made.event) {
         out.put_number("value", value);
     }
 }

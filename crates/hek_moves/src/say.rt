@@ -5,7 +5,7 @@ use hek_rules::{Event, TxnId};
 
 /// Says a move, of these moves. `line` is that of the text which a program left out.
 pub(crate) fn say(made: &Move, moves: &Moves, line: Option<u64>, out: &mut Sentence<'_>) {
-    let me = Hole::Txn(made.txn);
+    let me = Hole::txn(made.txn);
     match &made.kind {
         Kind::Begins => out.form("@ begins", &[me]),
         Kind::Reads(value, _) => say_read(made, *value, out),
@@ -46,7 +46,7 @@ pub(crate) fn value_of(event: Event) -> Option<u64> {
 }
 
 fn say_read(made: &Move, value: Option<u64>, out: &mut Sentence<'_>) {
-    let (me, key) = (Hole::Txn(made.txn), Hole::Number(key_of(made.event)));
+    let (me, key) = (Hole::txn(made.txn), Hole::Number(key_of(made.event)));
     match value {
         Some(value) => out.form("@ reads @: @", &[me, key, Hole::Number(value)]),
         None => out.form("@ reads @: no such row", &[me, key]),
@@ -56,7 +56,7 @@ fn say_read(made: &Move, value: Option<u64>, out: &mut Sentence<'_>) {
 fn say_scan(made: &Move, rows: &[(u64, u64)], out: &mut Sentence<'_>) {
     out.form(
         "@ scans bucket @: ",
-        &[Hole::Txn(made.txn), Hole::Number(key_of(made.event))],
+        &[Hole::txn(made.txn), Hole::Number(key_of(made.event))],
     );
     if rows.is_empty() {
         out.put("nothing");
@@ -71,7 +71,7 @@ fn say_scan(made: &Move, rows: &[(u64, u64)], out: &mut Sentence<'_>) {
 }
 
 fn say_write(made: &Move, out: &mut Sentence<'_>) {
-    let (me, key) = (Hole::Txn(made.txn), Hole::Number(key_of(made.event)));
+    let (me, key) = (Hole::txn(made.txn), Hole::Number(key_of(made.event)));
     let verb = match made.event {
         Event::Insert(_, _, _) => "inserts",
         Event::Delete(_, _) => "deletes",
@@ -94,19 +94,19 @@ fn say_miss(made: &Move, out: &mut Sentence<'_>) {
     let key = Hole::Number(key_of(made.event));
     out.form(
         "@ writes nothing: @ @",
-        &[Hole::Txn(made.txn), key, Hole::Word(how)],
+        &[Hole::txn(made.txn), key, Hole::Word(how)],
     );
 }
 
 fn say_skip(txn: TxnId, line: Option<u64>, out: &mut Sentence<'_>) {
     match line {
-        Some(line) => out.form("@ leaves out line @", &[Hole::Txn(txn), Hole::Number(line)]),
-        None => out.form("@ leaves out a step", &[Hole::Txn(txn)]),
+        Some(line) => out.form("@ leaves out line @", &[Hole::txn(txn), Hole::Number(line)]),
+        None => out.form("@ leaves out a step", &[Hole::txn(txn)]),
     }
 }
 
 fn say_wait(txn: TxnId, holders: &[Holder], out: &mut Sentence<'_>) {
-    out.form("@ wants to commit, and waits for ", &[Hole::Txn(txn)]);
+    out.form("@ wants to commit, and waits for ", &[Hole::txn(txn)]);
     for (place, holder) in holders.iter().enumerate() {
         out.put(joint(place, holders.len()));
         say_holder(*holder, out);
@@ -114,7 +114,7 @@ fn say_wait(txn: TxnId, holders: &[Holder], out: &mut Sentence<'_>) {
 }
 
 fn say_holder(holder: Holder, out: &mut Sentence<'_>) {
-    let other = Hole::Txn(holder.txn);
+    let other = Hole::txn(holder.txn);
     match holder.hold {
         Hold::Read(key) => out.form("@, which read @", &[other, Hole::Number(key)]),
         Hold::Looked => out.form("@, which looked where it writes", &[other]),
@@ -123,9 +123,9 @@ fn say_holder(holder: Holder, out: &mut Sentence<'_>) {
 }
 
 fn say_commit(txn: TxnId, moves: &Moves, out: &mut Sentence<'_>) {
-    out.form("@ commits", &[Hole::Txn(txn)]);
+    out.form("@ commits", &[Hole::txn(txn)]);
     let count = moves.count_last(txn);
-    let mut place = 0;
+    let mut place = 0usize;
     for (at, it) in moves.items().iter().enumerate() {
         if moves.is_last_write(at, txn) {
             out.put(if place == 0 {
@@ -133,15 +133,15 @@ fn say_commit(txn: TxnId, moves: &Moves, out: &mut Sentence<'_>) {
             } else {
                 joint(place, count)
             });
-            say_committed(it.event, out);
-            place += 1;
+            say_committed(it, out);
+            place = place.saturating_add(1);
         }
     }
 }
 
-fn say_committed(event: Event, out: &mut Sentence<'_>) {
-    let key = Hole::Number(key_of(event));
-    match value_of(event) {
+fn say_committed(made: &Move, out: &mut Sentence<'_>) {
+    let key = Hole::Number(key_of(made.event));
+    match value_of(made.event) {
         Some(value) => out.form("@ is @", &[key, Hole::Number(value)]),
         None => out.form("@ is gone", &[key]),
     }
@@ -150,10 +150,10 @@ fn say_committed(event: Event, out: &mut Sentence<'_>) {
 impl Moves {
     /// How many keys a transaction writes.
     fn count_last(&self, txn: TxnId) -> usize {
-        let mut count = 0;
+        let mut count = 0usize;
         for at in 0..self.items.len() {
             if self.is_last_write(at, txn) {
-                count += 1;
+                count = count.saturating_add(1);
             }
         }
         count
@@ -177,7 +177,7 @@ impl Moves {
 }
 
 fn say_abort(made: &Move, out: &mut Sentence<'_>) {
-    let (me, key) = (Hole::Txn(made.txn), Hole::Number(key_of(made.event)));
+    let (me, key) = (Hole::txn(made.txn), Hole::Number(key_of(made.event)));
     match made.event {
         Event::Read(_, _) => out.form("@ wants to read @, and aborts", &[me, key]),
         Event::Scan(_, _) => out.form("@ wants to scan bucket @, and aborts", &[me, key]),

@@ -16,9 +16,16 @@ pub(crate) struct Sentence<'a> {
 /// What a pattern has for one of its places.
 #[derive(Clone, Copy)]
 pub(crate) enum Hole<'a> {
-    Txn(TxnId),
+    /// The transaction with this number.
+    Txn(u64),
     Number(u64),
     Word(&'a str),
+}
+
+impl<'a> Hole<'a> {
+    pub(crate) fn txn(txn: TxnId) -> Hole<'a> {
+        Hole::Txn(txn.number())
+    }
 }
 
 impl<'a> Sentence<'a> {
@@ -73,22 +80,28 @@ impl<'a> Sentence<'a> {
 
     /// A pattern with a value in place of each `@`, in their order.
     pub(crate) fn form(&mut self, pattern: &str, holes: &[Hole<'_>]) {
-        let mut place = 0;
-        for part in pattern.split('@') {
-            if place > 0 && place <= holes.len() {
-                self.fill(holes[place - 1]);
-            }
+        for (place, part) in pattern.split('@').enumerate() {
+            self.fill(hole_before(holes, place));
             self.put(part);
-            place += 1;
         }
     }
 
     fn fill(&mut self, hole: Hole<'_>) {
         match hole {
-            Hole::Txn(txn) => self.put_txn(txn),
+            Hole::Txn(number) => self.put_txn(TxnId::new(number)),
             Hole::Number(number) => self.put_number(number),
             Hole::Word(word) => self.put(word),
         }
+    }
+}
+
+/// What stands before the part of a pattern at a place.
+fn hole_before<'a>(holes: &[Hole<'a>], place: usize) -> Hole<'a> {
+    let before = place.saturating_sub(1);
+    if place > 0 && before < holes.len() {
+        holes[before]
+    } else {
+        Hole::Word("")
     }
 }
 
@@ -96,7 +109,7 @@ impl<'a> Sentence<'a> {
 pub(crate) fn joint(place: usize, count: usize) -> &'static str {
     if place == 0 {
         ""
-    } else if count - place == 1 {
+    } else if count.saturating_sub(place) == 1 {
         " and "
     } else {
         ", "

@@ -60,16 +60,16 @@ fn why_found(
         return out.put("It sees its own write");
     }
     if !moves.is_over(other) {
-        let (me, other) = (Hole::Txn(txn), Hole::Txn(other));
+        let pattern = "@ wrote it and is about to commit: @ may commit only if @ does";
         return out.form(
-            "@ wrote it and is about to commit: @ may commit only if @ does",
-            &[other, me, other],
+            pattern,
+            &[Hole::txn(other), Hole::txn(txn), Hole::txn(other)],
         );
     }
     if moves.is_old(key, value) {
         return why_old(key, moves, out);
     }
-    out.form("@ wrote it", &[Hole::Txn(other)]);
+    out.form("@ wrote it", &[Hole::txn(other)]);
 }
 
 /// Why a read finds what was there from the start, or nothing.
@@ -81,7 +81,7 @@ fn why_committed(txn: TxnId, key: u64, value: Option<u64>, moves: &Moves, out: &
         let key = Hole::Number(key);
         out.form(
             "@ has written @, but hasn't committed: its value isn't seen",
-            &[Hole::Txn(other), key],
+            &[Hole::txn(other), key],
         );
     }
 }
@@ -212,7 +212,7 @@ fn say_added(txn: TxnId, added: &[TxnId], out: &mut Sentence<'_>) {
     let pattern = " @ looked there: @ will have to wait for @ before it commits";
     out.form(
         pattern,
-        &[Hole::Word(have), Hole::Txn(txn), Hole::Word(them)],
+        &[Hole::Word(have), Hole::txn(txn), Hole::Word(them)],
     );
 }
 
@@ -223,7 +223,7 @@ fn why_abort(cause: Cause, event: Event, reasons: &[Reason], out: &mut Sentence<
     match (cause, met) {
         (Cause::Conflict, Some(other)) => {
             let pattern = "@ has written @ already, and isn't over: the first writer wins";
-            out.form(pattern, &[Hole::Txn(other), key]);
+            out.form(pattern, &[Hole::txn(other), key]);
         }
         (Cause::Conflict, None) => {
             let pattern = "Somebody has written @ since it began: the first to commit wins";
@@ -231,11 +231,11 @@ fn why_abort(cause: Cause, event: Event, reasons: &[Reason], out: &mut Sentence<
         }
         (Cause::NoMoreReads, Some(other)) => {
             let pattern = "@ overwrites @ and is about to commit: it takes no more readers";
-            out.form(pattern, &[Hole::Txn(other), key]);
+            out.form(pattern, &[Hole::txn(other), key]);
         }
         (Cause::NoMoreWaits, Some(other)) => {
             let pattern = "@ has finished and waits for nobody new; this would have made it wait";
-            out.form(pattern, &[Hole::Txn(other)]);
+            out.form(pattern, &[Hole::txn(other)]);
         }
         (Cause::NoMoreReads, None) => out.put("It takes no more readers"),
         (Cause::NoMoreWaits, None) => out.put("Somebody has finished and waits for nobody new"),
@@ -265,11 +265,8 @@ fn met_in(reasons: &[Reason]) -> Option<TxnId> {
 fn why_cascade(reasons: &[Reason], out: &mut Sentence<'_>) {
     for reason in reasons {
         if let Reason::DoomedBy(other) = reason {
-            let other = Hole::Txn(*other);
-            return out.form(
-                "It had seen what @ wrote, and @ has aborted",
-                &[other, other],
-            );
+            let pattern = "It had seen what @ wrote, and @ has aborted";
+            return out.form(pattern, &[Hole::txn(*other), Hole::txn(*other)]);
         }
     }
     out.put("It had seen what another wrote, and that has aborted");
@@ -288,10 +285,10 @@ fn why_deadlock(reply: &Reply, out: &mut Sentence<'_>) {
         } else {
             *victim
         };
-        out.form("@ waits for @", &[Hole::Txn(*txn), Hole::Txn(next)]);
+        out.form("@ waits for @", &[Hole::txn(*txn), Hole::txn(next)]);
     }
     out.form(
         ". One of them has to go, and it is @",
-        &[Hole::Txn(*victim)],
+        &[Hole::txn(*victim)],
     );
 }
