@@ -8,7 +8,7 @@ import kit
 
 FOLDER = f"{kit.ROOT}/web/story"
 # The modules, each after those that it uses.
-MODULES = ["text", "svg", "story", "layout", "lanes", "rows", "cards", "figure", "log", "view", "ask", "player"]
+MODULES = ["text", "svg", "story", "layout", "lanes", "rows", "cards", "figure", "log", "view", "ask", "player", "page"]
 # Those that draw pictures, for Node.
 DRAWING = ["text", "svg", "story", "layout", "lanes", "rows", "figure", "log"]
 IMPORT = re.compile(r'^import \{([^}]*)\} from "\./(\w+)\.mjs";$', re.M)

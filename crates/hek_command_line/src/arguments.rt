@@ -145,11 +145,12 @@ fn command<'a>(alloc: Global, text: &CommandText) -> Result<Command<'a>, AllocEr
 /// The arguments of a command that cannot be given together with this one.
 fn rivals_of(command: &str, name: &str) -> &'static [&'static str] {
     match (command, name) {
-        ("permute", "order") => &["each", "levels", "part"],
+        ("permute", "order") => &["each", "part"],
         ("permute", "find") => &["each", "levels", "part", "order"],
         ("permute" | "page", "grain") => &["split"],
         ("permute", "levels") => &["each", "level"],
         ("run", "history") => &["state", "state-at", "why", "changes", "json"],
+        ("run", "moves") => &["state", "state-at", "changes", "history"],
         ("history", "levels") => &["level", "all", "order-out"],
         ("history", "guarantees") => &["level", "order", "all", "order-out"],
         ("history", "sessions") => &["order", "all", "order-out"],

@@ -12,7 +12,7 @@ use crate::options::{count_from, level_of, number_of, printing_of, text};
 use crate::output::NotedOutput;
 use crate::pages::{Document, write_document};
 use crate::permute::{permute_alone, permute_jobs};
-use crate::schedule::{plain_schedule, plain_to_run, schedule_to_run};
+use crate::schedule::{plain_schedule, plain_to_run, schedule_file, schedule_to_run};
 use crate::sources::SourceFiles;
 use crate::texts::RULES;
 use crate::told;
@@ -25,6 +25,7 @@ use hek_debug_command::{
 };
 use hek_history_command::run_log_command;
 use hek_manual::{Shell, manual_page};
+use hek_permute_command::{MovesChoice, moves_command};
 use hek_report::{HekFault, INPUT, Printing, ScheduleFile, read_text, report, send};
 use hek_rules::Level;
 use hek_run_command::{Driving, Steps, drive_command, run_command, state_command, steps_command};
@@ -431,6 +432,9 @@ fn run_schedule<'a, D: Disk, I: Read + Drop, W: Write>(
     input: &mut Option<I>,
     out: &mut W,
 ) -> Result<u8, HekFault<'a>> {
+    if found.get_flag("moves") {
+        return run_moves(alloc, found, disk, input, out);
+    }
     let limit = number_of(found, "state-at")?;
     let asked = Steps {
         extras: extras_of(found),
@@ -443,6 +447,28 @@ fn run_schedule<'a, D: Disk, I: Read + Drop, W: Write>(
         return run_log_command(alloc, file, out);
     }
     run_file(alloc, file, asked, out)
+}
+
+/// Prints the moves of a run.
+fn run_moves<'a, D: Disk, I: Read + Drop, W: Write>(
+    alloc: Global,
+    found: &ArgMatches<'a>,
+    disk: &D,
+    input: &mut Option<I>,
+    out: &mut W,
+) -> Result<u8, HekFault<'a>> {
+    let choice = MovesChoice {
+        auto: found.get_flag("auto"),
+        level: level_of(found)?,
+        told: found.get_str("why").is_some(),
+        printing: printing_of(found),
+    };
+    let file = if choice.auto {
+        schedule_file(alloc, found, disk, input)?
+    } else {
+        plain_schedule(alloc, found, disk, input)?
+    };
+    moves_command(alloc, file, choice, out)
 }
 
 /// Runs the schedule in a file.

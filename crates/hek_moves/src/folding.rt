@@ -7,7 +7,7 @@ use crate::waiting::end_waits;
 use crate::why::say_why;
 use hek_machine::Machine;
 use hek_program::Always;
-use hek_rules::{Event, NoMemory, Reply, Schedule, TxnId};
+use hek_rules::{Event, NoMemory, Reply, Schedule, Transcript, TxnId};
 use hek_why::{Dooms, Step, reasons};
 use std::alloc::Global;
 
@@ -44,7 +44,7 @@ pub fn moves_of(
         schedule,
         always,
         origin,
-        moves: Moves::new(alloc),
+        moves: Moves::new(alloc, Transcript::new(alloc, schedule)?),
         committed: nobody(alloc, schedule.txn_count())?,
         dooms: Dooms::new(alloc),
     };
@@ -93,6 +93,7 @@ fn fold_step(
     let by = note_step(alloc, place, &step, folding)?;
     end_waits(machine, by, &mut folding.moves)?;
     folding.dooms.note(&before, *event, &reply)?;
+    folding.moves.transcript.push(*event, reply)?;
     note_after(alloc, machine, Some(by), folding)
 }
 

@@ -15,5 +15,5 @@ mod why;
 pub use after::After;
 pub use folding::{Origin, moves_of};
 pub use json::put_moves;
-pub use moves::{Hold, Holder, Kind, Move, Moves, WaitEnd};
+pub use moves::{Hold, Holder, Kind, Move, Moves, WaitEnd, serial_order};
 pub use text::put_move_lines;

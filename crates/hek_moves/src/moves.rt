@@ -1,6 +1,7 @@
 //! Moves, as values.
 use crate::after::After;
-use hek_rules::{Cause, Event, NoMemory, Pairs, Refusal, Time, TxnId, VersionId};
+use hek_program::Always;
+use hek_rules::{Cause, Event, NoMemory, Pairs, Refusal, Time, Transcript, TxnId, VersionId};
 use std::alloc::Global;
 
 /// Why a transaction waits for another.
@@ -74,17 +75,36 @@ pub struct Moves {
     pub(crate) ends: Vec<WaitEnd>,
     /// The committed rows at the start, and after each step that changed them or ended a transaction.
     pub(crate) after: Vec<After>,
+    /// All steps with their replies.
+    pub(crate) transcript: Transcript,
 }
 
 impl Moves {
-    /// No moves.
-    pub(crate) fn new(alloc: Global) -> Moves {
+    /// No moves, and a transcript without steps.
+    pub(crate) fn new(alloc: Global, transcript: Transcript) -> Moves {
         Moves {
             items: Vec::new(alloc),
             of_step: Vec::new(alloc),
             ends: Vec::new(alloc),
             after: Vec::new(alloc),
+            transcript,
         }
+    }
+
+    /// All steps with their replies.
+    pub fn transcript(&self) -> &Transcript {
+        &self.transcript
+    }
+
+    /// The line of the first invariant that doesn't hold after the last step.
+    pub fn broken(&self, always: &[Always]) -> Option<u64> {
+        let last = self.after.last()?;
+        for (one, holds) in always.iter().zip(last.holds.iter()) {
+            if !*holds {
+                return Some(one.line);
+            }
+        }
+        None
     }
 
     /// The moves, in order.
@@ -129,6 +149,16 @@ impl Moves {
     pub(crate) fn is_over(&self, txn: TxnId) -> bool {
         for it in &self.items {
             if it.txn == txn && matches!(it.kind, Kind::Commits | Kind::Aborts(_)) {
+                return true;
+            }
+        }
+        false
+    }
+
+    /// Whether a transaction has committed.
+    fn has_committed(&self, txn: TxnId) -> bool {
+        for it in &self.items {
+            if it.txn == txn && matches!(it.kind, Kind::Commits) {
                 return true;
             }
         }
@@ -182,4 +212,24 @@ fn wrote(event: Event, key: u64, value: u64) -> bool {
         Event::Insert(_, at, its) | Event::Update(_, at, its) => at == key && its == value,
         _ => false,
     }
+}
+
+/// The transactions that committed, in the order of their end times.
+pub fn serial_order(alloc: Global, moves: &Moves) -> Result<Vec<TxnId>, NoMemory> {
+    let mut drawn = Vec::new(alloc);
+    for it in moves.items() {
+        if let Kind::Precommits(time) = it.kind {
+            if moves.has_committed(it.txn) {
+                drawn.push((time, it.txn))?;
+            }
+        }
+    }
+    if drawn.sort().is_err() {
+        return Err(NoMemory);
+    }
+    let mut order = Vec::new(alloc);
+    for (_, txn) in &drawn {
+        order.push(*txn)?;
+    }
+    Ok(order)
 }

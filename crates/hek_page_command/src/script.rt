@@ -1,6 +1,1555 @@
-//! The script of a page, in two parts. Written by tools/assets.
+//! The script of a page, in parts. Written by tools/assets.
 
-pub(crate) const SCRIPT: &str = r#""use strict";
+pub(crate) const SCRIPT_FIRST: &str = r##"const Story = {};
+Story.text = (() => {
+// Texts: how wide they are, how they are cut, and how they stand in HTML and SVG. Pure.
+
+// The widths of the characters from U+0020 to U+007E in Helvetica, each a digit of base 36 in units of 0.04 em.
+const WIDTHS = "779eenh599af7977eeeeeeeeee77fffeqhhjjhgkj7dheljkhkjhgjhohhg777ce9eedee7ee66d6leeee9d7edjddd979f";
+const UNIT = 0.04, BOLD = 1.07, OTHER = 0.64, SQUARE = 1.02;
+// Characters as wide as they are high: those of Chinese, Japanese and Korean, and pictures.
+const isSquare = (char) => /[\u1100-\u115f\u2e80-\ua4cf\uac00-\ud7a3\uf900-\ufaff\ufe30-\ufe6f\uff00-\uff60\uffe0-\uffe6]|[\u{1f000}-\u{3ffff}]/u.test(char);
+
+function widthOf(char) {
+  const digit = WIDTHS[char.charCodeAt(0) - 32];
+  if (digit !== undefined) return UNIT * parseInt(digit, 36);
+  return /\p{M}/u.test(char) ? 0 : isSquare(char) ? SQUARE : OTHER;
+}
+
+/** How wide a text is at a size of type, in the unit of that size; rather more than less, for each font that may be there. */
+const wide = (text, size, weight = 400) => [...String(text)].reduce((sum, char) => sum + widthOf(char), 0) * size * (weight > 500 ? BOLD : 1);
+
+/** The text in so much room: whole, or its beginning and `…`. */
+function cut(text, room, size, weight = 400) {
+  const all = [...String(text)];
+  if (wide(text, size, weight) <= room) return String(text);
+  let left = room - wide("…", size, weight), count = 0;
+  while (count < all.length && left >= wide(all[count], size, weight)) left -= wide(all[count++], size, weight);
+  return count ? all.slice(0, count).join("") + "…" : "…";
+}
+
+/** The first of some texts that has room, or the last one, cut. */
+const fitting = (texts, room, size, weight = 400) => texts.find((it) => wide(it, size, weight) <= room) ?? cut(texts.at(-1), room, size, weight);
+
+// Controls, and characters that turn the order of the ones after them.
+const HIDDEN = /[\u0000-\u0008\u000b-\u001f\u007f-\u009f\u061c\u200e\u200f\u202a-\u202e\u2066-\u2069]/g;
+const ENTITIES = { "&": "&amp;", "<": "&lt;", ">": "&gt;", '"': "&quot;", "'": "&#39;" };
+
+/** A text that isn't ours, with a picture in place of each control. */
+const shown = (text) => String(text).replace(HIDDEN, (it) => (it < " " ? String.fromCharCode(0x2400 + it.charCodeAt(0)) : it === "\u007f" ? "\u2421" : "\ufffd"));
+
+/** A text as it stands in HTML and SVG, also within quotes. */
+const esc = (text) => shown(text).replace(/[&<>"']/g, (it) => ENTITIES[it]);
+
+/** What JSON says; a number of more digits than JavaScript keeps is a text. */
+const parse = (json) => JSON.parse(json.replace(/"(?:[^"\\]|\\.)*"|-?\d{16,}/g, (it) => (it[0] === '"' ? it : `"${it}"`)));
+
+/** Names in a row: `a, b and c`. */
+const list = (texts) => (texts.length < 2 ? texts.join("") : `${texts.slice(0, -1).join(", ")} and ${texts.at(-1)}`);
+
+/** Sentences one after another, each with its full stop; empty ones are none. */
+const sentences = (all) => all.filter(Boolean).map((it) => (/[.!?]$/.test(it) ? it : `${it}.`)).join(" ");
+
+// A transaction's name stands in braces in a sentence, which no name has.
+const NAMED = /\{([^{}]*)\}/g;
+
+/** A sentence without the braces of its names. */
+const plain = (sentence) => sentence.replace(NAMED, "$1");
+
+/** A sentence as HTML, each name of `names` in the colour of its place there. */
+function rich(sentence, names) {
+  return sentence.split(NAMED).map((part, index) => {
+    const t = index % 2 ? names.indexOf(part) : -1;
+    return t < 0 ? esc(part.replace(/'/g, "’")) : `<b class="n${t % COLOURS_IN_USE}">${esc(part)}</b>`;
+  }).join("");
+}
+
+/** So many colours transactions have; those after them begin anew. */
+const COLOURS_IN_USE = 8;
+return { wide, cut, fitting, shown, esc, parse, list, sentences, plain, rich, COLOURS_IN_USE };
+})();
+Story.svg = (() => {
+// Pieces of SVG as texts, the sizes of type, the colours and the style. Pure.
+const { esc } = Story.text;
+
+/** The sizes of type, in the size of ordinary text: small words, ordinary ones, values, large values and the sentence. The verdict, 2.5, is the page's. */
+const S = 0.75;
+const M = 1;
+const L = 1.25;
+const XL = 1.75;
+
+/** A length in pixels, with one digit after the point. */
+const r1 = (length) => Math.round(length * 10) / 10;
+const clamp = (low, value, high) => Math.max(low, Math.min(value, high));
+/** The colours of transactions after the eighth are those of the first ones. */
+const colour = (t) => t % 8;
+
+const text = (x, y, size, words, kind = "", anchor = "middle") => `<text x="${r1(x)}" y="${r1(y)}" font-size="${r1(size)}" text-anchor="${anchor}" class="${kind}">${esc(words)}</text>`;
+const rect = (x, y, w, h, kind, round = 0) => `<rect x="${r1(x)}" y="${r1(y)}" width="${r1(Math.max(w, 0))}" height="${r1(Math.max(h, 0))}" rx="${r1(round)}" class="${kind}"/>`;
+const path = (line, kind) => `<path d="${line}" class="${kind}"/>`;
+const title = (words) => `<title>${esc(words)}</title>`;
+const svg = (w, h, label, inside, role = "img") =>
+  `<svg xmlns="http://www.w3.org/2000/svg" width="${r1(w)}" height="${r1(h)}" viewBox="0 0 ${r1(w)} ${r1(h)}" class="pic" role="${role}" aria-label="${esc(label)}">${inside}</svg>`;
+
+/** The colours by name, of light and of dark. Beside a transaction's colour stands its name, beside each mark a sign: nothing is said by colour alone. */
+const COLOURS = {
+  light: {
+    paper: "#ffffff", ink: "#101720", soft: "#4f5a67", line: "#c9d0d8", band: "#fff0bf", track: "#e9edf1", bad: "#a3001b", on: "#ffffff",
+    c0: "#0a4fb3", c1: "#a83a00", c2: "#6a22a3", c3: "#00635a", c4: "#9b1150", c5: "#4f5900", c6: "#3f4a58", c7: "#7a4b00",
+  },
+  dark: {
+    paper: "#0e1217", ink: "#f2f5f8", soft: "#b4bfcc", line: "#3d4753", band: "#3d3410", track: "#232b34", bad: "#ff9c9c", on: "#0e1217",
+    c0: "#8dbdff", c1: "#ffab78", c2: "#d0adff", c3: "#66dccb", c4: "#ff9ac6", c5: "#d3df74", c6: "#c3ccd6", c7: "#e6b873",
+  },
+};
+
+const FONT = '"Segoe UI",-apple-system,"Helvetica Neue",Roboto,"Noto Sans","Liberation Sans",Arial,sans-serif';
+/** The style of pictures. */
+const STYLE = `.pic text{font-family:${FONT};font-variant-numeric:tabular-nums;fill:var(--ink)}
+.pic .b{font-weight:700}.pic .soft,.pic .slate{fill:var(--soft)}.pic .on{fill:var(--on)}.pic .badt{fill:var(--bad)}.pic .strike{text-decoration:line-through}
+.pic .box{fill:var(--paper);stroke-width:2}.pic .band{fill:var(--band)}.pic .halo{stroke:var(--paper);stroke-width:5;stroke-linejoin:round;paint-order:stroke}
+.pic .ghost{fill:none;stroke:var(--soft);stroke-dasharray:4 3;stroke-width:1.5}.pic .hatch{fill:url(#hatch);stroke:var(--soft)}
+.pic .chip{fill:var(--paper);stroke:none}.pic .seg{fill:var(--track)}.pic .tint{fill-opacity:.2;stroke:none}.pic .rule{stroke:var(--line);fill:none}
+.pic .pend{fill:none;stroke-width:1.5;stroke-dasharray:3 2}.pic .life{fill:none;stroke-width:3;stroke-opacity:.35}.pic .link{fill:none;stroke-width:2}
+.pic .view{fill:none;stroke-width:2;stroke-dasharray:2 4;stroke-linecap:round}.pic .edge{fill:none;stroke:var(--bad);stroke-width:3}.pic .bad{fill:var(--bad)}
+.pic .dim{opacity:.28}.pic .ok{fill:none;stroke:var(--soft)}.pic .faint{fill-opacity:.45}.pic .none{fill:none}.pic .mark{stroke:var(--ink);stroke-width:1.5}.pic .inkf{fill:var(--ink)}
+${Array.from({ length: 8 }, (_, t) => `.pic .f${t}{fill:var(--c${t})}.pic .s${t}{stroke:var(--c${t})}`).join("")}
+`;
+const DEFS = '<defs><pattern id="hatch" width="7" height="7" patternUnits="userSpaceOnUse" patternTransform="rotate(45)"><line x1="0" y1="0" x2="0" y2="7" style="stroke:var(--soft);stroke-width:2.5"/></pattern></defs>';
+
+/** The colours as custom properties of CSS. */
+const properties = (colours) => Object.entries(colours).map(([name, value]) => `--${name}:${value}`).join(";");
+
+// ---- curves
+
+const bezier = (from, to, bend) => [from, [from[0], from[1] + bend], [to[0], to[1] - bend], to];
+const pointAt = (curve, part) => [0, 1].map((k) =>
+  (1 - part) ** 3 * curve[0][k] + 3 * part * (1 - part) ** 2 * curve[1][k] + 3 * part * part * (1 - part) * curve[2][k] + part ** 3 * curve[3][k]);
+const curved = (curve) => `M${curve[0].map(r1)}C${curve.slice(1).map((point) => point.map(r1)).join(" ")}`;
+/** The head of an arrow whose tip is at x and y. */
+const head = (x, y, isDown, size, kind) => path(`M${r1(x)} ${r1(y)}l${r1(-size / 2)} ${r1(isDown ? -size : size)}h${r1(size)}z`, kind);
+
+/** A curve from the box of one column to that of another: over its lane if they are in one, otherwise between the lanes. */
+function join(story, at, one, other, [shift, shiftTo] = [0, 0]) {
+  const [from, to] = [story.columns[one], story.columns[other]], isDown = to.t > from.t, size = 0.6 * at.u;
+  if (from.t === to.t) {
+    const y = at.y(from.t), rise = Math.max(0.5 * at.u, (at.gap / 2 - 0.8 * at.u) / 0.75), [x, toX] = [at.mid(one) + shift, at.mid(other) + shiftTo];
+    return { curve: [[x, y], [x, y - rise], [toX, y - rise], [toX, y - 0.5 * at.u]], tip: [toX, y], isDown: true, size };
+  }
+  const start = [at.mid(one) + shift, at.y(from.t) + (isDown ? at.high : 0)], tip = [at.mid(other) + shiftTo, at.y(to.t) + (isDown ? 0 : at.high)];
+  const end = [tip[0], tip[1] + (isDown ? -size : size) * 0.9];
+  return { curve: bezier(start, end, (isDown ? 1 : -1) * clamp(at.gap * 0.7, Math.abs(end[1] - start[1]) * 0.6, at.lane)), tip, isDown, size };
+}
+return { S, M, L, XL, r1, clamp, colour, text, rect, path, title, svg, COLOURS, STYLE, DEFS, properties, pointAt, curved, head, join };
+})();
+Story.story = (() => {
+// A play, as `--json` has it -> a story: what is drawn of it, column by column. Pure.
+const { list, sentences } = Story.text;
+
+const DRAWN = /^(read|scan|write|miss|skip|wait|commit|abort|unknown|refused)$/;
+const ENDS = /^(commit|abort|unknown)$/;
+const named = (name) => `{${name}}`;
+const unique = (all) => [...new Set(all)];
+
+/** The story of a play. `text` is that of its schedule: the words of conditions, and of what is to hold, are in it. */
+function storyOf(play, text = "") {
+  const { columns, at } = columnsOf(play);
+  const story = {
+    names: play.names, levels: play.levels, level: unique(play.levels).length === 1 ? play.levels[0] : "", order: play.order ?? null, columns,
+    ends: play.names.map((name, t) => columns.findLast((it) => it.t === t && ENDS.test(it.kind))?.kind ?? null),
+  };
+  const lines = text.split("\n").map((line) => line.replace(/#.*/, ""));
+  story.waits = waitsOf(play, columns, at);
+  story.views = viewsOf(play, columns, at);
+  story.tracks = tracksOf(play, columns);
+  story.always = alwaysOf(play, columns, lines);
+  story.verdict = verdictOf(play, story, at);
+  sayMore(story, lines);
+  placeInOrder(story);
+  return story;
+}
+
+/** A column for each move that is drawn; and `at`, the column of a move by its number from 1: of one that isn't drawn, its transaction's next. */
+function columnsOf({ moves, names }) {
+  const columns = [], places = moves.map((move) => {
+    if (!DRAWN.test(move.kind)) return null;
+    columns.push({ ...move, t: names.indexOf(move.txn), from: null, by: null, frees: [], breaks: null });
+    return columns.length - 1;
+  });
+  const at = (number) => {
+    const { txn } = moves[number - 1] ?? {}, next = places.findIndex((place, index) => index >= number - 1 && place !== null && moves[index].txn === txn);
+    return next < 0 ? null : places[next];
+  };
+  for (const column of columns) {
+    if (!column.writer) continue;
+    column.from = at(column.writer.move);
+    column.by = names.indexOf(column.writer.txn);
+  }
+  return { columns, at };
+}
+
+/** Each wait, from its column to that of the end that it waited for; `by` is the column that freed it. */
+function waitsOf({ moves, names }, columns, at) {
+  const waits = columns.flatMap((column, from) => {
+    if (column.kind !== "wait") return [];
+    const to = columns.findIndex((it, index) => index > from && it.t === column.t && ENDS.test(it.kind));
+    const keys = unique(column.for.map((it) => it.key).filter((key) => key !== undefined && key !== null));
+    return [{ t: column.t, from, to: to < 0 ? null : to, by: null, for: column.for.map((it) => names.indexOf(it.txn)), keys }];
+  });
+  moves.forEach((move, index) => {
+    for (const number of move.ends ?? []) {
+      const wait = waits.find((it) => it.from === at(number)), by = at(index + 1);
+      if (!wait || by === null || (wait.to !== null && wait.to <= by)) continue;
+      wait.by = by;
+      columns[by].frees.push(wait.t);
+    }
+  });
+  return waits;
+}
+
+/** Where each transaction looks that reads a snapshot: the column before which it began. */
+function viewsOf({ moves, names, levels }, columns, at) {
+  return moves.flatMap((move, index) => {
+    const t = names.indexOf(move.txn);
+    if (move.kind !== "begin" || levels[t] !== "snapshot" || at(index + 1) === null) return [];
+    const next = moves.findIndex((it, other) => other > index && DRAWN.test(it.kind));
+    return [{ t, at: at(next + 1) }];
+  });
+}
+
+/** The keys whose committed value a column changes, each with its value then; null for a row that is gone. */
+function changesOf({ committed }, before) {
+  if (!committed) return [];
+  const now = new Map(committed), keys = unique([...before.keys(), ...now.keys()]);
+  return keys.filter((key) => before.get(key) !== now.get(key)).map((key) => [key, now.get(key) ?? null]);
+}
+
+/** A track for each key: `segments` of committed values, and `pending` ones that their transaction has written and not committed. */
+function tracksOf({ rows }, columns) {
+  if (!rows) return [];
+  const tracks = new Map(rows.map(([key, value]) => [key, trackOf(key, value)]));
+  let before = new Map(rows);
+  columns.forEach((column, index) => {
+    const { t, kind, key } = column;
+    if (kind === "write") {
+      if (!tracks.has(key)) tracks.set(key, trackOf(key, null));
+      const { pending } = tracks.get(key), before = pending.find((it) => it.t === t && it.to === null);
+      if (before) Object.assign(before, { to: index, end: "own" });
+      pending.push({ t, from: index, to: null, value: column.value, end: null });
+    }
+    if (!ENDS.test(kind)) return;
+    for (const { pending } of tracks.values()) for (const it of pending) if (it.t === t && it.to === null) Object.assign(it, { to: index, end: kind });
+    for (const [changed, value] of changesOf(column, before)) {
+      const { segments } = tracks.get(changed);
+      segments.at(-1).to = index;
+      segments.push({ from: index, to: null, value, t });
+    }
+    before = new Map(column.committed ?? before);
+  });
+  return [...tracks.values()].sort(({ key: one }, { key: other }) => (typeof one === "number" && typeof other === "number" ? one - other : 0));
+}
+
+const trackOf = (key, value) => ({ key, segments: [{ from: 0, to: null, value, t: null }], pending: [] });
+
+/** The words of a condition with values in place of `@KEY` and of names, as far as they have one. */
+const filled = (words, valueOf) => words.replace(/@?[\p{L}_][\p{L}\p{N}_]*|@\d+/gu, (word) => valueOf(word) ?? (word[0] === "@" ? "–" : word));
+
+/** A value by `@KEY` among pairs of keys and values. */
+const valueIn = (pairs, word) => pairs.find(([key]) => String(key) === word.slice(1))?.[1];
+
+/** What is to hold, with the columns from which on it does or doesn't, and its words with the values of the committed rows. */
+function alwaysOf({ always = [], rows, names }, columns, lines) {
+  const done = new Set();
+  let now = rows ?? [];
+  const all = always.map(({ line }) => ({ line, text: (lines[line - 1] ?? "").replace(/^\s*\S+\s*/, "").trim(), states: [] }));
+  const valueOf = (word) => (word[0] === "@" ? valueIn(now, word) : names.includes(word) ? Number(done.has(word)) : undefined);
+  const note = (judged, from) => judged.forEach(({ holds }, index) => {
+    const { text, states } = all[index], words = filled(text, valueOf), last = states.at(-1);
+    if (!last || last.holds !== holds || last.words !== words) states.push({ from, holds, words });
+  });
+  note(always, 0);
+  columns.forEach((column, index) => {
+    if (column.kind !== "commit" || !column.always) return;
+    done.add(column.txn);
+    now = column.committed;
+    const held = all.map(({ states }) => states.at(-1).holds);
+    note(column.always, index);
+    column.breaks = all.find(({ states }, which) => held[which] && !states.at(-1).holds)?.line ?? null;
+  });
+  return all;
+}
+
+/** Adds to the reasons what only the text and later moves say. */
+function sayMore({ columns, always, names }, lines) {
+  columns.forEach((column, index) => {
+    const said = [column.why];
+    if (column.kind === "skip") said.push(whySkipped(column, sawBefore(column, index, columns), lines));
+    if (column.breaks !== null) {
+      const { text, states } = always.find((it) => it.line === column.breaks);
+      said.push(`What is to hold is broken: ${text} is now ${states.findLast((it) => it.from <= index).words}`);
+    }
+    if (column.frees.length) said.push(`The wait of ${list(unique(column.frees).map((t) => named(names[t])))} is over`);
+    column.why = sentences(said);
+  });
+}
+
+/** What a transaction has last seen or written at each key, before a column. */
+function sawBefore({ t }, index, columns) {
+  const saw = new Map();
+  for (const it of columns.slice(0, index)) {
+    if (it.t !== t) continue;
+    if (it.kind === "scan") for (const [key, value] of it.rows) saw.set(key, value);
+    else if (it.kind === "read" || it.kind === "write") saw.set(it.key, it.value ?? null);
+  }
+  return [...saw];
+}
+
+function whySkipped({ line }, saw, lines) {
+  const words = (lines[line - 1] ?? "").split(/\sif\s/)[1]?.trim();
+  return words ? `Its condition doesn’t hold: ${words} is ${filled(words, (word) => (word[0] === "@" ? valueIn(saw, word) : undefined))}` : "Its condition doesn’t hold";
+}
+
+/** The place in the order of the move that each column makes; what ends a wait makes none. By it the plays of one order at several levels are compared. */
+function placeInOrder({ columns, names, order }) {
+  const places = names.map((name) => (order ?? []).flatMap((it, index) => (it === name ? [index] : []))), count = names.map(() => 0), waited = new Set();
+  let last = -1;
+  for (const column of columns) {
+    column.isLate = waited.has(column.t) && ENDS.test(column.kind);
+    if (!column.isLate) last = Math.max(last, places[column.t][count[column.t]++] ?? last);
+    if (column.kind === "wait") waited.add(column.t);
+    column.place = last;
+  }
+}
+
+// ---- the verdict
+
+/** The kind of a verdict, by its word. */
+const verdictKind = (word = "") => (/^not ser/.test(word) ? "not" : /another/.test(word) ? "other" : /^serial/.test(word) ? "serial" : "unknown");
+
+/** What a verdict is called, by its kind. */
+const VERDICTS = { not: "not serializable", other: "serializable in another order", serial: "serializable", unknown: "not judged" };
+
+function verdictOf({ together = {}, breaks = null, names }, story, at) {
+  const kind = verdictKind(together.verdict), order = (together.order ?? []).map((name) => names.indexOf(name)), out = names.filter((name, t) => story.ends[t] === "abort");
+  const tail = out.length && kind !== "not" ? `${list(out.map(named))} aborted: as if ${out.length > 1 ? "they" : "it"} had never begun.` : "";
+  const edges = kind === "not" ? (together.cycle ?? []).map((edge) => edgeOf(edge, story, at)) : [];
+  return { kind, order, edges, tail, breaks, name: together.anomaly ?? "", say: sayVerdict(kind, order.map((t) => named(names[t])), story) };
+}
+
+function sayVerdict(kind, order, { ends }) {
+  const then = order.join(", then ");
+  if (kind === "not") return "Not serializable";
+  if (kind === "unknown") return "Not judged";
+  if (!ends.includes("commit")) return "Nobody committed";
+  if (kind === "other") return `Serializable, but only in another order: ${then}`;
+  return `Serializable${order.length ? `: as if ${then}${order.length === 1 ? " alone" : ""}` : ""}`;
+}
+
+/** An edge of the cycle, with its sentence and the columns at its two ends. */
+function edgeOf(edge, { names, columns }, at) {
+  const { kind, key, moves = [] } = edge, [from, to] = [edge.from, edge.to].map((name) => names.indexOf(name));
+  const [one, other] = [edge.from, edge.to].map((name) => (name ? named(name) : "the opening rows")), then = `${one}, then ${other}.`;
+  const says = {
+    own: `${(edge.words ?? "").replace(/ \(operation \d+\)/g, "").replace(edge.from, () => one)}: there is no time at which both are right.`,
+    rw: `${one} read ${key} = ${edge.read ?? "nothing"} before ${other} wrote it: ${then}`,
+    wr: `${other} read what ${one} wrote to ${key}: ${then}`,
+    ww: `${other} wrote ${key} after ${one}: ${then}`,
+  };
+  const [a, b] = moves.length === 2 ? moves.map((it) => (it === null ? null : at(it))) : endsOf(edge, columns, from, to), isKnown = edge.from !== null && edge.to !== null;
+  return { kind: kind === "own" ? "twice" : kind, key, from, to, a: from < 0 ? null : a, b: to < 0 ? null : b, say: isKnown && says[kind] ? says[kind] : `${edge.words}.` };
+}
+
+/** The columns at the two ends of an edge that names none: by its kind, its key and what was read. */
+function endsOf({ kind, key, read, words = "" }, columns, from, to) {
+  const workOf = (t) => columns.flatMap((it, index) => (it.t === t && /^(read|scan|write|miss)$/.test(it.kind) ? [index] : []));
+  if (kind === "own") {
+    const own = workOf(from), [one, other] = [...words.matchAll(/operation (\d+)/g)].map((it) => own[it[1] - 1]);
+    return [one ?? own[0], other ?? own.at(-1)];
+  }
+  const isRead = (it) => it.kind === "scan" || (it.key === key && (it.kind === "miss" || it.kind === "read")), isWrite = (it) => it.kind === "write" && it.key === key;
+  const last = (t, fits) => workOf(t).findLast((index) => fits(columns[index])) ?? null;
+  const reads = (t) => last(t, (it) => isRead(it) && (it.kind !== "read" || it.value === (read ?? it.value))) ?? last(t, isRead);
+  return [kind === "rw" ? reads(from) : last(from, isWrite), kind === "wr" ? reads(to) : last(to, isWrite)].map((it, index) => it ?? workOf([from, to][index]).at(-1) ?? null);
+}
+
+/** A story's end in a few words. */
+function shortVerdict({ verdict, names, ends }) {
+  const out = names.filter((name, t) => ends[t] === "abort"), { kind, order } = verdict;
+  if (kind === "not" || verdict.breaks !== null) return kind === "not" ? VERDICTS.not : "broken";
+  if (out.length) return `${out.length > 2 ? out.length : out.join(", ")} aborted`;
+  if (!order.length || order.length > 3) return kind === "unknown" ? "" : VERDICTS[kind];
+  return `${kind === "other" ? "only " : ""}as if ${order.map((t) => names[t]).join(", ")}`;
+}
+
+// ---- one order at several levels
+
+/** The position in another story of the same order at which its moves are made that are made at a position of this one. */
+function samePlace(from, position, to) {
+  if (position > from.columns.length) return to.columns.length + 1;
+  if (to === from || position === 0) return position;
+  if (position === from.columns.length) return to.columns.length;
+  return to.columns.findLastIndex((it) => !it.isLate && it.place <= from.columns[position - 1].place) + 1;
+}
+return { storyOf, verdictKind, VERDICTS, shortVerdict, samePlace };
+})();
+Story.layout = (() => {
+// Where the lanes, columns and rows of a story stand. Pure. Lengths are in pixels; `u` is the size of ordinary text.
+const { wide } = Story.text;
+const { L, M, S, XL, clamp } = Story.svg;
+
+/** What a box says: its first line, longest first, and its value. */
+function wordsOf(column) {
+  const { kind, key, value } = column;
+  switch (kind) {
+    case "read": return { tops: [`read ${key}`, `r ${key}`, `${key}`], value: value ?? "–" };
+    case "scan": return { tops: [`scan ${column.bucket ?? ""}`, "scan"], value: column.rows.map(([row, its]) => `${row}=${its}`).join(" ") || "–" };
+    case "write": return { tops: [`${key} :=`, `${key}:=`, `${key}`], value: value ?? "–" };
+    case "miss": return { tops: [`${key} :=`, `${key}`], value: column.op === "insert" ? "exists" : "no row" };
+    case "skip": return { tops: ["left out", "out"], value: `${key ?? ""}` };
+    case "refused": return { tops: ["refused", "ref."], value: "⊘" };
+    case "commit": return { tops: ["commit", ""], value: "✓" };
+    case "unknown": return { tops: ["commit", ""], value: "?" };
+    case "abort": return { tops: column.op ? [...(/read|scan/.test(column.op) ? [`${column.op} ${key}`, `r ${key}`] : [`${key} :=`]), `${key}`] : ["abort", ""], value: "✗" };
+    default: return { tops: [""], value: "" };
+  }
+}
+
+/** The least width of a column's box with values of this size. */
+function need(column, size, isNarrow) {
+  const { tops, value } = wordsOf(column), most = column.kind === "scan" ? 7 : 12;
+  if (column.kind === "wait") return isNarrow ? 2.2 : 3;
+  return Math.min(Math.max(wide(tops.at(-1), S), wide(value, column.kind === "scan" ? S : size, 700)) + (isNarrow ? 0.5 : 0.8), most);
+}
+
+/** A slot for each place of the order, and for each column there that only ends a wait: the columns of several stories of one order share them. */
+function slotsOf(stories) {
+  const all = stories.map(({ columns }) => {
+    let [place, late] = [-2, 0];
+    return columns.map((column, index) => {
+      const own = stories.length === 1 ? index : column.place;
+      late = own === place ? late + 1 : 0;
+      place = own;
+      return own * 1000 + late;
+    });
+  });
+  const slots = [...new Set(all.flat())].sort((a, b) => a - b);
+  return { count: slots.length, of: all.map((its) => its.map((slot) => slots.indexOf(slot))) };
+}
+
+/** The middles of the slots, as in a score: two boxes of one lane don't touch; those of different lanes may overlap in width, and keep their order. */
+function spread(stories, slots, widths, least) {
+  const xs = [], last = stories.map(() => new Map()), columnAt = slots.of.map((its) => new Map(its.map((slot, index) => [slot, index])));
+  for (let slot = 0; slot < slots.count; slot++) {
+    let x = slot ? xs[slot - 1] + least : 0;
+    stories.forEach(({ columns }, which) => {
+      const index = columnAt[which].get(slot);
+      if (index === undefined) return;
+      const before = last[which].get(columns[index].t);
+      x = Math.max(x, before === undefined ? widths[which][index] / 2 : xs[slots.of[which][before]] + (widths[which][before] + widths[which][index]) / 2);
+      last[which].set(columns[index].t, index);
+    });
+    xs[slot] = x;
+  }
+  return xs;
+}
+
+const end = (stories, slots, widths, xs) => Math.max(0, ...stories.flatMap((_, which) => widths[which].map((width, index) => xs[slots.of[which][index]] + width / 2)));
+
+/** Ways to place the columns, the roomiest first: equal columns, boxes of one width, boxes as wide as they must be, with smaller values. */
+function* ways(stories, slots, room, u, isNarrow) {
+  const even = (width) => stories.map(({ columns }) => columns.map(() => width)), needs = (size) => stories.map(({ columns }) => columns.map((it) => need(it, size, isNarrow) * u));
+  const most = (size) => Math.max(1, ...needs(size).flat()), column = Math.min(8 * u, room / Math.max(slots.count, 1));
+  for (const size of isNarrow ? [L] : [XL, L]) if (column >= Math.max(most(size), (isNarrow ? 2.6 : 3.4) * u)) yield { size, widths: even(column), least: column };
+  for (const size of isNarrow ? [L, M] : [XL, L, M]) {
+    const least = Math.max(most(size), 2.6 * u);
+    for (let width = Math.max(4 * u, least); width >= least; width -= 0.1 * u) yield { size, widths: even(width), least: 1.2 * u };
+  }
+  for (const size of [L, M, S]) for (const least of [1, 0.6]) yield { size, widths: needs(size), least: least * u };
+}
+
+/** Where things stand in a room of `w` and `h`. Columns are shared by lanes and rows, and by the stories of `all`; lanes take the height that the rows leave. */
+function layout(story, { w, h, u, all = [story], rows = true }) {
+  const isNarrow = w < 34 * u, longest = Math.max(...story.names.map((name) => wide(name, 1, 700)), ...(rows ? story.tracks.map(({ key }) => wide(key, 1, 700)) : [])), nameSize = isNarrow && longest > 2.5 ? S : M;
+  const gutter = clamp(2.9 * u, longest * nameSize * u + (isNarrow ? 0.5 : 1.2) * u, w * 0.26), pad = (isNarrow ? 1.2 : 2.6) * u, tail = (isNarrow ? 0.4 : 3.2) * u, room = w - gutter - pad - tail;
+  const slots = slotsOf(all), own = slots.of[all.indexOf(story)];
+  let way, xs, length;
+  for (way of ways(all, slots, room, u, isNarrow)) {
+    xs = spread(all, slots, way.widths, way.least);
+    length = end(all, slots, way.widths, xs);
+    if (length <= room + 0.5) break;
+  }
+  const first = way.widths.flat()[0] ?? 0, isEven = way.least === first, stretch = isEven || length >= room ? 1 : clamp(1, (room - first) / Math.max(length - first, 1), 2);
+  const widths = way.widths[all.indexOf(story)], place = (x) => pad + first / 2 + (x - first / 2) * stretch;
+  const mid = (index) => place(xs[own[index]] ?? (xs.at(-1) ?? 0) + first), most = place(length - first / 2) + first / 2;
+  const left = (index) => mid(index) - (widths[index] ?? first) / 2, right = (index) => (index ? mid(index - 1) + (widths[index - 1] ?? first) / 2 : pad);
+  const high = heights(story, { h, u, rows, isNarrow });
+  return { w: Math.max(most + tail, w - gutter), u, count: story.columns.length, gutter, pad, nameSize, size: high.high > 3.6 * u ? way.size : Math.min(way.size, L), isNarrow, mid, left, right,
+    width: (index) => widths[index] ?? first, ...high };
+}
+
+/** Heights: of a lane, of its boxes, of a row. */
+function heights(story, { h, u, rows, isNarrow }) {
+  const lanes = story.names.length, count = rows ? story.tracks.length + story.always.length : 0, top = (story.views.length ? 1.5 : 0.4) * u;
+  const row = (count > 6 ? 1.9 : 2.05) * u, low = rows && count ? top + row * count + u : 0;
+  const lane = clamp((lanes > 5 ? 3.3 : isNarrow ? 4.4 : rows ? 3.7 : 2.7) * u, (h - low) / lanes, 9 * u), high = clamp(2.5 * u, lane * (isNarrow ? 0.58 : 0.62), 4.6 * u);
+  return { lane, high, gap: lane - high, row, top, y: (t) => t * lane + (lane - high) / 2 };
+}
+return { wordsOf, layout };
+})();
+Story.lanes = (() => {
+// The lanes of a story: its boxes, waits, arrows, and the cycle of its verdict. Pure.
+const { cut, esc, fitting, plain, wide } = Story.text;
+const { DEFS, L, M, S, XL, clamp, colour, curved, head, join, path, pointAt, r1, rect, svg, text, title } = Story.svg;
+const { wordsOf } = Story.layout;
+
+const ORDINALS = ["1st", "2nd", "3rd"];
+
+/** The names of the lanes, and at the end the places in the serial order. */
+function names(story, at, step) {
+  const isEnd = step > at.count, { order, kind } = story.verdict, size = at.nameSize * at.u;
+  const parts = story.names.map((name, t) => {
+    const y = at.y(t) + at.high / 2, place = isEnd && kind !== "not" ? order.indexOf(t) : -1, isOut = isEnd && story.ends[t] === "abort", isTwo = isOut || (place >= 0 && order.length > 1);
+    const under = isOut ? text(2, y + 1.05 * at.u, S * at.u, fitting(["aborted", "out"], at.gutter - 4, S * at.u), "soft", "start")
+      : isTwo ? text(2, y + 1.05 * at.u, S * at.u, ORDINALS[place] ?? `${place + 1}th`, "b", "start") : "";
+    return `<g>${title(name)}${text(2, y + (isTwo ? -0.1 : 0.35) * at.u, size, cut(name, at.gutter - 4, size, 700), `b f${colour(t)}`, "start")}${under}</g>`;
+  });
+  return svg(at.gutter, at.lane * story.names.length, "transactions", parts.join(""));
+}
+
+// ---- boxes
+
+/** Two lines in a box: a small one, and a large one in the largest size that has room. */
+function lines(column, at, box, tops, value, [topKind, valueKind], most = at.size) {
+  const { u } = at, room = box.w - 4, size = [XL, L, M, S].find((it) => it <= most && wide(value, it * u, 700) <= room) ?? S, isLarge = size > L;
+  const top = fitting(tops, room, S * u), middle = box.y + at.high / 2;
+  if (top === "") return text(box.x + box.w / 2, middle + 0.36 * size * u, size * u, cut(value, room, size * u, 700), valueKind);
+  return text(box.x + box.w / 2, middle - (isLarge ? 0.6 : 0.4) * u, S * u, top, topKind) +
+    text(box.x + box.w / 2, middle + (isLarge ? 1.2 : 0.98) * u, size * u, cut(value, room, size * u, 700), valueKind);
+}
+
+/** The rows that a scan found, as many as the box has lines for. */
+function scanned(column, at, box) {
+  const { u } = at, most = Math.max(1, Math.floor((at.high - 1.3 * u) / (0.95 * u))), all = column.rows.map(([key, value]) => `${key}=${value}`);
+  const few = all.length > most ? [column.rows.map(([key]) => key).join(" "), `${all.length} rows`].slice(0, most) : all.length ? all : ["–"];
+  const top = box.y + at.high / 2 - few.length * 0.475 * u, x = box.x + box.w / 2;
+  return text(x, top + 0.3 * u, S * u, fitting(wordsOf(column).tops, box.w - 4, S * u), `f${colour(column.t)}`) +
+    few.map((line, index) => text(x, top + (1.25 + index * 0.95) * u, S * u, cut(line, box.w - 4, S * u, 700), "b")).join("");
+}
+
+function boxOf(column, at, index) {
+  const { u } = at, gap = at.width(index) < 3.2 * u ? 1.5 : 3, box = { x: at.left(index) + gap, y: at.y(column.t), w: at.width(index) - 2 * gap }, own = colour(column.t), { tops, value } = wordsOf(column);
+  const frame = (kind, round = 0.35 * u) => rect(box.x, box.y, box.w, at.high, kind, round), said = (kinds, most) => lines(column, at, box, tops, String(value), kinds, most);
+  switch (column.kind) {
+    case "read": return frame(`box s${own}`) + said([`f${own}`, column.by === null ? "b" : `b f${colour(column.by)}`]);
+    case "scan": return frame(`box s${own}`) + scanned(column, at, box);
+    case "write": {
+      const whole = `${column.key} := ${value}`, size = at.size * u;
+      return frame(`f${own}`) + (wide(whole, size, 700) < box.w - 4 ? text(box.x + box.w / 2, box.y + at.high / 2 + 0.36 * size, size, whole, "b on") : said(["on", "b on"]));
+    }
+    case "miss": return frame("ghost") + said(["soft", "b soft"], M);
+    case "skip": return frame("ghost") + said(["soft", "soft strike"], L);
+    case "refused": return frame("ghost") + said(["soft", "b soft"], L);
+    case "commit": return frame(`box s${own}`, at.high / 2) + said([`f${own}`, `b f${own}`]);
+    case "unknown": return frame("ghost", at.high / 2) + said(["soft", "b soft"]);
+    case "abort": return frame("bad") + said(["on", "b on"]);
+    default: return "";
+  }
+}
+
+// ---- waits and arrows
+
+/** A wait: one hatched bar, from the first time that the end was refused to the commit or abort that freed it. */
+function waitBar(story, at, wait, step) {
+  const { u } = at, isFree = wait.by !== null && wait.by < step && (wait.to === null || wait.by < wait.to), isOver = wait.to !== null && wait.to < step;
+  const to = Math.min(isFree ? at.mid(wait.by) + 0.5 * u : Infinity, isOver ? at.left(wait.to) : at.right(Math.min(step, at.count)));
+  const x = at.left(wait.from) + 3, w = Math.max(to - x - 3, 0.6 * u), h = at.high * 0.78, y = at.y(wait.t) + at.high * 0.11, who = wait.for.map((t) => story.names[t]).join(", "), size = S * u;
+  const all = `waits for ${who}`, long = wait.keys.length && wait.for.length === 1 ? `${all}, which read ${wait.keys.join(", ")}` : all;
+  const said = [[long], [all], ["waits", `for ${who}`]].find((lines) => lines.every((it) => wide(it, size, 700) <= w - 0.8 * u)), bar = rect(x, y, w, h, "hatch", 0.3 * u);
+  // What has no room in the bar stands under it.
+  if (!said) return bar + text(x, y + h + 0.85 * u, size, cut(all, at.w - x, size, 700), "b halo", "start");
+  const middle = x + Math.min(w / 2, Math.max(...said.map((it) => wide(it, size, 700))) / 2 + 0.3 * u);
+  return bar + said.map((it, index) => text(middle, y + h / 2 + (said.length === 1 ? 0.27 : index ? 0.8 : -0.2) * u, size, it, "b halo")).join("");
+}
+
+/** Where a column's arrows are drawn: in a long story of the step's column alone. */
+const isNear = (at, index, step) => index < step && (at.count <= 30 || index === step - 1);
+
+/** Arrows from the writes to the reads that found them. */
+const links = (story, at, step) => story.columns.map((column, index) => {
+  if (!/read|scan/.test(column.kind) || column.from === null || column.by === column.t || !isNear(at, index, step)) return "";
+  const it = join(story, at, column.from, index);
+  return path(curved(it.curve), `link s${colour(column.by)}`) + head(...it.tip, it.isDown, it.size, `f${colour(column.by)}`);
+}).join("");
+
+/** Dashed arrows from the ends of transactions to the waits that they freed. */
+const frees = (story, at, step) => story.waits.map((wait) => {
+  if (wait.by === null || !isNear(at, wait.by, step)) return "";
+  const from = story.columns[wait.by].t, isDown = wait.t > from, y = at.y(from) + (isDown ? at.high : 0), to = at.y(wait.t) + at.high * (isDown ? 0.11 : 0.89);
+  return path(`M${r1(at.mid(wait.by))} ${r1(y)}V${r1(to)}`, "ghost") + head(at.mid(wait.by), to, isDown, 0.5 * at.u, "inkf");
+}).join("");
+
+// ---- the cycle
+
+/** How far a label at a point is from boxes, other labels, arrow heads and the edges of the picture. */
+function clearance([x, y], [w, h], story, at, used, curves) {
+  const boxes = story.columns.map((column, index) => Math.max(Math.abs(at.mid(index) - x) - (at.width(index) + w) / 2, Math.abs(at.y(column.t) + at.high / 2 - y) - (at.high + h) / 2));
+  const labels = used.map((it) => Math.max(Math.abs(it.x - x) - (it.w + w) / 2 - 4, Math.abs(it.y - y) - h - 3));
+  const tips = curves.map(({ tip }) => Math.max(Math.abs(tip[0] - x) - w / 2 - 0.7 * at.u, Math.abs(tip[1] - y) - h / 2 - 0.9 * at.u));
+  return Math.min(...boxes, ...labels, ...tips, x - w / 2, at.w - x - w / 2);
+}
+
+const SHIFTS = [0, 0.9, -0.9, 1.8];
+
+/** The edges of the cycle: arrows between the boxes that make them, each with its kind and its key. */
+function edges(story, at) {
+  const ends = new Map(), used = [], all = story.verdict.edges.filter((it) => it.a !== null && it.b !== null && it.a !== undefined && it.b !== undefined);
+  const shift = (key) => { const count = ends.get(key) ?? 0; ends.set(key, count + 1); return SHIFTS[count % 4] * Math.min(at.u, at.width(0) / 4); };
+  const curves = all.map(({ a, b, from, to }) => join(story, at, a, b, [shift(`${a} ${to > from}`), shift(`${b} ${to < from}`)]));
+  const drawn = all.map(({ kind, key }, index) => {
+    const { curve, tip, isDown, size } = curves[index], words = `${kind} ${key ?? ""}`.trim(), type = (at.width(0) < 3 * at.u ? S : M) * at.u, w = wide(words, type, 700) + 0.9 * type, h = 1.45 * type;
+    const points = Array.from({ length: 41 }, (_, part) => pointAt(curve, 0.1 + part * 0.02)), score = (point) => clearance(point, [w, h], story, at, used, curves);
+    const [x, y] = points.map((point) => [score(point), point]).sort(([one], [other]) => other - one)[0][1], top = Math.max(y, h / 2 + 1), left = clamp(w / 2 + 1, x, at.w - w / 2 - 1);
+    used.push({ x: left, y: top, w });
+    return [path(curved(curve), "edge") + head(...tip, isDown, size * 1.5, "bad"), rect(left - w / 2, top - h / 2, w, h, "bad", 0.3 * at.u) + text(left, top + 0.35 * type, type, words, "b on")];
+  });
+  return drawn.map(([line]) => line).join("") + drawn.map(([, label]) => label).join("");
+}
+
+// ---- all of it
+
+/** The line of a transaction that is alive. */
+function life(story, at, t, step) {
+  const own = story.columns.flatMap((column, index) => (column.t === t && index < step ? [index] : []));
+  if (!own.length) return "";
+  const last = own.at(-1), isOver = /commit|abort|unknown/.test(story.columns[last].kind), y = r1(at.y(t) + at.high / 2);
+  return path(`M${r1(at.left(own[0]) + 3)} ${y}H${r1(isOver ? at.mid(last) : at.right(step))}`, `life s${colour(t)}`);
+}
+
+/** What a screen reader says of a column. */
+const labelOf = (column, index) => `${index + 1}: ${plain(column.say ?? "")}`;
+
+/** The lanes after `step` moves; the step after the last is the verdict. With `isLive` each box can be pressed. */
+function lanes(story, at, step, isLive = false) {
+  const isEnd = step > at.count, now = Math.min(step, at.count), isCycle = isEnd && story.verdict.kind === "not", kept = new Set(story.verdict.edges.flatMap(({ a, b }) => [a, b])), h = at.lane * story.names.length;
+  const band = now > 0 && !isEnd ? rect(at.left(now - 1), 0, at.width(now - 1), h, "band") : "", dim = (is) => (is ? ' class="dim"' : "");
+  const rules = story.names.map((_, t) => path(`M0 ${r1(at.y(t) + at.high / 2)}H${r1(at.w)}`, "rule")).join(""), lives = story.names.map((_, t) => life(story, at, t, now)).join("");
+  const bars = story.waits.filter((wait) => wait.from < now).map((wait) => `<g${dim(isCycle)}>${waitBar(story, at, wait, now)}</g>`).join("");
+  const live = (column, index) => isLive ? ` data-step="${index + 1}" role="button" tabindex="${index === now - 1 ? 0 : -1}" aria-label="${esc(labelOf(column, index))}"${index === step - 1 ? ' aria-current="step"' : ""}` : "";
+  const boxes = story.columns.slice(0, now).map((column, index) => `<g${live(column, index)}${dim(isCycle && !kept.has(index))}>${title(plain(column.say ?? ""))}${boxOf(column, at, index)}</g>`).join("");
+  const under = isCycle ? story.columns.map((column, index) => (column.kind === "wait" ? "" : rect(at.left(index) + 2, at.y(column.t), at.width(index) - 4, at.high, "chip", column.kind === "commit" ? at.high / 2 : 6))).join("") : "";
+  const arrows = isCycle ? "" : frees(story, at, now), found = isCycle ? edges(story, at) : links(story, at, now);
+  return svg(at.w, h, `Lanes of ${story.names.join(", ")} after ${now} of ${at.count} moves`, DEFS + band + rules + lives + bars + arrows + under + boxes + found, isLive ? "group" : "img");
+}
+return { names, labelOf, lanes };
+})();
+Story.rows = (() => {
+// The rows of a story over time, where snapshots look, and what is to hold. Pure.
+const { cut, wide } = Story.text;
+const { DEFS, M, S, colour, path, r1, rect, svg, text, title } = Story.svg;
+
+const NONE = "–";
+const height = (story, at) => at.top + at.row * (story.tracks.length + story.always.length) + 4;
+
+/** The heads of the rows: keys, and what is to hold. */
+function keys(story, at) {
+  const { u } = at, count = story.tracks.length, room = at.gutter - 4;
+  const rows = story.tracks.map(({ key }, index) => `<g>${title(key)}${text(2, at.top + at.row * index + at.row - 0.27 * u, M * u, cut(key, room, M * u, 700), "b", "start")}</g>`);
+  const always = story.always.map((it, index) => text(2, at.top + at.row * (count + index) + 1.35 * u, S * u, cut("always", room, S * u, 700), "b", "start"));
+  return svg(at.gutter, height(story, at), "rows", (story.views.length ? text(2, at.u, S * u, "row", "soft", "start") : "") + rows.join("") + always.join(""));
+}
+
+/** A key's track: a bar of committed values, and above it, dashed, what is written and not yet committed. */
+function track({ segments, pending }, at, y, now, till) {
+  const { u } = at, bar = at.row - 1.19 * u, parts = [path(`M0 ${r1(y + at.row - 0.03 * u)}H${r1(at.w)}`, "rule")];
+  for (const { from, to, value, t } of segments) {
+    if (t !== null && from >= now) continue;
+    const x = t === null ? 0 : at.mid(from), w = till(0, to) - x || at.pad, isOpening = t === null, words = value ?? NONE;
+    parts.push(rect(x, y + bar, Math.max(w, isOpening ? at.pad - 4 : 2) - 1, at.row - bar - 0.05 * u, isOpening ? "seg" : `tint f${colour(t)}`, 2));
+    if (!isOpening) parts.push(rect(x, y + bar, 4, at.row - bar - 0.05 * u, `f${colour(t)}`));
+    parts.push(`<g>${title(words)}${text(x + (isOpening ? 5 : 9), y + at.row - 0.27 * u, M * u, cut(words, Math.max(w - (isOpening ? 6 : 10), at.pad - 8), M * u, 700), `b ${isOpening ? "" : `f${colour(t)}`}`, "start")}</g>`);
+  }
+  for (const { t, from, to, value, end } of pending) {
+    if (from >= now) continue;
+    const x = at.mid(from), until = till(0, to), w = Math.max(until - x, 2) - 2;
+    parts.push(rect(x, y + 0.06 * u, w, bar - 0.1 * u, `pend s${colour(t)}`, 2), text(x + 4, y + bar - 0.14 * u, S * u, cut(value ?? NONE, Math.max(w - 4, at.width(from) / 2), S * u), `f${colour(t)}`, "start"));
+    if (end === "abort" && to < now) parts.push(text(until + 1, y + bar - 0.12 * u, S * u, "✗", "b badt", "start"));
+  }
+  return parts.join("");
+}
+
+/** From a read's column down to the rows that it sees: as of now, as of its snapshot, or what its transaction wrote itself. */
+function looks(story, at, now, views) {
+  const column = story.columns[now - 1], { u } = at;
+  if (column?.kind !== "read") return "";
+  return story.tracks.map(({ key }, index) => {
+    if (key !== column.key) return "";
+    const isOwn = column.by === column.t, y = at.top + at.row * index + (isOwn ? 0.4 * u : at.row - 0.6 * u), view = views.find((it) => it.t === column.t), x = at.mid(now - 1), to = view && !isOwn ? view.x : x;
+    return path(`M${r1(x)} 0V${r1(y)}H${r1(to)}`, `link s${colour(column.t)}`) + `<circle cx="${r1(to)}" cy="${r1(y)}" r="${r1(0.35 * u)}" class="f${colour(column.t)}"/>`;
+  }).join("");
+}
+
+/** The dotted lines at which transactions look that read a snapshot. */
+const looking = (story, at, views) => views.map(({ x, t }, index) => {
+  const { u } = at, room = (views[index + 1]?.x ?? at.w) - x, name = story.names[t], long = `${name}’s view`;
+  return path(`M${r1(x)} ${r1(0.5 * u)}V${r1(at.top + at.row * story.tracks.length)}`, `view s${colour(t)}`) +
+    text(x + 4, u, S * u, wide(long, S * u, 700) < room - 6 ? long : cut(name, room - 4, S * u, 700), `b halo f${colour(t)}`, "start");
+}).join("");
+
+/** What is to hold, with the values put in: red from the commit on that breaks it. */
+function always({ states, text: words }, at, y, now, right) {
+  const { u } = at;
+  return states.map((state, index) => {
+    if (index > 0 && state.from >= now) return "";
+    const x = index ? at.mid(state.from) : 0, next = states[index + 1], to = next && next.from < now ? at.mid(next.from) : Math.max(right, at.pad), w = to - x, mark = state.holds ? "✓" : "✗", said = `${mark} ${state.words}`;
+    const label = w <= u ? "" : wide(said, S * u, 700) < w - 8 ? text(x + 6, y + 1.02 * u, S * u, said, `b ${state.holds ? "" : "on"}`, "start") : text(x + w / 2, y + 1.02 * u, S * u, mark, state.holds ? "b" : "b on");
+    return `<g>${title(`${words}: ${state.words}`)}${rect(x + 1, y, w - 2, 1.5 * u, state.holds ? "ok" : "bad", 3)}${label}</g>`;
+  }).join("");
+}
+
+/** The rows after `step` moves. */
+function tracks(story, at, step) {
+  const isEnd = step > at.count, now = Math.min(step, at.count), right = isEnd || now === at.count ? at.w : at.right(now), low = at.top + at.row * (story.tracks.length + story.always.length);
+  const till = (_, to) => Math.min(right, to === null || to >= now ? right : at.mid(to));
+  const seen = story.views.filter((it) => it.at < now || (it.at === now && isEnd)).sort((one, other) => one.at - other.at);
+  const views = seen.map((it, index) => ({ t: it.t, x: at.left(it.at) + 3 + 5 * seen.slice(0, index).filter((other) => other.at === it.at).length }));
+  const parts = [DEFS, now > 0 && !isEnd ? rect(at.left(now - 1), 0, at.width(now - 1), low + 4, "band") : ""];
+  story.tracks.forEach((it, index) => parts.push(track(it, at, at.top + at.row * index, now, till)));
+  if (!isEnd) parts.push(looks(story, at, now, views));
+  parts.push(looking(story, at, views));
+  story.always.forEach((it, index) => parts.push(always(it, at, at.top + at.row * (story.tracks.length + index) + 0.35 * at.u, now, right)));
+  return svg(at.w, low + 4, `Rows after ${now} moves`, parts.join(""));
+}
+return { keys, tracks };
+})();
+Story.cards = (() => {
+// A story in a thumbnail, and the outcomes of all orders as bars. Pure.
+const { esc, wide } = Story.text;
+const { DEFS, S, colour, path, r1, rect, svg, text, title } = Story.svg;
+const { VERDICTS, verdictKind } = Story.story;
+
+const NONE = "–";
+
+/** A whole story in a thumbnail: outlined reads, filled writes, hatched waits, ticks and crosses; with values where they have room. */
+function mini(story, w, h, u, step) {
+  const count = Math.max(story.columns.length, 1), column = w / count, lane = h / story.names.length, high = lane * 0.8, y = (t) => t * lane + lane * 0.1, size = Math.min(S * u, high * 0.9);
+  const rules = story.names.map((_, t) => path(`M0 ${r1(y(t) + high / 2)}H${r1(w)}`, "rule")).join("");
+  const waits = story.waits.map(({ t, from, to, by }) => {
+    const until = by !== null && (to === null || by < to) ? by + 0.6 : to ?? count;
+    return rect(from * column + 1, y(t) + high * 0.1, (until - from) * column - 2, high * 0.8, "hatch", 2);
+  }).join("");
+  const boxes = story.columns.map((it, index) => (column < 9 ? tiny(it, index * column, y(it.t), column - 0.5, high) : small(it, index * column, y(it.t), column, high, size))).join("");
+  return svg(w, h, `the run at ${story.level || "its levels"}`, DEFS + rules + waits + boxes + (step > 0 && step <= story.columns.length ? path(`M${r1(step * column)} 0V${r1(h)}`, "mark") : ""));
+}
+
+function tiny({ kind, t }, x, y, w, h) {
+  const kinds = { read: `faint f${colour(t)}`, scan: `faint f${colour(t)}`, write: `f${colour(t)}`, abort: "bad", commit: "inkf" };
+  return rect(x, y, w, h, kinds[kind] ?? "none");
+}
+
+function small({ kind, t, value, by, rows }, x, y, w, h, size) {
+  const own = colour(t), middle = x + w / 2, base = y + h / 2 + size * 0.36, box = [x + 1, y, w - 2, h];
+  const said = (words, kinds) => (wide(words, size, 700) < w - 2 ? text(middle, base, size, words, kinds) : "");
+  switch (kind) {
+    case "read": return rect(...box, `box s${own}`, 3) + said(value ?? NONE, `b ${by === null ? "" : `f${colour(by)}`}`);
+    case "scan": return rect(...box, `box s${own}`, 3) + said(rows.length, "b");
+    case "write": return rect(...box, `f${own}`, 3) + said(value ?? NONE, "b on");
+    case "skip": case "miss": case "refused": return rect(...box, "chip") + rect(...box, "ghost", 3);
+    case "unknown": return rect(middle - size * 0.6, y, size * 1.2, h, "chip") + text(middle, base, size, "?", "b soft");
+    case "commit": return rect(middle - size * 0.6, y, size * 1.2, h, "chip") + text(middle, base, size, "✓", `b f${own}`);
+    case "abort": return rect(...box, "bad", 3) + text(middle, base, size, "✗", "b on");
+    default: return "";
+  }
+}
+
+// ---- outcomes
+
+const isBroken = (outcome) => verdictKind(outcome.verdict) === "not" || outcome.breaks !== undefined && outcome.breaks !== null;
+
+/** Outcomes in the order of their bars: those that are not serializable first, and of the others the commonest. */
+const sorted = (outcomes) => [...outcomes].sort((one, other) => isBroken(other) - isBroken(one) || other.orders - one.orders);
+
+const rowsOf = ({ rows }) => rows.map(([key, value]) => `${key}=${value}`).join(" ");
+
+/** An outcome in words. */
+function saidOutcome(outcome, { orders }) {
+  const ends = outcome.ends.map(({ txn, end }) => `${txn} ${end}`).join(", "), broken = outcome.breaks ? `; breaks line ${outcome.breaks}` : "";
+  return `${outcome.orders} of ${orders} orders: ${ends}; ${rowsOf(outcome)}; ${VERDICTS[verdictKind(outcome.verdict)]}${broken}`;
+}
+
+/** A bar for each outcome, as long as its share of the orders; each names an order that has it. */
+function bars(counted, names, w, u, isHere = () => false) {
+  const size = S * u, high = 1.45 * u, all = sorted(counted.outcomes), most = Math.max(...all.map((it) => it.orders)), alike = new Set(all.map((it) => it.ends.map(({ end }) => end).join())).size < all.length;
+  const short = names.join("").length > 6 ? names.map((name) => name.slice(0, 2)) : names, widths = short.map((name) => wide(`${name} ✓`, size, 700) + 0.45 * u), left = widths.reduce((sum, it) => sum + it, 0.4 * u);
+  const room = Math.max((w - left - wide(`✗ ${most}`, size, 700)) * 0.5, 2 * u);
+  return svg(w, high * all.length, "outcomes of all orders", DEFS + all.map((outcome, index) => {
+    const y = index * high, base = y + 1.02 * u, bad = isBroken(outcome), isOther = verdictKind(outcome.verdict) === "other", length = Math.max(2, room * outcome.orders / most), words = saidOutcome(outcome, counted);
+    const after = bad || isOther ? "" : alike ? rowsOf(outcome) : outcome.ends.find(({ end }) => end !== "committed")?.end.replace("aborted ", "") ?? "", count = bad ? `✗ ${outcome.orders}` : `${outcome.orders}`;
+    const x = left + length + 0.3 * u, next = x + wide(count, size, 700) + 0.5 * u;
+    const marks = outcome.ends.map(({ end }, t) => text(0.2 * u + widths.slice(0, t).reduce((sum, it) => sum + it, 0), base, size, `${short[t]} ${end === "committed" ? "✓" : "✗"}`, end === "committed" ? `b f${colour(t)}` : "badt", "start"));
+    return `<g data-order="${esc(outcome.first?.join(" ") ?? "")}" role="button" tabindex="0" aria-label="${esc(words)}">${title(words)}${rect(0, y, w, high - 1, isHere(outcome) ? "band" : "chip", 3)}${marks.join("")}` +
+      rect(left, y + 0.28 * u, length, 0.85 * u, bad ? "bad" : isOther ? "hatch" : "slate", 2) + text(x, base, size, count, `b ${bad ? "badt" : ""}`, "start") +
+      (wide(after, size) < w - next + 4 ? text(next, base, size, after, "soft", "start") : "") + "</g>";
+  }).join(""), "group");
+}
+
+/** Whether a story has an outcome: its ends, its rows and its verdict. */
+const hasOutcome = (story) => (outcome) => verdictKind(outcome.verdict) === story.verdict.kind && outcome.ends.every(({ end }, t) => end === endOf(story, t)) &&
+  outcome.rows.every(([key, value]) => story.tracks.find((it) => it.key === key)?.segments.at(-1).value === value);
+
+/** How a transaction ends, in the words of outcomes. */
+function endOf({ ends, columns }, t) {
+  if (ends[t] !== "abort") return ends[t] === "commit" ? "committed" : "unended";
+  return `aborted ${columns.find((it) => it.t === t && it.kind === "abort").cause}`;
+}
+return { mini, sorted, saidOutcome, bars, hasOutcome, endOf };
+})();
+Story.figure = (() => {
+// A story as one picture, with its style inside: for a slide, a file, a page of print. Pure.
+const { fitting, plain } = Story.text;
+const { COLOURS, L, S, STYLE, XL, rect, r1, svg, text } = Story.svg;
+const { layout } = Story.layout;
+const { lanes, names } = Story.lanes;
+const { keys, tracks } = Story.rows;
+
+/** The colours in place of the names of custom properties: programs that draw slides know none. */
+const painted = (drawing, colours) => drawing.replace(/var\(--(\w+)\)/g, (all, name) => colours[name] ?? all);
+
+/** The words above the picture: of a step its sentence, at the end the verdict. */
+function saying(story, step) {
+  if (step === 0) return { say: "", isBad: false };
+  if (step > story.columns.length) return { say: plain(story.verdict.say), isBad: story.verdict.kind === "not" || story.verdict.breaks !== null };
+  const { say, breaks } = story.columns[step - 1];
+  return { say: plain(say), isBad: breaks !== null };
+}
+
+/** The picture of a story after `step` moves; the step after the last, which it is without `step`, is the verdict. */
+function figure(story, { step = story.columns.length + 1, width = 1000, theme = "light", title = "" } = {}) {
+  const u = 16, at = layout(story, { w: width, h: 480, u }), hasRows = story.tracks.length + story.always.length > 0, { say, isBad } = saying(story, step);
+  const heading = title ? 1.6 * u : 0, top = heading + (say ? 2.4 * u : 0), low = top + at.lane * story.names.length + 8, wide = at.gutter + at.w;
+  const parts = [[0, top, names(story, at, step)], [at.gutter, top, lanes(story, at, step)], ...(hasRows ? [[0, low, keys(story, at)], [at.gutter, low, tracks(story, at, step)]] : [])];
+  const high = hasRows ? low + Number(/height="([\d.]+)"/.exec(parts[3][2])[1]) : low;
+  const words = (title ? text(2, 1.1 * u, S * u, fitting([title], wide - 4, S * u), "soft", "start") : "") + text(2, heading + 1.7 * u, (say.length > 60 ? L : XL) * u, say, isBad ? "b badt" : "b", "start");
+  const inside = `<style>${STYLE}</style>${rect(0, 0, wide, high, "chip")}${words}${parts.map(([x, y, part]) => `<g transform="translate(${r1(x)} ${r1(y)})">${part}</g>`).join("")}`;
+  return painted(svg(wide, high, title || "a run", inside), COLOURS[theme]);
+}
+return { figure };
+})();
+Story.log = (() => {
+// A log of transactions, with what `hek history --json` says of it -> a play. Pure.
+// A log says what each transaction did, and seldom when. The moves come here in an order that could have been: each read after the write that it
+// found, by the log's times where it has them, and as the edges of the cycle want.
+const { parse } = Story.text;
+
+/** A log of more transactions or operations is told by those of its cycle alone. */
+const MOST = { txns: 12, operations: 60 };
+const named = (name) => `{${name}}`;
+const same = (one, other) => JSON.stringify(one) === JSON.stringify(other);
+
+/** Whether a text is a log: its first line with words is an object. */
+const isLog = (text) => /^\ufeff?\s*\{/.test(text);
+
+/** The transactions of a log, in order, and its opening rows. */
+function read(text) {
+  const lines = text.replace(/^\ufeff/, "").split("\n").flatMap((line, index) => (line.trim() ? [{ ...parse(line), line: index + 1 }] : []));
+  return { rows: lines.find((it) => !("txn" in it))?.rows ?? [], txns: lines.filter((it) => "txn" in it).map((it) => ({ ...it, name: String(it.txn), ops: it.ops ?? [] })) };
+}
+
+// ---- the moves of one transaction
+
+const done = (flag) => flag !== false;
+
+function moveOf([op, ...rest], txn, line) {
+  const base = { txn, line, op, steps: [], ends: [], why: "" }, [key, value, flag] = rest;
+  switch (op) {
+    case "read": return { ...base, kind: "read", key, value: value ?? null, writer: null, say: `${named(txn)} reads ${key}: ${value ?? "no such row"}` };
+    case "scan": case "range": {
+      const rows = rest.at(-1) ?? [], where = op === "scan" ? `bucket ${key}` : `${key} to ${value}`;
+      return { ...base, kind: "scan", bucket: op === "scan" ? key : `${key}..${value}`, rows, say: `${named(txn)} scans ${where}: ${rows.map(([row, its]) => `${row} = ${its}`).join(", ") || "nothing"}` };
+    }
+    case "delete": return done(value) ? { ...base, kind: "write", key, value: null, say: `${named(txn)} deletes ${key}` } : miss(base, key, "isn't there");
+    default: return done(flag) ? { ...base, kind: "write", key, value, say: `${named(txn)} ${op === "insert" ? "inserts" : "writes"} ${key}: ${value}` } : miss(base, key, op === "insert" ? "is there already" : "isn't there");
+  }
+}
+
+const miss = (base, key, how) => ({ ...base, kind: "miss", key, value: null, say: `${named(base.txn)} writes nothing: ${key} ${how}` });
+
+function endOf({ name, status, line }) {
+  const base = { txn: name, line, steps: [], ends: [], why: "" };
+  if (status === "aborted") return { ...base, kind: "abort", cause: "", op: null, say: `${named(name)} aborts` };
+  if (status === "unknown") return { ...base, kind: "unknown", say: `${named(name)} ends, and nobody knows how` };
+  return { ...base, kind: "commit", committed: null, say: `${named(name)} commits` };
+}
+
+// ---- an order of all moves
+
+/** Constraints between moves, none of which makes a circle: one that would is left out. */
+class Before {
+  constructor(count) { this.after = Array.from({ length: count }, () => new Set()); }
+
+  reaches(from, to) {
+    const seen = new Set([from]), left = [from];
+    while (left.length) {
+      const at = left.pop();
+      if (at === to) return true;
+      for (const next of this.after[at]) if (!seen.has(next)) { seen.add(next); left.push(next); }
+    }
+    return false;
+  }
+
+  add(first, second) {
+    if (first === undefined || second === undefined || first === second || this.reaches(second, first)) return;
+    this.after[first].add(second);
+  }
+
+  /** The moves in an order, each time going on with the same transaction if that may. */
+  order(moves) {
+    const left = new Set(moves.keys()), blocked = (it) => [...left].some((other) => this.after[other].has(it)), order = [];
+    while (left.size) {
+      const free = [...left].filter((it) => !blocked(it)), last = order.length ? moves[order.at(-1)].txn : null, next = free.find((it) => moves[it].txn === last) ?? free[0];
+      order.push(next);
+      left.delete(next);
+    }
+    return order;
+  }
+}
+
+/** The writes of a value at a key by other transactions. */
+const writersOf = (moves, { txn, key, value }) => moves.flatMap((it, index) => (it.kind === "write" && it.txn !== txn && same([it.key, it.value], [key, value]) ? [index] : []));
+
+/** What a move found: of a read its pair, of a scan all. */
+const foundBy = (it) => (it.kind === "read" ? (it.value === null ? [] : [[it.key, it.value]]) : it.kind === "scan" ? it.rows : []);
+
+function constraints(txns, moves, cycle) {
+  const before = new Before(moves.length), at = new Map(txns.map(({ name }) => [name, moves.flatMap((it, index) => (it.txn === name ? [index] : []))]));
+  for (const its of at.values()) its.slice(1).forEach((it, index) => before.add(its[index], it));
+  moves.forEach((it, index) => {
+    for (const [key, value] of foundBy(it)) {
+      const [writer, ...more] = writersOf(moves, { txn: it.txn, key, value });
+      if (writer !== undefined && !more.length) { before.add(writer, index); it.found = writer; }
+    }
+  });
+  addTimes(before, txns, at);
+  for (const { from, to, ends: [first, second] } of cycle) if (from !== to) before.add(first, second);
+  moves.forEach((it, index) => {
+    if (it.found === undefined) return;
+    const its = at.get(moves[it.found].txn), end = its.at(-1), later = its.find((other) => other > it.found && moves[other].kind === "write" && same(moves[other].key, it.key));
+    if (later !== undefined) before.add(index, later);
+    if (moves[end].kind === "commit") before.add(end, index); else before.add(index, end);
+  });
+  return before;
+}
+
+/** By the log's times: who had ended before another began comes before it. */
+function addTimes(before, txns, at) {
+  const times = ({ begin, end, at: [invoked, answered] = [] }) => [begin ?? invoked ?? null, end ?? answered ?? null];
+  for (const one of txns) for (const other of txns) {
+    const [, ended] = times(one), [began] = times(other);
+    if (one !== other && ended !== null && began !== null && ended <= began) before.add(at.get(one.name).at(-1), at.get(other.name)[0]);
+  }
+}
+
+// ---- the play
+
+/** The transactions that are shown: all, or of a large log those of the cycle and those whose writes these read. */
+function chosen(txns, cycle) {
+  const isSmall = txns.length <= MOST.txns && txns.reduce((sum, { ops }) => sum + ops.length, 0) <= MOST.operations;
+  if (isSmall || !cycle.length) return isSmall ? txns : txns.slice(0, MOST.txns);
+  const names = new Set(cycle.flatMap(({ from, to, source, reader }) => [from, to, source, reader]).filter((it) => it !== null && it !== undefined).map(String));
+  return txns.filter(({ name }) => names.has(name));
+}
+
+/** The moves at the two ends of an edge. */
+function edgeEnds({ kind, key, read: seen, written, from, to, operations, words = "" }, moves) {
+  const own = (name) => moves.flatMap((it, index) => (it.txn === String(name) && /^(read|scan|write|miss)$/.test(it.kind) ? [index] : []));
+  if (String(from) === String(to)) {
+    const numbers = operations ?? [...words.matchAll(/operation (\d+)/g)].map((it) => Number(it[1])), its = own(from);
+    return [its[numbers[0] - 1] ?? its[0], its[numbers[1] - 1] ?? its.at(-1)];
+  }
+  const isAt = (it) => same(it.key, key), reads = (name, value) => own(name).findLast((it) => foundBy(moves[it]).some((pair) => same(pair, [key, value]))) ?? own(name).findLast((it) => (moves[it].kind === "read" || moves[it].kind === "miss") && isAt(moves[it])) ?? own(name).findLast((it) => moves[it].kind === "scan");
+  const writes = (name, value) => own(name).findLast((it) => moves[it].kind === "write" && isAt(moves[it]) && (value === null || value === undefined || same(moves[it].value, value))) ?? own(name).findLast((it) => moves[it].kind === "write" && isAt(moves[it]));
+  return [kind === "rw" ? reads(from, seen) : writes(from, kind === "wr" ? seen ?? written : null), kind === "wr" ? reads(to, seen ?? written) : writes(to, kind === "rw" ? written : null)]
+    .map((it, index) => it ?? own(index ? to : from).at(-1));
+}
+
+const VERDICT = { serial: "serializable", holds: "serializable", serializable: "serializable", "not serial": "not serializable", fails: "not serializable", "not serializable": "not serializable" };
+
+/** The play of a log, whose verdict is an object of `hek history --json`. */
+function playOfLog(text, answer) {
+  const { rows, txns: all } = read(text), edges = answer.cycle ?? [], txns = chosen(all, edges);
+  const moves = txns.flatMap((txn) => [...txn.ops.map((op) => moveOf(op, txn.name, txn.line)), endOf(txn)]);
+  const cycle = edges.map((edge) => ({ ...edge, from: edge.from === null ? null : String(edge.from), to: edge.to === null ? null : String(edge.to), ends: edgeEnds(edge, moves) }));
+  const order = constraints(txns, moves, cycle).order(moves), place = (index) => order.indexOf(index) + 1;
+  const told = order.map((index) => ({ ...moves[index], ...found(moves[index], moves, rows, place) }));
+  return {
+    kind: "log", names: txns.map(({ name }) => name), levels: txns.map(({ level }) => level ?? "serializable"), order: null, moves: told, breaks: null,
+    together: { verdict: VERDICT[answer.verdict] ?? "unknown", anomaly: answer.anomaly ?? "", order: answer.serial_order?.map(String) ?? [], cycle: cycle.map((edge) => ({ ...edge, moves: edge.ends.map((it) => (it === undefined ? null : place(it))) })) },
+    about: txns.length < all.length ? `The log has ${all.length} transactions; these are ${edges.length ? "those of the cycle" : "the first ones"}.` : "",
+  };
+}
+
+/** Who wrote what a move found, and how that is said. */
+function found(it, moves, rows, place) {
+  if (it.found !== undefined) return { writer: { txn: moves[it.found].txn, move: place(it.found) }, why: `${named(moves[it.found].txn)} wrote it` };
+  if (it.kind !== "read" || it.value === null) return {};
+  const own = moves.some((other) => other.txn === it.txn && other.kind === "write" && same([other.key, other.value], [it.key, it.value]));
+  if (own) return { why: "It sees its own write" };
+  if (rows.some((row) => same(row, [it.key, it.value]))) return { why: "" };
+  return { why: writersOf(moves, it).length ? "Several have written this value" : "Nobody here wrote this value" };
+}
+return { isLog, playOfLog };
+})();
+Story.view = (() => {
+// What the page shows of a story, as HTML. Pure: from a model and a place in it to texts.
+//
+// A model is what is known of one schedule and one order of its moves: `stories` and `outcomes` by level, `levels` in the order of their cards, `text`, `about`, `question`,
+// `asides` ({at, html, level, verdict}) and `order`. A place is a level of it, `step`, and what is open.
+const { esc, plain, rich, sentences } = Story.text;
+const { layout } = Story.layout;
+const { lanes, names } = Story.lanes;
+const { keys, tracks } = Story.rows;
+const { bars, hasOutcome, mini } = Story.cards;
+const { samePlace, shortVerdict } = Story.story;
+
+const WRITTEN = "as written";
+
+/** Which position of a story an aside belongs to: the start, the end, or the first (or the nth) move of a kind, of a transaction, of a key; -1 if there is no such move. */
+function positionOf(at, story) {
+  if (at === "start") return 0;
+  if (at === "end") return story.columns.length + 1;
+  const all = story.columns.flatMap((it, index) => (fits(it, at) ? [index + 1] : []));
+  return all[(at.nth ?? 1) - 1] ?? -1;
+}
+
+const fits = (column, { kind, txn, key }) => column.kind === kind && (txn === undefined || column.txn === txn) && (key === undefined || String(column.key ?? column.bucket) === String(key));
+
+// ---- the sentence
+
+function edgesHtml({ verdict, always, names: all }) {
+  const broken = always.find((it) => it.line === verdict.breaks), rows = verdict.edges.map((edge) => [`${edge.kind} ${edge.key ?? ""}`, rich(edge.say, all)]);
+  if (verdict.breaks !== null) rows.push(["always", `${esc(broken?.text ?? `line ${verdict.breaks}`)} doesn’t hold at the end.`]);
+  return rows.length ? `<ul class="${rows.length > 3 ? "two" : ""}">${rows.map(([kind, said]) => `<li><span class="edge-kind">${esc(kind)}</span><span>${said}</span></li>`).join("")}</ul>` : "";
+}
+
+/** The words over the picture: of the start its question, of a move its sentence and its reason, at the end the verdict and its edges. */
+function sentence(model, story, { step, mode }) {
+  const column = story.columns[step - 1], { verdict } = story;
+  if (step === 0 || mode === "compare") {
+    const asked = model.question || model.title, more = model.question && mode !== "compare" ? model.about : "";
+    return `<p>${esc(asked)}</p>${more ? `<p class="why">${esc(more)}</p>` : ""}`;
+  }
+  if (column) return `<p class="${column.breaks === null ? "" : "not"}">${rich(column.say, story.names)}</p>${column.why ? `<p class="why">${rich(column.why, story.names)}</p>` : ""}`;
+  const isBad = verdict.kind === "not" || verdict.breaks !== null, tail = sentences([verdict.kind === "not" ? verdict.name : "", verdict.tail]);
+  return `<p class="verdict ${isBad ? "not" : ""}">${rich(verdict.say, story.names)}</p>${tail ? `<p class="why">${rich(tail, story.names)}</p>` : ""}${edgesHtml(story)}`;
+}
+
+/** So much room the sentence has at each step, that the picture doesn't jump: in the size of ordinary text. */
+function sentenceRoom(model, mode) {
+  if (mode === "compare") return 3.2;
+  const rows = Object.values(model.stories).map(({ verdict }) => verdict.edges.length + (verdict.breaks === null ? 0 : 1)), most = Math.max(0, ...rows), lines = most > 3 ? Math.ceil(most / 2) : most;
+  return Math.max(6, (lines ? 4.8 : 3.2) + 1.4 * lines);
+}
+
+// ---- the picture
+
+const cell = (kind, inside) => `<div class="${kind}">${inside}</div>`;
+
+/** The lanes over the rows; answers the HTML and the layout. */
+function stage(story, step, { w, h, u }) {
+  const at = layout(story, { w, h, u }), parts = [cell("names", names(story, at, step)), cell("lanes", lanes(story, at, step, true))];
+  if (story.tracks.length + story.always.length) parts.push(cell("names", keys(story, at)), cell("tracks", tracks(story, at, step)));
+  return { html: parts.join(""), at };
+}
+
+/** The lanes of each level under one another, with columns of one width. */
+function compared(model, story, step, { w, h, u }) {
+  const all = model.levels.map((level) => [level, model.stories[level]]).filter(([, it]) => it), stories = all.map(([, it]) => it), heading = 2.2 * u;
+"##;
+
+pub(crate) const SCRIPT_SECOND: &str = r##"  const at = stories.map((it) => layout(it, { w, h: h / stories.length - heading, u, all: stories, rows: false }));
+  const html = all.map(([level, its], index) => {
+    const now = samePlace(story, step, its), isEnd = now > its.columns.length, { kind, breaks } = its.verdict, said = now ? rich(isEnd ? its.verdict.say : its.columns[now - 1].say, its.names) : "";
+    return `<h2 class="${isEnd && (kind === "not" || breaks !== null) ? "not" : ""}"><span>${esc(level)}</span> ${said}</h2>${cell("names", names(its, at[index], now))}<div class="lanes" data-level="${esc(level)}">${lanes(its, at[index], now, true)}</div>`;
+  }).join("");
+  return { html, at: at[stories.indexOf(story)] };
+}
+
+// ---- the cards
+
+const KINDS = [["slate", "serializable"], ["hatch", "only in another order"], ["bad", "✗ not serializable"]];
+const swatch = ([kind, words]) => `<span class="kind"><svg class="pic" viewBox="0 0 22 16" aria-hidden="true"><rect width="22" height="16" rx="3" class="${kind}"/></svg>${words}</span>`;
+
+/** What the cards show, and the marks of the bars. */
+function legend({ outcomes, levels, uncounted }) {
+  const counted = levels.map((level) => outcomes[level]).find(Boolean);
+  if (counted) return `<p class="legend">This order at each level, and the outcomes of all ${Number(counted.orders).toLocaleString("en")} orders: ${KINDS.map(swatch).join(" ")}. A bar plays one.</p>`;
+  return `<p class="legend">This order at each level.${uncounted ? ` ${esc(uncounted)}` : ""}</p>`;
+}
+
+/** A card for each level: this order there as a small story, and the outcomes of all orders. That of the level on the wall is no switch. */
+function cards(model, story, { level, step }, { w, u, narrow }) {
+  const inner = (narrow ? w : (w - 0.8 * u * (model.levels.length - 1)) / model.levels.length) - 1.4 * u;
+  return legend(model) + model.levels.map((name, index) => {
+    const its = model.stories[name], counted = model.outcomes[name], isHere = name === level;
+    if (!its) return `<div class="level"><p class="head">${esc(name)}</p></div>`;
+    const isBad = its.verdict.kind === "not" || its.verdict.breaks !== null, head = `<span class="head"><span>${esc(name)}</span> <span class="end ${isBad ? "not" : ""}">${esc(shortVerdict(its))}</span></span>`;
+    const small = mini(its, inner, Math.min(3.9, 1.25 * its.names.length) * u, u, samePlace(story, step, its)), label = `this order at ${name}`;
+    const card = isHere ? `<div class="card" aria-current="true">${head}${small}</div>` : `<button class="card" data-level="${esc(name)}" title="${index + 1}: ${label}">${head}${small}</button>`;
+    return `<div class="level"${isHere ? " data-here" : ""} data-card="${esc(name)}">${card}${counted ? bars(counted, its.names, inner, u, hasOutcome(its)) : ""}</div>`;
+  }).join("");
+}
+
+// ---- the words beside it
+
+/** The run in words, each move with what is said beside it. With `hidesAfter` what comes after a step stays out of sight. */
+function told(model, story, { level }, hidesAfter = Infinity) {
+  const end = story.columns.length + 1, isOwn = model.isOwnOrder !== false;
+  const asides = model.asides.filter((it) => (!it.level || it.level === level) && (!it.verdict || it.verdict === story.verdict.kind) && (isOwn || it.isGeneral));
+  const beside = (position) => asides.filter((it) => positionOf(it.at, story) === position).map((it) => `<div class="aside">${it.html}</div>`).join("");
+  const tell = (position, html) => (position > hidesAfter ? "" : `<div class="tell" data-step="${position}">${html}</div>${beside(position)}`);
+  const moves = story.columns.map((it, index) => tell(index + 1, `<p><b>${index + 1}</b> ${rich(sentences([it.say, it.why]), story.names)}</p>`));
+  const { verdict } = story, said = `<p><b>${rich(verdict.say, story.names)}.</b> ${rich([verdict.tail, ...verdict.edges.map((it) => it.say)].filter(Boolean).join(" "), story.names)}</p>`;
+  return tell(0, model.intro ?? `<p>${esc(model.about)}</p>${model.question ? `<p class="ask">${esc(model.question)}</p>` : ""}`) + moves.join("") + tell(end, said) + (hidesAfter < end ? "" : model.after ?? "");
+}
+
+/** The run in plain lines, for a file or the clipboard. */
+const lines = (story) => [...story.columns.map((it, index) => `${index + 1}. ${plain(sentences([it.say, it.why]))}`), `${plain(story.verdict.say)}.`].join("\n");
+return { WRITTEN, positionOf, sentence, sentenceRoom, stage, compared, legend, cards, told, lines };
+})();
+Story.ask = (() => {
+// Questions to a class: what the next move comes to, before it is shown. Pure.
+const { VERDICTS } = Story.story;
+const { esc, plain, rich } = Story.text;
+
+const named = (name) => `{${name}}`;
+const isOpen = (story, t, index) => story.columns.some((it, at) => it.t === t && at < index) && !story.columns.some((it, at) => it.t === t && at < index && /commit|abort/.test(it.kind));
+const others = (story, t, index) => story.names.map((_, other) => other).filter((other) => other !== t && isOpen(story, other, index));
+
+/** The values that a read of a key could find: what is committed or written so far. */
+function candidates(story, key, index) {
+  const track = story.tracks.find((it) => String(it.key) === String(key));
+  const seen = [...(track?.segments ?? []), ...(track?.pending ?? [])].filter((it) => it.t === null || it.from < index).map(({ value }) => value ?? "nothing");
+  return [...new Set(seen.map(String))];
+}
+
+const wasWritten = (story, { t, key }, index) => story.columns.some((it, at) => at < index && it.kind === "write" && it.t !== t && String(it.key) === String(key));
+
+/** The right answer to a move, as one of its choices. */
+function answerOf(story, column) {
+  const { kind, value } = column;
+  if (kind === "read") return String(value ?? "nothing");
+  if (kind === "wait") return `waits for ${column.for.map(({ txn }) => named(txn)).join(", ")}`;
+  return { write: "writes", miss: "writes nothing", skip: "leaves it out", commit: "commits", abort: "aborts" }[kind];
+}
+
+function choicesOf(story, column, index) {
+  const { kind, t, key } = column, isEnd = /wait|commit/.test(kind) || (kind === "abort" && !column.op);
+  if (kind === "read" || (kind === "abort" && column.op === "read")) return [...candidates(story, key, index), "aborts"];
+  if (isEnd) return ["commits", ...others(story, t, index).map((other) => `waits for ${named(story.names[other])}`), "aborts"];
+  if (kind === "skip") return ["writes", "leaves it out"];
+  return wasWritten(story, column, index) || kind !== "write" ? ["writes", "aborts"] : [];
+}
+
+const wordsOf = (column) => {
+  const isEnd = /wait|commit/.test(column.kind) || (column.kind === "abort" && !column.op), me = named(column.txn);
+  if (isEnd) return `${me} wants to commit. What happens?`;
+  return column.kind === "read" || column.op === "read" ? `${me} reads ${column.key}. What does it find?` : `${me} wants to write ${column.key}. What happens?`;
+};
+
+/** The question before the move that follows a position: its words, its choices and the right one; null where there is nothing to ask. */
+function questionAt(story, position) {
+  const column = story.columns[position];
+  if (position === story.columns.length) return { words: "And all of it together?", choices: Object.values(VERDICTS).slice(0, 3), right: VERDICTS[story.verdict.kind] };
+  if (!column || column.kind === "scan" || column.kind === "refused" || (column.isLate && column.kind === "commit")) return null;
+  if (column.kind === "abort" && column.cause === "asked") return null;
+  const right = answerOf(story, column), choices = [...new Set([...choicesOf(story, column, position), right])];
+  return choices.length > 2 || (choices.length === 2 && !/read/.test(column.kind)) ? { words: wordsOf(column), choices, right } : null;
+}
+
+/** All questions of a story, each with the position before its move. */
+const questions = (story) => Array.from({ length: story.columns.length + 1 }, (_, position) => ({ position, ...questionAt(story, position) })).filter((it) => it.words);
+
+/** A question as HTML: its words and a button for each choice. */
+const questionHtml = ({ words, choices }, names) => `<p>${rich(words, names)}</p><p class="choices">${choices.map((it, index) => `<button data-choice="${index}"><kbd>${index + 1}</kbd> ${rich(it, names)}</button>`).join(" ")}</p>`;
+
+/** What was answered, to hand in: how many were right, and each answer. `answers` has the choice by position. */
+function result(title, story, answers) {
+  const asked = questions(story).filter(({ position }) => answers.has(position)), right = asked.filter(({ position, right: it }) => answers.get(position) === it).length;
+  const line = ({ position, words, right: it }) => `${position + 1}. ${plain(words)} ${plain(answers.get(position))} ${answers.get(position) === it ? "✓" : `✗ (${plain(it)})`}`;
+  return [`${title}: ${right} of ${asked.length} right`, ...asked.map(line)].join("\n");
+}
+
+/** A sheet of paper: each move without what it comes to, its choices, and the rows at the end. */
+function worksheet(story) {
+  const item = ({ position, words, choices }) => `<li value="${Math.min(position + 1, story.columns.length + 1)}"><p>${rich(words, story.names)}</p><p>${choices.map((it) => `☐ ${rich(it, story.names)}`).join(" &nbsp; ")}</p></li>`;
+  const asked = new Map(questions(story).map((it) => [it.position, it]));
+  const plainly = (column, position) => `<li value="${position + 1}"><p>${rich(column.kind === "scan" ? `${named(column.txn)} scans: ______` : column.kind === "commit" || column.kind === "abort" ? `${named(column.txn)} ends: ______` : column.kind === "read" ? `${named(column.txn)} reads ${column.key}: ______` : column.say, story.names)}</p></li>`;
+  const moves = story.columns.map((column, position) => (asked.has(position) ? item(asked.get(position)) : plainly(column, position))).join("");
+  const last = asked.get(story.columns.length), rows = story.tracks.map(({ key }) => `${esc(key)} = ______`).join(" &nbsp; ");
+  return `<ol class="sheet">${moves}${last ? item(last) : ""}</ol>${rows ? `<p>The rows at the end: ${rows}</p>` : ""}<p>${story.names.map((name, t) => `${rich(named(name), story.names)}: ☐ committed ☐ aborted`).join(" &nbsp; ")}</p>`;
+}
+
+return { questionAt, questions, questionHtml, result, worksheet };
+})();
+Story.player = (() => {
+// The story on the page: what is shown of a model at a place, and what keys and clicks do there. Its elements have the ids of story.html.
+const { cards, compared, sentence, sentenceRoom, stage, told } = Story.view;
+const { questionAt, questionHtml, questions, result } = Story.ask;
+const { samePlace } = Story.story;
+const { esc, rich } = Story.text;
+
+const NARROW = "(max-width: 50rem)";
+const FORWARD = { ArrowRight: 1, ArrowDown: 1, PageDown: 1, ArrowLeft: -1, ArrowUp: -1, PageUp: -1 };
+// So long after a reader's own scrolling the words don't follow the step, in milliseconds.
+const READING = 700;
+
+class Player {
+  /** `host` goes to another place: `go({level, order, step, mode}, isEntry)`, where an entry is one of the browser's history. */
+  constructor(host) {
+    this.host = host;
+    this.model = this.place = null;
+    this.reading = -Infinity;
+    this.answers = new Map();
+    this.isAsking = false;
+    this.listen();
+  }
+
+  get story() { return this.model?.stories[this.place.level] ?? null; }
+  get end() { return (this.story?.columns.length ?? 0) + 1; }
+
+  // ---- what is shown
+
+  /** Shows a model at a place: {level, step, mode, asks}. */
+  show(model, place, { scrolls = true } = {}) {
+    const isNew = model !== this.model || place.level !== this.place?.level;
+    if (model.id !== this.model?.id || place.level !== this.place?.level || !place.asks) { this.answers.clear(); this.isAsking = false; }
+    [this.model, this.place] = [model, place];
+    const { story } = this;
+    if (!story) return this.clear();
+    this.unit = parseFloat(getComputedStyle(document.documentElement).fontSize);
+    this.showSentence(story);
+    this.showCards(story);
+    this.showStage(story);
+    this.showTold(story, isNew, scrolls);
+    this.showState(story);
+    return undefined;
+  }
+
+  clear() {
+    for (const id of ["st-say", "st-grid", "st-cards", "st-prose"]) byId(id).replaceChildren();
+    byId("st-position").textContent = "";
+  }
+
+  showSentence(story) {
+    const { model, place } = this, say = byId("st-say"), question = this.isAsking ? questionAt(story, place.step) : null;
+    say.style.minHeight = `${sentenceRoom(model, place.mode)}rem`;
+    put(say, question ? questionHtml(question, story.names) : this.feedback(story) + sentence(model, story, place));
+  }
+
+  /** Whether the guess of this step was right. */
+  feedback(story) {
+    const { asks, step } = this.place, answer = this.answers.get(step - 1);
+    if (!asks || answer === undefined) return "";
+    const isRight = answer === questionAt(story, step - 1).right;
+    return `<p class="guess ${isRight ? "" : "not"}">${isRight ? "✓ Right." : `✗ The guess was: ${rich(answer, story.names)}.`}</p>`;
+  }
+
+  showCards(story) {
+    const { model, place, unit } = this, box = byId("st-cards"), isHidden = place.mode !== "" || place.asks, narrow = matchMedia(NARROW).matches;
+    box.hidden = isHidden;
+    if (isHidden) return put(box, "");
+    box.style.setProperty("--cards", model.levels.length);
+    const scrolled = [...box.querySelectorAll(".level")].map((it) => it.scrollTop);
+    put(box, cards(model, story, place, { w: box.clientWidth, u: unit, narrow }));
+    box.querySelectorAll(".level").forEach((card, index) => {
+      card.scrollTop = scrolled[index] ?? 0;
+      const more = Math.ceil((card.scrollHeight - card.clientHeight) / (1.45 * unit) - 0.2);
+      if (more > 0) card.insertAdjacentHTML("beforeend", `<div class="more">${more + 1} more ↓</div>`);
+    });
+    return undefined;
+  }
+
+  showStage(story) {
+    const { model, place, unit: u } = this, main = byId("st-main"), view = byId("st-stage"), narrow = matchMedia(NARROW).matches, style = getComputedStyle(main);
+    const w = main.clientWidth - parseFloat(style.paddingLeft) - parseFloat(style.paddingRight), below = byId("st-cards").hidden ? 0 : byId("st-cards").offsetHeight + 0.5 * u;
+    const room = { w, h: narrow ? 0 : main.clientHeight - byId("st-say").offsetHeight - below - 1.2 * u, u };
+    const { html, at } = place.mode === "compare" ? compared(model, story, place.step, room) : stage(story, place.step, room), hadFocus = view.contains(document.activeElement) && document.activeElement !== view;
+    put(byId("st-grid"), html);
+    if (hadFocus) (view.querySelector('[tabindex="0"]') ?? view).focus({ preventScroll: true });
+    const x = place.step ? at.left(place.step - 1) : 0, edge = view.clientWidth - at.gutter;
+    if (x < view.scrollLeft || x + at.width(0) * 1.5 > view.scrollLeft + edge) view.scrollLeft = Math.max(0, x - edge * 0.6);
+    view.classList.toggle("cut", view.scrollWidth > view.clientWidth + 1);
+  }
+
+  showTold(story, isNew, scrolls) {
+    const { model, place } = this, prose = byId("st-prose"), { step, asks } = place;
+    if (isNew || asks !== prose.asked || asks) put(prose, told(model, story, place, asks ? (this.isAsking ? step : step) : Infinity));
+    prose.asked = asks;
+    for (const it of prose.querySelectorAll(".tell")) it.classList.toggle("here", Number(it.dataset.step) === step);
+    const here = prose.querySelector(".tell.here");
+    if (scrolls && here && prose.scrollHeight > prose.clientHeight) prose.scrollTop = step === 0 ? 0 : here.offsetTop - prose.clientHeight * 0.3;
+  }
+
+  showState(story) {
+    const { step, mode } = this.place, isEnd = step >= this.end;
+    byId("st-position").textContent = isEnd ? "verdict" : `${step} / ${story.columns.length}`;
+    byId("st-prev").disabled = step === 0;
+    for (const id of ["st-next", "st-end"]) byId(id).disabled = isEnd;
+    for (const name of ["compare", "machine"]) byId(`st-${name}`).setAttribute("aria-pressed", mode === name);
+    const which = this.model.isOwnOrder === false ? `order ${this.model.order.join(" ")}` : "";
+    byId("st-which").textContent = this.place.asks ? this.score(story) : which;
+    byId("st-which").title = which;
+    document.body.dataset.position = step;
+  }
+
+  score(story) {
+    const asked = [...this.answers], right = asked.filter(([position, answer]) => questionAt(story, position).right === answer).length;
+    return `${right} of ${asked.length} right, ${questions(story).length} questions`;
+  }
+
+  /** What was guessed, to hand in. */
+  result() { return result(this.model.title, this.story, this.answers); }
+
+  // ---- where it goes
+
+  step(to, options) {
+    const step = Math.max(0, Math.min(this.end, to));
+    if (this.isAsking) return;
+    if (this.place.asks && step === this.place.step + 1 && !this.answers.has(this.place.step) && questionAt(this.story, this.place.step)) {
+      this.isAsking = true;
+      this.show(this.model, this.place);
+    } else if (step !== this.place.step) this.host.go({ step: this.place.asks ? Math.min(step, this.furthest()) : step }, false, options);
+  }
+
+  /** The last position that questions to come let be seen. */
+  furthest() {
+    const open = questions(this.story).find(({ position }) => !this.answers.has(position) && position >= this.place.step);
+    return open ? Math.max(open.position, this.place.step) : this.end;
+  }
+
+  choose(index) {
+    const { choices } = questionAt(this.story, this.place.step);
+    if (!choices[index]) return;
+    this.answers.set(this.place.step, choices[index]);
+    this.isAsking = false;
+    this.host.go({ step: this.place.step + 1 }, false);
+  }
+
+  toLevel(level) {
+    const to = this.model.stories[level];
+    if (to && level !== this.place.level) this.host.go({ level, step: samePlace(this.story, this.place.step, to) }, true);
+  }
+
+  flip(mode) { this.host.go({ mode: this.place.mode === mode ? "" : mode }, false); }
+
+  // ---- what is pressed
+
+  listen() {
+    byId("st-prev").addEventListener("click", () => { this.isAsking = false; this.step(this.place.step - 1); });
+    byId("st-next").addEventListener("click", () => this.step(this.place.step + 1));
+    byId("st-end").addEventListener("click", () => this.step(this.end));
+    byId("st-compare").addEventListener("click", () => this.flip("compare"));
+    byId("st-machine").addEventListener("click", () => this.flip("machine"));
+    for (const id of ["st-say", "st-grid", "st-cards", "st-prose"]) byId(id).addEventListener("click", (event) => this.pressed(event.target));
+    const prose = byId("st-prose");
+    for (const kind of ["wheel", "touchmove", "pointerdown"]) prose.addEventListener(kind, () => { this.reading = performance.now(); }, { passive: true });
+    prose.addEventListener("scroll", () => this.scrolled(prose));
+  }
+
+  /** What a click or a key on an element of the story does; answers whether it does something. */
+  pressed(target) {
+    const choice = target.closest("[data-choice]"), bar = target.closest("[data-order]"), move = target.closest("[data-step]"), level = target.closest("[data-level]");
+    if (choice) this.choose(Number(choice.dataset.choice));
+    else if (bar) this.host.go({ order: bar.dataset.order.split(" "), level: bar.closest("[data-card]").dataset.card, step: 0 }, true);
+    else if (move && !target.closest("a, button:not([data-step]), summary, details")) this.toMove(Number(move.dataset.step), level?.dataset.level);
+    else if (level && level.tagName === "BUTTON") this.toLevel(level.dataset.level);
+    else return false;
+    return true;
+  }
+
+  toMove(step, level) {
+    if (level && level !== this.place.level) this.host.go({ level, step }, true);
+    else this.step(step);
+  }
+
+  /** A reader who scrolls the words takes the story along. */
+  scrolled(prose) {
+    if (performance.now() - this.reading > READING || this.place?.asks || prose.scrollHeight <= prose.clientHeight) return;
+    this.reading = performance.now();
+    const y = prose.scrollTop + prose.clientHeight * 0.3, all = [...prose.querySelectorAll(".tell")], at = all.filter((it) => it.offsetTop <= y + 8).length - 1, to = Number(all[Math.max(0, at)]?.dataset.step ?? 0);
+    if (to !== this.place.step) this.host.go({ step: to }, false, { scrolls: false });
+  }
+
+  /** Takes a key; answers whether it means something to the story. */
+  key(event) {
+    const { key, target } = event, press = target.closest?.("[data-order], [data-step][role], button, a, summary");
+    if (!this.story) return false;
+    if ((key === "Enter" || key === " ") && press) {
+      if (!press.matches("[data-order], g[data-step]")) return false;
+      return this.pressed(press);
+    }
+    if (this.isAsking && /^[1-9]$/.test(key)) { this.choose(Number(key) - 1); return true; }
+    if (this.isAsking && (key === "Escape" || FORWARD[key] < 0)) { this.isAsking = false; this.show(this.model, this.place); return true; }
+    if (FORWARD[key]) this.step(this.place.step + FORWARD[key]);
+    else if (key === " ") this.step(this.place.step + (event.shiftKey ? -1 : 1));
+    else if (key === "Home") this.step(0);
+    else if (key === "End") this.step(this.end);
+    else if (/^[1-4]$/.test(key) && this.model.levels[key - 1]) this.toLevel(this.model.levels[key - 1]);
+    else if (key === "c" || key === "m") this.flip(key === "c" ? "compare" : "machine");
+    else return false;
+    return true;
+  }
+}
+
+const byId = (id) => document.getElementById(id);
+
+/** Puts HTML into an element, unless it is there. */
+function put(element, html) {
+  if (element.put === html) return;
+  element.innerHTML = html;
+  element.put = html;
+}
+
+/** The lines of a text, each an element, with the one of the step marked and the one of an invariant that is broken. */
+function showText(element, text, story, step) {
+  const column = story?.columns[step - 1], isEnd = step > (story?.columns.length ?? 0), broken = isEnd ? story?.verdict.breaks : column?.breaks;
+  put(element, text.trimEnd().split("\n").map((line) => `<span>${esc(line) || " "}</span>`).join(""));
+  [...element.children].forEach((line, index) => {
+    line.classList.toggle("here", column?.line === index + 1);
+    line.classList.toggle("broken", broken === index + 1);
+  });
+  const here = element.querySelector(".here, .broken") ?? (step === 0 ? element.firstElementChild : null);
+  if (here) element.scrollTop = here.offsetTop - element.offsetTop - element.clientHeight / 2;
+}
+return { Player, showText };
+})();
+Story.page = (() => {
+// The story on a page of hek, whose plays are in it. The panels of the machine stand beside it: one of the two is shown.
+const { Player, showText } = Story.player;
+const { playOfLog } = Story.log;
+const { storyOf } = Story.story;
+const { WRITTEN } = Story.view;
+
+const LEVELS = ["serializable", "repeatable", "snapshot"];
+const byId = (id) => document.getElementById(id);
+const wordOf = (level) => (level === WRITTEN ? "written" : level);
+const same = (one, other) => one.join(" ") === other.join(" ");
+
+/** A play's level: that which was asked for, or that of its transactions, if they are of one. */
+const levelOf = ({ level, levels }) => level ?? (new Set(levels).size === 1 ? levels[0] : WRITTEN);
+
+/** The outcomes of a table of all levels, by level. */
+function outcomesOf(rows) {
+  if (!rows.length) return {};
+  return Object.fromEntries(LEVELS.map((level) => {
+    const outcomes = rows.filter((it) => Number(it.levels[level]) > 0).map((it) => ({ ...it, orders: Number(it.levels[level]), first: it.first[level] }));
+    return [level, { orders: outcomes.reduce((sum, it) => sum + it.orders, 0), outcomes }];
+  }));
+}
+
+class StoryPage {
+  /** `sheet` has the title, what it is about, and the text; `objects` are plays and rows of a table of outcomes, or what is said of a log; `panels` shows the machine. */
+  constructor(sheet, objects, panels) {
+    Object.assign(this, { sheet, panels, models: new Map() });
+    this.text = sheet.text ?? "";
+    const log = objects.find((it) => it.verdict !== undefined && it.kind === undefined && it.levels === undefined);
+    this.plays = log ? [playOfLog(this.text, log)] : objects.filter((it) => it.kind === "play");
+    this.outcomes = outcomesOf(objects.filter((it) => it.kind === undefined && it.levels !== undefined));
+    this.isLog = Boolean(log);
+    [this.own] = this.plays;
+    this.place = { level: log ? "serializable" : levelOf(this.own), step: 0, mode: "", asks: false };
+    this.order = this.own.order ?? [];
+    this.player = new Player({ go: (change, isEntry, options) => this.go(change, isEntry, options) });
+    byId("st-back").addEventListener("click", () => history.back());
+    byId("st-machine").hidden = this.isLog || !panels;
+  }
+
+  /** What is known of an order: its story at each level that has one. */
+  model(order) {
+    const id = order.join(" ");
+    if (!this.models.has(id)) {
+      const stories = {};
+      for (const play of this.plays) if (same(play.order ?? [], order)) stories[this.isLog ? "serializable" : levelOf(play)] ??= storyOf(play, this.text);
+      const { title, about, question } = this.sheet;
+      this.models.set(id, { id, title, text: this.text, about: about ?? "", question: question ?? "", stories, outcomes: this.outcomes, levels: [WRITTEN, ...LEVELS].filter((it) => stories[it]),
+        order, isOwnOrder: same(order, this.own.order ?? []), asides: [], uncounted: "" });
+    }
+    return this.models.get(id);
+  }
+
+  has(order, level = null) { return this.plays.some((it) => same(it.order ?? [], order) && (level === null || levelOf(it) === level)); }
+
+  /** The story of an order at a level, from its start. */
+  open(order, level) {
+    this.order = order;
+    this.place = { ...this.place, level: level ?? this.place.level, step: 0, mode: "" };
+    this.show();
+    this.write();
+  }
+
+  show(options) {
+    const model = this.model(this.order);
+    if (!model.stories[this.place.level]) this.place.level = model.levels[0];
+    this.place.step = Math.max(0, Math.min(this.place.step, model.stories[this.place.level].columns.length + 1));
+    this.player.show(model, this.place, options);
+    showText(byId("st-text"), this.text, this.player.story, this.place.step);
+    byId("st-back").hidden = !(history.state?.depth > 0);
+    document.documentElement.classList.add("told");
+  }
+
+  get isOpen() { return document.documentElement.classList.contains("told"); }
+
+  go(change, isEntry = false, options = {}) {
+    if (change.mode === "machine") return this.openMachine();
+    const { order, ...rest } = change;
+    if (isEntry) try { history.pushState({ depth: (history.state?.depth ?? 0) + 1 }, "", this.address()); } catch {}
+    if (order && this.has(order)) this.order = order;
+    this.place = { ...this.place, ...rest };
+    this.show(options);
+    this.write();
+    return undefined;
+  }
+
+  /** The machine after the last step of the move. */
+  openMachine() {
+    if (!this.panels || this.isLog) return;
+    document.documentElement.classList.remove("told");
+    this.panels.open(Math.max(0, ...this.player.story.columns.slice(0, this.place.step).flatMap((it) => it.steps)));
+  }
+
+  /** Back from the machine, at the move to which its step belongs. */
+  close(step) {
+    this.place = { ...this.place, mode: "", step: this.player.story.columns.filter((it) => it.steps.some((other) => other <= step)).length };
+    this.show();
+    this.write();
+  }
+
+  address() {
+    const { level, step } = this.place, isOwn = same(this.order, this.own.order ?? []), order = isOwn ? "" : `/${this.order.join(".")}`, front = isOwn && level === levelOf(this.own) ? "" : `${wordOf(level)}${order}`;
+    return `#${front}${step || front ? `@${step}` : ""}`;
+  }
+
+  write() {
+    const to = this.address();
+    if (location.hash !== to) try { history.replaceState(history.state, "", to === "#" ? location.pathname + location.search : to); } catch {}
+  }
+
+  /** Shows what an address says; answers whether it is one of the story. One that says nothing is the story's own, if it is `isFirst`. */
+  read(hash, isFirst) {
+    if (hash.replace(/^#/, "") === "" && !isFirst) return false;
+    const [front, at = ""] = hash.replace(/^#/, "").split("@"), [word, order] = front.split("/"), level = word === "written" ? WRITTEN : word;
+    if (!/^\d{0,6}$/.test(at) || (front !== "" && level !== WRITTEN && !LEVELS.includes(level)) || (front === "" && at === "" && hash.replace(/^#/, "") !== "")) return false;
+    const asked = order?.split(".") ?? this.own.order ?? [];
+    this.order = this.has(asked) ? asked : this.own.order ?? [];
+    this.place = { ...this.place, level: front ? level : levelOf(this.own), step: Number(at || 0), mode: "" };
+    if (this.isLog) this.place.level = "serializable";
+    this.show();
+    return true;
+  }
+}
+return { StoryPage };
+})();
+
+"use strict";
 
 /* ================================================================ the data */
 
@@ -816,7 +2365,9 @@ const LABELS = {
 };
 
 /** The second line of a cell: what it is about and how it came out, longest first. */
-function detailOf(step) {
+"##;
+
+pub(crate) const SCRIPT_THIRD: &str = r#"function detailOf(step) {
   const { op, args, r } = step;
   switch (r[0]) {
     case "aborted": return ["aborted", "abort", "\u2717"];
@@ -1381,9 +2932,7 @@ function versionRow(it, y, h, at) {
     if (lookX !== null && from < lookX + 0.4 * u && from + 4 * u > lookX) from = lookX + 0.4 * u;
     const text = fitting(words, Math.min(x1, close === "written" && !open0 ? futureX : endX - 0.5 * u) - from - 0.1 * u, 0.95 * u, open0 ? 600 : 400);
     if (text) out.push(`<text class="by ${open0 ? colourOf(it.maker) : ""}" x="${f1(from)}" y="${f1(mid + 0.33 * u)}">${esc(text)}</text>`);
-"#;
-
-pub(crate) const SCRIPT_REST: &str = r##"  }
+  }
   if (isNever) {
     const words = maker ? [...namedTexts(it.maker, (name) => `${name} aborted`), "aborted", "\u2717"] : ["never valid", "never", "\u2717"];
     const text = fitting(words, endX - futureX - 0.5 * u, 0.95 * u) || "\u2717";
@@ -1864,7 +3413,9 @@ function foldOf(words) {
 
 /** A word as HTML, and its height. */
 function drawWord(it, W, u, density, isSingle, hasHex) {
-  const { v, which, now, old, isNew } = it;
+"#;
+
+pub(crate) const SCRIPT_FOURTH: &str = r##"  const { v, which, now, old, isNew } = it;
   const word = now[which];
   const rows = old ? [{ word: old[which], label: "before" }, { word, label: "after" }] : [{ word, label: isNew ? "new" : "" }];
   const all = rows.map((row) => bitsOf(row.word));
@@ -2120,6 +3671,7 @@ function takeMove(next) {
 function goToPlace(place, order = null) {
   tree.cursor = place;
   move(endsOfPath()[place], order);
+  if (place > 0 && tree.nodes[tree.path[place]].next.length === 0) tellLeaf();
 }
 
 /** Shows the moves from here to an outcome; if one of them joins, it is at the last that does. */
@@ -2392,6 +3944,7 @@ function outcomesInPrint() {
 }
 
 function buildPrint() {
+  if (storyPage?.isOpen) return;
   const table = document.createElement("table");
   table.innerHTML = isTree ? outcomesInPrint() : tableInPrint();
   $("print").replaceChildren(...(isTree ? [] : picturesInPrint()), table);
@@ -2484,6 +4037,7 @@ const DOES = {
   fields: () => { const step = run.steps[here - 1]; tellTxn(step?.name ? run.ids.get(step.name) : run.txnIds[0]); },
   unpin: () => { pinned = null; show(); },
   undo: () => { const place = placeHere(); if (place > 0) { tree.path = tree.path.slice(0, place); run = runOfPath(); move(run.last); } },
+  story: () => { if (storyPage) (isTree ? tellLeaf() : storyPage.close(run.done + here)); },
   graph: () => { isGraphShown = !isGraphShown; showGraph(); },
   blank: () => { $("blank").hidden = !$("blank").hidden; tellParent(); },
 };
@@ -2505,7 +4059,16 @@ function tellTxn(id) {
 
 let digits = "";
 const MOVES = { ArrowRight: 1, ArrowDown: 1, PageDown: 1, ArrowLeft: -1, ArrowUp: -1, PageUp: -1 };
-const LETTERS = { "?": "predict", f: "future", p: "present", l: "far", d: "theme", h: "help", w: "pin", t: "fields", g: "legend", i: "picture", ".": "blank", b: "blank" };
+const LETTERS = { "?": "predict", f: "future", p: "present", l: "far", d: "theme", h: "help", w: "pin", t: "fields", g: "legend", i: "picture", ".": "blank", b: "blank", m: "story" };
+
+/** The keys of the story, and of the page that has it. */
+function storyKey(event) {
+  const { key } = event;
+  if (key === "d") DOES.theme();
+  else if (key === "b" || key === ".") DOES.blank();
+  else if (!storyPage.player.key(event)) return;
+  event.preventDefault();
+}
 
 function onKey(event) {
   if (event.ctrlKey || event.altKey || event.metaKey) { tellPrint(event); return; }
@@ -2516,6 +4079,7 @@ function onKey(event) {
     return;
   }
   if (!$("blank").hidden) { DOES.blank(); event.preventDefault(); return; }
+  if (storyPage?.isOpen) { storyKey(event); return; }
   if (key === " " && event.target.tagName === "BUTTON") return;
   if (key === " ") (event.shiftKey ? back : on)();
   else if (key in MOVES) (MOVES[key] > 0 ? on : back)();
@@ -2568,12 +4132,12 @@ document.addEventListener("click", (event) => {
 $("skip").addEventListener("click", (event) => { event.preventDefault(); $("said").focus(); });
 $("slider").addEventListener("input", () => jump(Number($("slider").value)));
 $("blank").addEventListener("click", () => DOES.blank());
-addEventListener("hashchange", () => fromHash());
+for (const kind of ["hashchange", "popstate"]) addEventListener(kind, () => goToHash());
 
 let touch = null;
 addEventListener("touchstart", (event) => { touch = event.touches.length === 1 && !event.target.closest("#path, input") ? { x: event.touches[0].clientX, y: event.touches[0].clientY } : null; }, { passive: true });
 addEventListener("touchend", (event) => {
-  if (!touch) return;
+  if (!touch || storyPage?.isOpen) return;
   const [dx, dy] = [event.changedTouches[0].clientX - touch.x, event.changedTouches[0].clientY - touch.y];
   if (Math.abs(dx) > 50 && Math.abs(dx) > 2 * Math.abs(dy)) (dx < 0 ? on : back)();
   touch = null;
@@ -2582,6 +4146,8 @@ addEventListener("touchend", (event) => {
 /* ---- in a frame: the page around it learns where this one is, and sends it elsewhere */
 
 const isFramed = parent !== window;
+/** Whether the page around this one has asked where it is: nothing is told to one that hasn't. */
+let isWatched = false;
 let isGoing = false;
 
 /** What stays from one page to the next. */
@@ -2592,13 +4158,13 @@ function modesNow() {
 
 /** Tells the page around this one the place, the modes, and for each guess its step and whether it was right. `went`: it was sent here. */
 function tellParent(went = false) {
-  if (!isFramed || isGoing) return;
+  if (!isFramed || isGoing || !isWatched) return;
   const guesses = [...told.answers].map(([at, reply]) => [run.done + at + 1, reply === run.steps[at].reply]);
   parent.postMessage({ hek: "place", place: placeSaid(), modes: modesNow(), isBlank: !$("blank").hidden, guesses, went }, "*");
 }
 
 /** A key that means nothing here is one for the page around this one. */
-function tellKey({ key }) { if (isFramed) parent.postMessage({ hek: "key", key }, "*"); }
+function tellKey({ key }) { if (isFramed && isWatched) parent.postMessage({ hek: "key", key }, "*"); }
 
 /** The page around this one is printed in its place. */
 function tellPrint(event) {
@@ -2608,18 +4174,20 @@ function tellPrint(event) {
 }
 
 function takeModes(modes) {
-  if (modes.theme) document.documentElement.dataset.theme = modes.theme;
+  if (/^(light|dark)$/.test(modes.theme)) document.documentElement.dataset.theme = modes.theme;
   for (const [name, isOn] of Object.entries(modesNow())) if (name !== "theme" && name in modes && modes[name] !== isOn) DOES[name]();
 }
 
+/** Takes a message of the known form: an object of modes, a place, a key that is pressed. */
 function go({ modes, place, key, isShift }) {
-  if (modes) takeModes(modes);
-  if (place !== undefined) fromHash(place);
-  if (key) document.body.dispatchEvent(new KeyboardEvent("keydown", { key, shiftKey: isShift, bubbles: true }));
+  if (modes !== null && typeof modes === "object") takeModes(modes);
+  if (typeof place === "string") fromHash(place);
+  if (typeof key === "string") document.body.dispatchEvent(new KeyboardEvent("keydown", { key, shiftKey: isShift === true, bubbles: true }));
 }
 
 addEventListener("message", ({ source, data: sent }) => {
   if (!isFramed || source !== parent || sent?.hek !== "go") return;
+  isWatched = true;
   isGoing = true;
   go(sent);
   isGoing = false;
@@ -2628,9 +4196,16 @@ addEventListener("message", ({ source, data: sent }) => {
 
 /* ---- the start */
 
-function fromHash(hash = decodeURIComponent(location.hash.slice(1))) {
-  if (!isTree) { jump(hash === "" ? 0 : Number(hash) - run.done || 0); return; }
-  const [level, place] = isLevels ? hash.split(":") : ["", hash];
+/** The address's place in words; each address has one. */
+function placeIn(hash) {
+  try { return decodeURIComponent(hash.slice(1)); } catch { return ""; }
+}
+
+/** Goes to a place of the machine or the explorer. What is none is the start. */
+function fromHash(hash = placeIn(location.hash)) {
+  document.documentElement.classList.remove("told");
+  if (!isTree) { jump(Math.trunc(Number(hash) - run.done) || 0); return; }
+  const [level, place = ""] = isLevels ? hash.split(":") : ["", hash];
   if (isLevels) {
     if (!LEVELS.includes(level)) { document.body.classList.add("levels"); levels.shown = null; show(); return; }
     takeLevel(LEVELS.indexOf(level));
@@ -2641,7 +4216,30 @@ function fromHash(hash = decodeURIComponent(location.hash.slice(1))) {
   run = runOfPath();
   const other = askedOf(tree, tree.path, order);
   // A number of steps is one of the order in the address.
-  jump(at === undefined || other !== null ? run.last : Number(at), other);
+  jump(at === undefined || other !== null ? run.last : Math.trunc(Number(at)) || 0, other);
+}
+
+// ---- the story, if its plays are here
+
+let storyPage = null;
+
+function plantStory() {
+  const objects = $("plays").textContent.trim().split("\n").filter(Boolean).map(Story.text.parse);
+  if (!objects.length) return;
+  storyPage = new Story.page.StoryPage(sheet, objects, { open: (step) => { fromHash(isTree ? placeSaid() : String(step)); resized(); } });
+  $("st-title").textContent = $("title").textContent;
+  document.querySelector('[data-do="story"]').hidden = false;
+}
+
+/** Goes where the address says: to the story, or to the machine and the explorer. */
+function goToHash() {
+  if (!storyPage?.read(location.hash, !isTree)) fromHash();
+}
+
+/** At the end of an order the explorer shows its story. */
+function tellLeaf() {
+  const order = namesOf(tree, tree.path), level = isLevels ? LEVELS[levels.shown] : null;
+  if (storyPage?.has(order, level)) storyPage.open(order, level);
 }
 
 function resized() {
@@ -2655,14 +4253,18 @@ if (isTree) { tree = isLevels ? levels.trees[0] : treeOf(data); run = runOfPath(
   run = new Run(data, data.steps.map((it, index) => ({ ...it, line: lines[index] })), data.done);
 }
 $("title").textContent = (data.lesson ? `${data.lesson}. ` : "") + data.title;
+plantStory();
 $("about").textContent = /^[^.:]*[.:]?/.exec(data.about ?? "")[0].replace(/:$/, ".");
-for (const way of ["previous", "next"]) {
-  if (!data[way]) continue;
+for (const [way, ids] of [["previous", ["previous", "st-previous"]], ["next", ["next", "st-after"]]]) {
+  // A link goes to another page, and runs nothing.
+  if (!data[way] || /^\s*(?!https?:)[a-z][a-z0-9+.-]*:/i.test(data[way][0])) continue;
   const [file, title] = data[way];
-  $(way).hidden = false;
-  $(way).href = file;
-  $(way).title = `${way}: ${title}`;
-  $(way).innerHTML = way === "next" ? `<span class="hidden">${esc(title)}</span> \u203a` : `\u2039 <span class="hidden">${esc(title)}</span>`;
+  for (const link of ids.map($)) {
+    link.hidden = false;
+    link.href = file;
+    link.title = `${way}: ${title}`;
+    link.innerHTML = way === "next" ? `<span class="hidden">${esc(title)}</span> \u203a` : `\u2039 <span class="hidden">${esc(title)}</span>`;
+  }
 }
 if (isLevels) document.querySelector('[data-do="levels"]').hidden = false;
 if (isTree) {
@@ -2671,7 +4273,7 @@ if (isTree) {
   for (const name of ["predict", "future"]) document.querySelector(`[data-do="${name}"]`).hidden = true;
 }
 measure();
-fromHash();
+goToHash();
 measure();
 show();
 for (const id of [...Object.keys(DRAWN), "because"]) watcher.observe($(id));

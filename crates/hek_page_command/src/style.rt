@@ -1,6 +1,101 @@
 //! The style of a page. Written by tools/assets.
 
-pub(crate) const STYLE: &str = r#":root {
+pub(crate) const STYLE: &str = r#":root{--paper:#ffffff;--ink:#101720;--soft:#4f5a67;--line:#c9d0d8;--band:#fff0bf;--track:#e9edf1;--bad:#a3001b;--on:#ffffff;--c0:#0a4fb3;--c1:#a83a00;--c2:#6a22a3;--c3:#00635a;--c4:#9b1150;--c5:#4f5900;--c6:#3f4a58;--c7:#7a4b00}
+@media screen and (prefers-color-scheme:dark){:root:not([data-theme=light]){--paper:#0e1217;--ink:#f2f5f8;--soft:#b4bfcc;--line:#3d4753;--band:#3d3410;--track:#232b34;--bad:#ff9c9c;--on:#0e1217;--c0:#8dbdff;--c1:#ffab78;--c2:#d0adff;--c3:#66dccb;--c4:#ff9ac6;--c5:#d3df74;--c6:#c3ccd6;--c7:#e6b873}}
+@media screen{:root[data-theme=dark]{--paper:#0e1217;--ink:#f2f5f8;--soft:#b4bfcc;--line:#3d4753;--band:#3d3410;--track:#232b34;--bad:#ff9c9c;--on:#0e1217;--c0:#8dbdff;--c1:#ffab78;--c2:#d0adff;--c3:#66dccb;--c4:#ff9ac6;--c5:#d3df74;--c6:#c3ccd6;--c7:#e6b873}}
+.pic text{font-family:"Segoe UI",-apple-system,"Helvetica Neue",Roboto,"Noto Sans","Liberation Sans",Arial,sans-serif;font-variant-numeric:tabular-nums;fill:var(--ink)}
+.pic .b{font-weight:700}.pic .soft,.pic .slate{fill:var(--soft)}.pic .on{fill:var(--on)}.pic .badt{fill:var(--bad)}.pic .strike{text-decoration:line-through}
+.pic .box{fill:var(--paper);stroke-width:2}.pic .band{fill:var(--band)}.pic .halo{stroke:var(--paper);stroke-width:5;stroke-linejoin:round;paint-order:stroke}
+.pic .ghost{fill:none;stroke:var(--soft);stroke-dasharray:4 3;stroke-width:1.5}.pic .hatch{fill:url(#hatch);stroke:var(--soft)}
+.pic .chip{fill:var(--paper);stroke:none}.pic .seg{fill:var(--track)}.pic .tint{fill-opacity:.2;stroke:none}.pic .rule{stroke:var(--line);fill:none}
+.pic .pend{fill:none;stroke-width:1.5;stroke-dasharray:3 2}.pic .life{fill:none;stroke-width:3;stroke-opacity:.35}.pic .link{fill:none;stroke-width:2}
+.pic .view{fill:none;stroke-width:2;stroke-dasharray:2 4;stroke-linecap:round}.pic .edge{fill:none;stroke:var(--bad);stroke-width:3}.pic .bad{fill:var(--bad)}
+.pic .dim{opacity:.28}.pic .ok{fill:none;stroke:var(--soft)}.pic .faint{fill-opacity:.45}.pic .none{fill:none}.pic .mark{stroke:var(--ink);stroke-width:1.5}.pic .inkf{fill:var(--ink)}
+.pic .f0{fill:var(--c0)}.pic .s0{stroke:var(--c0)}.pic .f1{fill:var(--c1)}.pic .s1{stroke:var(--c1)}.pic .f2{fill:var(--c2)}.pic .s2{stroke:var(--c2)}.pic .f3{fill:var(--c3)}.pic .s3{stroke:var(--c3)}.pic .f4{fill:var(--c4)}.pic .s4{stroke:var(--c4)}.pic .f5{fill:var(--c5)}.pic .s5{stroke:var(--c5)}.pic .f6{fill:var(--c6)}.pic .s6{stroke:var(--c6)}.pic .f7{fill:var(--c7)}.pic .s7{stroke:var(--c7)}
+/* The story: five sizes of type and no more; one family, and another for the text of a schedule. */
+:root { --s: 0.75rem; --m: 1rem; --l: 1.25rem; --xl: 1.75rem; --xxl: 2.5rem; --mono: ui-monospace, Menlo, Consolas, "Liberation Mono", "DejaVu Sans Mono", monospace; }
+.story { font: var(--m)/1.4 "Segoe UI", -apple-system, "Helvetica Neue", Roboto, "Noto Sans", "Liberation Sans", Arial, sans-serif; font-variant-numeric: tabular-nums; color: var(--ink); background: var(--paper); }
+.story[hidden], .story [hidden] { display: none !important; }
+.story, .story * { box-sizing: border-box; }
+.story button, .story select { font: inherit; color: inherit; background: var(--paper); border: 1px solid var(--line); border-radius: 0.35rem; padding: 0.15rem 0.7rem; cursor: pointer; }
+.story button:hover:not(:disabled), .story select:hover { border-color: var(--soft); background: var(--track); }
+.story button:disabled { color: var(--soft); cursor: default; }
+.story button[aria-pressed="true"] { background: var(--ink); color: var(--paper); }
+.story :focus-visible { outline: 3px solid var(--c0); outline-offset: 1px; }
+.st-bar { display: flex; gap: 0.6rem; align-items: center; padding: 0.5rem 1.2rem; }
+.st-bar select { max-width: 22rem; min-width: 0; font-weight: 700; border-color: transparent; padding-left: 0; }
+.st-bar nav { display: flex; gap: 0.3rem; align-items: center; flex: none; }
+.st-bar nav button { padding: 0.15rem 0.8rem; }
+.st-bar :is(h1, .way) { margin: 0; font-size: var(--m); font-weight: 700; min-width: 0; white-space: nowrap; overflow: hidden; text-overflow: ellipsis; flex: 0 1 auto; }
+#st-position { min-width: 4.2rem; text-align: center; font-weight: 700; white-space: nowrap; }
+#st-which { flex: 1; color: var(--soft); font-size: var(--s); min-width: 0; white-space: nowrap; overflow: hidden; text-overflow: ellipsis; }
+.st-body { flex: 1; min-height: 0; display: grid; grid-template-columns: minmax(0, 1fr) minmax(0, var(--beside, clamp(15rem, 27vw, 27rem))); }
+#st-main { display: flex; flex-direction: column; min-height: 0; min-width: 0; padding: 0 1.2rem 0.8rem; }
+#st-say { font-size: var(--xl); line-height: 1.25; font-weight: 650; flex: none; overflow-wrap: anywhere; }
+#st-say p { margin: 0.2rem 0 0; text-wrap: pretty; }
+#st-say .why { font-size: var(--l); line-height: 1.35; font-weight: 400; }
+#st-say .verdict { font-size: var(--xxl); line-height: 1.1; font-weight: 750; }
+#st-say .guess { font-size: var(--l); }
+.story .not { color: var(--bad); }
+#st-say ul { margin: 0.35rem 0 0; padding: 0; list-style: none; font-size: var(--m); line-height: 1.35; font-weight: 400; }
+#st-say li { display: flex; break-inside: avoid; }
+#st-say li span { min-width: 0; }
+#st-say .two { columns: 2; column-gap: 1.5rem; }
+.edge-kind { flex: none; align-self: start; margin-top: 0.25em; min-width: 4.6em !important; font-size: var(--s); font-weight: 700; background: var(--bad); color: var(--on); border-radius: 0.25rem; padding: 0 0.4em; margin-right: 0.5em; text-align: center; }
+#st-say .choices { display: flex; flex-wrap: wrap; gap: 0.5rem; margin-top: 0.5rem; font-size: var(--l); font-weight: 400; }
+.story kbd { font: inherit; font-size: var(--s); color: var(--soft); border: 1px solid var(--line); border-radius: 0.2rem; padding: 0 0.3em; }
+#st-stage { overflow: auto; flex: 0 1 auto; min-height: 6rem; outline-offset: -3px; }
+#st-grid { display: grid; grid-template-columns: max-content max-content; width: max-content; row-gap: 0.3rem; }
+#st-grid > div { line-height: 0; }
+#st-grid h2 { grid-column: 1 / -1; position: sticky; left: 0; width: max-content; max-width: 100%; margin: 0.3rem 0 -0.3rem; font-size: var(--l); line-height: 1.3; font-weight: 400; color: var(--ink); }
+#st-grid h2 > span:first-child { display: inline-block; min-width: 8rem; font-weight: 700; }
+#st-grid h2.not { color: var(--bad); font-weight: 700; }
+.names { position: sticky; left: 0; background: var(--paper); z-index: 1; }
+.lanes [data-step] { cursor: pointer; }
+.lanes g:focus-visible { outline: 3px solid var(--ink); outline-offset: 2px; }
+#st-cards { display: grid; grid-template-columns: repeat(var(--cards, 3), minmax(0, 1fr)); gap: 0.8rem; margin-top: auto; padding-top: 0.5rem; flex: 0 0 auto; max-height: 14.5rem; overflow: hidden; }
+.level { max-height: 12.5rem; border: 1px solid var(--line); border-radius: 0.4rem; padding: 0.35rem 0.6rem 0.5rem; min-width: 0; overflow-y: auto; position: relative; }
+.level[data-here] { border: 3px solid var(--ink); padding: calc(0.35rem - 2px) calc(0.6rem - 2px) calc(0.5rem - 2px); }
+.story .card { display: block; width: 100%; margin: 0 0 0.35rem; border: 0; padding: 0; text-align: left; line-height: 0; background: none; }
+.level .head { display: flex; justify-content: space-between; gap: 0.5rem; line-height: 1.5; font-weight: 700; }
+.level .head > span:first-child { flex: none; }
+.level .end { font-weight: 400; white-space: nowrap; overflow: hidden; text-overflow: ellipsis; }
+.level .end.not { font-weight: 700; }
+.legend { grid-column: 1 / -1; margin: 0 0 -0.4rem; font-size: var(--s); color: var(--soft); }
+.kind { white-space: nowrap; margin-left: 0.5em; }
+.kind svg { width: 1.3em; height: 0.85em; vertical-align: -0.08em; margin-right: 0.35em; }
+.more { position: sticky; bottom: -0.5rem; margin: -1.45rem -0.6rem -0.5rem; padding: 0.1rem 0.8rem 0.35rem; background: var(--paper); font-size: var(--s); color: var(--soft); pointer-events: none; }
+.level svg { display: block; }
+.level [data-order] { cursor: pointer; }
+.level [data-order]:hover .chip { fill: var(--track); }
+#st-beside { display: flex; flex-direction: column; min-height: 0; min-width: 0; border-left: 1px solid var(--line); }
+#st-text { flex: none; max-height: 40%; overflow: auto; margin: 0; padding: 0.1rem 0 0.5rem; font: var(--s)/1.5 var(--mono); border-bottom: 1px solid var(--line); }
+#st-text span { display: block; padding: 0 1.1rem 0 2.2rem; text-indent: -1.1rem; white-space: pre-wrap; overflow-wrap: anywhere; }
+#st-text .here { background: var(--band); font-weight: 700; }
+#st-text .broken { background: var(--bad); color: var(--on); font-weight: 700; }
+#st-prose { flex: 1; min-height: 0; overflow-y: auto; padding: 0.5rem 1.1rem 45vh; position: relative; outline-offset: -3px; }
+#st-prose p { margin: 0 0 0.6rem; }
+#st-prose .ask { font-weight: 700; }
+#st-prose .tell { border-left: 4px solid transparent; margin: 0 -1.1rem 0.35rem; padding: 0.1rem 1.1rem 0.1rem calc(1.1rem - 4px); color: var(--soft); cursor: pointer; }
+#st-prose .tell > p { margin: 0; }
+#st-prose .tell.here { border-color: var(--ink); background: var(--band); color: var(--ink); }
+#st-prose .aside { margin: 0.3rem 0 0.9rem; }
+.n0 { color: var(--c0); } .n1 { color: var(--c1); } .n2 { color: var(--c2); } .n3 { color: var(--c3); } .n4 { color: var(--c4); } .n5 { color: var(--c5); } .n6 { color: var(--c6); } .n7 { color: var(--c7); }
+@media screen and (max-width: 50rem) {
+  .st-bar { position: sticky; top: 0; background: var(--paper); z-index: 3; flex-wrap: wrap; padding: 0.4rem 0.7rem; border-bottom: 1px solid var(--line); gap: 0.4rem; }
+  .st-bar select { max-width: none; flex: 1 1 auto; }
+  .st-bar nav { order: 8; flex: 1 1 auto; }
+  .st-bar nav button { flex: 1 1 auto; padding: 0.35rem 0.3rem; min-width: 2.2rem; }
+  .st-bar > button { order: 9; padding: 0.35rem 0.4rem; }
+  .st-bar :is(#st-end, #st-compare, #st-machine) { font-size: var(--s); }
+  #st-position { min-width: 3.4rem; }
+  #st-which { flex-basis: 100%; order: 10; } #st-which:empty { display: none; }
+  .story { --xl: 1.25rem; --xxl: 1.75rem; }
+  .st-body { display: block; }
+  #st-main { padding: 0.3rem 0.7rem; display: block; } #st-cards { grid-template-columns: minmax(0, 1fr); max-height: none; } .level { max-height: none; } #st-say .two { columns: 1; }
+  #st-beside { border: 0; } #st-text { max-height: none; } #st-prose { overflow: visible; padding-bottom: 2rem; }
+}
+:root {
   --bg: #ffffff; --panel: #f4f6f8; --ink: #101720; --soft: #47515e; --line: #c3cad3; --strong: #101720; --here: #ffe28a; --here-ink: #101720;
   --c0: #0a4fb3; --c1: #a83a00; --c2: #6a22a3; --c3: #00635a; --c4: #9b1150; --c5: #4f5900; --on: #ffffff;
   --act: #cfe0f5; --act-line: #35598a; --com: #14532d; --com-on: #ffffff; --bad: #a3001b; --bad-bg: #fde3e3; --good: #14532d; --good-bg: #dff3e4;
@@ -309,4 +404,12 @@ dialog::backdrop { background: #0009; }
 }
 .icon { height: 0.95em; width: auto; display: inline-block; vertical-align: -0.1em; fill: currentColor; }
 .legend { margin-left: 1rem; white-space: nowrap; } .legend svg { height: 1em; width: 1em; display: inline-block; vertical-align: -0.15em; margin: 0 0.25em 0 0.7em; fill: none; stroke: var(--ink); stroke-width: 2.5; } .legend rect { fill: var(--ink); } .legend .g { fill: var(--bad); stroke: none; } .legend .g path { stroke: var(--bg); stroke-width: 4; }
+
+/* The story stands in the place of the machine, or the machine in that of the story. */
+html:not(.told) #story { display: none; }
+html.told body > :is(#bar, main, .skip) { display: none; }
+html.told { font-size: clamp(14px, min(1.2vw + 1px, 2.1vh), 40px); }
+#story { flex: 1; min-height: 0; display: flex; flex-direction: column; }
+@media screen and (max-width: 50rem) { html.told { font-size: 15px; } html.told, html.told body { height: auto; overflow: visible; } html.told body { display: block; } #story { display: block; } }
+@media print { html.told body > #story { display: block; } html.told .st-bar { display: none; } html.told .st-body { display: block; } html.told :is(#st-main, #st-beside, #st-stage, #st-prose, #st-text) { display: block; overflow: visible; max-height: none; height: auto; border: 0; } html.told #st-prose { columns: 2; padding: 1rem 0; } }
 "#;
