@@ -85,7 +85,7 @@ pub fn program_in<'a, R: Read + Drop>(
     }
 }
 
-fn program_of_text<'a>(alloc: Global, text: &[u8]) -> Result<Program, HekFault<'a>> {
+pub(crate) fn program_of_text<'a>(alloc: Global, text: &[u8]) -> Result<Program, HekFault<'a>> {
     let Ok(text) = str::from_utf8(text) else {
         return Err(HekFault::NotText);
     };

@@ -19,7 +19,7 @@ pub(crate) fn step_lines_in<R: Read + Drop>(
     }
 }
 
-fn step_lines(alloc: Global, text: &[u8]) -> Result<Vec<u64>, NoMemory> {
+pub(crate) fn step_lines(alloc: Global, text: &[u8]) -> Result<Vec<u64>, NoMemory> {
     let mut lines = Vec::new(alloc);
     let Ok(text) = str::from_utf8(text) else {
         return Ok(lines);

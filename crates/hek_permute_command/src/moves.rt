@@ -52,35 +52,55 @@ fn said_of<'a>(
     choice: MovesChoice,
     lines: &[u64],
 ) -> Result<Vec<u8>, HekFault<'a>> {
-    let moves = moves_of(alloc, given.schedule, given.rules)?;
-    let order = order_of_file(alloc, given, moves.as_slice())?;
-    let played = run_of(alloc, given, choice.auto, order.as_slice())?;
-    let told = told_in(alloc, given, &played)?;
     let mut said = Vec::new(alloc);
     match choice.printing {
-        Printing::Text => put_move_lines(
-            alloc,
-            &played.schedule,
-            &told,
-            lines,
-            choice.told,
-            &mut said,
-        )?,
+        Printing::Text => put_lines(alloc, given, choice, lines, &mut said)?,
         Printing::Json => {
-            let whole = whole_order(alloc, moves.as_slice(), order.as_slice())?;
-            let telling = Telling {
-                schedule: &played.schedule,
-                told: &told,
-                order: whole.as_slice(),
-                level: choice.level,
-                lines,
-            };
             let mut objects = Lines::after(alloc, &mut said);
-            put_play(alloc, given, telling, &mut objects)?;
+            put_own_play(alloc, given, choice, lines, &mut objects)?;
             objects.put_back(&mut said)?;
         }
     }
     Ok(said)
+}
+
+fn put_lines<'a>(
+    alloc: Global,
+    given: &Given<'_>,
+    choice: MovesChoice,
+    lines: &[u64],
+    said: &mut Vec<u8>,
+) -> Result<(), HekFault<'a>> {
+    let moves = moves_of(alloc, given.schedule, given.rules)?;
+    let order = order_of_file(alloc, given, moves.as_slice())?;
+    let played = run_of(alloc, given, choice.auto, order.as_slice())?;
+    let told = told_in(alloc, given, &played)?;
+    put_move_lines(alloc, &played.schedule, &told, lines, choice.told, said)?;
+    Ok(())
+}
+
+/// Puts the object of the run of a file's own order. Answers that order.
+pub(crate) fn put_own_play<'a>(
+    alloc: Global,
+    given: &Given<'_>,
+    choice: MovesChoice,
+    lines: &[u64],
+    out: &mut Lines,
+) -> Result<Vec<TxnId>, HekFault<'a>> {
+    let moves = moves_of(alloc, given.schedule, given.rules)?;
+    let order = order_of_file(alloc, given, moves.as_slice())?;
+    let played = run_of(alloc, given, choice.auto, order.as_slice())?;
+    let told = told_in(alloc, given, &played)?;
+    let whole = whole_order(alloc, moves.as_slice(), order.as_slice())?;
+    let telling = Telling {
+        schedule: &played.schedule,
+        told: &told,
+        order: whole.as_slice(),
+        level: choice.level,
+        lines,
+    };
+    put_play(alloc, given, telling, out)?;
+    Ok(whole)
 }
 
 /// The run: of the order of a file's moves, or of its steps as they stand.

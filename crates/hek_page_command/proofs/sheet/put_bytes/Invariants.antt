@@ -1,7 +1,7 @@
 use Rattle.std.proofs.Common.{◌≡◌, ◌++◌, length}
 use Rattle.std.specs.List.{flat_map}
 use Rattle.hek_page_command.specs.Sheets.{escaped}
-use Rattle.hek_page_command.proofs.sheet.put_json.Given as goal
+use Rattle.hek_page_command.proofs.sheet.put_bytes.Given as goal
 
 -- the bytes that are written, with those that are left, are all
 abbrev pub invariant-loop-byte : goal.invariant-loop-byte
