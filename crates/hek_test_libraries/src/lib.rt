@@ -41,7 +41,11 @@ mod sessions;
 #[cfg(test)]
 mod texts;
 #[cfg(test)]
+mod traces;
+#[cfg(test)]
 mod transcripts;
+#[cfg(test)]
+mod txns;
 #[cfg(test)]
 mod weak;
 #[cfg(test)]
