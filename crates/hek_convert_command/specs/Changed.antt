@@ -1,5 +1,5 @@
 -- What `word --changes` answers.
-use Rattle.std.specs.Prelude.{◌≡◌, ◌≢◌, ◌⊎◌, ◌↔◌, ◌==◌, ◌&&◌, ◌^◌, ◌-◌, ℕ, nat_eq, max, not, Bool, true, false, if◌then◌else◌, List, [], ◌∷◌, ◌++◌, map, reverse, codes, Option, Some, None, is_some, IsTrue, IsSome, Contains}
+use Rattle.std.specs.Prelude.{◌≡◌, ◌≢◌, ◌⊎◌, ◌↔◌, ◌==◌, ◌&&◌, ◌^◌, ◌-◌, ℕ, nat_eq, max, not, Bool, true, false, if◌then◌else◌, List, [], ◌∷◌, ◌++◌, map, reverse, codes, Option, Some, None, is_some, IsTrue, IsSome, Any}
 use Rattle.std.specs.List.{list_any}
 use Rattle.std.specs.Fmt.{decimal, digits, padded_integral, format_spec}
 use Rattle.std.specs.Io.KnownBytes.{Appends}
@@ -224,18 +224,20 @@ greatest (latest ∷ earlier) = max (status_of_answer latest.reply) (greatest ea
 
 -- ---- the end
 
--- a word that was left with this number has the transaction t among its readers, or names it as its writer
-abbrev pub Holds : Knowledge → ℕ → ℕ → ℕ → Type 0
-Holds known version last t = Contains (known.readers version) t ⊎ ((e : EndRecord) × IsEndOf e last × (writer_of e ≡ Some t))
+-- a number is an End word that names the writer u
+abbrev pub IsWriterIn : ℕ → ℕ → Type 0
+IsWriterIn number u = (e : EndRecord) × IsEndOf e number × (writer_of e ≡ Some u)
+
+-- a transaction that is over is among the readers of a word that was left with this number, or is the writer that it names
+abbrev pub IsLeaked : Knowledge → ℕ → ℕ → Type 0
+IsLeaked known version last = Any (λ t. IsSome (known.over t)) (known.readers version) ⊎ ((u : ℕ) × IsWriterIn last u × IsSome (known.over u))
 
 -- a transaction that is over holds a word
 pub record HasLeak (known : Knowledge) : Type 0 where
   pub version : ℕ
   pub last : ℕ
-  pub txn : ℕ
   pub left : known.left End version ≡ Some last
-  pub over : IsSome (known.over txn)
-  pub holds : Holds known version last txn
+  pub leaked : IsLeaked known version last
 
 -- right answers to these lines were written after the bytes that a writer held, and behind them who still holds a word; the status is the
 -- greatest that one of them asks for, and at least 1 where a transaction that is over holds a word
@@ -247,7 +249,7 @@ pub record AnswersAll (printing : Printing) (listed : List Listed) (before after
   pub written : Appends before after (answers_text answered ++ ending)
   pub leaks : Bool
   pub are_leaks : IsTrue leaks ↔ HasLeak (known_by answered)
-  pub is_status : status ≡ max (greatest answered) (if leaks then 1 else 0)
+  pub is_status : status ≡ max (if leaks then 1 else 0) (greatest answered)
 
 -- these are the lines of an input that aren't blank
 pub record HasAnswers (printing : Printing) (input before after : Option (List ℕ)) (status : ℕ) : Type 0 where

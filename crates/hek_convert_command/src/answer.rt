@@ -5,7 +5,7 @@ ghost use Rattle.hek_convert_command.specs.Changed.{HasFront, IsExchangeLine, Is
 use crate::book::Book;
 use crate::entries::Listed;
 use crate::entry::{Entry, Exchange};
-use crate::fault::{broken_fault, broken_line, fault_line, held_fault, none_fault};
+use crate::fault::{broken_fault, broken_line, held_fault, held_line, none_fault, none_line};
 use crate::objects::put_fault;
 use hek_changes::{BeginChange, EndChange, HolderFault};
 use hek_report::{Lines, Printing, put};
@@ -58,7 +58,7 @@ impl Answer {
     fn line(&self, alloc: Global, line: &Listed, book: &Book) -> Result<Vec<u8>, NoMemory>
         ensures { IfOk result (λ text. IsLine line.now.number line.now.entry self.now text.items) }
     {
-        match line.entry {
+        match &line.entry {
             None => joined(alloc, "not a change", b"\n"),
             Some(Entry::Over(_)) => joined(alloc, "over", b"\n"),
             Some(Entry::Exchange(exchange)) => {
@@ -72,28 +72,16 @@ impl Answer {
         &self,
         alloc: Global,
         number: u64,
-        exchange: Exchange,
+        exchange: &Exchange,
         book: &Book,
     ) -> Result<Vec<u8>, NoMemory>
-        ensures { IfOk result (λ text. IsExchangeLine number exchange self.now text.items) }
+        ensures { IfOk result (λ text. IsExchangeLine number exchange.now self.now text.items) }
     {
         match self {
             Answer::NotAChange | Answer::Over => Ok(Vec::new(alloc)),
             Answer::Broken(last) => broken_line(alloc, *last, number, exchange, book),
-            Answer::Held(fault) => fault_line(
-                alloc,
-                held_fault(*fault, exchange),
-                number,
-                exchange,
-                book,
-            ),
-            Answer::Changes(None, None) => fault_line(
-                alloc,
-                none_fault(exchange),
-                number,
-                exchange,
-                book,
-            ),
+            Answer::Held(fault) => held_line(alloc, *fault, number, exchange, book),
+            Answer::Changes(None, None) => none_line(alloc, number, exchange, book),
             Answer::Changes(None, Some(end)) => end_line(alloc, end),
             Answer::Changes(Some(begin), end) => begin_line(alloc, begin, end.as_ref()),
         }
@@ -103,7 +91,7 @@ impl Answer {
     fn object(&self, alloc: Global, line: &Listed, book: &Book) -> Result<Vec<u8>, NoMemory> {
         let mut lines = Lines::new(alloc);
         lines.begin_line();
-        match line.entry {
+        match &line.entry {
             None => lines.put_text("kind", "not a change"),
             Some(Entry::Over(txn)) => {
                 lines.put_text("kind", "over");
@@ -118,17 +106,17 @@ impl Answer {
     }
 
     /// Puts the members of an answer to an exchange.
-    fn put_exchange(&self, number: u64, exchange: Exchange, book: &Book, lines: &mut Lines) {
+    fn put_exchange(&self, number: u64, exchange: &Exchange, book: &Book, lines: &mut Lines) {
         match self {
             Answer::NotAChange | Answer::Over => {}
             Answer::Broken(last) => {
-                put_fault(broken_fault(*last), number, exchange, book, lines);
+                put_fault(&broken_fault(*last), number, exchange, book, lines);
             }
             Answer::Held(fault) => {
-                put_fault(held_fault(*fault, exchange), number, exchange, book, lines);
+                put_fault(&held_fault(*fault, exchange), number, exchange, book, lines);
             }
             Answer::Changes(None, None) => {
-                put_fault(none_fault(exchange), number, exchange, book, lines);
+                put_fault(&none_fault(exchange), number, exchange, book, lines);
             }
             Answer::Changes(begin, end) => {
                 lines.put_text("kind", "change");

@@ -1,5 +1,5 @@
 //! `word --changes`: which change leads from one word to the next, and who holds each word by that.
-ghost use Rattle.std.specs.Prelude.{◌≡◌, ◌++◌, ℕ, List, Option, Some, None, IfOk, OnOk};
+ghost use Rattle.std.specs.Prelude.{◌≡◌, ◌++◌, ℕ, List, Option, Some, None, IfOk, OnOk, if◌then◌else◌};
 ghost use Rattle.hek_changes.specs.declared.change.EndChange.{EndChange as SpecChange};
 ghost use Rattle.hek_changes.specs.Changes.{EndMoves, IsEndChange};
 ghost use Rattle.hek_convert_command.specs.declared.entry.Entry.TheVariants.{Exchange as ExchangeOf};
@@ -50,12 +50,32 @@ fn answer_all<'a, W: Write>(
     ensures { IfOk result (AnswersAll printing listed.now (W.contents out.old) (W.contents out.new)) }
 {
     let mut book = Book::new(alloc);
+    answer_with(alloc, listed, &mut book, printing, out)
+}
+
+fn answer_with<'a, W: Write>(
+    alloc: Global,
+    listed: &[Listed],
+    book: &mut Book,
+    printing: Printing,
+    out: &mut W,
+) -> Result<u8, HekFault<'a>>
+    requires { knowledge_of book.old ≡ nothing_known }
+    ensures { IfOk result (AnswersAll printing listed.now (W.contents out.old) (W.contents out.new)) }
+{
     let followed = has_over(listed);
-    let status = answer_lines(alloc, listed, followed, &mut book, printing, out)?;
-    let leaks = has_leak(&book);
-    let mut text = end_text(alloc, &book, printing)?;
+    let status = answer_lines(alloc, listed, followed, book, printing, out)?;
+    let leaks = has_leak(book);
+    let mut text = end_text(alloc, book, printing)?;
     send(&mut text, out)?;
-    Ok(status.max(u8::from(leaks)))
+    Ok(leak_status(leaks).max(status))
+}
+
+/// The least status, given whether a transaction that is over holds a word.
+fn leak_status(leaks: bool) -> u8
+    ensures { result ≡ (if leaks then 1 else 0) }
+{
+    if leaks { 1 } else { 0 }
 }
 
 /// Writes what each line comes to. Answers the greatest status that one asks for.
@@ -99,14 +119,16 @@ fn answer_line<'a, W: Write>(
 fn answer_to<'a>(line: &Listed, followed: bool, book: &mut Book) -> Result<Answer, HekFault<'a>>
     ensures { IfOk result (IsReply followed line.now book.old book.new) }
 {
-    match line.entry {
-        None => Ok(Answer::NotAChange),
-        Some(Entry::Over(txn)) => {
+    let Some(entry) = line.entry else {
+        return Ok(Answer::NotAChange);
+    };
+    match entry {
+        Entry::Over(txn) => {
             book.note_over(txn, line.number)?;
             Ok(Answer::Over)
         }
-        Some(Entry::Exchange(exchange)) => {
-            let answer = answer_exchange(exchange, line.number, followed, book)?;
+        Entry::Exchange(exchange) => {
+            let answer = answer_exchange(line, &exchange, followed, book)?;
             Ok(answer)
         }
     }
@@ -114,21 +136,23 @@ fn answer_to<'a>(line: &Listed, followed: bool, book: &mut Book) -> Result<Answe
 
 /// The answer to an exchange.
 fn answer_exchange<'a>(
-    exchange: Exchange,
-    number: u64,
+    line: &Listed,
+    exchange: &Exchange,
     followed: bool,
     book: &mut Book,
 ) -> Result<Answer, HekFault<'a>>
-    ensures { IfOk result (IsReply followed (record { number = number; entry = Some (ExchangeOf exchange) }) book.old book.new) }
+    requires { line.now.entry ≡ Some (ExchangeOf exchange.now) }
+    ensures { IfOk result (IsReply followed line.now book.old book.new) }
 {
-    let change = end_change(exchange.old, exchange.new, exchange.txn);
+    let txn = exchange.txn;
+    let change = end_change(exchange.old, exchange.new, txn);
     let Some(word) = exchange.word else {
-        let begin = begin_change(exchange.old, exchange.new, exchange.txn);
+        let begin = begin_change(exchange.old, exchange.new, txn);
         return Ok(Answer::Changes(begin, change));
     };
     let own = answer_side(exchange, word, change, followed, book);
     let last = book.note_left(word, exchange.new)?;
-    book.note_reader(word, exchange.txn, change)?;
+    book.note_reader(word, txn, change)?;
     Ok(after(last, exchange.old, own))
 }
 
@@ -144,18 +168,19 @@ fn after(last: Option<u64>, old: u64, own: Answer) -> Answer
 
 /// The answer to an exchange of a word, without what the exchange before it left.
 fn answer_side(
-    exchange: Exchange,
+    exchange: &Exchange,
     word: WordName,
     change: Option<EndChange>,
     followed: bool,
     book: &Book,
 ) -> Answer
-    requires { IsEndChange exchange.txn exchange.old exchange.new change }
-    ensures { IsOfSide (knowledge_of book.now) followed exchange word.side word.version change result }
+    requires { IsEndChange exchange.now.txn exchange.now.old exchange.now.new change }
+    ensures { IsOfSide (knowledge_of book.now) followed exchange.now word.side word.version change result }
 {
     match (word.side, change) {
         (Side::Begin, _) => {
-            let begin = begin_change(exchange.old, exchange.new, exchange.txn);
+            let txn = exchange.txn;
+            let begin = begin_change(exchange.old, exchange.new, txn);
             Answer::Changes(begin, None)
         }
         (Side::End, None) => Answer::Changes(None, None),
@@ -164,22 +189,23 @@ fn answer_side(
 }
 
 /// The answer to a change of an End word, in the light of who holds it.
-fn judge(exchange: Exchange, version: u64, change: EndChange, followed: bool, book: &Book) -> Answer
-    requires { EndMoves exchange.txn exchange.old exchange.new change }
-    ensures { IsJudged (knowledge_of book.now) followed exchange version change result }
+fn judge(
+    exchange: &Exchange,
+    version: u64,
+    change: EndChange,
+    followed: bool,
+    book: &Book,
+) -> Answer
+    requires { EndMoves exchange.now.txn exchange.now.old exchange.now.new change }
+    ensures { IsJudged (knowledge_of book.now) followed exchange.now version change result }
 {
     let Some(before) = EndWord::read(exchange.old) else {
         return Answer::NotAChange;
     };
-    let standing = standing(before, exchange.txn, followed, book);
+    let txn = exchange.txn;
+    let standing = standing(before, txn, followed, book);
     let counted = u64::from(before.readers());
-    match holder_fault(
-        change,
-        counted,
-        book.readers(version),
-        exchange.txn,
-        standing,
-    ) {
+    match holder_fault(change, counted, book.readers(version), txn, standing) {
         None => Answer::Changes(None, Some(change)),
         Some(fault) => Answer::Held(fault),
     }

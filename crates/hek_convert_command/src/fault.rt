@@ -1,7 +1,7 @@
 //! What is said of an exchange at fault: what it is, the reason, the word that would have been right, the place, and who holds the word.
-ghost use Rattle.std.specs.Prelude.{◌≡◌, ◌++◌, codes, IfOk};
+ghost use Rattle.std.specs.Prelude.{◌≡◌, ◌++◌, ◌↔◌, ℕ, Some, codes, IfOk};
 ghost use Rattle.std.specs.Fmt.{decimal};
-ghost use Rattle.hek_convert_command.specs.Changed.{HasFront, IsFaultText, bits_text, holder_front, name_text, place_text, side_front};
+ghost use Rattle.hek_convert_command.specs.Changed.{HasFront, IsFaultText, IsWriterIn, bits_text, holder_front, name_text, place_text, side_front};
 
 use crate::book::Book;
 use crate::entry::{Exchange, Side, WordName};
@@ -53,7 +53,7 @@ pub(crate) fn broken_fault(last: u64) -> Fault {
 }
 
 /// A change that is at fault by who holds the word: the word would have stayed.
-pub(crate) fn held_fault(fault: HolderFault, exchange: Exchange) -> Fault
+pub(crate) fn held_fault(fault: HolderFault, exchange: &Exchange) -> Fault
     ensures { result.front.now ≡ holder_front fault }
 {
     let front = match fault {
@@ -71,7 +71,7 @@ pub(crate) fn held_fault(fault: HolderFault, exchange: Exchange) -> Fault
 }
 
 /// An exchange that is no change: what comes nearest to it.
-pub(crate) fn none_fault(exchange: Exchange) -> Fault
+pub(crate) fn none_fault(exchange: &Exchange) -> Fault
     ensures { result.front.now ≡ codes "none: " }
 {
     let (nearest, reason, wanted) = missed(exchange);
@@ -84,28 +84,30 @@ pub(crate) fn none_fault(exchange: Exchange) -> Fault
 }
 
 /// The change of an End word that comes nearest to an exchange, what keeps it from that, and the word that would have been right.
-fn missed(exchange: Exchange) -> (Option<EndChange>, Reason, u64) {
+fn missed(exchange: &Exchange) -> (Option<EndChange>, Reason, u64) {
     if exchange.old == exchange.new {
         return (None, Reason::Plain("nothing changes"), exchange.old);
     }
+    let txn = exchange.txn;
     if !is_of_begin(exchange) {
-        if let Some(nearest) = nearest_change(exchange.old, exchange.new, exchange.txn) {
-            return missed_end(exchange, nearest);
+        if let Some(nearest) = nearest_change(exchange.old, exchange.new, txn) {
+            return missed_end(exchange, &nearest);
         }
     }
     (None, Reason::Plain(begin_reason(exchange)), exchange.old)
 }
 
 /// Whether an exchange is to be one of a Begin word.
-fn is_of_begin(exchange: Exchange) -> bool {
-    match exchange.word {
-        Some(word) => matches!(word.side, Side::Begin),
-        None => false,
-    }
+fn is_of_begin(exchange: &Exchange) -> bool {
+    let Some(word) = exchange.word else {
+        return false;
+    };
+    let side = word.side;
+    matches!(side, Side::Begin)
 }
 
 /// What keeps an exchange from the change of an End word that comes nearest to it.
-fn missed_end(exchange: Exchange, nearest: Nearest) -> (Option<EndChange>, Reason, u64) {
+fn missed_end(exchange: &Exchange, nearest: &Nearest) -> (Option<EndChange>, Reason, u64) {
     let (reason, wanted) = match nearest.left {
         Ok(left) => (Reason::Plain(left_reason(exchange, left)), left.bits()),
         Err(lack) => (Reason::Lack(lack), exchange.old),
@@ -114,7 +116,7 @@ fn missed_end(exchange: Exchange, nearest: Nearest) -> (Option<EndChange>, Reaso
 }
 
 /// Why the word that was left isn't the one that the change leaves.
-fn left_reason(exchange: Exchange, left: EndWord) -> &'static str {
+fn left_reason(exchange: &Exchange, left: EndWord) -> &'static str {
     match EndWord::read(exchange.new) {
         None => "what it left is no End word",
         Some(new) if left.no_more() && !new.no_more() => {
@@ -125,14 +127,15 @@ fn left_reason(exchange: Exchange, left: EndWord) -> &'static str {
 }
 
 /// What keeps an exchange from being a change of a Begin word.
-fn begin_reason(exchange: Exchange) -> &'static str {
+fn begin_reason(exchange: &Exchange) -> &'static str {
     let Some(before) = BeginWord::read(exchange.old) else {
         return "the old number is no such word";
     };
     let Some(maker) = before.txn() else {
         return "the version has its time";
     };
-    if maker.number() != exchange.txn.number() {
+    let txn = exchange.txn;
+    if maker.number() != txn.number() {
         return "another transaction made the version";
     }
     "no transaction draws that time"
@@ -143,10 +146,10 @@ pub(crate) fn broken_line(
     alloc: Global,
     last: u64,
     number: u64,
-    exchange: Exchange,
+    exchange: &Exchange,
     book: &Book,
 ) -> Result<Vec<u8>, NoMemory>
-    ensures { IfOk result (λ text. HasFront (codes "broken: the word was " ++ (bits_text last ++ place_text number exchange)) text.items) }
+    ensures { IfOk result (λ text. HasFront (codes "broken: the word was " ++ (bits_text last ++ place_text number exchange.now)) text.items) }
 {
     let mut text = broken_front(alloc, last)?;
     text.extend_from_slice(place(alloc, number, exchange)?.as_slice())?;
@@ -164,15 +167,41 @@ fn broken_front(alloc: Global, last: u64) -> Result<Vec<u8>, NoMemory>
     }
 }
 
-/// The line of another fault.
-pub(crate) fn fault_line(
+/// The line of a change that is at fault by who holds the word.
+pub(crate) fn held_line(
     alloc: Global,
-    fault: Fault,
+    fault: HolderFault,
     number: u64,
-    exchange: Exchange,
+    exchange: &Exchange,
     book: &Book,
 ) -> Result<Vec<u8>, NoMemory>
-    ensures { IfOk result (λ text. IsFaultText fault.front.now number exchange text.items) }
+    ensures { IfOk result (λ text. IsFaultText (holder_front fault) number exchange.now text.items) }
+{
+    let fault = held_fault(fault, exchange);
+    fault_line(alloc, &fault, number, exchange, book)
+}
+
+/// The line of an exchange that is no change.
+pub(crate) fn none_line(
+    alloc: Global,
+    number: u64,
+    exchange: &Exchange,
+    book: &Book,
+) -> Result<Vec<u8>, NoMemory>
+    ensures { IfOk result (λ text. IsFaultText (codes "none: ") number exchange.now text.items) }
+{
+    let fault = none_fault(exchange);
+    fault_line(alloc, &fault, number, exchange, book)
+}
+
+fn fault_line(
+    alloc: Global,
+    fault: &Fault,
+    number: u64,
+    exchange: &Exchange,
+    book: &Book,
+) -> Result<Vec<u8>, NoMemory>
+    ensures { IfOk result (λ text. IsFaultText fault.now.front.now number exchange.now text.items) }
 {
     let reason = reason_text(alloc, fault)?;
     let place = place(alloc, number, exchange)?;
@@ -186,7 +215,7 @@ pub(crate) fn fault_line(
 }
 
 /// `reader-went: the last reader goes under a writer, so NoMoreReadLocks is set; wanted C000000000000003`
-fn reason_text(alloc: Global, fault: Fault) -> Result<Vec<u8>, NoMemory> {
+fn reason_text(alloc: Global, fault: &Fault) -> Result<Vec<u8>, NoMemory> {
     let mut text = Vec::new(alloc);
     if let Some(change) = fault.nearest {
         put(write!(text, "{change}: "))?;
@@ -198,8 +227,8 @@ fn reason_text(alloc: Global, fault: Fault) -> Result<Vec<u8>, NoMemory> {
 }
 
 /// ` (line 5: end-0 8040000000000003 -> 8000000000000003 by 2`
-fn place(alloc: Global, number: u64, exchange: Exchange) -> Result<Vec<u8>, NoMemory>
-    ensures { IfOk result (λ text. text.items ≡ place_text number exchange) }
+fn place(alloc: Global, number: u64, exchange: &Exchange) -> Result<Vec<u8>, NoMemory>
+    ensures { IfOk result (λ text. text.items ≡ place_text number exchange.now) }
 {
     let name = name(alloc, exchange.word)?;
     let mut text = Vec::new(alloc);
@@ -219,10 +248,11 @@ fn line_front(alloc: Global, number: u64) -> Result<Vec<u8>, NoMemory>
     }
 }
 
-fn numbers(alloc: Global, exchange: Exchange) -> Result<Vec<u8>, NoMemory>
-    ensures { IfOk result (λ text. text.items ≡ bits_text exchange.old ++ (codes " -> " ++ (bits_text exchange.new ++ (codes " by " ++ decimal exchange.txn)))) }
+fn numbers(alloc: Global, exchange: &Exchange) -> Result<Vec<u8>, NoMemory>
+    ensures { IfOk result (λ text. text.items ≡ bits_text exchange.now.old ++ (codes " -> " ++ (bits_text exchange.now.new ++ (codes " by " ++ decimal exchange.now.txn)))) }
 {
-    let (old, new, txn) = (exchange.old, exchange.new, exchange.txn.number());
+    let txn = exchange.txn;
+    let (old, new, txn) = (exchange.old, exchange.new, txn.number());
     let mut text = Vec::new(alloc);
     match write!(text, "{old:016X} -> {new:016X} by {txn}") {
         Ok(()) => Ok(text),
@@ -255,7 +285,7 @@ pub(crate) fn side_name(side: Side) -> &'static str
 }
 
 /// Who is known to hold the word after an exchange: its readers, and the writer before it. Then the line ends.
-fn holders(alloc: Global, exchange: Exchange, book: &Book) -> Result<Vec<u8>, NoMemory> {
+fn holders(alloc: Global, exchange: &Exchange, book: &Book) -> Result<Vec<u8>, NoMemory> {
     let mut text = Vec::new(alloc);
     put_holders(
         readers_of(exchange, book),
@@ -267,15 +297,20 @@ fn holders(alloc: Global, exchange: Exchange, book: &Book) -> Result<Vec<u8>, No
 }
 
 /// The read locks that are known of the End word that an exchange names.
-pub(crate) fn readers_of(exchange: Exchange, book: &Book) -> &[u64] {
-    match exchange.word {
-        Some(word) if matches!(word.side, Side::End) => book.readers(word.version),
-        _ => &[],
+pub(crate) fn readers_of<'b>(exchange: &Exchange, book: &'b Book) -> &'b [u64] {
+    let Some(word) = exchange.word else {
+        return &[];
+    };
+    match word.side {
+        Side::Begin => &[],
+        Side::End => book.readers(word.version),
     }
 }
 
 /// The writer that a number names as an End word.
-pub(crate) fn writer_of(number: u64) -> Option<TxnId> {
+pub(crate) fn writer_of(number: u64) -> Option<TxnId>
+    ensures { (u : ℕ) → (result ≡ Some u) ↔ IsWriterIn number u }
+{
     EndWord::read(number)?.writer()
 }
 

@@ -1,7 +1,7 @@
 //! Who holds a word at the end of a log.
-ghost use Rattle.std.specs.Prelude.{IsTrue, ◌↔◌};
-ghost use Rattle.hek_convert_command.specs.Book.{knowledge_of};
-ghost use Rattle.hek_convert_command.specs.Changed.{HasLeak};
+ghost use Rattle.std.specs.Prelude.{Any, IsTrue, IsSome, ◌↔◌};
+ghost use Rattle.hek_convert_command.specs.Book.{knowledge_of, over_in};
+ghost use Rattle.hek_convert_command.specs.Changed.{HasLeak, IsLeaked};
 
 use crate::book::Book;
 use crate::fault::{put_holders, writer_of};
@@ -28,18 +28,25 @@ pub(crate) fn has_leak(book: &Book) -> bool
 }
 
 /// Whether a transaction that is over holds a word that was left with this number.
-fn is_leaked(version: u64, last: u64, book: &Book) -> bool {
-    let reads = book
-        .readers(version)
-        .iter()
-        .any(|reader| book.over_line(TxnId::new(*reader)).is_some());
-    if reads {
+fn is_leaked(version: u64, last: u64, book: &Book) -> bool
+    ensures { IsTrue result ↔ IsLeaked (knowledge_of book.now) version last }
+{
+    if has_reader_over(book.readers(version), book) {
         return true;
     }
     match writer_of(last) {
         Some(writer) => book.over_line(writer).is_some(),
         None => false,
     }
+}
+
+/// Whether one of these transactions is over.
+fn has_reader_over(readers: &[u64], book: &Book) -> bool
+    ensures { IsTrue result ↔ Any (λ t. IsSome (over_in book.now t)) readers.now }
+{
+    readers
+        .iter()
+        .any(|reader| book.over_line(TxnId::new(*reader)).is_some())
 }
 
 /// For each word that is held a line, and before it one for each lock of a transaction that is over.
@@ -65,16 +72,17 @@ fn put_word(
     printing: Printing,
     text: &mut Vec<u8>,
 ) -> Result<(), NoMemory> {
+    let writer = writer_of(last);
     let held = Held {
         version,
         last,
         readers: book.readers(version),
-        writer: writer_of(last),
+        writer,
     };
     for reader in held.readers {
         put_leak(
             alloc,
-            held,
+            &held,
             TxnId::new(*reader),
             false,
             book,
@@ -83,17 +91,17 @@ fn put_word(
         )?;
     }
     if let Some(writer) = held.writer {
-        put_leak(alloc, held, writer, true, book, printing, text)?;
+        put_leak(alloc, &held, writer, true, book, printing, text)?;
     }
     if held.readers.is_empty() && !is_lock(last) {
         return Ok(());
     }
     let living = living(held.readers, book);
     match printing {
-        Printing::Text => put_held(held, living, text),
+        Printing::Text => put_held(&held, living, text),
         Printing::Json => {
             let mut lines = Lines::after(alloc, text);
-            put_held_object(held, living, &mut lines);
+            put_held_object(&held, living, &mut lines);
             lines.put_back(text)
         }
     }
@@ -127,7 +135,7 @@ fn living(readers: &[u64], book: &Book) -> usize {
 /// Puts the lock of a transaction, if a line says that it is over.
 fn put_leak(
     alloc: Global,
-    held: Held<'_>,
+    held: &Held<'_>,
     txn: TxnId,
     is_writer: bool,
     book: &Book,
@@ -157,7 +165,7 @@ fn put_leak(
             lines.put_text("lock", lock);
             put_bits("wanted", wanted, &mut lines);
             lines.put_numbers("holders", held.readers);
-            lines.put_maybe("writer", held.writer.map(|writer| writer.number()));
+            put_writer(held, &mut lines);
             lines.end_line();
             lines.put_back(text)
         }
@@ -179,13 +187,14 @@ fn without_lock(last: u64, is_writer: bool) -> u64 {
 }
 
 /// Puts the line of a word that is held.
-fn put_held(held: Held<'_>, living: usize, text: &mut Vec<u8>) -> Result<(), NoMemory> {
+fn put_held(held: &Held<'_>, living: usize, text: &mut Vec<u8>) -> Result<(), NoMemory> {
     let (version, last, counted) = (held.version, held.last, counted(held.last));
     put(write!(
         text,
         "held: end-{version} {last:016X} (readers counted {counted}, known to live {living}"
     ))?;
-    put_holders(held.readers, held.writer, text)?;
+    let writer = held.writer;
+    put_holders(held.readers, writer, text)?;
     text.extend_from_slice(b")\n")?;
     Ok(())
 }
@@ -198,7 +207,7 @@ fn counted(number: u64) -> u64 {
     }
 }
 
-fn put_held_object(held: Held<'_>, living: usize, lines: &mut Lines) {
+fn put_held_object(held: &Held<'_>, living: usize, lines: &mut Lines) {
     lines.begin_line();
     lines.put_text("kind", "held");
     put_end_name(held.version, lines);
@@ -206,6 +215,11 @@ fn put_held_object(held: Held<'_>, living: usize, lines: &mut Lines) {
     lines.put_number("counted", counted(held.last));
     lines.put_number("living", living as u64);
     lines.put_numbers("holders", held.readers);
-    lines.put_maybe("writer", held.writer.map(|writer| writer.number()));
+    put_writer(held, lines);
     lines.end_line();
+}
+
+fn put_writer(held: &Held<'_>, lines: &mut Lines) {
+    let writer = held.writer;
+    lines.put_maybe("writer", writer.map(|writer| writer.number()));
 }

@@ -127,9 +127,9 @@ pub(crate) fn put_end_name(version: u64, lines: &mut Lines) {
 
 /// Puts the members of a fault of an exchange.
 pub(crate) fn put_fault(
-    fault: Fault,
+    fault: &Fault,
     number: u64,
-    exchange: Exchange,
+    exchange: &Exchange,
     book: &Book,
     lines: &mut Lines,
 ) {
@@ -153,7 +153,7 @@ pub(crate) fn put_fault(
 }
 
 /// Puts the word that an exchange names, its numbers and its transaction.
-fn put_place(exchange: Exchange, lines: &mut Lines) {
+fn put_place(exchange: &Exchange, lines: &mut Lines) {
     match exchange.word {
         Some(word) => {
             let name = Named {
@@ -166,5 +166,6 @@ fn put_place(exchange: Exchange, lines: &mut Lines) {
     }
     put_bits("old", exchange.old, lines);
     put_bits("new", exchange.new, lines);
-    lines.put_number("txn", exchange.txn.number());
+    let txn = exchange.txn;
+    lines.put_number("txn", txn.number());
 }
