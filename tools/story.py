@@ -54,5 +54,5 @@ def style():
     pictures = re.search(r"export const STYLE = `(.*?)`;", read("svg.mjs"), re.S)[1].replace("${FONT}", font)
     each = "".join(f".pic .f{t}{{fill:var(--c{t})}}.pic .s{t}{{stroke:var(--c{t})}}" for t in range(8))
     pictures = re.sub(r"\$\{Array.*?\}\)\.join\(\"\"\)\}|\$\{Array[^\n]*\n", lambda it: each + "\n", pictures)
-    themes = f":root{{{properties(light)}}}\n@media screen and (prefers-color-scheme:dark){{:root:not([data-theme=light]){{{properties(dark)}}}}}\n@media screen{{:root[data-theme=dark]{{{properties(dark)}}}}}\n"
+    themes = f"/* The colours, and those in the dark. */\n:root{{{properties(light)}}}\n@media screen and (prefers-color-scheme:dark){{:root:not([data-theme=light]){{{properties(dark)}}}}}\n@media screen{{:root[data-theme=dark]{{{properties(dark)}}}}}\n"
     return themes + pictures + read("story.css")

@@ -23,6 +23,7 @@ export function wordsOf(column) {
 function need(column, size, isNarrow) {
   const { tops, value } = wordsOf(column), most = column.kind === "scan" ? 7 : 12;
   if (column.kind === "wait") return isNarrow ? 2.2 : 3;
+  if (column.kind === "commit" || column.kind === "unknown") return isNarrow ? 1.7 : 2.4;
   return Math.min(Math.max(wide(tops.at(-1), S), wide(value, column.kind === "scan" ? S : size, 700)) + (isNarrow ? 0.5 : 0.8), most);
 }
 

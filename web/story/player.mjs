@@ -61,7 +61,7 @@ export class Player {
   }
 
   showCards(story) {
-    const { model, place, unit } = this, box = byId("st-cards"), isHidden = place.mode !== "" || place.asks, narrow = matchMedia(NARROW).matches;
+    const { model, place, unit } = this, box = byId("st-cards"), isHidden = place.mode !== "" || place.asks || model.levels.length < 2, narrow = matchMedia(NARROW).matches;
     box.hidden = isHidden;
     if (isHidden) return put(box, "");
     box.style.setProperty("--cards", model.levels.length);
@@ -89,8 +89,9 @@ export class Player {
 
   showTold(story, isNew, scrolls) {
     const { model, place } = this, prose = byId("st-prose"), { step, asks } = place;
-    if (isNew || asks !== prose.asked || asks) put(prose, told(model, story, place, asks ? (this.isAsking ? step : step) : Infinity));
+    if (isNew || asks !== prose.asked || asks) put(prose, told(model, story, place, asks ? step : Infinity));
     prose.asked = asks;
+    prose.classList.toggle("asks", asks === true);
     for (const it of prose.querySelectorAll(".tell")) it.classList.toggle("here", Number(it.dataset.step) === step);
     const here = prose.querySelector(".tell.here");
     if (scrolls && here && prose.scrollHeight > prose.clientHeight) prose.scrollTop = step === 0 ? 0 : here.offsetTop - prose.clientHeight * 0.3;

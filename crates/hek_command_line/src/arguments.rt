@@ -2,7 +2,7 @@
 use crate::build::VERSION;
 use crate::file_texts::{ASM, COMPLETIONS, DIS, MAN, RELEASE, WORD};
 use crate::order_texts::{CHECK, HISTORY, PERMUTE};
-use crate::page_texts::{FIGURE, PAGE};
+use crate::page_texts::PAGE;
 use crate::run_texts::{DEBUG, DRIVE, RUN, THREADS};
 use crate::texts::{ArgumentText, CommandText, Form};
 use clap::{Arg, ArgAction, ArgMatches, Command, Error};
@@ -14,7 +14,7 @@ use std::convert::AsStr;
 /// takes a table as one term.
 const RUN_COMMANDS: &[CommandText] = &[RUN, DEBUG];
 
-const PICTURE_COMMANDS: &[CommandText] = &[PAGE, FIGURE];
+const PICTURE_COMMANDS: &[CommandText] = &[PAGE];
 
 const ORDER_COMMANDS: &[CommandText] = &[PERMUTE, CHECK];
 

@@ -10,7 +10,7 @@ use crate::log::history;
 use crate::opening::without_mark;
 use crate::options::{count_from, level_of, number_of, printing_of, text};
 use crate::output::NotedOutput;
-use crate::pages::{Document, write_document};
+use crate::pages::page;
 use crate::permute::{permute_alone, permute_jobs};
 use crate::schedule::{plain_schedule, plain_to_run, schedule_file, schedule_to_run};
 use crate::sources::SourceFiles;
@@ -418,8 +418,7 @@ fn run_noting<
         "drive" => drive(alloc, found, explains, disk, input, out, faults),
         "check" => check(alloc, found, disk, input, out, faults),
         "permute" => permute_alone(alloc, found, disk, input, out, faults),
-        "page" => write_document(alloc, Document::Page, found, disk, input, out, faults),
-        "figure" => write_document(alloc, Document::Figure, found, disk, input, out, faults),
+        "page" => page(alloc, found, disk, input, out, faults),
         "threads" => Err(HekFault::NoWorker),
         _ => Err(HekFault::BadArgument),
     }

@@ -77,49 +77,14 @@ The page shows each step with its reply, and the versions, waits and lock words 
             form: Form::Number,
         },
         ArgumentText {
+            name: "machine",
+            help: "shows the machine alone, without the story",
+            form: Form::Flag,
+        },
+        ArgumentText {
             name: "json",
-            help: "writes the page's data alone, one object of JSON",
+            help: "writes the page's data alone, one object of JSON, and then the plays of its story, an object each",
             form: Form::Flag,
-        },
-    ],
-};
-
-pub(crate) const FIGURE: CommandText = CommandText {
-    name: "figure",
-    about: "Writes a step of a schedule's run as one picture, for a slide",
-    example: r"Example:
-  hek figure first.hek --step 2 -o first.svg
-The picture is SVG with its style inside: lanes, what the step says, versions, waits and lock words, in the colours of `hek page`. With --part it shows one of these.",
-    arguments: &[
-        FILE,
-        TEXT,
-        IMAGE,
-        EXPLAIN,
-        LEVEL,
-        ArgumentText {
-            name: "auto",
-            help: "shows only the reads and writes of FILE, which may be a program, and begins and ends each transaction by itself",
-            form: Form::Flag,
-        },
-        ArgumentText {
-            name: "output",
-            help: "writes the picture to a file; - is standard output, also where that is a terminal",
-            form: Form::Output,
-        },
-        ArgumentText {
-            name: "step",
-            help: "shows what is so after N steps, by default after the last; 0 is before the first",
-            form: Form::Number,
-        },
-        ArgumentText {
-            name: "part",
-            help: "shows one part: lanes, versions, waits or words",
-            form: Form::Value("PART"),
-        },
-        ArgumentText {
-            name: "title",
-            help: "the picture's title, by default the name of FILE",
-            form: Form::Value("TEXT"),
         },
     ],
 };

@@ -52,7 +52,7 @@ fn takes_programs(command: &str, found: &ArgMatches<'_>) -> bool {
     match command {
         "permute" => true,
         "page" => found.get_flag("auto") || found.get_flag("orders") || found.get_flag("levels"),
-        "run" | "debug" | "figure" => found.get_flag("auto"),
+        "run" | "debug" => found.get_flag("auto"),
         _ => false,
     }
 }
@@ -128,7 +128,7 @@ pub fn explain_computed<E: Write>(
     };
     let _ = writeln!(
         faults,
-        "  {name}:{number}:1\n{excerpt} {what}: the file is a program\n  | `hek permute` plays every order of a program; `--auto` of run, debug, page and figure plays one"
+        "  {name}:{number}:1\n{excerpt} {what}: the file is a program\n  | `hek permute` plays every order of a program; `--auto` of run, debug and page plays one"
     );
 }
 

@@ -10,6 +10,7 @@ use hek_program::Always;
 use hek_rules::{Event, NoMemory, Reply, Schedule, Transcript, TxnId};
 use hek_why::{Dooms, Step, reasons};
 use std::alloc::Global;
+use std::mem;
 
 /// Where the steps of a run come from: for each the place of the step of the text that it makes; and the steps of the text that were left out, each
 /// with the place of the run's step before which it was. Both lists may be shorter.
@@ -40,15 +41,16 @@ pub fn moves_of(
     // `known` gives that the schedule has a bucket, and that each of its steps is well formed.
     schedule.known();
     let mut machine = Machine::load(alloc, schedule)?;
+    let committed = nobody(alloc, schedule.txn_count())?;
+    let now = after_of(alloc, &machine, always, committed.as_slice(), None)?;
     let mut folding = Folding {
         schedule,
         always,
         origin,
-        moves: Moves::new(alloc, Transcript::new(alloc, schedule)?),
-        committed: nobody(alloc, schedule.txn_count())?,
+        moves: Moves::new(alloc, now, Transcript::new(alloc, schedule)?),
+        committed,
         dooms: Dooms::new(alloc),
     };
-    note_after(alloc, &machine, None, &mut folding)?;
     fold_steps(alloc, schedule.steps(), &mut machine, &mut folding)?;
     Ok(folding.moves)
 }
@@ -94,7 +96,7 @@ fn fold_step(
     end_waits(machine, by, &mut folding.moves)?;
     folding.dooms.note(&before, *event, &reply)?;
     folding.moves.transcript.push(*event, reply)?;
-    note_after(alloc, machine, Some(by), folding)
+    note_after(alloc, machine, by, folding)
 }
 
 /// Adds the steps of the text that were left out before a step of the run.
@@ -207,17 +209,15 @@ fn joined(alloc: Global, step: &Step<'_>, folding: &mut Folding<'_>) -> Result<u
 fn note_after(
     alloc: Global,
     machine: &Machine,
-    made_by: Option<usize>,
+    made_by: usize,
     folding: &mut Folding<'_>,
 ) -> Result<(), NoMemory> {
     let committed = folding.committed.as_slice();
-    let now = after_of(alloc, machine, folding.always, committed, made_by)?;
-    let is_same = match folding.moves.after.last() {
-        Some(last) => last.same(&now),
-        None => false,
-    };
-    if !is_same {
-        folding.moves.after.push(now)?;
+    let next = after_of(alloc, machine, folding.always, committed, Some(made_by))?;
+    let moves = &mut folding.moves;
+    if !moves.now.same(&next) {
+        let past = mem::replace(&mut moves.now, next);
+        moves.past.push(past)?;
     }
     Ok(())
 }

@@ -20,9 +20,7 @@ pub fn put_moves(
     always: &[Always],
     out: &mut Lines,
 ) {
-    if let Some(opening) = moves.after().first() {
-        put_always(always, opening, out);
-    }
+    put_always(always, moves.opening(), out);
     out.put_key("moves");
     out.begin_array();
     for (place, made) in moves.items().iter().enumerate() {
@@ -166,11 +164,16 @@ fn put_ends(moves: &Moves, place: usize, out: &mut Lines) {
 
 /// The committed rows after a move that changed them, or what has committed, and whether each invariant holds.
 fn put_after(moves: &Moves, place: usize, always: &[Always], out: &mut Lines) {
-    for after in moves.after() {
-        if after.made_by == Some(place) {
-            put_committed(after.rows.items(), out);
-            put_always(always, after, out);
-        }
+    for past in moves.past() {
+        put_if_made(past, place, always, out);
+    }
+    put_if_made(moves.now(), place, always, out);
+}
+
+fn put_if_made(after: &After, place: usize, always: &[Always], out: &mut Lines) {
+    if after.made_by == Some(place) {
+        put_committed(after.rows.items(), out);
+        put_always(always, after, out);
     }
 }
 

@@ -73,20 +73,23 @@ pub struct Moves {
     /// For each step of the run the place of the move that it belongs to.
     pub(crate) of_step: Vec<usize>,
     pub(crate) ends: Vec<WaitEnd>,
-    /// The committed rows at the start, and after each step that changed them or ended a transaction.
-    pub(crate) after: Vec<After>,
+    /// What was committed before: at the start, and after each step that changed it but the last one.
+    pub(crate) past: Vec<After>,
+    /// What is committed.
+    pub(crate) now: After,
     /// All steps with their replies.
     pub(crate) transcript: Transcript,
 }
 
 impl Moves {
-    /// No moves, and a transcript without steps.
-    pub(crate) fn new(alloc: Global, transcript: Transcript) -> Moves {
+    /// No moves, where this is committed, and a transcript without steps.
+    pub(crate) fn new(alloc: Global, now: After, transcript: Transcript) -> Moves {
         Moves {
             items: Vec::new(alloc),
             of_step: Vec::new(alloc),
             ends: Vec::new(alloc),
-            after: Vec::new(alloc),
+            past: Vec::new(alloc),
+            now,
             transcript,
         }
     }
@@ -98,8 +101,7 @@ impl Moves {
 
     /// The line of the first invariant that doesn't hold after the last step.
     pub fn broken(&self, always: &[Always]) -> Option<u64> {
-        let last = self.after.last()?;
-        for (one, holds) in always.iter().zip(last.holds.iter()) {
+        for (one, holds) in always.iter().zip(self.now.holds.iter()) {
             if !*holds {
                 return Some(one.line);
             }
@@ -122,9 +124,22 @@ impl Moves {
         self.ends.as_slice()
     }
 
-    /// The committed rows at the start, and after each step that changed them or committed a transaction.
-    pub fn after(&self) -> &[After] {
-        self.after.as_slice()
+    /// What was committed at the start, and after each step that changed it but the last one.
+    pub fn past(&self) -> &[After] {
+        self.past.as_slice()
+    }
+
+    /// What is committed after the last step.
+    pub fn now(&self) -> &After {
+        &self.now
+    }
+
+    /// What was committed at the start.
+    pub(crate) fn opening(&self) -> &After {
+        match self.past.first() {
+            Some(first) => first,
+            None => &self.now,
+        }
     }
 
     /// Adds a move, and answers its place.

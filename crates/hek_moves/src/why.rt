@@ -108,7 +108,7 @@ impl Moves {
 
     /// The committed value of a key.
     fn committed_value(&self, key: u64) -> Option<u64> {
-        value_in(self.after.last()?, key)
+        value_in(&self.now, key)
     }
 
     /// Whether a value of a key isn't the committed one.

@@ -5,7 +5,7 @@ pub(crate) const FRONT: &str = r#"<!DOCTYPE html>
 <head>
 <meta charset="utf-8">
 <meta name="viewport" content="width=device-width, initial-scale=1">
-<meta http-equiv="Content-Security-Policy" content="default-src 'none'; script-src 'sha256-Jb24xFDQs/6jWQ3PL9xTvWq2KuuJT6byLuEGTiTqh0s='; style-src 'sha256-ckUtAYoWU41rLHWc8Nsus1TWjlTPwvCTiArgtmqf2hc='; style-src-attr 'unsafe-inline'; img-src data:; base-uri 'none'; form-action 'none'">
+<meta http-equiv="Content-Security-Policy" content="default-src 'none'; script-src 'sha256-Msn0QX3RAGF5/6qUuNluKZY1NDPBgnN8sTesymEY2z4='; style-src 'sha256-A9AT0hSBdbaGWc/LL6L8uBe7mh8XAEj2632kzGYPw0Y='; style-src-attr 'unsafe-inline'; img-src data:; base-uri 'none'; form-action 'none'">
 <title>"#;
 
 pub(crate) const HEAD: &str = r#"</title>

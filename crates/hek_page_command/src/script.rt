@@ -418,6 +418,7 @@ function wordsOf(column) {
 function need(column, size, isNarrow) {
   const { tops, value } = wordsOf(column), most = column.kind === "scan" ? 7 : 12;
   if (column.kind === "wait") return isNarrow ? 2.2 : 3;
+  if (column.kind === "commit" || column.kind === "unknown") return isNarrow ? 1.7 : 2.4;
   return Math.min(Math.max(wide(tops.at(-1), S), wide(value, column.kind === "scan" ? S : size, 700)) + (isNarrow ? 0.5 : 0.8), most);
 }
 
@@ -1063,13 +1064,13 @@ function stage(story, step, { w, h, u }) {
 /** The lanes of each level under one another, with columns of one width. */
 function compared(model, story, step, { w, h, u }) {
   const all = model.levels.map((level) => [level, model.stories[level]]).filter(([, it]) => it), stories = all.map(([, it]) => it), heading = 2.2 * u;
-"##;
-
-pub(crate) const SCRIPT_SECOND: &str = r##"  const at = stories.map((it) => layout(it, { w, h: h / stories.length - heading, u, all: stories, rows: false }));
+  const at = stories.map((it) => layout(it, { w, h: h / stories.length - heading, u, all: stories, rows: false }));
   const html = all.map(([level, its], index) => {
     const now = samePlace(story, step, its), isEnd = now > its.columns.length, { kind, breaks } = its.verdict, said = now ? rich(isEnd ? its.verdict.say : its.columns[now - 1].say, its.names) : "";
     return `<h2 class="${isEnd && (kind === "not" || breaks !== null) ? "not" : ""}"><span>${esc(level)}</span> ${said}</h2>${cell("names", names(its, at[index], now))}<div class="lanes" data-level="${esc(level)}">${lanes(its, at[index], now, true)}</div>`;
-  }).join("");
+"##;
+
+pub(crate) const SCRIPT_SECOND: &str = r##"  }).join("");
   return { html, at: at[stories.indexOf(story)] };
 }
 
@@ -1254,7 +1255,7 @@ class Player {
   }
 
   showCards(story) {
-    const { model, place, unit } = this, box = byId("st-cards"), isHidden = place.mode !== "" || place.asks, narrow = matchMedia(NARROW).matches;
+    const { model, place, unit } = this, box = byId("st-cards"), isHidden = place.mode !== "" || place.asks || model.levels.length < 2, narrow = matchMedia(NARROW).matches;
     box.hidden = isHidden;
     if (isHidden) return put(box, "");
     box.style.setProperty("--cards", model.levels.length);
@@ -1282,8 +1283,9 @@ class Player {
 
   showTold(story, isNew, scrolls) {
     const { model, place } = this, prose = byId("st-prose"), { step, asks } = place;
-    if (isNew || asks !== prose.asked || asks) put(prose, told(model, story, place, asks ? (this.isAsking ? step : step) : Infinity));
+    if (isNew || asks !== prose.asked || asks) put(prose, told(model, story, place, asks ? step : Infinity));
     prose.asked = asks;
+    prose.classList.toggle("asks", asks === true);
     for (const it of prose.querySelectorAll(".tell")) it.classList.toggle("here", Number(it.dataset.step) === step);
     const here = prose.querySelector(".tell.here");
     if (scrolls && here && prose.scrollHeight > prose.clientHeight) prose.scrollTop = step === 0 ? 0 : here.offsetTop - prose.clientHeight * 0.3;
@@ -2365,9 +2367,7 @@ const LABELS = {
 };
 
 /** The second line of a cell: what it is about and how it came out, longest first. */
-"##;
-
-pub(crate) const SCRIPT_THIRD: &str = r#"function detailOf(step) {
+function detailOf(step) {
   const { op, args, r } = step;
   switch (r[0]) {
     case "aborted": return ["aborted", "abort", "\u2717"];
@@ -2379,7 +2379,9 @@ pub(crate) const SCRIPT_THIRD: &str = r#"function detailOf(step) {
     case "committed": return ["\u2713"];
     case "began": case "precommitted": return ["time " + r[1], "t=" + r[1], r[1]];
     case "nothing": return ["nothing", "\u2013"];
-    case "over": return ["over", ""];
+"##;
+
+pub(crate) const SCRIPT_THIRD: &str = r#"    case "over": return ["over", ""];
     case "ready": return ["ready", ""];
     case "found": return [`${args[0]} is ${r[1]}`, `${args[0]}=${r[1]}`];
     case "absent": return [`${args[0]} absent`, `${args[0]}: no`];
@@ -3413,9 +3415,7 @@ function foldOf(words) {
 
 /** A word as HTML, and its height. */
 function drawWord(it, W, u, density, isSingle, hasHex) {
-"#;
-
-pub(crate) const SCRIPT_FOURTH: &str = r##"  const { v, which, now, old, isNew } = it;
+  const { v, which, now, old, isNew } = it;
   const word = now[which];
   const rows = old ? [{ word: old[which], label: "before" }, { word, label: "after" }] : [{ word, label: isNew ? "new" : "" }];
   const all = rows.map((row) => bitsOf(row.word));
@@ -3429,7 +3429,9 @@ pub(crate) const SCRIPT_FOURTH: &str = r##"  const { v, which, now, old, isNew }
   const rowH = [2.3, 1.68, 1.2, 1.1, 0.98][density] * u;
   const head = [1.4, 1.25, 1.02, 0.88, 0][density] * u;
   // where there is little room the names of the fields are small, and stand only over the word as it is; with the least room there are none
-  const isTight = density >= 2;
+"#;
+
+pub(crate) const SCRIPT_FOURTH: &str = r##"  const isTight = density >= 2;
   const type = isTight ? `style="font-size:${f1(0.8 * u)}px"` : "";
   const line = isTight ? head - 0.2 * u : u;
   const out = [];

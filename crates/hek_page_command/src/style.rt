@@ -1,6 +1,7 @@
 //! The style of a page. Written by tools/assets.
 
-pub(crate) const STYLE: &str = r#":root{--paper:#ffffff;--ink:#101720;--soft:#4f5a67;--line:#c9d0d8;--band:#fff0bf;--track:#e9edf1;--bad:#a3001b;--on:#ffffff;--c0:#0a4fb3;--c1:#a83a00;--c2:#6a22a3;--c3:#00635a;--c4:#9b1150;--c5:#4f5900;--c6:#3f4a58;--c7:#7a4b00}
+pub(crate) const STYLE: &str = r#"/* The colours, and those in the dark. */
+:root{--paper:#ffffff;--ink:#101720;--soft:#4f5a67;--line:#c9d0d8;--band:#fff0bf;--track:#e9edf1;--bad:#a3001b;--on:#ffffff;--c0:#0a4fb3;--c1:#a83a00;--c2:#6a22a3;--c3:#00635a;--c4:#9b1150;--c5:#4f5900;--c6:#3f4a58;--c7:#7a4b00}
 @media screen and (prefers-color-scheme:dark){:root:not([data-theme=light]){--paper:#0e1217;--ink:#f2f5f8;--soft:#b4bfcc;--line:#3d4753;--band:#3d3410;--track:#232b34;--bad:#ff9c9c;--on:#0e1217;--c0:#8dbdff;--c1:#ffab78;--c2:#d0adff;--c3:#66dccb;--c4:#ff9ac6;--c5:#d3df74;--c6:#c3ccd6;--c7:#e6b873}}
 @media screen{:root[data-theme=dark]{--paper:#0e1217;--ink:#f2f5f8;--soft:#b4bfcc;--line:#3d4753;--band:#3d3410;--track:#232b34;--bad:#ff9c9c;--on:#0e1217;--c0:#8dbdff;--c1:#ffab78;--c2:#d0adff;--c3:#66dccb;--c4:#ff9ac6;--c5:#d3df74;--c6:#c3ccd6;--c7:#e6b873}}
 .pic text{font-family:"Segoe UI",-apple-system,"Helvetica Neue",Roboto,"Noto Sans","Liberation Sans",Arial,sans-serif;font-variant-numeric:tabular-nums;fill:var(--ink)}
@@ -80,6 +81,7 @@ pub(crate) const STYLE: &str = r#":root{--paper:#ffffff;--ink:#101720;--soft:#4f
 #st-prose .tell > p { margin: 0; }
 #st-prose .tell.here { border-color: var(--ink); background: var(--band); color: var(--ink); }
 #st-prose .aside { margin: 0.3rem 0 0.9rem; }
+#st-prose.asks details { display: none; }
 .n0 { color: var(--c0); } .n1 { color: var(--c1); } .n2 { color: var(--c2); } .n3 { color: var(--c3); } .n4 { color: var(--c4); } .n5 { color: var(--c5); } .n6 { color: var(--c6); } .n7 { color: var(--c7); }
 @media screen and (max-width: 50rem) {
   .st-bar { position: sticky; top: 0; background: var(--paper); z-index: 3; flex-wrap: wrap; padding: 0.4rem 0.7rem; border-bottom: 1px solid var(--line); gap: 0.4rem; }

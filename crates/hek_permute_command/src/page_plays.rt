@@ -89,7 +89,14 @@ fn tally_at<'a>(
     let at_level = leveled(alloc, given.schedule, Some(level), given.schedule.steps())?;
     let mut nowhere = Vec::<u8>::new(alloc);
     let mut silent = Progress::new(&mut nowhere, false, false, None);
-    let found = explore(alloc, &at_level, given.rules, Form::Whole, MOST_STATES, &mut silent);
+    let found = explore(
+        alloc,
+        &at_level,
+        given.rules,
+        Form::Whole,
+        MOST_STATES,
+        &mut silent,
+    );
     match found {
         Ok(None) => Ok(None),
         Ok(Some(mut tally)) => match tally.sort() {
@@ -101,11 +108,7 @@ fn tally_at<'a>(
 }
 
 /// An order for each outcome, each once, but for the page's own.
-fn orders_of(
-    alloc: Global,
-    tallies: &[Tally],
-    own: &[TxnId],
-) -> Result<Vec<Vec<TxnId>>, NoMemory> {
+fn orders_of(alloc: Global, tallies: &[Tally], own: &[TxnId]) -> Result<Vec<Vec<TxnId>>, NoMemory> {
     let mut orders = Vec::new(alloc);
     for tally in tallies {
         for row in tally.rows() {
