@@ -118,6 +118,7 @@ const DOES = {
   ask: () => { if (now.asks && player.answers.size) showResult(); goTo({asks: !now.asks, mode: "", step: now.asks ? now.step : 0}); },
   explorer: () => openExplorer(),
   trace: () => openTrace(),
+  log: () => openLog(),
   words: () => openWords(),
   share: () => share(),
   print: () => print(),
@@ -127,6 +128,14 @@ const DOES = {
   full: () => fullScreen(),
   help: () => $("help-dialog").showModal(),
 };
+
+// The run that is told, as a log of an engine, in an address of its own.
+async function openLog() {
+  const schedule = wasm && !model?.isLog ? await eventsOf() : null;
+  if (schedule === null) return;
+  const got = await hek(["run", "--history", NAME], {[NAME]: schedule});
+  if (got.status === 0) visit(`#s=${await pack(got.out)}`);
+}
 
 function showMenu(isShown) {
   const menu = $("menu"), button = $("more"), box = button.getBoundingClientRect();

@@ -126,13 +126,12 @@ function lessonOf() {
 // ---- logs
 
 async function logModel(schedule, key) {
-  const its = storedOf(schedule);
-  const answers = its?.answers ?? await answersTo(schedule);
+  const answers = storedOf(schedule)?.answers ?? await answersTo(schedule);
   if (answers.err || answers.isEnded) return answers;
-  const [answer] = answers, story = storyOf(playOfLog(schedule, answer));
-  const levels = ["serializable"], more = answers.slice(1).filter(it => it.level), ladder = ladderHtml(more);
-  return {model: {id: key, title: title(), text: schedule, about: story.about, question: "", stories: {serializable: story}, outcomes: {}, levels, order: [], opens: {level: "serializable", order: []}, isOwnOrder: true, uncounted: "", isLog: true,
-    ...lessonOf(schedule), ...(ladder ? {intro: `${lessonOf(schedule).intro ?? ""}${ladder}`} : {})}};
+  const stories = {}, lesson = lessonOf();
+  for (const it of answers) if (it.level || !stories.serializable) stories[it.level ?? "serializable"] ??= storyOf(playOfLog(schedule, it));
+  return {model: {id: key, title: title(), text: schedule, about: stories.serializable.about, question: "", stories, outcomes: {}, levels: ["serializable"], order: [], opens: {level: "serializable", order: []}, isOwnOrder: true,
+    uncounted: "", isLog: true, ...lesson, intro: `${lesson.intro ?? ""}${ladderHtml(answers.filter(it => it.level))}`}};
 }
 
 // What `hek history` says of a log as serializable, and at all levels.
@@ -148,10 +147,11 @@ async function answersTo(schedule) {
   return all;
 }
 
-// At which levels a log holds.
+// At which levels a log holds: each has its story.
 function ladderHtml(answers) {
-  const rows = answers.map(it => `<tr><td>${Story.text.esc(it.level)}</td><td class="${it.verdict === "fails" ? "not" : ""}">${it.verdict === "holds" ? "✓ holds" : it.verdict === "fails" ? `✗ fails${it.anomaly ? `: ${Story.text.esc(it.anomaly)}` : ""}` : Story.text.esc(it.verdict)}</td></tr>`);
-  return rows.length ? `<table class="ladder"><tr><th>level</th><th>this log</th></tr>${rows.reverse().join("")}</table>` : "";
+  const {esc} = Story.text, seen = new Set(), rungs = answers.filter(it => !seen.has(it.level) && seen.add(it.level));
+  const said = it => it.verdict === "holds" || /^serial/.test(it.verdict) ? "✓ holds" : it.verdict === "unknown" ? "unknown" : `<b class="not">✗ ${esc(it.anomaly ?? "fails")}</b>`;
+  return rungs.length ? `<table class="ladder">${rungs.map(it => `<tr><td><button type="button" class="rung" data-level="${esc(it.level)}">${esc(it.level)}</button></td><td>${said(it)}</td></tr>`).join("")}</table>` : "";
 }
 
 // ---- what is shown

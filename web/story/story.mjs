@@ -184,11 +184,13 @@ export const verdictKind = (word = "") => (/^not ser/.test(word) ? "not" : /anot
 /** What a verdict is called, by its kind. */
 export const VERDICTS = { not: "not serializable", other: "serializable in another order", serial: "serializable", unknown: "not judged" };
 
-function verdictOf({ together = {}, breaks = null, names }, story, at) {
+function verdictOf({ together = {}, breaks = null, names, kind: what, level }, story, at) {
   const kind = verdictKind(together.verdict), order = (together.order ?? []).map((name) => names.indexOf(name)), out = names.filter((name, t) => story.ends[t] === "abort");
   const tail = out.length && kind !== "not" ? `${list(out.map(named))} aborted: as if ${out.length > 1 ? "they" : "it"} had never begun.` : "";
   const edges = kind === "not" ? (together.cycle ?? []).map((edge) => edgeOf(edge, story, at)) : [];
-  return { kind, order, edges, tail, breaks, name: together.anomaly ?? "", say: sayVerdict(kind, order.map((t) => named(names[t])), story) };
+  const isWeaker = what === "log" && level !== "serializable" && kind !== "unknown";
+  const say = isWeaker ? `${kind === "not" ? "Fails" : "Holds"} at ${level}` : sayVerdict(kind, order.map((t) => named(names[t])), story);
+  return { kind, order, edges, tail, breaks, name: together.anomaly ?? "", say };
 }
 
 function sayVerdict(kind, order, { ends }) {

@@ -65,8 +65,8 @@ AreWritten all moves = All (λ m. IsTrue (fits all m.kind m.event)) moves
 -- The moves of a schedule's run. Each step is in one; what is committed after the last one is what the machine shows, on which each invariant is
 -- judged; and each read found what the move of its writer wrote.
 pub record AreMovesOf (p : Plan) (always : List Always) (told : Told) : Type 0 where
-  pub each : ArePlaces (length told.moves) told.of_step
+  pub placed : ArePlaces (length told.moves) told.of_step
   pub count : length told.of_step ≡ length p.steps
-  pub rows : told.now.rows ≡ committed_rows (run (opening_of p 1) p.steps)
-  pub judged : IsJudged always told.now
-  pub written : AreWritten told.moves told.moves
+  pub committed : told.now.rows ≡ committed_rows (run (opening_of p 1) p.steps)
+  pub invariants : IsJudged always told.now
+  pub reads : AreWritten told.moves told.moves

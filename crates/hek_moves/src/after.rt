@@ -1,4 +1,9 @@
 //! What is committed after a step.
+ghost use Rattle.std.specs.Prelude.{◌≡◌, IfOk, IsTrue};
+ghost use Rattle.hek_rules.specs.Shown.{committed_rows};
+ghost use Rattle.hek_machine.specs.Judgements.{IsShown};
+ghost use Rattle.hek_moves.specs.Moves.{IsJudged, judged};
+
 use hek_machine::Machine;
 use hek_program::{Always, AtEnd};
 use hek_rules::{NoMemory, Pairs};
@@ -16,8 +21,11 @@ pub struct After {
 
 impl After {
     /// Whether the same is committed.
-    pub(crate) fn same(&self, other: &After) -> bool {
-        self.committed == other.committed && self.rows.same(&other.rows)
+    pub(crate) fn same(&self, other: &After) -> bool
+        ensures { IsTrue result → self.now.rows ≡ other.now.rows }
+    {
+        let committed = self.committed == other.committed;
+        self.rows.same(&other.rows) && committed
     }
 }
 
@@ -28,7 +36,10 @@ pub(crate) fn after_of(
     always: &[Always],
     committed: &[bool],
     made_by: Option<usize>,
-) -> Result<After, NoMemory> {
+) -> Result<After, NoMemory>
+    ensures shown { IfOk result (λ after. IsShown machine.now committed_rows after.rows) }
+    ensures judged { IfOk result (IsJudged always.now) }
+{
     let rows = machine.rows()?;
     let holds = judged(alloc, always, rows.items(), committed)?;
     Ok(After {
@@ -45,10 +56,14 @@ fn judged(
     always: &[Always],
     rows: &[(u64, u64)],
     committed: &[bool],
-) -> Result<Vec<bool>, NoMemory> {
+) -> Result<Vec<bool>, NoMemory>
+    ensures { IfOk result (λ holds. holds.items ≡ judged always.now rows.now committed.now) }
+{
     let mut holds = Vec::new(alloc);
-    for one in always {
+    let mut rest = always;
+    while let Some((one, later)) = rest.split_first() {
         holds.push(one.condition.holds(&AtEnd { rows, committed }))?;
+        rest = later;
     }
     Ok(holds)
 }

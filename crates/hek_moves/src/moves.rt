@@ -1,8 +1,12 @@
 //! Moves, as values.
+ghost use Rattle.std.specs.Prelude.{◌≡◌, ◌<◌, ◌∷◌, ◌++◌, [], length, slice_get, IfSome, IsTrue, OnOk, IfOk};
+ghost use Rattle.hek_moves.specs.Moves.{AreWritten, fits, is_writer, wrote};
+
 use crate::after::After;
 use hek_program::Always;
 use hek_rules::{Cause, Event, NoMemory, Pairs, Refusal, Time, Transcript, TxnId, VersionId};
 use std::alloc::Global;
+use std::marker::Model;
 
 /// Why a transaction waits for another.
 #[derive(Clone, Copy, PartialEq, Eq)]
@@ -81,9 +85,19 @@ pub struct Moves {
     pub(crate) transcript: Transcript,
 }
 
+impl Model for Moves {
+    ghost use Rattle.hek_moves.specs.Moves.{Told};
+
+    ghost Value = { Told };
+
+    ghost view = { λ m. record { moves = m.items.items; of_step = m.of_step.items; now = m.now } };
+}
+
 impl Moves {
     /// No moves, where this is committed, and a transcript without steps.
-    pub(crate) fn new(alloc: Global, now: After, transcript: Transcript) -> Moves {
+    pub(crate) fn new(alloc: Global, now: After, transcript: Transcript) -> Moves
+        ensures { result ≡ record { moves = []; of_step = []; now = now } }
+    {
         Moves {
             items: Vec::new(alloc),
             of_step: Vec::new(alloc),
@@ -110,12 +124,16 @@ impl Moves {
     }
 
     /// The moves, in order.
-    pub fn items(&self) -> &[Move] {
+    pub fn items(&self) -> &[Move]
+        ensures { result.now ≡ self.now.moves }
+    {
         self.items.as_slice()
     }
 
     /// For each step the place of its move.
-    pub fn of_step(&self) -> &[usize] {
+    pub fn of_step(&self) -> &[usize]
+        ensures { result.now ≡ self.now.of_step }
+    {
         self.of_step.as_slice()
     }
 
@@ -130,7 +148,9 @@ impl Moves {
     }
 
     /// What is committed after the last step.
-    pub fn now(&self) -> &After {
+    pub fn now(&self) -> &After
+        ensures { result.now ≡ self.now.now }
+    {
         &self.now
     }
 
@@ -143,14 +163,19 @@ impl Moves {
     }
 
     /// Adds a move, and answers its place.
-    pub(crate) fn open(&mut self, made: Move) -> Result<usize, NoMemory> {
+    pub(crate) fn open(&mut self, made: Move) -> Result<usize, NoMemory>
+        ensures place { IfOk result (λ place. place ≡ length self.old.moves) }
+        ensures added { OnOk result (self.new ≡ record self.old { moves = self.old.moves ++ made ∷ [] }) }
+    {
         let place = self.items.len();
         self.items.push(made)?;
         Ok(place)
     }
 
     /// The place of the last move of a transaction.
-    pub(crate) fn last_of(&self, txn: TxnId) -> Option<usize> {
+    pub(crate) fn last_of(&self, txn: TxnId) -> Option<usize>
+        ensures { IfSome result (λ place. place < length self.now.moves) }
+    {
         let mut found = None;
         for (place, it) in self.items.iter().enumerate() {
             if it.txn == txn {
@@ -201,7 +226,9 @@ impl Moves {
     }
 
     /// The place of the move that made a version of this key with this value.
-    pub(crate) fn writer_of(&self, version: VersionId, key: u64, value: u64) -> Option<usize> {
+    pub(crate) fn writer_of(&self, version: VersionId, key: u64, value: u64) -> Option<usize>
+        ensures { IfSome result (λ place. IsTrue (is_writer key value (slice_get self.now.moves place))) }
+    {
         for (place, it) in self.items.iter().enumerate() {
             if it.made(version) && wrote(it.event, key, value) {
                 return Some(place);
@@ -222,7 +249,9 @@ impl Move {
 }
 
 /// Whether an event writes a value at a key.
-fn wrote(event: Event, key: u64, value: u64) -> bool {
+fn wrote(event: Event, key: u64, value: u64) -> bool
+    ensures { result ≡ wrote key value event }
+{
     match event {
         Event::Insert(_, at, its) | Event::Update(_, at, its) => at == key && its == value,
         _ => false,
