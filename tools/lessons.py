@@ -1,6 +1,9 @@
-"""The lessons and anomalies for docs/play.html: docs/LESSONS.md and docs/ANOMALIES.md as HTML.
+"""The lessons, programs, anomalies and logs for docs/play.html: docs/LESSONS.md and docs/ANOMALIES.md as HTML.
 
 It knows the Markdown that these two pages use, and no more. Steps, lessons and schedules that the prose names become buttons and links.
+
+A list whose items begin with a move in bold, as `- **b waits.** ..`, is said beside the run: each item at its move. What comes before it is said at the
+start, what comes after it at the end. The link to play.html above it says where the schedule opens.
 """
 import html
 import os
@@ -13,12 +16,19 @@ PLACE = re.compile(r"\blesson (\d+)|(?<![\w-])[a-z]+(?:-[a-z]+)+(?![\w-])")
 MARKED = re.compile(r"(`[^`]+`|\[[^\]]+\]\([^)]+\)|\*\*[^*]+\*\*)")
 # The line of a lesson or an anomaly that links to this page.
 HERE = re.compile(r"(?m)^In a browser: (.*)$\n?")
-# The lines of a program that link to this page.
-IN_BROWSER = re.compile(r"(?ms)^In a browser: .*?\n\n")
+# The lines that are for a terminal.
+TERMINAL = re.compile(r"(?m)^At a terminal: .*(?:\n.+)*\n")
+# The address in a link to this page.
+OPENS = re.compile(r"\(play\.html#([^)/@?]+)(?:/([a-z]+)(?:/([^)@?]+))?)?[^)]*\)")
+# What the words of a move are of: a kind of move.
+MOVES = {"reads": "read", "scans": "scan", "writes": "write", "inserts": "write", "updates": "write", "deletes": "write", "waits": "wait", "commits": "commit",
+         "aborts": "abort", "leaves out": "skip", "writes nothing": "miss"}
+TIMES = {"second": 2, "third": 3, "fourth": 4}
+VERDICTS = {"serializable in another order": "other", "not serializable": "not"}
+# The move at which an item is said: `b waits`, `a reads 10, the second time`, `Start`, `End`; in brackets the level or the verdict for which it is.
+KEY = re.compile(rf"(?:(Start|End)|([a-z_]\w*) ({'|'.join(sorted(MOVES, key=len, reverse=True))})(?: (\d+))?(?:, the (second|third|fourth) time)?)(?: \((.+)\))?\.")
 # What tools/examples reads, and no reader of the page sees.
 COMMENT = re.compile(r"(?m)^<!-- .* -->\n")
-# Heads of a narrow column.
-SHORT = {"Serializable": "ser.", "Repeatable": "rep.", "Snapshot": "snap."}
 # Code of more letters may be broken into lines.
 WHOLE = 26
 
@@ -95,8 +105,6 @@ class Prose:
         head, body = cells(rows[0]), [cells(it) for it in rows[2:]]
         if head[0] == "Step":
             return self.steps(body)
-        if head[0] == "Example" and head[-1] == "Outcome":
-            return self.outcomes(head, body)
         made = ["".join(f'<th scope="col">{self.inline(it)}</th>' for it in head)]
         made += ["".join(f"<td>{self.inline(it)}</td>" for it in row) for row in body]
         return rows_of(made)
@@ -109,15 +117,6 @@ class Prose:
             event = f'{buttons(numbers.strip())} {self.inline(event)} \u2192 <span class="reply">{self.inline(reply)}</span>'
             made.append(f'<li><p class="event">{event}</p><p class="reply">{self.inline(why)}</p></li>')
         return f'<ul class="steps">{"".join(made)}</ul>'
-
-    def outcomes(self, head, rows):
-        """A table of examples and counts at each level: short heads, and each example's name over its rows."""
-        made = ["".join(f'<th scope="col"><abbr title="{it}">{SHORT.get(it, it)}</abbr></th>' for it in head[1:])]
-        for name, *row in rows:
-            if name:
-                made.append(f'<th colspan="{len(row)}" scope="rowgroup" data-name="{self.names[name]}">{self.linked(name, name)}</th>')
-            made.append("".join(f'<td class="n">{it}</td>' for it in row[:-1]) + f"<td>{self.inline(row[-1])}</td>")
-        return rows_of(made)
 
     def items(self, lines):
         """A list: an item begins with a dash or a number, and its other lines are indented."""
@@ -187,18 +186,42 @@ def after(first):
     return lambda it: it.strip() and not re.match(r"</?details>|```|\||#|- ", it)
 
 
-# ---- the two pages
+# ---- the pages
 
 
 def title_of(name):
     return name.replace("-", " ").capitalize()
 
 
+def key_of(lead):
+    """The move that an item's lead names, as the page looks for it: {at, level, verdict}; None if it names none."""
+    found = KEY.fullmatch(lead)
+    if not found:
+        return None
+    end, txn, verb, key, nth, wanted = found.groups()
+    at = end.lower() if end else {"kind": MOVES[verb], "txn": txn, **({"key": key} if key else {}), **({"nth": TIMES[nth]} if nth else {})}
+    return {"at": at, **({} if wanted is None else {"verdict": VERDICTS[wanted]} if wanted in VERDICTS else {"level": wanted})}
+
+
+def leads_of(block):
+    """The leads and texts of a list that is said beside a run; None of any other block."""
+    if not block[0].startswith("- **"):
+        return None
+    items = []
+    for line in block:
+        if line.startswith("- "):
+            items.append(line[2:])
+        else:
+            items[-1] += " " + line.strip()
+    found = [re.match(r"\*\*(.+?)\*\* (.*)", it, re.S) for it in items]
+    return [(it[1], it[2]) for it in found] if all(found) and key_of(found[0][1]) else None
+
+
 class Pages:
-    """`schedules`, in order: each with its group, name, title, text, and the places of its prose and of what its group has in common."""
+    """`schedules`, in order: each with its group, name, title and text; where it opens; and what is said at its start, beside its run, and after it."""
 
     def __init__(self, root):
-        self.root, self.schedules, self.proses = root, [], []
+        self.root, self.schedules = root, []
         self.lessons, self.anomalies = read(f"{root}/docs/LESSONS.md"), read(f"{root}/docs/ANOMALIES.md")
         self.lessons, *programs = re.split(r"(?m)^## Programs: .*\n", self.lessons)
         self.programs = "".join(programs)
@@ -206,64 +229,51 @@ class Pages:
         self.numbered = {number: names.split(", ")[0] for number, _, names in heads}
         self.names = {name: name for _, _, names in heads for name in names.split(", ")}
         self.add_lessons()
-        self.add_programs()
-        self.add_anomalies()
+        self.add_sections("Programs", "program-", "programs", self.programs)
+        self.add_sections("Anomalies", "anomaly-", "anomalies", self.anomalies)
+        self.add_logs()
 
-    def keep(self, prose):
-        self.proses.append(prose)
-        return len(self.proses) - 1
-
-    def add(self, group, name, title, file, prose, about):
-        text = read(f"{self.root}/examples/{file}.hek")
-        self.schedules.append({"group": group, "name": name, "title": title, "text": text, "prose": prose, "about": about})
+    def add(self, group, name, title, file, heading, prose, body):
+        """A schedule, whose section has this heading and this body."""
+        intro, asides, after = [f"<h1>{escaped(heading)}</h1>"], [], []
+        link = OPENS.search(body)
+        for block in blocks(COMMENT.sub("", TERMINAL.sub("", HERE.sub("", body))).split("\n")):
+            leads = leads_of(block)
+            if leads is None:
+                (after if asides else intro).append(prose.block(block))
+                continue
+            for lead, said in leads:
+                key = key_of(lead)
+                if key is None:
+                    raise SystemExit(f"{name}: {lead!r} names no move")
+                asides.append({**key, "html": f"<p>{prose.inline(said)}</p>"})
+        opens = {"level": link[2], "order": link[3].split(".") if link[3] else None} if link and link[2] else None
+        self.schedules.append({"group": group, "name": name, "title": title, "text": read(f"{self.root}/{file}"), "intro": "\n".join(intro), "asides": asides, "after": "\n".join(after), "asked": opens})
 
     def add_lessons(self):
-        intro, *sections = re.split(r"(?m)^(?=## \d)", self.lessons)
-        about = self.keep(Prose(self.names, self.numbered).html(re.sub(r"^# .*\n", "", intro)))
+        _, *sections = re.split(r"(?m)^(?=## \d)", self.lessons)
         for section in sections:
             number, title, names = LESSON.match(section).groups()
             names, body = names.split(", "), section.partition("\n")[2]
-            # A lesson of two schedules links to both.
-            body = HERE.sub(lambda it: f"Schedules: {it[1]}\n" if len(names) > 1 else "", body)
-            known = {it: to for it, to in self.names.items() if len(names) > 1 or it not in names}
-            prose = self.keep(f"<h1>{number}. {escaped(title)}</h1>\n{Prose(known, self.numbered, True).html(body)}")
+            own = dict(re.findall(r"(?ms)^### ([a-z-]+)\n(.*?)(?=^### |\Z)", body))
+            common = re.split(r"(?m)^### ", body)[0]
             for name in names:
-                self.add("Lessons", name, f"{number}. {title_of(name)}", name, prose, about)
+                known = {it: to for it, to in self.names.items() if it != name}
+                said = f"{common}\n{own[name]}" if own else body
+                self.add("Lessons", name, f"{number}. {title_of(name)}", f"examples/{name}.hek", f"{number}. {title}", Prose(known, self.numbered, True), said)
 
-    def add_programs(self):
-        intro, *sections = re.split(r"(?m)^(?=### [a-z-]+: )", self.programs)
-        names = [re.match(r"### ([a-z-]+): ", it)[1] for it in sections]
-        prose = Prose({**self.names, **{it: "program-" + it for it in names}}, self.numbered)
-        about = self.keep(prose.html(intro))
-        for name, section in zip(names, sections):
-            head, _, body = section.partition("\n")
-            other = Prose({it: to for it, to in prose.names.items() if it != name}, self.numbered)
-            text = f"<h1>{title_of(name)}: {escaped(head.partition(': ')[2])}</h1>\n{other.html(IN_BROWSER.sub('', body))}"
-            its = self.counts(name)
-            self.add("Programs", "program-" + name, title_of(name), f"programs/{name}", self.keep(text + (prose.table(its) if its else "")), about)
+    def add_sections(self, group, prefix, folder, text):
+        """The sections `### NAME: TITLE` of a page."""
+        sections = re.findall(r"(?ms)^### ([a-z-]+): (.*?)\n(.*?)(?=^##|\Z)", text)
+        names = {**self.names, **{it["name"].partition("-")[2]: it["name"] for it in self.schedules if it["group"] == "Programs"}, **{name: prefix + name for name, _, _ in sections}}
+        for name, heading, body in sections:
+            prose = Prose({it: to for it, to in names.items() if it != name}, self.numbered)
+            self.add(group, prefix + name, title_of(name), f"examples/{folder}/{name}.hek", f"{title_of(name)}: {heading}", prose, body)
 
-    def add_anomalies(self):
-        files = sorted(it[:-4] for it in os.listdir(f"{self.root}/examples/anomalies") if it.endswith(".hek"))
-        own = dict(re.findall(r"(?ms)^### ([a-z-]+): .*?\n(.*?)(?=^##|\Z)", self.anomalies))
-        heads = dict(re.findall(r"(?m)^### ([a-z-]+): (.*)$", self.anomalies))
-        common = re.sub(r"(?ms)^## Each example\n.*?(?=^## )", "", re.sub(r"^# .*\n", "", self.anomalies))
-        programs = {it["name"].removeprefix("program-"): it["name"] for it in self.schedules if it["group"] == "Programs"}
-        prose = Prose({**programs, **{it: "anomaly-" + it for it in files}}, self.numbered)
-        about = self.keep(prose.html(common))
-        for name in files:
-            other = Prose({it: to for it, to in prose.names.items() if it != name}, self.numbered)
-            text = f"<h1>{title_of(name)}: {escaped(heads[name])}</h1>\n{other.html(HERE.sub('', own[name]))}"
-            its = self.counts(name)
-            self.add("Anomalies", "anomaly-" + name, title_of(name), f"anomalies/{name}", self.keep(text + (prose.table(its) if its else "")), about)
-
-    def counts(self, name):
-        """The head of the tables at each level, and this example's rows without its name; nothing where it has none."""
-        found = re.search(rf"(?m)^\| {name}( \| \d.*\n(?:\| \|.*\n)*)", self.anomalies)
-        head = re.search(r"(?m)^\| Example \|.*\| Outcome \|\n.*\n", self.anomalies)
-        return [*head[0].splitlines(), *f"|{found[1]}".splitlines()] if found else []
-
-
-def logs(root):
-    """The logs of examples/histories, by name."""
-    folder = f"{root}/examples/histories"
-    return {name: read(f"{folder}/{name}") for name in sorted(os.listdir(folder)) if name.endswith(".jsonl")}
+    def add_logs(self):
+        """The logs of examples/histories, whose README has a line for each."""
+        table = re.findall(r"(?m)^\| `([a-z0-9-]+)\.jsonl` \| .*? \| \d+ \| (.*?) \|$", read(f"{self.root}/examples/histories/README.md"))
+        said = {name: f"{what}." for name, what in table}
+        for name in sorted(it[: -len(".jsonl")] for it in os.listdir(f"{self.root}/examples/histories") if it.endswith(".jsonl")):
+            body = said.get(name, "")
+            self.add("Logs of engines", "log-" + name, title_of(name), f"examples/histories/{name}.jsonl", title_of(name), Prose({}, {}), body)

@@ -11,16 +11,12 @@ const isStep = line => /^\s*[^\s#]/.test(line) && !isHead(line) && !isInvariant(
 const isComputed = line => isStep(line) && /^\s*\S+\s+\S+.*?([@+*=<>!-]|\sif\s)/.test(line.replace(/#.*/, ""));
 // A program is played from beginning to end: it is a schedule once its values are known.
 const isProgram = schedule => schedule.split("\n").some(line => isInvariant(line) || isComputed(line));
-const isAuto = () => $("auto").checked || isProgram(text.value);
 const lines = () => text.value.split("\n");
 const escaped = said => said.replace(/[&<>]/g, char => ({"&": "&amp;", "<": "&lt;", ">": "&gt;"})[char]);
 
-// `faults`: {at, from, length, said}: a line from 0, a place in it from 0, and what is said of it. `others`: what has no place. `refused`: steps
-// that the machine refuses, {step, said}. `here`: the line of the step that is shown, or null.
-let faults = [], others = [], refused = [], here = null;
-
-// The line of each step, from 0, by the step's number less 1.
-const stepLines = () => lines().flatMap((line, at) => isStep(line) ? [at] : []);
+// `faults`: {at, from, length, said}: a line from 0, a place in it from 0, and what is said of it. `others`: what has no place. `here`: the line of
+// the move that is shown, or null; `isBroken`: whether it is an invariant that is broken.
+let faults = [], others = [], here = null, isBroken = false;
 
 // The numbers are one text, written anew when there are more or fewer; those that are marked lie over it.
 let counted = 0;
@@ -45,7 +41,7 @@ function drawLines() {
     const line = all[at], word = line.slice(from, from + length) || " ";
     return `<div style="top:${at * LINE}px">${escaped(line.slice(0, from))}<u>${escaped(word)}</u></div>`;
   });
-  const step = here === null ? "" : `<div class="here" style="top:${here * LINE}px"></div>`;
+  const step = here === null ? "" : `<div class="${isBroken ? "broken" : "here"}" style="top:${here * LINE}px"></div>`;
   $("marks").innerHTML = step + marked.join("");
   text.setAttribute("aria-invalid", shown.length > 0);
   scrolled();
@@ -60,13 +56,14 @@ function scrolled() {
   $("tip").hidden = true;
 }
 
-// Marks the line of the step that is shown, and brings it into sight unless the text is being typed.
-function markStep(step) {
-  here = (isAuto() ? madeBy : stepLines())[step - 1] ?? null;
+// Marks a line, from 0, and brings it into sight unless the text is being typed; none if there is no such line.
+function markAt(at, broken) {
+  here = at >= 0 && at < lines().length ? at : null;
+  isBroken = broken;
   drawLines();
-  if (here === null || document.activeElement === text) return;
-  const top = here * LINE;
-  if (top < text.scrollTop || top > text.scrollTop + text.clientHeight - 2 * LINE) text.scrollTop = top - text.clientHeight / 2;
+  if (document.activeElement === text) return;
+  const top = (here ?? 0) * LINE;
+  if (here === null ? now.step === 0 : top < text.scrollTop || top > text.scrollTop + text.clientHeight - 2 * LINE) text.scrollTop = Math.max(0, top - text.clientHeight / 2);
 }
 
 // Browsers insert a text line by line, each with an event of its own: of so many lines the undo is given up for.
@@ -79,13 +76,11 @@ function write(said, from = 0, to = text.value.length) {
   let [same, tail] = [0, 0];
   while (same < Math.min(old.length, said.length) && old[same] === said[same]) same++;
   while (tail < Math.min(old.length, said.length) - same && old.at(-1 - tail) === said.at(-1 - tail)) tail++;
-  const part = said.slice(same, said.length - tail), wasWide = isWide();
-  chooseSide("text");
-  main.classList.remove("wide");
+  const part = said.slice(same, said.length - tail);
+  showBeside(true);
   text.focus();
   if (old !== said) replace(part, from + same, to - tail);
   text.setSelectionRange(end, end);
-  main.classList.toggle("wide", wasWide);
   if (old !== said) typed();
 }
 
@@ -107,8 +102,7 @@ function writeAll(said) {
 
 function toPlace({at, from = 0, length}) {
   const start = lines().slice(0, at).reduce((sum, line) => sum + line.length + 1, 0);
-  chooseSide("text");
-  showLeft();
+  showBeside(true);
   text.focus();
   text.setSelectionRange(start + from, start + from + (length ?? lines()[at].length));
   text.scrollTop = Math.max(0, at - 5) * LINE;
@@ -145,7 +139,7 @@ function readFaults(err, name) {
   const parts = err.split(/^(?=  \S+:\d+:\d+$)/m), found = [], more = [];
   for (const part of parts) {
     const place = part.match(/^  (\S+):(\d+):(\d+)\n/);
-    if (!place || place[1] !== name) {
+    if (!place || (place[1] !== name && place[1] !== LOG)) {
       more.push(part.trim());
       continue;
     }
@@ -159,7 +153,7 @@ function readFaults(err, name) {
 
 function showFaults(err) {
   const {found, more} = readFaults(err, NAME);
-  [faults, others, refused] = [found, more, []];
+  [faults, others] = [found, more];
   drawFaults();
 }
 
@@ -178,20 +172,9 @@ function drawFaults() {
     item.textContent = said;
     shown.push(item);
   }
-  $("problems").replaceChildren(...shown, ...refused.map(({step, said}) => problem("refused", said, () => goTo(step))));
-  $("count").textContent = found.length || "";
-  $("side-text").setAttribute("aria-label", found.length ? `Text, ${found.length === 1 ? "1 fault" : `${found.length} faults`}` : "Text");
-  $("shown").classList.toggle("stale", isOld && found.length + others.length > 0);
+  $("problems").replaceChildren(...shown);
   drawLines();
   markFault();
-}
-
-// Steps that the machine refuses are no faults of the text, but seldom meant: they are said under it, with the reason.
-function showRefused(out) {
-  const at = stepLines();
-  refused = [...out.matchAll(/^(\d+) (.*) -> refused .*\n((?:  .*\n)*)/gm)].map(([, step, event, why]) =>
-    ({step: Number(step), said: `line ${at[step - 1] + 1}: ${event} is refused\n${why.replace(/^  /gm, "").trimEnd()}`}));
-  if (refused.length) drawFaults();
 }
 
 // The fault in the caret's line is marked among those under the text.
@@ -249,30 +232,4 @@ function toggleComments() {
   if (made === value.slice(from, to)) return;
   write(made, from, to);
   text.setSelectionRange(from, from + made.length);
-}
-
-// The text with these events in place of its steps, under its heads; a comment stays above the step that it was written for.
-// `madeBy` has for each event the line that it comes from, or undefined.
-function withEvents(schedule, events) {
-  const all = schedule.split("\n"), steps = all.flatMap((line, at) => isStep(line) ? [at] : []), first = steps[0] ?? all.length;
-  const words = line => line.replace(/#.*/, "").trim().split(/\s+/).join(" ");
-  const made = [...all.slice(0, first).filter(line => isHead(line) || isComment(line)), ...all.slice(first).filter(isHead)];
-  const left = Map.groupBy(steps, at => words(all[at])), madeBy = [];
-  // Of what is computed the words before it are those of the event.
-  const computed = steps.filter(at => isComputed(all[at])).map(at => ({at, front: words(all[at]).replace(/ (if .*|\S*[@+*-].*)$/, "")}));
-  const computedBy = event => {
-    const index = computed.findIndex(({front}) => event === front || event.startsWith(`${front} `));
-    return index < 0 ? undefined : computed.splice(index, 1)[0].at;
-  };
-  for (const event of events) {
-    const at = left.get(event)?.shift() ?? computedBy(event);
-    madeBy.push(at);
-    if (at > first) {
-      let from = at;
-      while (isComment(all[from - 1])) from--;
-      made.push(...all.slice(from, at));
-    }
-    made.push(event);
-  }
-  return {schedule: made.join("\n") + "\n", madeBy};
 }

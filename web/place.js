@@ -1,20 +1,30 @@
-// ---- the schedule that is open, its lesson, and the address: #NAME, #NAME@STEP, #NAME/TAB, #s=TEXT@STEP
+// ---- the schedule that is open, and the address: #NAME/LEVEL/ORDER@MOVE?ask, or #s=TEXT/.. with the text in it
 
 const DATA = JSON.parse($("data").textContent);
 const SCHEDULES = DATA.schedules;
-const OWN = `# Rows and transactions come first. Write reads and writes alone: the rest is done by itself.
+const OWN = `# Each empties its account if both together hold 200.
 buckets 2
 row 10 100
 row 11 100
 txn a serializable
-txn b snapshot
+txn b serializable
 a read 10
+a read 11
+a update 10 0 if @10+@11 >= 200
+b read 10
 b read 11
-a update 11 5
-b update 10 6
+b update 11 0 if @10+@11 >= 200
+always @10+@11 >= 100
 `;
-// The schedule's name: a lesson's, "own", or "shared" for that of an address.
+const OWN_PROSE = `<p>Write rows and transactions first, then what each transaction reads and writes. Begins, ends and waits come by themselves, and the story follows as you type.</p>
+  <p>A value may use what was read, as in <code>a update 10 @10+5</code>, a line may have a condition, as in <code>b fail if @10 = 0</code>, and <code>always @10 &gt; 0</code> says what is to hold.</p>
+  <p>The bars below the story count what comes of all orders at each level; each plays one, and your text stays as it is.</p>`;
+// The schedule's name: one that the page has, "own", or "shared" for that of an address.
 let opened = "own", shared = "", packed = "";
+// An address of more letters than this has no text in it.
+const MOST_PACKED = 20000;
+// A text that an address has is at most so long when it is unpacked, in bytes.
+const MOST_UNPACKED = 1 << 20;
 
 const titleOf = name => SCHEDULES.find(it => it.name === name)?.title ?? (name === "own" ? "Your schedule" : "A shared schedule");
 const title = () => titleOf(opened);
@@ -36,93 +46,31 @@ function kept(key) {
   }
 }
 
-// "finish by itself" is set where a text has steps and no `begin`, until it is set by hand.
-let isAutoByHand = false;
-
-function guessAuto() {
-  const steps = text.value.split("\n").filter(isStep);
-  $("auto").checked = steps.length > 0 && !steps.some(it => /^\s*\S+\s+begin\b/.test(it));
-  isAutoByHand = false;
-}
-
-function openSchedule(name, at = 0) {
+function openSchedule(name) {
   opened = name;
-  position = tab === "explorer" ? 0 : Number(at) || 0;
-  path = tab === "explorer" && at ? at : "";
   packed = "";
-  const option = [...$("examples").options].some(it => it.value === name);
-  if (!option) $("examples").prepend(new Option(titleOf(name), name));
+  if (![...$("examples").options].some(it => it.value === name)) $("examples").prepend(new Option(titleOf(name), name));
   $("examples").value = name;
   text.value = (name === "shared" ? null : kept("text:" + name)) ?? original();
   text.scrollTop = text.scrollLeft = 0;
   text.setSelectionRange(0, 0);
-  guessAuto();
-  [faults, others, refused, here] = [[], [], [], null];
+  [faults, others, here] = [[], [], null];
   typesLine(null);
   noOffers();
   drawFaults();
-  showLesson();
-  shownLevel();
   if (name === "shared" || name === "own") packLater();
 }
 
-// ---- the lesson's prose
-
-const OWN_PROSE = `<p>It is under <b>Text</b>: rows and transactions first, then steps. The story beside it follows as you type.</p>
-  <p>With <b>finish by itself</b> write reads and writes alone. Without it write each step: <code>begin</code>, reads and writes, <code>finish</code>, <code>precommit</code>, <code>release</code> for each lock, <code>commit</code>, <code>stamp</code> for each word, <code>end</code>.</p>
-  <p>A value may use what was read, as in <code>a update 10 @10+5</code>, a step may have a condition, as in <code>b fail if @10 = 0</code>, and <code>always @10 &gt; 0</code> says what is to hold at the end. Such a program is finished by itself.</p>
-  <p>The tab <b>Orders</b> counts what comes of all orders of the moves, and shows one of each.</p>`;
-
-// The prose of a schedule, with what its group has in common folded.
-const proseOf = it => `${DATA.proses[it.prose]}<details><summary>About all ${it.group.toLowerCase()}</summary>${DATA.proses[it.about]}</details>`;
-
-function showLesson() {
-  const it = SCHEDULES.find(lesson => lesson.name === opened), place = String(it?.prose ?? opened);
-  if ($("prose").dataset.prose !== place) {
-    $("prose").innerHTML = it ? proseOf(it) : `<h1>${opened === "own" ? "Your own schedule" : "A shared schedule"}</h1>${OWN_PROSE}`;
-    $("prose").dataset.prose = place;
-    $("lesson").scrollTop = 0;
-  }
-  for (const mark of $("prose").querySelectorAll("[data-name]")) mark.parentNode.classList.toggle("here", mark.dataset.name === opened);
-  for (const link of $("prose").querySelectorAll("a")) {
-    if (link.hash === "#" + opened) link.setAttribute("aria-current", "true");
-    else link.removeAttribute("aria-current");
-  }
-  showWays(it ? SCHEDULES.indexOf(it) : null);
-  $("first").hidden = opened !== SCHEDULES[0].name;
-  changedNote();
-}
-
-// The schedules before and after the one that is open.
-function showWays(place) {
-  for (const [id, by] of [["previous", -1], ["next", 1]]) {
-    const other = place === null ? null : SCHEDULES[place + by];
-    for (const button of document.querySelectorAll(`[data-go="${id}"]`)) {
-      button.disabled = !other;
-      button.dataset.name = other?.name ?? "";
-      button.title = other ? `${id === "next" ? "Next" : "Previous"}: ${other.title}` : "";
-    }
-  }
-}
-
 function changedNote() {
-  const isChanged = text.value !== original();
-  $("reset").disabled = !isChanged;
-  $("changed").hidden = !isChanged || !SCHEDULES.some(it => it.name === opened);
-}
-
-// The buttons of the step that is shown. Where replies are guessed, those to come are covered in the lesson too.
-function markSteps() {
-  for (const it of $("prose").querySelectorAll(".step")) it.classList.toggle("here", Number(it.dataset.step) === position);
-  for (const it of $("prose").querySelectorAll(".steps li")) it.classList.toggle("covered", !!modes.predict && it.querySelector(".step").dataset.step > position);
+  $("changed").hidden = text.value === original();
 }
 
 // ---- the address
 
-const packing = (said, through) => new Response(new Blob([said]).stream().pipeThrough(through));
+const packing = (said, through) => new Blob([said]).stream().pipeThrough(through);
 
 async function pack(said) {
-  const bytes = new Uint8Array(await packing(said, new CompressionStream("deflate-raw")).arrayBuffer());
+  const bytes = new Uint8Array(await new Response(packing(said, new CompressionStream("deflate-raw"))).arrayBuffer());
   let chars = "";
   for (const byte of bytes) chars += String.fromCharCode(byte);
   return btoa(chars).replace(/\+/g, "-").replace(/\//g, "_").replace(/=+$/, "");
@@ -130,97 +78,139 @@ async function pack(said) {
 
 async function unpack(said) {
   const bytes = Uint8Array.from(atob(said.replace(/-/g, "+").replace(/_/g, "/")), char => char.charCodeAt(0));
-  return packing(bytes, new DecompressionStream("deflate-raw")).text();
+  const parts = [], reader = packing(bytes, new DecompressionStream("deflate-raw")).getReader();
+  let length = 0;
+  for (;;) {
+    const {done, value} = await reader.read();
+    if (done) return new Blob(parts).text();
+    length += value.length;
+    if (length > MOST_UNPACKED) throw new Error("too long");
+    parts.push(value);
+  }
 }
 
 function address() {
-  const place = tab === "explorer" ? path : tab === "story" && position ? String(position) : "";
-  return `#${packed ? "s=" + packed : opened}${tab === "story" ? "" : "/" + tab}${place ? "@" + place : ""}`;
+  const front = packed ? `s=${packed}` : opened;
+  if (panel === "explorer" || panel === "trace") return `#${front}/${panel}${panel === "explorer" && framePlace ? `@${framePlace}` : ""}`;
+  const isOwn = !model || (model.isOwnOrder && now.level === model.opens.level), level = isOwn ? "" : `/${now.level === WRITTEN ? "written" : now.level}`;
+  const order = !model || model.isOwnOrder ? "" : `/${model.order.join(".")}`;
+  return `#${front}${level}${order}${now.step ? `@${now.step}` : ""}${now.asks ? "?ask" : ""}`;
 }
 
-// What an address asks for: a schedule, a tab or none, and a place.
+// What an address asks for. Each text is an address: what it doesn't say is null.
 function readAddress(hash) {
-  const [front, ...places] = hash.slice(1).split("@"), [name, asked] = front.split("/");
-  return {name, asked, at: places.join("@")};
+  const [front, asked] = hash.slice(1).split("?"), [words, ...places] = front.split("@"), [name, second, third] = words.split("/"), at = places.join("@");
+  const isPanel = /^(explorer|trace|words|orders|history)$/.test(second ?? ""), level = second === "written" ? WRITTEN : LEVELS.includes(second) ? second : null;
+  return {name, panel: isPanel ? second : null, level, order: level && third ? third.split(".") : null, step: /^\d{1,6}$/.test(at) ? Number(at) : 0, at, asks: asked === "ask"};
 }
 
 // The address follows the step without a new entry of the browser's history. Browsers limit how often it may change.
 let addressTimer = null;
 function tellAddress() {
   clearTimeout(addressTimer);
-  addressTimer = setTimeout(() => {
-    document.title = `${title()} · Hek`;
-    if (location.hash !== address()) try { history.replaceState(null, "", address()); } catch {}
-  }, 200);
+  addressTimer = setTimeout(writeAddress, 200);
 }
 
-// A schedule that is no lesson is in its address.
+function writeAddress() {
+  clearTimeout(addressTimer);
+  document.title = `${title()} · Hek`;
+  if (location.hash !== address()) try { history.replaceState(history.state, "", address()); } catch {}
+}
+
+// Makes an entry of the browser's history for the place that is left.
+function enter() {
+  writeAddress();
+  try { history.pushState({depth: (history.state?.depth ?? 0) + 1}, "", address()); } catch {}
+}
+
+// A schedule that the page has not is in its address.
 async function packLater() {
   const said = text.value, made = await pack(said);
   if (said !== text.value || (opened !== "own" && opened !== "shared")) return;
-  packed = made.length <= 20000 ? made : "";
+  packed = made.length <= MOST_PACKED ? made : "";
   tellAddress();
 }
 
 // Goes to another schedule, with an entry for "back".
 function visit(hash) {
   if (hash === location.hash) return;
-  try { history.pushState(null, "", hash); } catch { location.hash = hash; }
+  writeAddress();
+  try { history.pushState({depth: (history.state?.depth ?? 0) + 1}, "", hash); } catch { location.hash = hash; }
   goToAddress();
 }
 
 async function goToAddress() {
   clearTimeout(addressTimer);
-  const {name, asked, at} = readAddress(location.hash);
-  if (TABS.includes(asked)) tab = asked;
-  else if (tab === "explorer" || at) tab = "story";
-  if (name.startsWith("s=")) await openPacked(name.slice(2), at);
-  else if (name === "own" || SCHEDULES.some(it => it.name === name)) openSchedule(name, at);
-  else openSchedule(SCHEDULES[0].name);
-  choose(tab);
+  const asked = readAddress(location.hash), {name} = asked;
+  let said = "";
+  if (panel) closePanel();
+  if (name.startsWith("s=")) said = await openPacked(name.slice(2));
+  else if (name === "own" || SCHEDULES.some(it => it.name === name)) { if (name !== opened || !model) openSchedule(name); }
+  else {
+    openSchedule(SCHEDULES[0].name);
+    if (name) said = `There is no schedule called “${name.slice(0, 40)}” here. This is the first one.`;
+  }
+  now = {level: asked.level ?? SCHEDULES.find(it => it.name === opened)?.opens?.level ?? null, step: asked.step, mode: "", asks: asked.asks};
+  wantedOrder = asked.order;
+  await tell();
+  if (said) { others = [said]; drawFaults(); }
+  if (asked.panel === "explorer") await openExplorer(asked.at);
+  else if (asked.panel === "trace") await openTrace();
+  else if (asked.panel === "words") openWords();
 }
 
-async function openPacked(said, at) {
+// Opens the text of an address; answers what is to be said of it.
+async function openPacked(said) {
+  let what = "";
   try {
     shared = await unpack(said);
-    openSchedule("shared", at);
+    openSchedule("shared");
   } catch {
-    openSchedule("own");
-    others = ["The schedule of this address can't be read: it was cut."];
-    drawFaults();
+    openSchedule(SCHEDULES[0].name);
+    what = "The schedule of this address can’t be read: the address was cut, or changed on its way. This is the first lesson instead.";
   }
-  chooseSide("text", false);
+  return what;
 }
 
 // ---- share and save
 
 async function share() {
-  const made = await pack(text.value);
-  $("share-address").value = `${location.href.split("#")[0]}#s=${made}${tab === "story" && position ? "@" + position : ""}`;
+  const made = await pack(text.value), page = location.href.split("#")[0], isKnown = SCHEDULES.some(it => it.name === opened) && text.value === original();
+  const end = address().replace(/^#[^/@?]*/, ""), front = isKnown ? opened : `s=${made}`;
+  const asks = $("share-asks").checked ? "?ask" : "", hash = `#${front}${end.replace(/\?ask$/, "")}${asks}`;
+  $("share-address").value = page + hash;
+  $("share-frame").value = `<iframe src="${(page + hash).replace(/&/g, "&amp;").replace(/"/g, "&quot;")}" width="960" height="640" style="border: 0" title="${title().replace(/"/g, "&quot;")}"></iframe>`;
   $("share-note").textContent = location.protocol === "file:"
-    ? "This page is a file on this machine, and the address opens it here. Others need the file too; what comes after # is the schedule."
-    : "Whoever opens it sees this schedule at this step. The schedule is in the address, and on no server.";
+    ? "This page is a file on this machine, and the address opens it here. Others need the file too; what comes after # is the story."
+    : "Whoever opens it sees this story at this move. A text of your own is in the address, and on no server.";
   $("share-said").textContent = "";
-  $("share-dialog").showModal();
+  if (!$("share-dialog").open) $("share-dialog").showModal();
   $("share-address").select();
   $("share-address").scrollLeft = 0;
 }
 
-async function copyAddress() {
-  $("share-address").select();
+// Copies what a field has; says so in another element.
+async function copyFrom(field, said) {
+  $(field).select();
   let isCopied = true;
   try {
-    await navigator.clipboard.writeText($("share-address").value);
+    await navigator.clipboard.writeText($(field).value);
   } catch {
     isCopied = document.execCommand("copy");
   }
-  $("share-said").textContent = isCopied ? "Copied" : "Press Ctrl-C to copy it";
+  $(said).textContent = isCopied ? "Copied" : "Press Ctrl-C to copy it";
 }
 
-function save() {
-  const link = document.createElement("a"), url = URL.createObjectURL(new Blob([text.value], {type: "text/plain"}));
+function saveAs(name, kind, said) {
+  const link = document.createElement("a"), url = URL.createObjectURL(new Blob([said], {type: kind}));
   link.href = url;
-  link.download = `${opened === "own" || opened === "shared" ? "schedule" : opened}.hek`;
+  link.download = name;
   link.click();
   setTimeout(() => URL.revokeObjectURL(url), 1000);
 }
+
+const fileName = () => opened === "own" || opened === "shared" ? "schedule" : opened;
+const saveText = () => saveAs(`${fileName()}.${model?.isLog ? "jsonl" : "hek"}`, "text/plain", text.value);
+// The story at its step as a picture.
+const pictureOf = () => Story.figure.figure(player.story, {step: now.step, theme: themeNow(), title: `${title()}${now.level && !model.isLog ? `, ${now.level}` : ""}`});
+const savePicture = () => saveAs(`${fileName()}-${now.step}.svg`, "image/svg+xml", pictureOf());

@@ -29,3 +29,45 @@ class Draws(Tree):
 
     def test_something_always_goes_at_once(self):
         self.assertEqual(kit.at_once(10**18), 1)
+
+
+SOURCE = """#[repr(C)]
+#[derive(Clone, Copy)]
+pub struct Two {
+    /// A number.
+    pub one: u64,
+    pub other: u32,
+    pub third: u32,
+}
+
+#[repr(C)]
+pub struct Three {
+    pub one: u64,
+    pub other: u64,
+    pub third: u64,
+}
+
+#[unsafe(no_mangle)]
+pub extern "C" fn two(it: &mut Two, number: u64) -> Two
+    ensures { it }
+{}
+
+#[unsafe(no_mangle)]
+pub extern "C" fn three() -> Three {}
+"""
+MODULE = """define internal void @"lib::calls::two"(ptr noundef %a0, ptr noundef %a1, i64 noundef %a2) #0 {
+}
+define internal void @"lib::calls::three"(ptr noundef %a0) #0 {
+}
+"""
+
+
+class LibrariesForC(Tree):
+    def test_answer_two_numbers_in_registers_and_more_in_a_place_of_the_caller(self):
+        self.write("lib/src/calls.rt", SOURCE)
+        crate = f"{kit.ROOT}/lib"
+        self.assertEqual(kit.small_answers(crate), {"two"})
+        module = kit.with_exports(MODULE, crate)
+        self.assertIn("define { i64, i64 } @two(ptr noundef %a1, i64 noundef %a2) {", module)
+        self.assertIn('call void @"lib::calls::two"(ptr noundef %room, ptr noundef %a1, i64 noundef %a2)', module)
+        self.assertIn("define void @three(ptr noundef sret([24 x i8]) align 8 %a0) #0 {", module)

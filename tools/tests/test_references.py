@@ -51,6 +51,14 @@ class References(Tree):
         self.assertEqual([*self.references.missing_crates(PAGE, {"hek_low"})], ["no crate or function hek_none"])
         self.assertEqual([*self.references.missing_lines(PAGE)], ["crates/hek_low/src/lib.rt has no line fn gone()"])
 
+    def test_the_size_of_the_sources_is_what_the_page_says(self):
+        said = "The sources: `src/` of all crates has {} functions."
+        self.assertEqual([*self.references.wrong_size(said.format("4 lines and 1"))], [])
+        wrong = "'src/` of all crates has 3 lines and 1 functions', where 'src/` of all crates has 4 lines and 1 functions': tools/references --write"
+        self.assertEqual([*self.references.wrong_size(said.format("3 lines and\n1"))], [wrong.replace("and 1 functions', w", "and\\n1 functions', w")])
+        self.references.MOST_FUNCTIONS = 0
+        self.assertEqual(len([*self.references.wrong_size(said.format("4 lines and 1"))]), 1)
+
     def test_headings_that_are_equal_have_anchors_of_their_own(self):
         self.assertEqual(self.references.anchors("# A b\n## A b\n```\n# no\n```\n"), {"a-b", "a-b-1"})
 

@@ -1,5 +1,6 @@
 pub mod Canonical
 pub mod Trace
+pub mod Pieces
 pub mod Text
 pub mod Gives
 pub mod Kinds

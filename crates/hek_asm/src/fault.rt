@@ -102,9 +102,11 @@ impl From<NoMemory> for TraceFault {
 }
 
 /// Why a line isn't read: its fault, or out of memory.
-#[derive(Clone, Copy, Debug, PartialEq, Eq)]
+#[derive(Clone, Copy, Debug, Error)]
 pub(crate) enum LineFault {
+    #[error("{0}")]
     Fault(AsmKind),
+    #[error("no memory")]
     NoMemory,
 }
 

@@ -7,7 +7,8 @@ ghost use Rattle.hek_asm.specs.Trace.{NamesDeclared, line_front, line_rest};
 
 use crate::likely::{form_by_letters, form_by_second, likely_reply, plain_reply};
 use crate::line::read_words;
-use crate::trace::{put_front, put_rest};
+use crate::piece::{front_pieces, rest_pieces};
+use crate::writing::put_pieces;
 use hek_rules::{Event, NoMemory, Reply, ReplyForm, Schedule, next_line};
 use std::alloc::Global;
 
@@ -42,7 +43,7 @@ fn behind_front<'t>(
     ensures { IfOk result (λ o. IfSome o (λ after. text.now ≡ line_front schedule.now number event.now ++ after.now)) }
 {
     scratch.clear();
-    put_front(schedule, number, event, scratch)?;
+    put_pieces(front_pieces(schedule, number, event).as_slice(), scratch)?;
     Ok(without_front(text, scratch.as_slice()))
 }
 
@@ -55,7 +56,7 @@ fn behind_rest<'t>(
     ensures { IfOk result (λ o. IfSome o (λ after. text.now ≡ line_rest reply.now ++ after.now)) }
 {
     scratch.clear();
-    put_rest(reply, scratch)?;
+    put_pieces(rest_pieces(reply).as_slice(), scratch)?;
     Ok(without_front(text, scratch.as_slice()))
 }
 

@@ -1,70 +1,44 @@
 //! Traces: a line for each event and its reply.
-ghost use Rattle.std.specs.Prelude.{◌≡◌, ◌++◌, ◌∷◌, [], length, OnOk, IfSome};
+ghost use Rattle.std.specs.Prelude.{◌≡◌, ◌++◌, ◌∷◌, [], false, length, IsTrue, OnOk, is_err};
 ghost use Rattle.std.specs.List.{AllByRecursion};
-ghost use Rattle.hek_rules.specs.Plan.{IsDeclared};
 ghost use Rattle.hek_rules.specs.Lines.{spaced};
-ghost use Rattle.hek_asm.specs.Canonical.{name_words, operand_words, step_words};
-ghost use Rattle.hek_asm.specs.Trace.{NamesDeclared, line_front, line_rest, trace_line, trace};
+ghost use Rattle.hek_asm.specs.Canonical.{step_words};
+ghost use Rattle.hek_asm.specs.Trace.{NamesDeclared, trace_line, trace};
 
-use crate::putting::{put_item, put_number, put_text, put_word};
-use crate::reply::put_reply;
-use hek_rules::{Event, NoMemory, Reply, Schedule, TxnId};
-
-fn put_name(schedule: &Schedule, txn: Option<TxnId>, out: &mut Vec<u8>) -> Result<(), NoMemory>
-    requires { IfSome txn (λ t. IsDeclared (length schedule.now.txns) t) }
-    ensures { OnOk result (out.new.items ≡ out.old.items ++ spaced (name_words schedule.now txn)) }
-{
-    match txn {
-        None => Ok(()),
-        Some(txn) => put_word(schedule.name_of(txn), out),
-    }
-}
-
-fn put_operands(count: usize, first: u64, second: u64, out: &mut Vec<u8>) -> Result<(), NoMemory>
-    ensures { OnOk result (out.new.items ≡ out.old.items ++ spaced (operand_words count first second)) }
-{
-    match count {
-        0 => Ok(()),
-        1 => put_item(first, out),
-        _ => {
-            put_item(first, out)?;
-            put_item(second, out)
-        }
-    }
-}
+use crate::piece::{Piece, front_pieces, rest_pieces, step_pieces};
+use crate::writing::{appending, put_back, put_pieces, write_pieces};
+use hek_rules::{Event, NoMemory, Reply, Schedule, Sink, WriteFault};
 
 /// Appends a step as a trace has it, with a space before each word. After NoMemory a part of it may have been appended.
+#[tactic(auto, using(crate::proofs::LineLemmas::spaced_step))]
 pub fn put_step(schedule: &Schedule, event: &Event, out: &mut Vec<u8>) -> Result<(), NoMemory>
     requires { NamesDeclared (length schedule.now.txns) event.now }
     ensures { OnOk result (out.new.items ≡ out.old.items ++ spaced (step_words schedule.now event.now)) }
 {
-    let kind = event.kind();
-    put_name(schedule, event.txn(), out)?;
-    put_word(kind.word(), out)?;
-    put_operands(kind.operand_count(), event.first(), event.second(), out)
+    let [name, kind, first, second] = step_pieces(schedule, event);
+    put_pieces(
+        [Piece::Text(" "), name, kind, first, second].as_slice(),
+        out,
+    )
 }
 
-/// Appends a line up to the reply: the number, the step and the arrow.
-pub(crate) fn put_front(
+/// Writes the line of the event that has this number, with its reply. After a fault it is unknown how many bytes went
+/// out.
+fn write_line<S: Sink>(
     schedule: &Schedule,
     number: u64,
     event: &Event,
-    out: &mut Vec<u8>,
-) -> Result<(), NoMemory>
-    requires { NamesDeclared (length schedule.now.txns) event.now }
-    ensures { OnOk result (out.new.items ≡ out.old.items ++ line_front schedule.now number event.now) }
+    reply: &Reply,
+    sink: &mut S,
+) -> Result<(), WriteFault>
+    requires works { S.failed sink.old ≡ false }
+    requires declared { NamesDeclared (length schedule.now.txns) event.now }
+    ensures ok { OnOk result (IsTrue (S.tells sink.old) → S.holds sink.new ≡ S.holds sink.old ++ trace_line schedule.now number event.now reply.now) }
+    ensures tells { IsTrue (S.tells sink.old) → IsTrue (S.tells sink.new) }
+    ensures fails { S.failed sink.new ≡ is_err result }
 {
-    put_number(number, out)?;
-    put_step(schedule, event, out)?;
-    put_text(" -> ", out)
-}
-
-/// Appends the rest of a line: the reply and the line's end.
-pub(crate) fn put_rest(reply: &Reply, out: &mut Vec<u8>) -> Result<(), NoMemory>
-    ensures { OnOk result (out.new.items ≡ out.old.items ++ line_rest reply.now) }
-{
-    put_reply(reply, out)?;
-    put_text("\n", out)
+    write_pieces(front_pieces(schedule, number, event).as_slice(), sink)?;
+    write_pieces(rest_pieces(reply).as_slice(), sink)
 }
 
 /// Appends the line of the event that has this number, with its reply. After NoMemory a part of it may have been
@@ -79,8 +53,35 @@ pub fn put_line(
     requires { NamesDeclared (length schedule.now.txns) event.now }
     ensures { OnOk result (out.new.items ≡ out.old.items ++ trace_line schedule.now number event.now reply.now) }
 {
-    put_front(schedule, number, event, out)?;
-    put_rest(reply, out)
+    let mut sink = appending(out);
+    let written = write_line(schedule, number, event, reply, &mut sink);
+    put_back(sink, written, out)
+}
+
+/// Writes the trace of events with their replies, a line each. After a fault it is unknown how many bytes went out.
+pub fn write_trace<S: Sink>(
+    schedule: &Schedule,
+    events: &[Event],
+    replies: &[Reply],
+    sink: &mut S,
+) -> Result<(), WriteFault>
+    requires works { S.failed sink.old ≡ false }
+    requires declared { AllByRecursion (NamesDeclared (length schedule.now.txns)) events.now }
+    requires paired { length replies.now ≡ length events.now }
+    ensures ok { OnOk result (IsTrue (S.tells sink.old) → S.holds sink.new ≡ S.holds sink.old ++ trace schedule.now events.now replies.now) }
+    ensures tells { IsTrue (S.tells sink.old) → IsTrue (S.tells sink.new) }
+    ensures fails { S.failed sink.new ≡ is_err result }
+{
+    for place in 0..events.len() {
+        write_line(
+            schedule,
+            place as u64 + 1,
+            &events[place],
+            &replies[place],
+            sink,
+        )?;
+    }
+    Ok(())
 }
 
 /// Appends the trace of events with their replies, a line each. After NoMemory a part of it may have been appended.
@@ -94,14 +95,7 @@ pub fn put_trace(
     requires paired { length replies.now ≡ length events.now }
     ensures { OnOk result (out.new.items ≡ out.old.items ++ trace schedule.now events.now replies.now) }
 {
-    for place in 0..events.len() {
-        put_line(
-            schedule,
-            place as u64 + 1,
-            &events[place],
-            &replies[place],
-            out,
-        )?;
-    }
-    Ok(())
+    let mut sink = appending(out);
+    let written = write_trace(schedule, events, replies, &mut sink);
+    put_back(sink, written, out)
 }

@@ -1,13 +1,14 @@
 /* The two words of a version of MV/L, as hek_word and hek_changes read and change them.
  *
- * A function takes words as numbers and keeps nothing. Its caller owes nothing: to a number that is not a word, and to a change
- * that the lock does not allow, it answers 0 or a status. Changes are not atomic: an engine loads a word, computes the new
- * one, and exchanges the two.
+ * A function takes words as numbers and keeps nothing but what hek_note writes into its caller's memory. Its caller owes nothing:
+ * to a number that is not a word, and to a change that the lock does not allow, it answers 0 or a status. Changes are not atomic:
+ * an engine loads a word, computes the new one, and exchanges the two.
  */
 #ifndef HEK_H
 #define HEK_H
 
 #include <stdbool.h>
+#include <stddef.h>
 #include <stdint.h>
 
 #ifdef __cplusplus
@@ -96,6 +97,52 @@ enum hek_end_changes {
 
 uint32_t hek_begin_change(uint64_t old_word, uint64_t new_word, uint64_t txn);
 uint32_t hek_end_change(uint64_t old_word, uint64_t new_word, uint64_t txn);
+
+/* Who holds what. A book is memory of the engine's: a `struct hek_word` for each of its End words, and an array `over` of bytes,
+ * one for each transaction by its ID. All are 0 at first. The engine
+ *
+ *   - notes each exchange of an End word by hek_note. Notes of a word must come in the order of its exchanges, so an exchange and
+ *     its note are made under one lock;
+ *   - sets over[T] when transaction T has committed or aborted, under the same lock, and before another transaction may take the
+ *     name of T out of a word. What T holds it may still give up afterwards;
+ *   - asks hek_leaked of each word when nobody runs any more.
+ *
+ * Nothing here takes memory or a lock. An engine that doesn't know who is over passes NULL and 0: then of no writer is said that it
+ * lives. A transaction past the end of `over` lives. */
+
+#define HEK_SLOTS 126
+
+struct hek_word {
+    uint64_t last;               /* what the last exchange left */
+    uint32_t noted;              /* 0 until an exchange is noted */
+    uint32_t reads;              /* how many read locks are known: readers[0] to readers[reads - 1] hold them */
+    uint64_t readers[HEK_SLOTS]; /* the writer is hek_writer(last) */
+};
+
+enum hek_faults {
+    HEK_FINE = 0,
+    HEK_BROKEN = 1,       /* the exchange before it left another word, which is `wanted` */
+    HEK_NO_RULE = 2,      /* no change leads there. `change` comes nearest, and `wanted` is the word that it leaves */
+    HEK_WRITER_LIVES = 3, /* the name of a writer is taken out that is not over */
+    HEK_NEVER_CAME = 4,   /* a read lock is given up by a transaction that holds none, while all that are counted are known */
+    HEK_CAME_TWICE = 5,   /* a lock is taken by a transaction that read-locks the version already */
+    HEK_IS_OVER = 6,      /* a lock is taken by a transaction that is over */
+    HEK_NO_ROOM = 7,      /* no fault of the engine: HEK_SLOTS read locks are known, and this one isn't noted */
+    HEK_NO_BOOK = 8       /* `reads` is past HEK_SLOTS: something else than hek_note wrote it. Nothing was noted */
+};
+
+struct hek_noted {
+    uint64_t wanted; /* the word that would have been right: without a fault the new one; the old one where nothing may change */
+    uint32_t fault;  /* of enum hek_faults: the first that applies */
+    uint32_t change; /* of enum hek_end_changes: the change that the exchange is; of a HEK_NO_RULE what comes nearest, or 0 */
+};
+
+/* Notes that a transaction exchanged old_word for new_word. With a fault too it is noted: what the word is now, and who came and
+ * went. */
+struct hek_noted hek_note(struct hek_word *word, uint64_t txn, uint64_t old_word, uint64_t new_word, const uint8_t *over, size_t txns);
+
+/* The first known reader of the word that is over, else its writer if that is over; 0: none. Of it the word keeps a lock for ever. */
+uint64_t hek_leaked(const struct hek_word *word, const uint8_t *over, size_t txns);
 
 #ifdef __cplusplus
 }

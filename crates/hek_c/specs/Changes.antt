@@ -1,13 +1,11 @@
 -- Changes of words as numbers: those that hek.h names.
-use Rattle.std.specs.Prelude.{ℕ}
-use Rattle.hek_rules.specs.declared.word.BeginRecord.{BeginRecord}
-use Rattle.hek_rules.specs.declared.word.EndRecord.{EndRecord}
+use Rattle.std.specs.Prelude.{◌≡◌, ℕ, Option}
+use Rattle.std.specs.Option.{option_map_or}
 use Rattle.hek_changes.specs.declared.change.BeginChange.{BeginChange}
 use Rattle.hek_changes.specs.declared.change.EndChange.{EndChange}
 use Rattle.hek_changes.specs.declared.change.BeginChange.TheVariants as on_begin
 use Rattle.hek_changes.specs.declared.change.EndChange.TheVariants as on_end
-use Rattle.hek_changes.specs.Changes.{BeginLeads, EndLeads}
-use Rattle.hek_c.specs.Numbers.{IsBeginOf, IsEndOf}
+use Rattle.hek_changes.specs.Changes.{IsBeginChange, IsEndChange}
 
 abbrev pub begin_change_number : BeginChange → ℕ
 begin_change_number on_begin.Stamped = 1
@@ -25,11 +23,10 @@ end_change_number on_end.ClearedThenWritten = 8
 end_change_number on_end.ReaderBecameWriter = 9
 end_change_number on_end.ClearedThenReaderBecameWriter = 10
 
--- old and new are no Begin words that a change of t leads from and to
-abbrev pub NoBeginChange : ℕ → ℕ → ℕ → Type 0
-NoBeginChange t old new =
-    (c : BeginChange) (e f : BeginRecord) → IsBeginOf e old → IsBeginOf f new → BeginLeads t c e f → ⊥
+-- the number of the change that an exchange of a Begin word by the transaction t is; 0 if it is none
+abbrev pub IsBeginAnswer : ℕ → ℕ → ℕ → ℕ → Type 0
+IsBeginAnswer t old new n = (found : Option BeginChange) × IsBeginChange t old new found × (n ≡ option_map_or begin_change_number found 0)
 
--- old and new are no End words that a change of t leads from and to
-abbrev pub NoEndChange : ℕ → ℕ → ℕ → Type 0
-NoEndChange t old new = (c : EndChange) (e f : EndRecord) → IsEndOf e old → IsEndOf f new → EndLeads t c e f → ⊥
+-- the number of the change that an exchange of an End word by the transaction t is; 0 if it is none
+abbrev pub IsEndAnswer : ℕ → ℕ → ℕ → ℕ → Type 0
+IsEndAnswer t old new n = (found : Option EndChange) × IsEndChange t old new found × (n ≡ option_map_or end_change_number found 0)

@@ -1,20 +1,12 @@
 -- Numbers of 64 bits as words: which record a number is the word of, or that it is the word of none.
-use Rattle.std.specs.Prelude.{◌≡◌, ℕ, Option, Some, None}
+use Rattle.std.specs.Prelude.{ℕ, Option, Some, None}
 use Rattle.hek_rules.specs.declared.word.BeginRecord.{BeginRecord}
 use Rattle.hek_rules.specs.declared.word.EndRecord.{EndRecord}
-use Rattle.hek_rules.specs.Words.{IsBegin, begin_number, IsEnd, end_number}
-
--- n is the Begin word of r
-abbrev pub IsBeginOf : BeginRecord → ℕ → Type 0
-IsBeginOf r n = IsBegin r × (begin_number r ≡ n)
+use Rattle.hek_changes.specs.Changes.{IsBeginOf, IsEndOf}
 
 -- n is no Begin word
 abbrev pub NoBegin : ℕ → Type 0
 NoBegin n = (r : BeginRecord) → IsBeginOf r n → ⊥
-
--- n is the End word of r
-abbrev pub IsEndOf : EndRecord → ℕ → Type 0
-IsEndOf r n = IsEnd r × (end_number r ≡ n)
 
 -- n is no End word
 abbrev pub NoEnd : ℕ → Type 0

@@ -2,7 +2,8 @@
 ghost use Rattle.std.specs.Prelude.{◌≡◌, true, false};
 ghost use Rattle.hek_rules.specs.Words.{begin_time, begin_txn};
 ghost use Rattle.hek_rules.specs.declared.word.BeginRecord.{BeginRecord};
-ghost use Rattle.hek_c.specs.Numbers.{IsBeginOf, NoBegin, number_or};
+ghost use Rattle.hek_changes.specs.Changes.{IsBeginOf};
+ghost use Rattle.hek_c.specs.Numbers.{NoBegin, number_or};
 
 use crate::NO_TIME;
 use hek_word::BeginWord;

@@ -2,7 +2,8 @@
 ghost use Rattle.std.specs.Prelude.{◌≡◌, true, false};
 ghost use Rattle.hek_rules.specs.Words.{end_time, readers_of, writer_of, no_more_of};
 ghost use Rattle.hek_rules.specs.declared.word.EndRecord.{EndRecord};
-ghost use Rattle.hek_c.specs.Numbers.{IsEndOf, NoEnd, number_or};
+ghost use Rattle.hek_changes.specs.Changes.{IsEndOf};
+ghost use Rattle.hek_c.specs.Numbers.{NoEnd, number_or};
 
 use crate::NO_TIME;
 use hek_word::EndWord;

@@ -4,6 +4,7 @@
 #![tactic(auto)]
 
 mod begin;
+mod book;
 mod changes;
 mod end;
 mod locks;

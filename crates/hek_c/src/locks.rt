@@ -3,7 +3,8 @@
 ghost use Rattle.std.specs.Prelude.{◌≡◌, ◌<◌, IsSome};
 ghost use Rattle.hek_rules.specs.Words.{IsTxn, infinity, end_number, readers_of, writer_of, CanAdd, CanTakeWriter, with_reader, without_reader, with_writer, without_writer};
 ghost use Rattle.hek_rules.specs.declared.word.EndRecord.{EndRecord};
-ghost use Rattle.hek_c.specs.Numbers.{IsEndOf, NoEndThat};
+ghost use Rattle.hek_changes.specs.Changes.{IsEndOf};
+ghost use Rattle.hek_c.specs.Numbers.{NoEndThat};
 
 use hek_rules::TxnId;
 use hek_word::EndWord;

@@ -2,7 +2,8 @@
 ghost use Rattle.std.specs.Prelude.{◌≡◌, ◌<◌};
 ghost use Rattle.hek_rules.specs.Words.{end_number, readers_of, without_reader, waits_left, IsLastUnderWriter};
 ghost use Rattle.hek_rules.specs.declared.word.EndRecord.{EndRecord};
-ghost use Rattle.hek_c.specs.Numbers.{IsEndOf, NoEnd};
+ghost use Rattle.hek_changes.specs.Changes.{IsEndOf};
+ghost use Rattle.hek_c.specs.Numbers.{NoEnd};
 
 use hek_word::{EndWord, ReleaseFault, release_word};
 

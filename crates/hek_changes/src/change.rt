@@ -1,7 +1,7 @@
 //! The changes that lead from a word to the next.
 
 /// A change of a Begin word by the transaction that made the version.
-#[derive(Clone, Copy, Debug, PartialEq, Eq)]
+#[derive(Clone, Copy)]
 pub enum BeginChange {
     /// The maker has committed: the word is its end time.
     Stamped,
@@ -10,7 +10,7 @@ pub enum BeginChange {
 }
 
 /// A change of an End word by a transaction. Those from `ClearedThenRead` on are more changes in one exchange.
-#[derive(Clone, Copy, Debug, PartialEq, Eq)]
+#[derive(Clone, Copy)]
 pub enum EndChange {
     ReaderCame,
     ReaderWent,

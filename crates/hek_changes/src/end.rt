@@ -1,122 +1,60 @@
 //! Changes of End words.
-ghost use Rattle.std.specs.Prelude.{◌≡◌, ℕ, ◌↔◌, ◌<◌, Some, None, IsTrue};
-ghost use Rattle.hek_rules.specs.Words.{readers_of, writer_of, CanAdd, CanTakeWriter, with_reader, without_reader, with_writer};
-ghost use Rattle.hek_changes.specs.declared.change.EndChange.{EndChange};
-ghost use Rattle.hek_changes.specs.Changes.{EndLeads, IsAnothers, IsStamped};
+ghost use Rattle.std.specs.Prelude.{◌≡◌, ℕ, ◌↔◌, ◌<◌, Some, IsTrue};
+ghost use Rattle.hek_changes.specs.declared.change.EndChange.{EndChange as SpecChange};
+ghost use Rattle.hek_changes.specs.Changes.{EndLeads, IsEndChange, IsStamped};
 
 use crate::change::EndChange;
+use crate::intended::intended;
+use crate::left::left_by;
 use hek_rules::{Time, TxnId};
 use hek_word::EndWord;
 
-/// The first number that is no ID of a transaction.
-const NO_TXN: u64 = (1 << 54) - 1;
-
-/// The change of this transaction that leads from the word `before` to the word `after`; None if none does.
-pub fn end_change(before: EndWord, after: EndWord, txn: TxnId) -> Option<EndChange>
-    ensures { (c : EndChange) → (result ≡ Some c) ↔ EndLeads txn c before after }
+/// The change of an End word by this transaction that leads from the number `old` to the number `new`. None if none does, or if one
+/// of them is no End word.
+#[tactic(auto, using(crate::proofs::WordLaws::not_old_end, crate::proofs::WordLaws::not_new_end, crate::proofs::WordLaws::end_found))]
+pub fn end_change(old: u64, new: u64, txn: TxnId) -> Option<EndChange>
+    ensures { IsEndChange txn old new result }
 {
-    match before.writer() {
-        None => change_of_unwritten(before, after, txn),
-        Some(writer) => {
-            if writer.number() == txn.number() {
-                change_of_own(before, after, txn)
-            } else {
-                change_of_anothers(before, after, txn)
+    let before = EndWord::read(old)?;
+    let after = EndWord::read(new)?;
+    change_of_words(before, after, txn)
+}
+
+fn change_of_words(before: EndWord, after: EndWord, txn: TxnId) -> Option<EndChange>
+    ensures { (c : SpecChange) → (result ≡ Some c) ↔ EndLeads txn c before after }
+{
+    let change = intended(before, after.content(), txn);
+    if leads(change, before, after, txn) {
+        Some(change)
+    } else {
+        None
+    }
+}
+
+/// Whether the change leads from one word to the other.
+fn leads(change: EndChange, before: EndWord, after: EndWord, txn: TxnId) -> bool
+    ensures { IsTrue result ↔ EndLeads txn change before after }
+{
+    match change {
+        EndChange::Stamped => is_stamped(before, after, txn),
+        change => {
+            match left_by(change, before, txn) {
+                Ok(left) => left == after,
+                Err(_) => false,
             }
         }
     }
 }
 
-fn change_of_unwritten(before: EndWord, after: EndWord, txn: TxnId) -> Option<EndChange>
-    requires { writer_of before ≡ None }
-    ensures { (c : EndChange) → (result ≡ Some c) ↔ EndLeads txn c before after }
+/// Whether `before` has this writer alone, and `after` is a time that a transaction draws.
+fn is_stamped(before: EndWord, after: EndWord, txn: TxnId) -> bool
+    ensures { IsTrue result ↔ IsStamped txn before after }
 {
-    if is_after_reader(before, after) {
-        return Some(EndChange::ReaderCame);
-    }
-    if is_after_writer(before, after, txn) {
-        return Some(EndChange::WriterCame);
-    }
-    if before.readers() == 0 {
-        return None;
-    }
-    let fewer = before.drop_reader().0;
-    if fewer == after {
-        return Some(EndChange::ReaderWent);
-    }
-    if is_after_writer(fewer, after, txn) {
-        return Some(EndChange::ReaderBecameWriter);
-    }
-    None
-}
-
-fn change_of_own(before: EndWord, after: EndWord, txn: TxnId) -> Option<EndChange>
-    requires { writer_of before ≡ Some txn }
-    ensures { (c : EndChange) → (result ≡ Some c) ↔ EndLeads txn c before after }
-{
-    if before.clear_writer() == after {
-        return Some(EndChange::WriterWent);
-    }
-    if is_stamped(before, after) {
-        return Some(EndChange::Stamped);
-    }
-    None
-}
-
-fn change_of_anothers(before: EndWord, after: EndWord, txn: TxnId) -> Option<EndChange>
-    requires { IsAnothers txn before }
-    ensures { (c : EndChange) → (result ≡ Some c) ↔ EndLeads txn c before after }
-{
-    if is_after_reader(before, after) {
-        return Some(EndChange::ReaderCame);
-    }
-    if is_without_reader(before, after) {
-        return Some(EndChange::ReaderWent);
-    }
-    let cleared = before.clear_writer();
-    if cleared == after {
-        return Some(EndChange::Cleared);
-    }
-    if is_after_reader(cleared, after) {
-        return Some(EndChange::ClearedThenRead);
-    }
-    if is_after_writer(cleared, after, txn) {
-        return Some(EndChange::ClearedThenWritten);
-    }
-    if before.readers() == 0 {
-        return None;
-    }
-    if is_after_writer(cleared.drop_reader().0, after, txn) {
-        return Some(EndChange::ClearedThenReaderBecameWriter);
-    }
-    None
-}
-
-fn is_after_reader(before: EndWord, after: EndWord) -> bool
-    ensures { IsTrue result ↔ (CanAdd before × (after ≡ with_reader before)) }
-{
-    before.can_add() && before.add_reader() == after
-}
-
-fn is_without_reader(before: EndWord, after: EndWord) -> bool
-    ensures { IsTrue result ↔ ((0 < readers_of before) × (after ≡ without_reader before)) }
-{
-    before.readers() > 0 && before.drop_reader().0 == after
-}
-
-fn is_after_writer(before: EndWord, after: EndWord, txn: TxnId) -> bool
-    ensures { IsTrue result ↔ (CanTakeWriter before × (after ≡ with_writer before txn)) }
-{
-    let is_id = txn.number() > 0 && txn.number() < NO_TXN;
-    is_id && before.can_take_writer() && before.take_writer(txn) == after
-}
-
-/// Whether `before` has its writer alone, and `after` is a time that a transaction draws.
-fn is_stamped(before: EndWord, after: EndWord) -> bool
-    ensures { (t : ℕ) → writer_of before ≡ Some t → IsTrue result ↔ IsStamped t before after }
-{
-    let Some(time) = after.time() else {
+    let (Some(writer), Some(time)) = (before.writer(), after.time()) else {
         return false;
     };
-    before.readers() == 0 && time.number() > 0 && time.number() < Time::INFINITY
+    writer.number() == txn.number()
+        && before.readers() == 0
+        && time.number() > 0
+        && time.number() < Time::INFINITY
 }

@@ -1,7 +1,6 @@
 //! What is wrong with a bad argument and what is wanted in its place, for a reader at a terminal, or with `--explain`.
 use clap::ArgMatches;
 use hek_diagnostics::nearest_word;
-use hek_figure_command::Portion;
 use hek_levels_command::Promise;
 use hek_permute::Form;
 use hek_permute_command::part_of;
@@ -125,9 +124,6 @@ const LEVELS: &[&str] = &["serializable", "repeatable", "snapshot"];
 /// The orders that `hek history` can be asked for.
 const KINDS: &[&str] = &["any", "versions", "commit", "real"];
 
-/// The parts of a step that `hek figure` can be asked for.
-const PORTIONS: &[&str] = &["lanes", "versions", "waits", "words"];
-
 /// The forms of moves that `hek permute` can be asked for.
 const GRAINS: &[&str] = &["move", "split", "event"];
 
@@ -142,8 +138,6 @@ enum Wrong<'a> {
     /// The same of what a log can be asked for.
     NoPromise(Option<&'a str>),
     NoPart,
-    /// No part of a figure has this name, but maybe one that is near.
-    NoPortion(Option<&'a str>),
     NoOrder,
     /// No order of a history has this name, but maybe one that is near.
     NoKind(Option<&'a str>),
@@ -183,7 +177,6 @@ pub fn advice_of<'a>(alloc: Global, command: &str, found: &ArgMatches<'a>) -> Op
         _ => {}
     }
     match found.get_str("part") {
-        Some(value) if command == "figure" => return portion_advice(alloc, value),
         Some(value) if part_of(value).is_none() => {
             return Some(Advice::new("part", value, Wrong::NoPart));
         }
@@ -220,15 +213,6 @@ fn nearest_of(alloc: Global, value: &str, known: &'static [&'static str]) -> Opt
         words.push(*word).ok()?;
     }
     nearest_word(alloc, value, words.as_slice())
-}
-
-/// What is wrong with the part of a figure, if it is none.
-fn portion_advice(alloc: Global, value: &str) -> Option<Advice<'_>> {
-    if Portion::named(value).is_some() {
-        return None;
-    }
-    let wrong = Wrong::NoPortion(nearest_of(alloc, value, PORTIONS));
-    Some(Advice::new("part", value, wrong))
 }
 
 /// What is wrong with the number of an option, if the command line has the option.
@@ -284,7 +268,6 @@ impl<'a> Advice<'a> {
             Wrong::TooLarge(_) => write!(f, "`{value}` is too large for `--{option}`"),
             Wrong::NoLevel(_) | Wrong::NoPromise(_) => { write!(f, "no level is called `{value}`") }
             Wrong::NoPart => write!(f, "`{value}` is not a part"),
-            Wrong::NoPortion(_) => write!(f, "no part is called `{value}`"),
             Wrong::NoOrder => write!(f, "`{value}` is not an order of the moves"),
             Wrong::NoKind(_) => write!(f, "no order is called `{value}`"),
             Wrong::NoBinding => write!(f, "`{value}` goes with a serial order alone"),
@@ -305,7 +288,6 @@ impl<'a> Advice<'a> {
                 f.write_str("repeatable")
             }
             Wrong::NoPart => f.write_str("K/N, as in `1/3`, K from 1 to N"),
-            Wrong::NoPortion(_) => f.write_str("lanes versions waits words"),
             Wrong::NoOrder => f.write_str("the name of its transaction for each move"),
             Wrong::NoKind(_) => f.write_str("any versions commit real"),
             Wrong::NoBinding => f.write_str("any real"),
@@ -328,7 +310,6 @@ impl Display for Advice<'_> {
             Wrong::NoLevel(Some(meant))
             | Wrong::NoPromise(Some(meant))
             | Wrong::NoKind(Some(meant))
-            | Wrong::NoPortion(Some(meant))
             | Wrong::NoGrain(Some(meant)) => { write!(f, "\n  | did you mean `{meant}`?\n") }
             _ => f.write_str("\n"),
         }

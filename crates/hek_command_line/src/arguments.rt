@@ -1,8 +1,8 @@
 //! The words of the command line: the commands, their arguments and help.
 use crate::build::VERSION;
-use crate::file_texts::{ASM, COMPLETIONS, DIS, IMPORT, MAN, RELEASE, WORD};
+use crate::file_texts::{ASM, COMPLETIONS, DIS, MAN, RELEASE, WORD};
 use crate::order_texts::{CHECK, HISTORY, PERMUTE};
-use crate::page_texts::{FIGURE, PAGE};
+use crate::page_texts::PAGE;
 use crate::run_texts::{DEBUG, DRIVE, RUN, THREADS};
 use crate::texts::{ArgumentText, CommandText, Form};
 use clap::{Arg, ArgAction, ArgMatches, Command, Error};
@@ -14,7 +14,7 @@ use std::convert::AsStr;
 /// takes a table as one term.
 const RUN_COMMANDS: &[CommandText] = &[RUN, DEBUG];
 
-const PICTURE_COMMANDS: &[CommandText] = &[PAGE, FIGURE];
+const PICTURE_COMMANDS: &[CommandText] = &[PAGE];
 
 const ORDER_COMMANDS: &[CommandText] = &[PERMUTE, CHECK];
 
@@ -22,7 +22,7 @@ const ENGINE_COMMANDS: &[CommandText] = &[HISTORY, DRIVE, THREADS];
 
 const WORD_COMMANDS: &[CommandText] = &[WORD, RELEASE, ASM];
 
-const FILE_COMMANDS: &[CommandText] = &[DIS, IMPORT];
+const FILE_COMMANDS: &[CommandText] = &[DIS];
 
 const SHELL_COMMANDS: &[CommandText] = &[COMPLETIONS, MAN];
 
@@ -145,11 +145,12 @@ fn command<'a>(alloc: Global, text: &CommandText) -> Result<Command<'a>, AllocEr
 /// The arguments of a command that cannot be given together with this one.
 fn rivals_of(command: &str, name: &str) -> &'static [&'static str] {
     match (command, name) {
-        ("permute", "order") => &["each", "levels", "part"],
+        ("permute", "order") => &["each", "part"],
         ("permute", "find") => &["each", "levels", "part", "order"],
         ("permute" | "page", "grain") => &["split"],
         ("permute", "levels") => &["each", "level"],
         ("run", "history") => &["state", "state-at", "why", "changes", "json"],
+        ("run", "moves") => &["state", "state-at", "changes", "history"],
         ("history", "levels") => &["level", "all", "order-out"],
         ("history", "guarantees") => &["level", "order", "all", "order-out"],
         ("history", "sessions") => &["order", "all", "order-out"],

@@ -5,27 +5,28 @@ use crate::convert::{asm, dis, release, word};
 use crate::disk::{Disk, open};
 use crate::explain::finish;
 use crate::explaining::{Colouring, CommandWords, Explaining, Wishes};
-use crate::import::import;
-use crate::kept::{Kept, KeptDisk, KeptReader};
+use crate::kept::{Kept, KeptDisk, KeptReader, asks_question, status_at_fault};
 use crate::log::history;
 use crate::opening::without_mark;
 use crate::options::{count_from, level_of, number_of, printing_of, text};
 use crate::output::NotedOutput;
-use crate::pages::{Document, write_document};
+use crate::pages::page;
 use crate::permute::{permute_alone, permute_jobs};
-use crate::schedule::{plain_schedule, plain_to_run, schedule_to_run};
+use crate::programs::plain_file;
+use crate::schedule::{plain_to_run, schedule_file, schedule_to_run};
 use crate::sources::SourceFiles;
 use crate::texts::RULES;
 use crate::told;
 use crate::words::advise_sign;
 use clap::error::ErrorKind as ClapKind;
 use clap::{ArgMatches, Error};
-use hek_check_command::{Asked, check_command, note_nothing, reported_command};
+use hek_check_command::{Asked, check_command, reported_command};
 use hek_debug_command::{
     CommandFile, Manner, debug_command, debug_session, explained_command, put_words,
 };
 use hek_history_command::run_log_command;
 use hek_manual::{Shell, manual_page};
+use hek_permute_command::{MovesChoice, moves_command};
 use hek_report::{HekFault, INPUT, Printing, ScheduleFile, read_text, report, send};
 use hek_rules::Level;
 use hek_run_command::{Driving, Steps, drive_command, run_command, state_command, steps_command};
@@ -65,6 +66,8 @@ pub fn program<
             out,
             faults,
         ),
+        // Of no command is known that 1 isn't an answer of it.
+        Err(HekFault::NoMemory) => status_at_fault(report(HekFault::NoMemory, faults), true),
         Err(fault) => report(fault, faults),
     }
 }
@@ -101,9 +104,10 @@ pub fn answer_in_threads<
     out: &mut W,
     faults: &mut E,
 ) -> u8 {
+    let asks = asks_question(words);
     let words = match CommandWords::of(alloc, words, wishes) {
         Ok(words) => words,
-        Err(_) => return report(HekFault::NoMemory, faults),
+        Err(_) => return status_at_fault(report(HekFault::NoMemory, faults), asks),
     };
     let CommandWords { words, wishes } = words;
     answer_words(
@@ -158,7 +162,7 @@ fn answer_words<
         Err(error) => {
             let mut out = NotedOutput::new(out);
             let ran = refused(alloc, &error, words, explains, &mut out, &mut faults);
-            status_of(ran, &out, &mut faults)
+            status_at_fault(status_of(ran, &out, &mut faults), asks_question(words))
         }
     };
     let _ = faults.flush();
@@ -355,7 +359,6 @@ fn run<'a, D: Disk, I: Read + IsTerminal + Drop, W: Write + IsTerminal, E: Write
         Some(("run", found)) => run_schedule(alloc, found, disk, input, out),
         Some(("debug", found)) => debug(alloc, found, explains, disk, input, out, faults),
         Some(("history", found)) => history(alloc, found, explains, disk, input, out, faults),
-        Some(("import", found)) => import(alloc, found, explains, disk, input, out, faults),
         Some(("completions", found)) => completions(alloc, found, out),
         Some(("man", _)) => print(manual_page(), out),
         Some((name, found)) => run_noting(alloc, name, found, explains, disk, input, out, faults),
@@ -414,10 +417,9 @@ fn run_noting<
 ) -> Result<u8, HekFault<'a>> {
     match name {
         "drive" => drive(alloc, found, explains, disk, input, out, faults),
-        "check" => check(alloc, found, disk, input, out, faults),
+        "check" => check(alloc, found, disk, input, out),
         "permute" => permute_alone(alloc, found, disk, input, out, faults),
-        "page" => write_document(alloc, Document::Page, found, disk, input, out, faults),
-        "figure" => write_document(alloc, Document::Figure, found, disk, input, out, faults),
+        "page" => page(alloc, found, disk, input, out, faults),
         "threads" => Err(HekFault::NoWorker),
         _ => Err(HekFault::BadArgument),
     }
@@ -430,6 +432,9 @@ fn run_schedule<'a, D: Disk, I: Read + Drop, W: Write>(
     input: &mut Option<I>,
     out: &mut W,
 ) -> Result<u8, HekFault<'a>> {
+    if found.get_flag("moves") {
+        return run_moves(alloc, found, disk, input, out);
+    }
     let limit = number_of(found, "state-at")?;
     let asked = Steps {
         extras: extras_of(found),
@@ -442,6 +447,29 @@ fn run_schedule<'a, D: Disk, I: Read + Drop, W: Write>(
         return run_log_command(alloc, file, out);
     }
     run_file(alloc, file, asked, out)
+}
+
+/// Prints the moves of a run.
+fn run_moves<'a, D: Disk, I: Read + Drop, W: Write>(
+    alloc: Global,
+    found: &ArgMatches<'a>,
+    disk: &D,
+    input: &mut Option<I>,
+    out: &mut W,
+) -> Result<u8, HekFault<'a>> {
+    let choice = MovesChoice {
+        auto: found.get_flag("auto"),
+        level: level_of(found)?,
+        told: found.get_str("why").is_some(),
+        printing: printing_of(found),
+    };
+    let file = schedule_file(alloc, found, disk, input)?;
+    let file = if choice.auto {
+        file
+    } else {
+        plain_file(alloc, file)?
+    };
+    moves_command(alloc, file, choice, out)
 }
 
 /// Runs the schedule in a file.
@@ -550,31 +578,18 @@ fn debug_file<'a, R: Read + Drop, W: Write, E: Write>(
     }
 }
 
-fn check<'a, D: Disk, I: Read + Drop, W: Write, E: Write + IsTerminal>(
+fn check<'a, D: Disk, I: Read + Drop, W: Write>(
     alloc: Global,
     found: &ArgMatches<'a>,
     disk: &D,
     input: &mut Option<I>,
     out: &mut W,
-    faults: &mut E,
 ) -> Result<u8, HekFault<'a>> {
     let level = level_of(found)?;
-    let file = plain_schedule(alloc, found, disk, input)?;
+    let file = schedule_file(alloc, found, disk, input)?;
     let name = text(found, "TRACE")?;
     let trace = read_text(alloc, open(disk, input, name)?, name)?;
     let trace = without_mark(trace.as_slice());
-    check_trace(alloc, found, level, file, trace, out, faults)
-}
-
-fn check_trace<'a, R: Read + Drop, W: Write, E: Write + IsTerminal>(
-    alloc: Global,
-    found: &ArgMatches<'a>,
-    level: Option<Level>,
-    file: ScheduleFile<R>,
-    trace: &[u8],
-    out: &mut W,
-    faults: &mut E,
-) -> Result<u8, HekFault<'a>> {
     let asked = Asked {
         level,
         why: found.get_flag("why"),
@@ -582,9 +597,7 @@ fn check_trace<'a, R: Read + Drop, W: Write, E: Write + IsTerminal>(
         all: found.get_flag("all"),
         printing: printing_of(found),
     };
-    let status = judge_trace(alloc, asked, file, trace, out)?;
-    note_nothing(alloc, trace, faults);
-    Ok(status)
+    judge_trace(alloc, asked, file, trace, out)
 }
 
 /// Writes the verdict on a trace, with what is asked for.

@@ -1,14 +1,14 @@
 //! The words of `word`, `release`, `asm` and `dis`, and the files that they read and write.
 use crate::disk::{Disk, LateFile, open};
 use crate::options::{number_of, printing_of, text, texts};
-use crate::programs::plain_text;
 use crate::refused::{OUTPUT, refuse_bytes, refuse_same};
-use crate::schedule::{plain_schedule, schedule_text};
+use crate::schedule::{schedule_file, schedule_text};
 use clap::ArgMatches;
 use hek_convert_command::{
     Bounds, asm_command, changes_command, dis_command, release_command, word_command,
 };
 use hek_report::{HekFault, INPUT};
+use hek_rules::FromWrite;
 use std::alloc::Global;
 use std::io::{IsTerminal, Read, Write};
 
@@ -55,13 +55,12 @@ pub fn asm<'a, D: Disk, I: Read + Drop, W: Write + IsTerminal, E: Write>(
         return Ok(2);
     }
     let bytes = schedule_text(alloc, open(disk, input, name)?, name)?;
-    plain_text(alloc, bytes.as_slice())?;
     if image == OUTPUT {
-        return asm_command(alloc, bytes.as_slice(), out);
+        return asm_command(alloc, bytes.as_slice(), &mut FromWrite::new(out));
     }
-    let mut file = LateFile::new(disk, image);
+    let mut file = FromWrite::new(LateFile::new(disk, image));
     let ran = asm_command(alloc, bytes.as_slice(), &mut file);
-    file.settle(ran.is_ok(), ran)
+    file.into_inner().settle(ran.is_ok(), ran)
 }
 
 /// Answers `dis`.
@@ -72,6 +71,6 @@ pub fn dis<'a, D: Disk, I: Read + Drop, W: Write>(
     input: &mut Option<I>,
     out: &mut W,
 ) -> Result<u8, HekFault<'a>> {
-    let file = plain_schedule(alloc, found, disk, input)?;
+    let file = schedule_file(alloc, found, disk, input)?;
     dis_command(alloc, file, out)
 }

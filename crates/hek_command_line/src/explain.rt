@@ -5,7 +5,7 @@ use crate::kept::Kept;
 use crate::notes::note;
 use crate::opening::without_mark;
 use crate::output::NotedOutput;
-use crate::programs::{explain_computed, explain_line, explain_place};
+use crate::programs::{explain_line, explain_place};
 use crate::reasons::{why_not_read, why_not_written};
 use crate::sought::advise_sought;
 use crate::words::advise_words;
@@ -36,9 +36,12 @@ pub fn finish<W: Write, E: Write>(
             status
         }
         Err(HekFault::CannotWrite) if out.has_lost_reader() => 0,
+        Err(HekFault::CannotWrite) if kept.failure() == Some(ErrorKind::OutOfMemory) => {
+            kept.status_after(report(HekFault::NoMemory, faults))
+        }
         Err(fault) => {
             let status = report(fault, faults);
-            if kept.explains {
+            if kept.explains && kept.is_whole() {
                 explain(alloc, fault, matches, kept, out.failure(), faults);
             }
             kept.status_after(status)
@@ -78,11 +81,7 @@ fn explain<E: Write>(
             let name = kept.file.unwrap_or("");
             explain_place(name, bytes.as_slice(), line, column, wanted, faults);
         }
-        HekFault::Computed { line, what } => {
-            let bytes = kept.file_bytes(alloc);
-            let name = kept.file.unwrap_or("");
-            explain_computed(name, bytes.as_slice(), line, what, faults);
-        }
+        HekFault::Image(LoadFault::Read) => why_not_read(kept.file.unwrap_or(""), kept, faults),
         HekFault::Image(fault) => image(alloc, fault, kept, faults),
         HekFault::TraceLine(line) => trace(alloc, line, kept, faults),
         HekFault::NotText => not_text(alloc, kept, faults),

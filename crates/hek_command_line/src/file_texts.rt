@@ -38,7 +38,7 @@ prints
         },
         ArgumentText {
             name: "changes",
-            help: "reads exchanges, lines OLD NEW TXN or WORD OLD NEW TXN, and names the change that leads from OLD to NEW",
+            help: "reads exchanges, lines OLD NEW TXN or WORD OLD NEW TXN, and names the change that leads from OLD to NEW, or what is wrong with it; lines over TXN say which transactions have ended",
             form: Form::Flag,
         },
         ArgumentText {
@@ -89,58 +89,6 @@ pub(crate) const DIS: CommandText = CommandText {
 Where first.img is the image of a schedule with one bucket and nothing else, it prints
   buckets 1",
     arguments: &[FILE, TEXT, IMAGE, EXPLAIN],
-};
-
-pub(crate) const IMPORT: CommandText = CommandText {
-    name: "import",
-    about: "Makes schedules of a spec of PostgreSQL's isolation tests, or a log of a history of Jepsen",
-    example: r#"`hek import elle FILE` makes a log for `hek history` of a history of Jepsen or Elle, in EDN or JSON: reads and writes of registers, or appends to lists.
-
-Of a spec: rows of a table with a primary key become rows; select, insert, update and delete become steps: reads where a condition names the key, otherwise scans. Serializable stays so, repeatable read becomes snapshot, and read committed isn't there: --level says which level to take. What can't be translated is left out and named, in comments too, with status 1; with status 4 if nothing is left. Without --permutation the sessions follow one another: `hek permute` plays all their orders.
-
-Example:
-  hek import spec skew.spec
-Where skew.spec has the lines
-  setup { CREATE TABLE t (id int PRIMARY KEY, v int); INSERT INTO t VALUES (1, 10); }
-  session "a"
-  setup { BEGIN ISOLATION LEVEL SERIALIZABLE; }
-  step "read" { SELECT v FROM t WHERE id = 1; }
-  step "commit" { COMMIT; }
-it prints a schedule whose first lines are
-  # skew: one session after another; permutations of the spec: 0
-  buckets 1
-  row 1 10
-  txn a serializable
-  a begin
-  a read 1"#,
-    arguments: &[
-        ArgumentText {
-            name: "FORM",
-            help: "what FILE is",
-            form: Form::OneOf(&["spec", "elle"]),
-        },
-        ArgumentText {
-            name: "FILE",
-            help: "a spec or a history, or - for standard input",
-            form: Form::Word,
-        },
-        EXPLAIN,
-        ArgumentText {
-            name: "permutation",
-            help: "makes the schedule of the Nth permutation, from 1",
-            form: Form::Number,
-        },
-        ArgumentText {
-            name: "level",
-            help: "takes all transactions as serializable, repeatable or snapshot",
-            form: Form::Value("L"),
-        },
-        ArgumentText {
-            name: "output",
-            help: "writes the schedule or the log to a file; where OUT ends with /, a file for each permutation to this folder",
-            form: Form::Output,
-        },
-    ],
 };
 
 pub(crate) const COMPLETIONS: CommandText = CommandText {

@@ -4,6 +4,7 @@ use clap::ArgMatches;
 use hek_report::INPUT;
 use std::alloc::Global;
 use std::cell::{Cell, RefCell};
+use std::convert::AsStr;
 use std::io;
 use std::io::{ErrorKind, IsTerminal, Read, Write};
 
@@ -58,6 +59,11 @@ impl<'a> Kept<'a> {
         self.failure.kind()
     }
 
+    /// Whether there was memory for all that had to be kept.
+    pub fn is_whole(&self) -> bool {
+        !self.failure.is_short.get()
+    }
+
     /// Whether the words name standard input twice, which can be read once.
     pub fn is_input_twice(&self) -> bool {
         self.file == Some(INPUT) && self.other == Some(INPUT)
@@ -65,10 +71,7 @@ impl<'a> Kept<'a> {
 
     /// The exit status after a fault: 4 in place of 1 for some commands.
     pub fn status_after(&self, status: u8) -> u8 {
-        if self.answers && status == 1 {
-            return AT_FAULT;
-        }
-        status
+        status_at_fault(status, self.answers)
     }
 
     /// Where the bytes of a file are kept.
@@ -101,6 +104,8 @@ impl<'a> Kept<'a> {
 #[derive(Drop)]
 struct Failure {
     kind: Cell<Option<ErrorKind>>,
+    /// Memory for kept bytes ran out.
+    is_short: Cell<bool>,
 }
 
 impl Failure {
@@ -108,6 +113,7 @@ impl Failure {
     fn new() -> Failure {
         Failure {
             kind: Cell::new(None),
+            is_short: Cell::new(false),
         }
     }
 
@@ -125,11 +131,43 @@ impl Failure {
 /// The exit status of a fault, where 1 isn't.
 const AT_FAULT: u8 = 4;
 
-/// Whether a fault of a command has the status 4, since it answers yes or no by 0 or 1, or reads what isn't Hek's. The statuses of
-/// the other commands are those of the formats that are fixed.
+/// The exit status after a fault: 4 in place of 1 where 1 is an answer.
+pub fn status_at_fault(status: u8, asks: bool) -> u8 {
+    if asks && status == 1 {
+        AT_FAULT
+    } else {
+        status
+    }
+}
+
+/// Whether the words of a command line, the program's name first, ask a question to which 1 answers no.
+pub fn asks_question<S: AsStr>(words: &[S]) -> bool {
+    match words.get(1) {
+        Some(command) => match command.as_str() {
+            "history" => true,
+            "permute" => has_front(words, "--find"),
+            "word" => has_front(words, "--changes"),
+            _ => false,
+        },
+        None => false,
+    }
+}
+
+/// Whether one of the words begins so.
+fn has_front<S: AsStr>(words: &[S], front: &str) -> bool {
+    for word in words {
+        if word.as_str().starts_with(front) {
+            return true;
+        }
+    }
+    false
+}
+
+/// Whether a fault of a command has the status 4, since it answers yes or no by 0 or 1. The statuses of the
+/// other commands are those of the formats that are fixed.
 fn is_question(command: &str, found: &ArgMatches<'_>) -> bool {
     match command {
-        "history" | "import" => true,
+        "history" => true,
         "permute" => found.get_str("find").is_some(),
         "word" => found.get_flag("changes"),
         _ => false,
@@ -176,6 +214,7 @@ impl<'k, R: Read + Drop> KeptReader<'k, R> {
         }
         if !is_kept {
             self.cell = None;
+            self.failure.is_short.set(true);
         }
     }
 }

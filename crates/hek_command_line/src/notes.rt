@@ -3,7 +3,7 @@ use crate::explain::schedule_of;
 use crate::kept::Kept;
 use crate::opening::without_mark;
 use clap::ArgMatches;
-use hek_check_command::note_together;
+use hek_check_command::{note_nothing, note_together};
 use hek_report::INPUT;
 use hek_rules::{EventKind, Schedule, next_line, next_word, number};
 use std::alloc::Global;
@@ -25,15 +25,17 @@ pub fn note<E: Write>(
     }
 }
 
-/// A trace that is right at each level, whose transactions can't follow one another by end time. Where a level or more than
-/// the verdict is asked for, nothing is noted.
+/// A trace without a commit; and one that is right at each level, whose transactions can't follow one another by end time,
+/// but where a level or more than the verdict is asked for.
 fn note_check<E: Write>(alloc: Global, found: &ArgMatches<'_>, kept: &Kept<'_>, faults: &mut E) {
+    let trace = kept.other_bytes(alloc);
+    let trace = without_mark(trace.as_slice());
+    note_nothing(alloc, trace, faults);
     if found.get_str("level").is_some() || found.get_flag("summary") || found.get_flag("json") {
         return;
     }
     if let Some(schedule) = schedule_of(alloc, kept.file_bytes(alloc)) {
-        let trace = kept.other_bytes(alloc);
-        note_together(alloc, &schedule, without_mark(trace.as_slice()), faults);
+        note_together(alloc, &schedule, trace, faults);
     }
 }
 

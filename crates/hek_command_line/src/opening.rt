@@ -1,5 +1,5 @@
 //! The front of a file, up to its first word, which says whether it is a schedule text.
-use hek_report::{HekFault, INPUT};
+use hek_rules::NoMemory;
 use std::alloc::Global;
 use std::io::{ErrorKind, Read};
 
@@ -35,18 +35,14 @@ struct Looked {
 }
 
 /// Reads a file until its first word is known. A read that fails ends the front; the next one fails again.
-pub fn read_opening<'a, R: Read>(
-    alloc: Global,
-    file: &mut R,
-    name: &'a str,
-) -> Result<Opening, HekFault<'a>> {
+pub fn read_opening<R: Read>(alloc: Global, file: &mut R) -> Result<Opening, NoMemory> {
     let mut front = Vec::new(alloc);
     let mut looked = Looked {
         at: 0,
         is_comment: false,
     };
     for _ in 0..u64::MAX {
-        let is_whole = !read_piece(file, &mut front, name)?;
+        let is_whole = !read_piece(file, &mut front)?;
         if let Some(is_text) = looked.judge(front.as_slice(), is_whole) {
             return Ok(Opening { front, is_text });
         }
@@ -57,28 +53,19 @@ pub fn read_opening<'a, R: Read>(
     })
 }
 
-/// Appends the next bytes of a file; answers whether there were some. A folder can't be read; of standard input that is
-/// closed, an image says so.
-fn read_piece<'a, R: Read>(
-    file: &mut R,
-    front: &mut Vec<u8>,
-    name: &'a str,
-) -> Result<bool, HekFault<'a>> {
+/// Appends the next bytes of a file; answers whether there were some. Where a read fails there are none.
+fn read_piece<R: Read>(file: &mut R, front: &mut Vec<u8>) -> Result<bool, NoMemory> {
     let mut piece = [0; PIECE];
     let count = match file.read(&mut piece) {
         Ok(count) => count.min(PIECE),
         Err(error) => match error.kind() {
-            ErrorKind::OutOfMemory => return Err(HekFault::NoMemory),
-            ErrorKind::IsADirectory if name != INPUT => return Err(HekFault::CannotRead(name)),
+            ErrorKind::OutOfMemory => return Err(NoMemory),
             ErrorKind::Interrupted => return Ok(true),
             _ => 0,
         },
     };
-    let read = piece.as_slice().get(..count).unwrap_or(&[]);
-    match front.extend_from_slice(read) {
-        Ok(()) => Ok(count > 0),
-        Err(_) => Err(HekFault::NoMemory),
-    }
+    front.extend_from_slice(piece.as_slice().get(..count).unwrap_or(&[]))?;
+    Ok(count > 0)
 }
 
 impl Looked {

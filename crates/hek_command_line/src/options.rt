@@ -1,6 +1,5 @@
 //! What the arguments and options of a command are: texts, numbers, levels and forms.
 use clap::ArgMatches;
-use hek_figure_command::Portion;
 use hek_permute::Form;
 use hek_report::{HekFault, Printing};
 use hek_rules::{Level, number};
@@ -33,17 +32,6 @@ pub fn form_of<'a>(found: &ArgMatches<'a>) -> Result<Form, HekFault<'a>> {
         },
         None if found.get_flag("split") => Ok(Form::Split),
         None => Ok(Form::Whole),
-    }
-}
-
-/// What of a step the words ask to show.
-pub fn portion_of<'a>(found: &ArgMatches<'a>) -> Result<Portion, HekFault<'a>> {
-    match found.get_str("part") {
-        Some(word) => match Portion::named(word) {
-            Some(portion) => Ok(portion),
-            None => Err(HekFault::BadArgument),
-        },
-        None => Ok(Portion::Whole),
     }
 }
 

@@ -2,29 +2,29 @@
 use hek_report::HekFault;
 use std::io::Write;
 
-/// The line of a page before that of its data.
+/// The lines of a page before that of its data, before those of its plays, and after these.
 const FRONT: &[u8] = b"<script type=\"application/json\" id=\"data\">\n";
 
-/// Writes the line of a page that has its data.
-pub fn write_data<'a, W: Write>(page: &[u8], out: &mut W) -> Result<u8, HekFault<'a>> {
-    match out.write_all(data_in(page)) {
-        Ok(()) => Ok(0),
-        Err(_) => Err(HekFault::CannotWrite),
-    }
-}
+const PLAYS: &[u8] = b"<script type=\"application/json\" id=\"plays\">\n";
 
-/// The line with the data, and its line feed; nothing if there is none.
-fn data_in(page: &[u8]) -> &[u8] {
+const END: &[u8] = b"</script>\n";
+
+/// Writes the line of a page that has its data, and those of its plays.
+pub fn write_data<'a, W: Write>(page: &[u8], out: &mut W) -> Result<u8, HekFault<'a>> {
     let mut rest = page;
+    let mut is_data = false;
     for _ in 0..page.len() {
         let (line, after) = first_line(rest);
-        if line.ends_with(FRONT) {
-            let (data, _) = first_line(after);
-            return data;
-        }
         rest = after;
+        if line == FRONT || line == PLAYS {
+            is_data = true;
+        } else if line == END {
+            is_data = false;
+        } else if is_data && line.len() > 1 && out.write_all(line).is_err() {
+            return Err(HekFault::CannotWrite);
+        }
     }
-    b""
+    Ok(0)
 }
 
 /// The first line with its line feed, and what follows it.

@@ -5,10 +5,10 @@ use crate::texts::{
 
 pub(crate) const PAGE: CommandText = CommandText {
     name: "page",
-    about: "Writes a schedule's run as a page for a browser",
+    about: "Writes a schedule's run, or a log, as a page for a browser",
     example: r"Example:
   hek page first.hek -o first.html
-The page shows each step with its reply, and the versions, waits and lock words at each position. It needs no network and no other file. Comments of a schedule text are shown: those above its first line at the start, those above a step at that step. A line `#? ..` above a step is a question, which is asked where replies are guessed. A page has at most 2000 steps; of a longer schedule --from and --to say which.",
+The page tells the run: each read, write, wait and end, the rows, what is to hold, and the verdict; and shows for each step its reply, the versions, waits and lock words. It needs no network and no other file. If FILE is a log, whose name ends in .jsonl, the page tells its transactions, with the cycle that hek history names. Comments of a schedule text are shown: those above its first line at the start, those above a step at that step. A line `#? ..` above a step is a question, which is asked where replies are guessed. A page has at most 2000 steps; of a longer schedule --from and --to say which.",
     arguments: &[
         FILE,
         TEXT,
@@ -77,49 +77,14 @@ The page shows each step with its reply, and the versions, waits and lock words 
             form: Form::Number,
         },
         ArgumentText {
+            name: "machine",
+            help: "shows the machine alone, without the story",
+            form: Form::Flag,
+        },
+        ArgumentText {
             name: "json",
-            help: "writes the page's data alone, one object of JSON",
+            help: "writes the page's data alone, one object of JSON, and then the plays of its story, an object each",
             form: Form::Flag,
-        },
-    ],
-};
-
-pub(crate) const FIGURE: CommandText = CommandText {
-    name: "figure",
-    about: "Writes a step of a schedule's run as one picture, for a slide",
-    example: r"Example:
-  hek figure first.hek --step 2 -o first.svg
-The picture is SVG with its style inside: lanes, what the step says, versions, waits and lock words, in the colours of `hek page`. With --part it shows one of these.",
-    arguments: &[
-        FILE,
-        TEXT,
-        IMAGE,
-        EXPLAIN,
-        LEVEL,
-        ArgumentText {
-            name: "auto",
-            help: "shows only the reads and writes of FILE, which may be a program, and begins and ends each transaction by itself",
-            form: Form::Flag,
-        },
-        ArgumentText {
-            name: "output",
-            help: "writes the picture to a file; - is standard output, also where that is a terminal",
-            form: Form::Output,
-        },
-        ArgumentText {
-            name: "step",
-            help: "shows what is so after N steps, by default after the last; 0 is before the first",
-            form: Form::Number,
-        },
-        ArgumentText {
-            name: "part",
-            help: "shows one part: lanes, versions, waits or words",
-            form: Form::Value("PART"),
-        },
-        ArgumentText {
-            name: "title",
-            help: "the picture's title, by default the name of FILE",
-            form: Form::Value("TEXT"),
         },
     ],
 };

@@ -1,62 +1,25 @@
-//! The words of `hek page` and `hek figure`.
+//! The words of `hek page`.
 use crate::disk::{Disk, LateFile};
-use crate::options::{form_of, level_of, number_of, portion_of, step_of, text};
+use crate::log_pages::{is_log, log_page};
+use crate::options::{form_of, level_of, number_of, step_of, text};
 use crate::page_data::write_data;
-use crate::programs::{is_program, plain_file};
-use crate::refused::{OUTPUT, refuse_page, refuse_picture, refuse_same};
+use crate::programs::is_program;
+use crate::refused::{OUTPUT, refuse_page, refuse_same};
 use crate::schedule::schedule_file;
 use clap::ArgMatches;
-use hek_figure_command::figure_command;
 use hek_page_command::{
     Explored, Extent, Heading, MOST_NODES, Making, Part, explorer_command, levels_command,
     made_file, page_command, program_command,
 };
-use hek_report::{HekFault, ScheduleFile};
+use hek_permute_command::{MovesChoice, plays_of_page};
+use hek_report::{HekFault, Printing, ScheduleFile};
 use std::alloc::Global;
 use std::io::{IsTerminal, Read, Write};
+use std::str;
 
-/// What is written whole or not at all.
-#[derive(Clone, Copy, PartialEq, Eq)]
-pub enum Document {
-    Page,
-    Figure,
-}
-
-impl Document {
-    /// Whether standard output doesn't take it, since that is a terminal. `faults` says so.
-    fn is_refused<W: IsTerminal, E: Write>(
-        self,
-        found: &ArgMatches<'_>,
-        out: &W,
-        faults: &mut E,
-    ) -> bool {
-        match self {
-            Document::Page => !found.get_flag("json") && refuse_page(out, faults),
-            Document::Figure => refuse_picture(out, faults),
-        }
-    }
-
-    /// Writes it as the words ask for it.
-    fn write<'a, D: Disk, I: Read + Drop, W: Write, E: Write>(
-        self,
-        alloc: Global,
-        found: &ArgMatches<'a>,
-        disk: &D,
-        input: &mut Option<I>,
-        out: &mut W,
-        faults: &mut E,
-    ) -> Result<u8, HekFault<'a>> {
-        match self {
-            Document::Page => write_page(alloc, found, disk, input, out, faults),
-            Document::Figure => write_figure(alloc, found, disk, input, out, faults),
-        }
-    }
-}
-
-/// Answers `page` or `figure`: the document goes to standard output, or with `-o` to a file.
-pub fn write_document<'a, D: Disk, I: Read + Drop, W: Write + IsTerminal, E: Write>(
+/// Answers `page`: the page goes to standard output, or with `-o` to a file.
+pub fn page<'a, D: Disk, I: Read + Drop, W: Write + IsTerminal, E: Write>(
     alloc: Global,
-    document: Document,
     found: &ArgMatches<'a>,
     disk: &D,
     input: &mut Option<I>,
@@ -70,36 +33,13 @@ pub fn write_document<'a, D: Disk, I: Read + Drop, W: Write + IsTerminal, E: Wri
                 return Ok(2);
             }
             let mut file = LateFile::new(disk, target);
-            let ran = document.write(alloc, found, disk, input, &mut file, faults);
+            let ran = write_page(alloc, found, disk, input, &mut file, faults);
             let is_whole = matches!(ran, Ok(0));
             file.settle(is_whole, ran)
         }
-        None if document.is_refused(found, out, faults) => Ok(2),
-        _ => document.write(alloc, found, disk, input, out, faults),
+        None if !found.get_flag("json") && refuse_page(out, faults) => Ok(2),
+        _ => write_page(alloc, found, disk, input, out, faults),
     }
-}
-
-/// Writes the picture that the words ask for.
-fn write_figure<'a, D: Disk, I: Read + Drop, W: Write, E: Write>(
-    alloc: Global,
-    found: &ArgMatches<'a>,
-    disk: &D,
-    input: &mut Option<I>,
-    out: &mut W,
-    faults: &mut E,
-) -> Result<u8, HekFault<'a>> {
-    let step = number_of(found, "step")?;
-    let portion = portion_of(found)?;
-    let heading = Heading {
-        file: text(found, "FILE")?,
-        title: found.get_str("title"),
-        lesson: None,
-        previous: None,
-        next: None,
-    };
-    let file = schedule_file(alloc, found, disk, input)?;
-    let file = file_to_show(alloc, found, file)?;
-    figure_command(alloc, file, step, portion, heading, out, faults)
 }
 
 /// Writes the page that the words ask for, or its data alone.
@@ -130,6 +70,23 @@ fn write_whole_page<'a, D: Disk, I: Read + Drop, W: Write, E: Write>(
     out: &mut W,
     faults: &mut E,
 ) -> Result<u8, HekFault<'a>> {
+    let name = text(found, "FILE")?;
+    if is_log(found, name) {
+        let heading = heading_of(found)?;
+        return log_page(alloc, found, heading, name, disk, input, out, faults);
+    }
+    write_run_page(alloc, found, disk, input, out, faults)
+}
+
+/// Writes the page of a run, or of an explorer.
+fn write_run_page<'a, D: Disk, I: Read + Drop, W: Write, E: Write>(
+    alloc: Global,
+    found: &ArgMatches<'a>,
+    disk: &D,
+    input: &mut Option<I>,
+    out: &mut W,
+    faults: &mut E,
+) -> Result<u8, HekFault<'a>> {
     let part = Part {
         from: step_of(found, "from")?,
         to: step_of(found, "to")?,
@@ -141,6 +98,12 @@ fn write_whole_page<'a, D: Disk, I: Read + Drop, W: Write, E: Write>(
     };
     let heading = heading_of(found)?;
     let file = schedule_file(alloc, found, disk, input)?;
+    let told = told_in(alloc, found, &file)?;
+    let heading = Heading {
+        text: told.text.as_str(),
+        plays: told.plays.as_slice(),
+        ..heading
+    };
     let Some(explored) = explored else {
         let file = file_to_show(alloc, found, file)?;
         return page_command(alloc, file, part, heading, out, faults);
@@ -153,6 +116,56 @@ fn write_whole_page<'a, D: Disk, I: Read + Drop, W: Write, E: Write>(
         Explored::AllLevels => levels_command(alloc, file, extent, heading, out, faults),
         Explored::At(_) => explorer_command(alloc, file, extent, heading, out, faults),
     }
+}
+
+/// What the story of a page is told by: the text, and its plays as lines of JSON.
+#[derive(Drop)]
+struct Told {
+    text: String,
+    plays: Vec<u8>,
+}
+
+/// What the story is told by of a schedule text; nothing of an image, of a part of a run, or where the words ask for the machine alone. Where a text is at
+/// fault its page says so.
+fn told_in<'a, R: Read + Drop>(
+    alloc: Global,
+    found: &ArgMatches<'a>,
+    file: &ScheduleFile<R>,
+) -> Result<Told, HekFault<'a>> {
+    let mut told = Told {
+        text: String::new(alloc),
+        plays: Vec::new(alloc),
+    };
+    let is_part = found.get_str("from").is_some() || found.get_str("to").is_some();
+    let ScheduleFile::Text(bytes) = file else {
+        return Ok(told);
+    };
+    let Ok(text) = str::from_utf8(bytes.as_slice()) else {
+        return Ok(told);
+    };
+    if told.text.push_str(text).is_err() {
+        return Err(HekFault::NoMemory);
+    }
+    if found.get_flag("machine") || is_part {
+        return Ok(told);
+    }
+    match plays_of_page(alloc, bytes.as_slice(), moves_choice(found)?) {
+        Ok(plays) => told.plays = plays,
+        Err(HekFault::NoMemory) => return Err(HekFault::NoMemory),
+        Err(_) => {}
+    }
+    Ok(told)
+}
+
+/// How the words ask for the moves of a page's own run.
+fn moves_choice<'a>(found: &ArgMatches<'a>) -> Result<MovesChoice, HekFault<'a>> {
+    let is_explorer = found.get_flag("orders") || found.get_flag("levels");
+    Ok(MovesChoice {
+        auto: found.get_flag("auto") || is_explorer,
+        level: level_of(found)?,
+        told: false,
+        printing: Printing::Json,
+    })
 }
 
 /// Which explorer the words ask for, if they ask for one.
@@ -172,13 +185,7 @@ fn file_to_show<'a, R: Read + Drop>(
     found: &ArgMatches<'a>,
     file: ScheduleFile<R>,
 ) -> Result<ScheduleFile<R>, HekFault<'a>> {
-    let making = making_of(found)?;
-    let file = if making.auto {
-        file
-    } else {
-        plain_file(alloc, file)?
-    };
-    made_file(alloc, file, making)
+    made_file(alloc, file, making_of(found)?)
 }
 
 /// What the words make of a schedule before its page.
@@ -197,5 +204,7 @@ fn heading_of<'a>(found: &ArgMatches<'a>) -> Result<Heading<'a>, HekFault<'a>> {
         lesson: number_of(found, "lesson")?,
         previous: found.get_str("previous"),
         next: found.get_str("next"),
+        text: "",
+        plays: &[],
     })
 }

@@ -1,7 +1,7 @@
 //! Programs, whose steps are computed: whether a file holds one, where a schedule is wanted, and what is wrong with one.
 use crate::opening::without_mark;
 use clap::ArgMatches;
-use hek_asm::AsmKind;
+use hek_asm::{AsmKind, assemble_text};
 use hek_diagnostics::{Excerpt, explain_text};
 use hek_program::{ComputedLine, bare_text, computed_line, read_program};
 use hek_report::{HekFault, ScheduleFile};
@@ -21,29 +21,19 @@ pub fn is_program<R: Read + Drop>(file: &ScheduleFile<R>) -> bool {
     }
 }
 
-/// The file, unless it holds a program: that is a fault where a schedule is wanted. A text with another fault stays as it is.
+/// The file, unless it holds a program: a schedule's text has no such line, so the first one is at fault.
 pub fn plain_file<'a, R: Read + Drop>(
     alloc: Global,
     file: ScheduleFile<R>,
 ) -> Result<ScheduleFile<R>, HekFault<'a>> {
-    if let ScheduleFile::Text(text) = &file {
-        plain_text(alloc, text.as_slice())?;
+    if is_program(&file) {
+        if let ScheduleFile::Text(bytes) = &file {
+            if let Ok(text) = str::from_utf8(bytes.as_slice()) {
+                assemble_text(alloc, text)?;
+            }
+        }
     }
     Ok(file)
-}
-
-/// Refuses a text that is a program.
-pub fn plain_text<'a>(alloc: Global, text: &[u8]) -> Result<(), HekFault<'a>> {
-    let Ok(text) = str::from_utf8(text) else {
-        return Ok(());
-    };
-    let Some(ComputedLine { number, what }) = computed_line(text) else {
-        return Ok(());
-    };
-    match read_program(alloc, text) {
-        Ok(_) => Err(HekFault::Computed { line: number, what }),
-        Err(_) => Ok(()),
-    }
 }
 
 /// Whether the words of a command ask for a program's play.
@@ -51,12 +41,13 @@ fn takes_programs(command: &str, found: &ArgMatches<'_>) -> bool {
     match command {
         "permute" => true,
         "page" => found.get_flag("auto") || found.get_flag("orders") || found.get_flag("levels"),
-        "run" | "debug" | "figure" => found.get_flag("auto"),
+        "run" | "debug" => found.get_flag("auto"),
         _ => false,
     }
 }
 
-/// Explains the fault of a line of a schedule text, or of a line of a program that computes nothing.
+/// Explains the fault of a line of a schedule text: of a line that computes nothing, or of one of a program where a schedule
+/// is wanted.
 pub fn explain_line<'t, E: Write>(
     alloc: Global,
     matches: &ArgMatches<'_>,
@@ -69,7 +60,10 @@ pub fn explain_line<'t, E: Write>(
     let text = without_mark(bytes);
     let bare = match matches.subcommand() {
         Some((command, found)) if takes_programs(command, found) => bare_of(alloc, text),
-        _ => None,
+        _ => match program_line(alloc, text, line) {
+            Some(what) => return explain_computed(name, text, line, what, faults),
+            None => None,
+        },
     };
     let text = match &bare {
         Some(bare) => bare.as_slice(),
@@ -78,6 +72,14 @@ pub fn explain_line<'t, E: Write>(
     if let Ok(Some(found)) = explain_text(alloc, name, text, line, kind) {
         let _ = write!(faults, "{found}");
     }
+}
+
+/// What the line of this number has that only a program has, if the text is a program and this is its first such line.
+fn program_line(alloc: Global, text: &[u8], line: u64) -> Option<&'static str> {
+    let text = str::from_utf8(text).ok()?;
+    let ComputedLine { number, what } = computed_line(text)?;
+    read_program(alloc, text).ok()?;
+    if number == line { Some(what) } else { None }
 }
 
 /// A program's text without what its lines compute; None of a schedule's.
@@ -110,14 +112,8 @@ pub fn explain_place<E: Write>(
 }
 
 /// Shows the line of a program where a schedule is wanted, and says what takes it.
-pub fn explain_computed<E: Write>(
-    name: &str,
-    bytes: &[u8],
-    number: u64,
-    what: &str,
-    faults: &mut E,
-) {
-    let Some(line) = line_at(without_mark(bytes), number) else {
+fn explain_computed<E: Write>(name: &str, text: &[u8], number: u64, what: &str, faults: &mut E) {
+    let Some(line) = line_at(text, number) else {
         return;
     };
     let excerpt = Excerpt {
@@ -127,7 +123,7 @@ pub fn explain_computed<E: Write>(
     };
     let _ = writeln!(
         faults,
-        "  {name}:{number}:1\n{excerpt} {what}: the file is a program\n  | `hek permute` plays every order of a program; `--auto` of run, debug, page and figure plays one"
+        "  {name}:{number}:1\n{excerpt} {what}: the file is a program\n  | `hek permute` plays every order of a program; `--auto` of run, debug and page plays one"
     );
 }
 

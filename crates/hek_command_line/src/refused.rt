@@ -41,15 +41,3 @@ pub fn refuse_page<W: IsTerminal, E: Write>(out: &W, faults: &mut E) -> bool {
     );
     true
 }
-
-/// Says that a picture would go to a terminal, if it would.
-pub fn refuse_picture<W: IsTerminal, E: Write>(out: &W, faults: &mut E) -> bool {
-    if !out.is_terminal() {
-        return false;
-    }
-    let _ = writeln!(
-        faults,
-        "hek: a picture is for a browser or a slide, and standard output is a terminal: write it with -o FILE; `-o -` prints it"
-    );
-    true
-}

@@ -42,6 +42,11 @@ it prints
             help: "prints the run as a log for hek history, in place of its trace",
             form: Form::Flag,
         },
+        ArgumentText {
+            name: "moves",
+            help: "prints the run as its transactions see it, in place of its trace: a line for each read, write, wait and end; with --why its reason",
+            form: Form::Flag,
+        },
         AUTO,
         LEVEL,
         JSON,

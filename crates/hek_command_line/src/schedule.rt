@@ -56,22 +56,11 @@ pub fn schedule_file<'a, D: Disk, I: Read + Drop>(
             (front, !is_image)
         }
         Holds::Unsaid => {
-            let Opening { front, is_text } = read_opening(alloc, &mut file, name)?;
+            let Opening { front, is_text } = read_opening(alloc, &mut file)?;
             (front, is_text)
         }
     };
     file_of(alloc, is_text, from_front(front, file), name)
-}
-
-/// The schedule file that the words name, where a program is a fault.
-pub fn plain_schedule<'a, D: Disk, I: Read + Drop>(
-    alloc: Global,
-    found: &ArgMatches<'a>,
-    disk: &D,
-    input: &mut Option<I>,
-) -> Result<ScheduleFile<BufReader<FromFront<I, D::Reader>>>, HekFault<'a>> {
-    let file = schedule_file(alloc, found, disk, input)?;
-    plain_file(alloc, file)
 }
 
 /// The schedule file that the words name, as they ask for it to run: with `--level` all transactions at one level, with
@@ -88,10 +77,10 @@ pub fn schedule_to_run<'a, D: Disk, I: Read + Drop>(
     if found.get_flag("auto") {
         return auto_file(alloc, file, level);
     }
-    level_plain(alloc, plain_file(alloc, file)?, level)
+    level_plain(alloc, file, level)
 }
 
-/// As `schedule_to_run`, where a program is always a fault.
+/// As `schedule_to_run`, where a program is a fault with `--auto` too.
 pub fn plain_to_run<'a, D: Disk, I: Read + Drop>(
     alloc: Global,
     found: &ArgMatches<'a>,
@@ -99,9 +88,9 @@ pub fn plain_to_run<'a, D: Disk, I: Read + Drop>(
     input: &mut Option<I>,
 ) -> Result<ScheduleFile<BufReader<FromFront<I, D::Reader>>>, HekFault<'a>> {
     let level = level_of(found)?;
-    let file = plain_schedule(alloc, found, disk, input)?;
+    let file = schedule_file(alloc, found, disk, input)?;
     if found.get_flag("auto") {
-        return auto_file(alloc, file, level);
+        return auto_file(alloc, plain_file(alloc, file)?, level);
     }
     level_plain(alloc, file, level)
 }

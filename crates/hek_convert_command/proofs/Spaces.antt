@@ -1,4 +1,4 @@
--- The words of a line that has a space between each two, and the exchange that is written so.
+-- The words of a line that has a space between each two, and the entry that is written so.
 use Rattle.std.proofs.Common.{◌≡◌, refl, sym, ap, subst, ◌∙◌, ℕ, suc, zero, ◌<◌, ◌≤◌, ◌^◌, ◌&&◌, Bool, true, false, cond, leb, List, [], ◌∷◌, ◌++◌, length, length-append, get_or, codes, not, arith, Option, Some, None}
 use Rattle.std.specs.Prelude.{nat_le, nat_lt}
 use Rattle.std.specs.List.{list_all}
@@ -9,12 +9,14 @@ use Rattle.std.proofs.lemmas.Bool.{and_parts, leb-true, ltb-true}
 use Rattle.std.proofs.lemmas.Bool.Decides.{nat_tests}
 use Rattle.std.proofs.lemmas.Str.{NoCharPasses-byte, char_from_byte, cons_from_encodes, encode_ascii}
 use Rattle.hek_rules.specs.Text.{number_of, is_number}
-use Rattle.hek_convert_command.specs.declared.exchange.Exchange.{Exchange}
-use Rattle.hek_convert_command.specs.declared.exchange.Side.{Side}
-use Rattle.hek_convert_command.specs.declared.exchange.Side.TheVariants.{Begin, End}
-use Rattle.hek_convert_command.specs.declared.exchange.WordName.{WordName}
+use Rattle.hek_convert_command.specs.declared.entry.Entry.{Entry}
+use Rattle.hek_convert_command.specs.declared.entry.Entry.TheVariants.{Exchange as ExchangeOf, Over}
+use Rattle.hek_convert_command.specs.declared.entry.Exchange.{Exchange}
+use Rattle.hek_convert_command.specs.declared.entry.Side.{Side}
+use Rattle.hek_convert_command.specs.declared.entry.Side.TheVariants.{Begin, End}
+use Rattle.hek_convert_command.specs.declared.entry.WordName.{WordName}
 use Rattle.hek_convert_command.specs.WordText.{IsWordText}
-use Rattle.hek_convert_command.specs.Lines.{AreNumbersOf, AreWordsOf, FirstWord, FirstWords, IsExchangeOn, IsNameOf, after_word, side_text, spaced}
+use Rattle.hek_convert_command.specs.Lines.{AreExchangeWords, AreNumbersOf, AreWordsOf, FirstWord, FirstWords, IsEntryOn, IsNameOf, after_word, side_text, spaced}
 
 -- ---- bytes
 
@@ -229,17 +231,27 @@ name_solid word text h =
 numbers_solid : (e : Exchange) (old new txn : List ℕ) → AreNumbersOf e old new txn → AreSolid (old ∷ new ∷ txn ∷ [])
 numbers_solid e old new txn h = (hex_solid old h.is_old.is_word, (hex_solid new h.is_new.is_word, (number_solid txn e.txn h.is_txn, tt)))
 
-words_solid : (e : Exchange) (ws : List (List ℕ)) → AreWordsOf e ws → AreSolid ws × (length ws ≤ 5)
-words_solid e [] h = absurd h
-words_solid e (a ∷ []) h = absurd h
-words_solid e (a ∷ b ∷ []) h = absurd h
-words_solid e (a ∷ b ∷ c ∷ []) h = (numbers_solid e a b c h.1, omega arith)
-words_solid e (a ∷ b ∷ c ∷ d ∷ []) h = ((name_solid h.0.0 a h.0.2, numbers_solid e b c d h.1), omega arith)
-words_solid e (a ∷ b ∷ c ∷ d ∷ f ∷ ws) h = absurd h
+exchange_solid : (e : Exchange) (ws : List (List ℕ)) → AreExchangeWords e ws → AreSolid ws × (length ws ≤ 5)
+exchange_solid e [] h = absurd h
+exchange_solid e (a ∷ []) h = absurd h
+exchange_solid e (a ∷ b ∷ []) h = absurd h
+exchange_solid e (a ∷ b ∷ c ∷ []) h = (numbers_solid e a b c h.1, omega arith)
+exchange_solid e (a ∷ b ∷ c ∷ d ∷ []) h = ((name_solid h.0.0 a h.0.2, numbers_solid e b c d h.1), omega arith)
+exchange_solid e (a ∷ b ∷ c ∷ d ∷ f ∷ ws) h = absurd h
 
--- the exchange on a line of its words, with a space between each two
-pub spaced_exchange : (line : List ℕ) (found : Option Exchange) → IsExchangeOn line found → (e : Exchange) (ws : List (List ℕ)) → AreWordsOf e ws → line ≡ spaced ws → found ≡ Some e
-spaced_exchange line found h e ws are is =
+over_solid : (word : List ℕ) → word ≡ codes "over" → IsSolid word
+over_solid word is = subst IsSolid (sym is) (record { some = omega arith; plain = plain_by (codes "over") refl })
+
+words_solid : (e : Entry) (ws : List (List ℕ)) → AreWordsOf e ws → AreSolid ws × (length ws ≤ 5)
+words_solid (ExchangeOf e) ws h = exchange_solid e ws h
+words_solid (Over t) [] h = absurd h
+words_solid (Over t) (a ∷ []) h = absurd h
+words_solid (Over t) (a ∷ b ∷ []) h = ((over_solid a h.0, (number_solid b t h.1, tt)), omega arith)
+words_solid (Over t) (a ∷ b ∷ c ∷ ws) h = absurd h
+
+-- the entry on a line of its words, with a space between each two
+pub spaced_entry : (line : List ℕ) (found : Option Entry) → IsEntryOn line found → (e : Entry) (ws : List (List ℕ)) → AreWordsOf e ws → line ≡ spaced ws → found ≡ Some e
+spaced_entry line found h e ws are is =
     let solid = words_solid e ws are in
     let same : h.words ≡ ws = spaced_are 4 ws h.words line solid.0 solid.1 is h.first in
     (h.is e).1 (subst (λ (words : List (List ℕ)). AreWordsOf e words) (sym same) are)

@@ -1,15 +1,17 @@
--- The lines of a text, and the exchange on a line.
-use Rattle.std.specs.Prelude.{◌≡◌, ◌↔◌, ℕ, suc, zero, ◌<◌, ◌==◌, if◌then◌else◌, List, [], ◌∷◌, ◌++◌, length, codes, Option, Some, None}
+-- The lines of a text, and the entry on a line.
+use Rattle.std.specs.Prelude.{◌≡◌, ◌↔◌, ℕ, suc, zero, ◌+◌, ◌-◌, ◌^◌, ◌<◌, min, ◌==◌, if◌then◌else◌, List, [], ◌∷◌, ◌++◌, length, codes, Option, Some, None}
 use Rattle.std.specs.Char.{is_whitespace, is_not_whitespace}
 use Rattle.std.specs.Str.{NoCharPasses, EmptyOrStartsWithPassing, trim}
 use Rattle.std.specs.Str.Parse.{digits_value}
 use Rattle.std.specs.Io.BufRead.{first_line, drop_through}
 use Rattle.hek_rules.specs.Text.{number_of}
 use Rattle.hek_convert_command.specs.WordText.{IsWordText}
-use Rattle.hek_convert_command.specs.declared.exchange.Exchange.{Exchange}
-use Rattle.hek_convert_command.specs.declared.exchange.Side.{Side}
-use Rattle.hek_convert_command.specs.declared.exchange.Side.TheVariants.{Begin, End}
-use Rattle.hek_convert_command.specs.declared.exchange.WordName.{WordName}
+use Rattle.hek_convert_command.specs.declared.entry.Entry.{Entry}
+use Rattle.hek_convert_command.specs.declared.entry.Entry.TheVariants.{Exchange as ExchangeOf, Over}
+use Rattle.hek_convert_command.specs.declared.entry.Exchange.{Exchange}
+use Rattle.hek_convert_command.specs.declared.entry.Side.{Side}
+use Rattle.hek_convert_command.specs.declared.entry.Side.TheVariants.{Begin, End}
+use Rattle.hek_convert_command.specs.declared.entry.WordName.{WordName}
 
 -- ---- the lines of a text
 
@@ -19,17 +21,26 @@ AreLinesBefore text [] rest = text ≡ rest
 AreLinesBefore text (latest ∷ earlier) rest =
     (left : List ℕ) × AreLinesBefore text earlier left × (0 < length left) × (latest ≡ first_line left) × (rest ≡ drop_through 10 left)
 
--- one more line, unless it is blank
-abbrev pub with_line : List ℕ → List (List ℕ) → List (List ℕ)
-with_line line earlier = if length line == 0 then earlier else line ∷ earlier
+-- the number of a line, from 1, as far as 64 bits count
+abbrev pub line_number : ℕ → ℕ
+line_number n = min n (2 ^ 64 - 1)
 
--- the lines that aren't blank, without the white space around them
-abbrev pub full_lines : List (List ℕ) → List (List ℕ)
+-- a line that isn't blank: its number, and what it says without the white space around it
+pub record Full : Type 0 where
+  pub number : ℕ
+  pub line : List ℕ
+
+-- one more line with this number, unless it is blank
+abbrev pub with_line : ℕ → List ℕ → List Full → List Full
+with_line number line earlier = if length line == 0 then earlier else record { number = number; line = line } ∷ earlier
+
+-- the lines that aren't blank
+abbrev pub full_lines : List (List ℕ) → List Full
 full_lines [] = []
-full_lines (latest ∷ earlier) = with_line (trim latest) (full_lines earlier)
+full_lines (latest ∷ earlier) = with_line (line_number (length earlier + 1)) (trim latest) (full_lines earlier)
 
 -- these are the lines of a text that aren't blank, the latest first
-pub record AreFullLines (text : List ℕ) (full : List (List ℕ)) : Type 0 where
+pub record AreFullLines (text : List ℕ) (full : List Full) : Type 0 where
   pub lines : List (List ℕ)
   pub all : AreLinesBefore text lines []
   pub is : full ≡ full_lines lines
@@ -86,13 +97,22 @@ pub record AreNumbersOf (e : Exchange) (old new txn : List ℕ) : Type 0 where
   pub is_txn : number_of txn ≡ Some e.txn
 
 -- words are those of an exchange: OLD NEW TXN, or WORD OLD NEW TXN
-abbrev pub AreWordsOf : Exchange → List (List ℕ) → Type 0
-AreWordsOf e (old ∷ new ∷ txn ∷ []) = (e.word ≡ None) × AreNumbersOf e old new txn
-AreWordsOf e (name ∷ old ∷ new ∷ txn ∷ []) = ((word : WordName) × (e.word ≡ Some word) × IsNameOf word name) × AreNumbersOf e old new txn
-AreWordsOf e words = ⊥
+abbrev pub AreExchangeWords : Exchange → List (List ℕ) → Type 0
+AreExchangeWords e (old ∷ new ∷ txn ∷ []) = (e.word ≡ None) × AreNumbersOf e old new txn
+AreExchangeWords e (name ∷ old ∷ new ∷ txn ∷ []) = ((word : WordName) × (e.word ≡ Some word) × IsNameOf word name) × AreNumbersOf e old new txn
+AreExchangeWords e words = ⊥
 
--- the exchange on a line, if its words are those of one
-pub record IsExchangeOn (line : List ℕ) (found : Option Exchange) : Type 0 where
+-- words say that a transaction is over: over TXN
+abbrev pub AreOverWords : ℕ → List (List ℕ) → Type 0
+AreOverWords t (word ∷ txn ∷ []) = (word ≡ codes "over") × (number_of txn ≡ Some t)
+AreOverWords t words = ⊥
+
+abbrev pub AreWordsOf : Entry → List (List ℕ) → Type 0
+AreWordsOf (ExchangeOf e) words = AreExchangeWords e words
+AreWordsOf (Over t) words = AreOverWords t words
+
+-- the entry on a line, if its words are those of one
+pub record IsEntryOn (line : List ℕ) (found : Option Entry) : Type 0 where
   pub words : List (List ℕ)
   pub first : FirstWords 5 line words
-  pub is : (e : Exchange) → (found ≡ Some e) ↔ AreWordsOf e words
+  pub is : (e : Entry) → (found ≡ Some e) ↔ AreWordsOf e words

@@ -4,11 +4,14 @@
 
 mod answer;
 mod asm;
+mod book;
 mod bounds;
-mod chain;
 mod changes;
 mod dis;
-mod exchange;
+mod entries;
+mod entry;
+mod fault;
+mod held;
 mod objects;
 mod release;
 mod words;

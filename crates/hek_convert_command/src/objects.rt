@@ -1,4 +1,7 @@
-//! What words say, as objects of JSON.
+//! What words say, and faults of exchanges, as objects of JSON.
+use crate::book::Book;
+use crate::entry::Exchange;
+use crate::fault::{Fault, readers_of, side_name, writer_of};
 use crate::words::Said;
 use hek_report::Lines;
 use hek_rules::{BeginRecord, EndRecord, Time, TxnId};
@@ -97,4 +100,72 @@ fn put_past(said: Said, lines: &mut Lines) {
         lines.write_text("readers");
     }
     lines.end_array();
+}
+
+/// A word by its side and its version, as `end-3`.
+#[derive(Clone, Copy)]
+struct Named {
+    side: &'static str,
+    version: u64,
+}
+
+impl fmt::Display for Named {
+    fn fmt<W: fmt::Write>(&self, f: &mut fmt::Formatter<W>) -> fmt::Result {
+        let (side, version) = (self.side, self.version);
+        write!(f, "{side}{version}")
+    }
+}
+
+/// Puts the name of an End word.
+pub(crate) fn put_end_name(version: u64, lines: &mut Lines) {
+    let name = Named {
+        side: "end-",
+        version,
+    };
+    lines.put_shown("word", &name);
+}
+
+/// Puts the members of a fault of an exchange.
+pub(crate) fn put_fault(
+    fault: &Fault,
+    number: u64,
+    exchange: &Exchange,
+    book: &Book,
+    lines: &mut Lines,
+) {
+    lines.put_text(
+        "kind",
+        fault.front.strip_suffix(": ").unwrap_or(fault.front),
+    );
+    lines.put_number("line", number);
+    put_place(exchange, lines);
+    match fault.nearest {
+        Some(change) => lines.put_shown("nearest", &change),
+        None => lines.put_null("nearest"),
+    }
+    lines.put_shown("reason", &fault.reason);
+    put_bits("wanted", fault.wanted, lines);
+    lines.put_numbers("holders", readers_of(exchange, book));
+    lines.put_maybe(
+        "writer",
+        writer_of(exchange.old).map(|writer| writer.number()),
+    );
+}
+
+/// Puts the word that an exchange names, its numbers and its transaction.
+fn put_place(exchange: &Exchange, lines: &mut Lines) {
+    match exchange.word {
+        Some(word) => {
+            let name = Named {
+                side: side_name(word.side),
+                version: word.version,
+            };
+            lines.put_shown("word", &name);
+        }
+        None => lines.put_null("word"),
+    }
+    put_bits("old", exchange.old, lines);
+    put_bits("new", exchange.new, lines);
+    let txn = exchange.txn;
+    lines.put_number("txn", txn.number());
 }

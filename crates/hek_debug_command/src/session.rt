@@ -171,6 +171,10 @@ fn answer_lines<'a, B: BufRead, S: Sources, W: Write, E: Write>(
         if answer(alloc, session, sources, origin, text, out, faults)? == Onward::Over {
             return Ok(session.status());
         }
+        // A line without an end is the last one: at a terminal another read would wait.
+        if !line.ends_with(b"\n") {
+            return end(session, out);
+        }
     }
     Ok(session.status())
 }

@@ -85,8 +85,8 @@ fn last_end(history: &History, last: &HashMap<u64, usize>, key: u64) -> Option<u
 fn is_newest_at(history: &History, last: &HashMap<u64, usize>, t: usize, key: u64) -> bool
     ensures { IsTrue result ↔ (writes_it history.now t key ≡ true → earlier_of (end_in history.now t) (end_of_last history.now (get_in ◌==◌ last.now) key) ≡ false) }
 {
-    if writes(history, t, key) {
-        !earlier(end_of(history, t), last_end(history, last, key))
+    if earlier(end_of(history, t), last_end(history, last, key)) {
+        !writes(history, t, key)
     } else {
         true
     }

@@ -2,6 +2,7 @@
 use Rattle.std.proofs.Common.{◌≡◌, ℕ, zero, suc, ◌+◌, ◌<◌, List, [], ◌∷◌, ◌++◌, length, map, drop, get_or, Some, refl, sym, ap, ◌∙◌, append_assoc, arith, slice_get, add-one, drop-cons}
 use Rattle.std.specs.List.{flat_map}
 use Rattle.std.specs.Map.{keys_of}
+use Rattle.std.proofs.lemmas.List.{append-nil}
 use Rattle.std.proofs.lemmas.Option.{slice_get_within}
 
 pub two_parts : (a b c v w : List ℕ) → b ≡ a ++ v → c ≡ b ++ w → c ≡ a ++ (v ++ w)
@@ -13,8 +14,16 @@ three_parts a b c d v w x p q r = two_parts a b d v (w ++ x) p (two_parts b c d 
 pub four_parts : (a b c d e v w x y : List ℕ) → b ≡ a ++ v → c ≡ b ++ w → d ≡ c ++ x → e ≡ d ++ y → e ≡ a ++ (v ++ (w ++ (x ++ y)))
 four_parts a b c d e v w x y p q r s = two_parts a b e v (w ++ (x ++ y)) p (three_parts b c d e w x y q r s)
 
-pub five_parts : (a b c d e f v w x y z : List ℕ) → b ≡ a ++ v → c ≡ b ++ w → d ≡ c ++ x → e ≡ d ++ y → f ≡ e ++ z → f ≡ a ++ (v ++ (w ++ (x ++ (y ++ z))))
-five_parts a b c d e f v w x y z p q r s t = two_parts a b f v (w ++ (x ++ (y ++ z))) p (four_parts b c d e f w x y z q r s t)
+-- an image whose parts went out through a block, which was empty at first and goes out last
+pub all_gathered : (old block front counts rows txns steps header b c d e left new : List ℕ) → block ≡ [] → b ≡ (old ++ block) ++ header → header ≡ front ++ counts → c ≡ b ++ rows → d ≡ c ++ txns →
+    e ++ left ≡ d ++ steps → (out : List ℕ) → out ≡ left → new ≡ e ++ out → new ≡ old ++ (front ++ (counts ++ (rows ++ (txns ++ steps))))
+all_gathered old block front counts rows txns steps header b c d e left new empty p h q r s out last t =
+    let start : old ++ block ≡ old = ap (λ (l : List ℕ). old ++ l) empty ∙ append-nil old in
+    let first : b ≡ old ++ (front ++ counts) = p ∙ ap (λ (l : List ℕ). l ++ header) start ∙ ap (λ (l : List ℕ). old ++ l) h in
+    t
+    ∙ ap (λ (l : List ℕ). e ++ l) last
+    ∙ four_parts old b c d (e ++ left) (front ++ counts) rows txns steps first q r s
+    ∙ ap (λ (l : List ℕ). old ++ l) (append_assoc front counts (rows ++ (txns ++ steps)))
 
 -- the element at a place, and those after it
 pub at_place : {X : Type 0} (xs : List X) (i : ℕ) (x : X) → slice_get xs i ≡ Some x → drop i xs ≡ x ∷ drop (i + 1) xs

@@ -1,5 +1,5 @@
 -- What a read sees, by the rules of a level.
-use Rattle.std.specs.Prelude.{ℕ, suc, ◌≡◌, ◌<◌, ◌==◌, ◌⊎◌, true, if◌then◌else◌, List, [], ◌∷◌, Some, slice_get}
+use Rattle.std.specs.Prelude.{ℕ, suc, ◌≡◌, ◌<◌, ◌≤◌, ◌==◌, ◌⊎◌, true, if◌then◌else◌, List, [], ◌∷◌, Some, slice_get}
 use Rattle.hek_levels.specs.declared.log.Log.{Log}
 use Rattle.hek_levels.specs.declared.log.Read.{Read}
 use Rattle.hek_levels.specs.declared.certificate.Writer.{Writer}
@@ -39,9 +39,9 @@ IsBefore e x t = rank e.order (writer.Transaction x) < rank e.order (writer.Tran
 abbrev pub ReadsFrom : Log → Explanation → ℕ → ℕ → Type 0
 ReadsFrom log e t x = (r : ℕ) × (read : Read) × (read_at log t r ≡ Some read) × (e.source t r ≡ writer.Transaction x)
 
--- t reads from x by an operation before the n-th
+-- t reads from x by the n-th operation or one before it
 abbrev pub ReadBefore : Log → Explanation → ℕ → ℕ → ℕ → Type 0
-ReadBefore log e t n x = (r : ℕ) × (read : Read) × (read_at log t r ≡ Some read) × (read.operation < n) × (e.source t r ≡ writer.Transaction x)
+ReadBefore log e t n x = (r : ℕ) × (read : Read) × (read_at log t r ≡ Some read) × (read.operation ≤ n) × (e.source t r ≡ writer.Transaction x)
 
 -- what the r-th read of t, of the n-th operation, sees by the reads of t
 abbrev pub SeesByOwn : Own → Log → Explanation → ℕ → ℕ → ℕ → ℕ → Type 0

@@ -34,7 +34,7 @@ pub struct Guarantees {
 #[derive(Clone, Copy)]
 pub enum Own {
     Nothing,
-    /// Those of earlier operations, and the read itself.
+    /// Those of the same operation and of earlier ones.
     Earlier,
     All,
 }

@@ -54,7 +54,7 @@ fn mark_sources(
     Ok(())
 }
 
-/// The source of the q-th read of t is marked from now on, if that is of an operation before the n-th.
+/// The source of the q-th read of t is marked from now on, if that is of the n-th operation or one before it.
 fn mark_before(
     log: &Log,
     certificate: &Certificate,
@@ -64,18 +64,18 @@ fn mark_before(
     q: usize,
 ) -> Result<(), NoMemory>
     ensures kept { OnOk result (AreKept (get_in ◌==◌ marked.old) (get_in ◌==◌ marked.new)) }
-    ensures there { OnOk result ((x : ℕ) → (read : TheRead) → read_there log.now t q ≡ Some read → read.operation < n → (explanation certificate.now).source t q ≡ TransactionOf x → IsMarked (get_in ◌==◌ marked.new) x) }
+    ensures there { OnOk result ((x : ℕ) → (read : TheRead) → read_there log.now t q ≡ Some read → read.operation ≤ n → (explanation certificate.now).source t q ≡ TransactionOf x → IsMarked (get_in ◌==◌ marked.new) x) }
 {
     let Some(read) = read_at(log, t, q) else {
         return Ok(());
     };
-    if n <= read.operation {
+    if n < read.operation {
         return Ok(());
     }
     mark_writer(marked, source_in(certificate.sources.as_slice(), t, q))
 }
 
-/// Each source of t by an operation before the n-th is marked from now on.
+/// Each source of t by the n-th operation or one before it is marked from now on.
 fn mark_all_before(
     log: &Log,
     certificate: &Certificate,

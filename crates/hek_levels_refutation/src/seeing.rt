@@ -129,7 +129,7 @@ fn shows_own(context: &Context<'_>, t: usize, q: usize, r: usize) -> bool
     };
     match context.rules.own {
         Own::Nothing => false,
-        Own::Earlier => q == r || shown.operation < reading.operation,
+        Own::Earlier => q == r || shown.operation <= reading.operation,
         Own::All => true,
     }
 }

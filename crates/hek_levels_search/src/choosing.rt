@@ -41,7 +41,7 @@ impl State<'_> {
         for q in span.from..span.to {
             let is_shown = match self.problem.rules.own {
                 Own::Nothing => false,
-                Own::Earlier => self.problem.reading(q).operation < reading.operation,
+                Own::Earlier => self.problem.reading(q).operation <= reading.operation,
                 Own::All => true,
             };
             if is_shown && place != NONE && self.sources.of(q) == place {

@@ -163,7 +163,7 @@ impl Walk {
         let reading = ground.problem.reading(u);
         let span = ground.problem.readings_of(reading.reader);
         for q in span.from..span.to {
-            if q == u || ground.problem.reading(q).operation < reading.operation {
+            if q == u || ground.problem.reading(q).operation <= reading.operation {
                 let x = ground.sources.writer_of(q);
                 self.come(ground, Kind::Seen, x, NONE, By::Reading(q))?;
             }

@@ -12,7 +12,7 @@ fn shows_own(rules: Rules, shown: Unit, unit: Unit) -> bool {
     }
     match rules.own {
         Own::Nothing => false,
-        Own::Earlier => { shown.place == unit.place || shown.read.operation < unit.read.operation }
+        Own::Earlier => { shown.place == unit.place || shown.read.operation <= unit.read.operation }
         Own::All => true,
     }
 }

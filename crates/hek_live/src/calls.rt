@@ -10,9 +10,8 @@ ghost use Rattle.hek_live.specs.Ends.{word_count_of, table_id_of, seat_table, vi
 use crate::ends::{LiveWords, Seat};
 use crate::replies::{DropRead, DropWrite, TryRead, TryWrite};
 use crate::rule::{Look, Newcomer, Swap};
-use crate::view::Change;
 use atomic_table::Table;
-use hek_rules::{NoMemory, TxnId};
+use hek_rules::{LockChange, NoMemory, TxnId};
 use hek_word::EndWord;
 use std::alloc::Global;
 
@@ -89,7 +88,7 @@ impl LiveWords {
         word: usize,
         old: EndWord,
         new: EndWord,
-        change: Change,
+        change: LockChange,
     ) -> Result<(), EndWord>
         requires own { seat_table seat.old ≡ table_id_of self.now }
         requires word { word < word_count_of self.now }
@@ -127,7 +126,7 @@ impl LiveWords {
             return TryRead::Full;
         }
         let z = x.add_reader();
-        match self.exchange(seat, word, x, z, Change::AddReader) {
+        match self.exchange(seat, word, x, z, LockChange::AddReader) {
             Ok(()) => TryRead::Taken(z.readers()),
             Err(y) => TryRead::Changed(y),
         }
@@ -145,7 +144,7 @@ impl LiveWords {
     {
         let x = self.look(seat, word);
         let (z, kind) = one_reader_less(x);
-        match self.exchange(seat, word, x, z, Change::DropReader) {
+        match self.exchange(seat, word, x, z, LockChange::DropReader) {
             Ok(()) => {
                 match kind {
                     hek_rules::Dropped::More | hek_rules::Dropped::Free => DropRead::Dropped,
@@ -171,7 +170,7 @@ impl LiveWords {
             return TryWrite::Writer(t);
         }
         let z = x.take_writer(u);
-        match self.exchange(seat, word, x, z, Change::TakeWriter(u)) {
+        match self.exchange(seat, word, x, z, LockChange::TakeWriter(u)) {
             Ok(()) => TryWrite::Written(z.readers()),
             Err(y) => TryWrite::Changed(y),
         }
@@ -188,7 +187,7 @@ impl LiveWords {
     {
         let x = self.look(seat, word);
         let z = x.clear_writer();
-        match self.exchange(seat, word, x, z, Change::ClearWriter) {
+        match self.exchange(seat, word, x, z, LockChange::ClearWriter) {
             Ok(()) => DropWrite::Dropped,
             Err(y) => DropWrite::Changed(y),
         }

@@ -2,8 +2,9 @@
 ghost use Rattle.std.specs.Prelude.{◌≡◌, ◌<◌, []};
 
 use crate::rule::Counted;
-use crate::view::{Change, View};
+use crate::view::View;
 use atomic_table::Table;
+use hek_rules::LockChange;
 use std::alloc::Global;
 
 /// Record locks that threads share. Each word is infinity, which is the word of a version that nobody holds, or a lock.
@@ -11,7 +12,7 @@ use std::alloc::Global;
 /// its write token.
 #[derive(Drop)]
 pub struct LiveWords {
-    pub(crate) table: Table<Change, View, usize, Counted, Global>,
+    pub(crate) table: Table<LockChange, View, usize, Counted, Global>,
     ghost counted: { table.shared.key ≡ table.shared.table_id.words },
     ghost some: { 0 < table.shared.table_id.words },
 }
@@ -20,6 +21,6 @@ pub struct LiveWords {
 /// its tokens forever.
 #[derive(Drop)]
 pub struct Seat {
-    pub(crate) seat: atomic_table::Seat<Change, View>,
+    pub(crate) seat: atomic_table::Seat<LockChange, View>,
     ghost bare: { seat.me.1 ≡ [] },
 }

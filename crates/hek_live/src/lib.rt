@@ -10,7 +10,8 @@ mod rule;
 mod view;
 
 pub use ends::{LiveWords, Seat};
+pub use hek_rules::LockChange;
 pub use laws::tokens_follow_replies;
 pub use replies::{DropRead, DropWrite, TryRead, TryWrite};
 pub use rule::Counted;
-pub use view::{Change, View};
+pub use view::View;

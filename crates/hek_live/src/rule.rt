@@ -1,11 +1,12 @@
 //! The rule that each step keeps, and the kinds of step.
-use crate::view::{Change, View};
+use crate::view::View;
 use atomic_table::{Join, Play, Split, TableRule};
+use hek_rules::LockChange;
 
 /// The rule of the live words.
 pub struct Counted;
 
-impl TableRule<Change, View, usize> for Counted {
+impl TableRule<LockChange, View, usize> for Counted {
     ghost use Rattle.hek_live.specs.Tokens.{maker};
     ghost use Rattle.hek_live.specs.Rule.{Stands};
 
@@ -16,7 +17,7 @@ impl TableRule<Change, View, usize> for Counted {
 
 pub(crate) struct Look;
 
-impl Play<Change, View> for Look {
+impl Play<LockChange, View> for Look {
     ghost use Rattle.hek_live.specs.Rule.{Loaded};
 
     ghost then = { Loaded };
@@ -24,7 +25,7 @@ impl Play<Change, View> for Look {
 
 pub(crate) struct Swap;
 
-impl Play<Change, View> for Swap {
+impl Play<LockChange, View> for Swap {
     ghost use Rattle.hek_live.specs.Rule.{Exchanged};
 
     ghost then = { Exchanged };

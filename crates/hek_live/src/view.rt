@@ -1,15 +1,6 @@
-//! What a seat knows, and the changes that it makes.
+//! What a seat knows.
 use hek_rules::TxnId;
 use std::collections::LinkedList;
-
-/// A change of one word, by one exchange: a token is taken or given up.
-#[derive(Clone, Copy)]
-pub enum Change {
-    AddReader,
-    DropReader,
-    TakeWriter(TxnId),
-    ClearWriter,
-}
 
 /// What a seat knows: the words whose read token it holds; those whose write token it holds, each with the ID; what it
 /// met: the word, what was found and what was left; whether it makes the other seats, and how many it made. No value of

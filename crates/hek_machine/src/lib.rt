@@ -22,5 +22,6 @@ mod steps;
 mod walks;
 mod writes;
 
+pub use hek_rules::WriteEntry;
 pub use machine::Machine;
 pub use runs::{Trace, run, run_at};

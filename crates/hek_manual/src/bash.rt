@@ -6,7 +6,7 @@ _hek() {
     local word=${COMP_WORDS[COMP_CWORD]} before=${COMP_WORDS[COMP_CWORD - 1]} command=${COMP_WORDS[1]} words="" files=""
     COMPREPLY=()
     if [ "$COMP_CWORD" -eq 1 ]; then
-        words="run debug page figure permute check history drive threads word release asm dis import completions man help --help --version"
+        words="run debug page permute check history drive threads word release asm dis completions man help --help --version"
         mapfile -t COMPREPLY < <(compgen -W "$words" -- "$word")
         return
     fi
@@ -17,8 +17,7 @@ _hek() {
         before="${COMP_WORDS[COMP_CWORD - 2]}="
     fi
     case "$command $before" in
-    "help help") words="run debug page figure permute check history drive threads word release asm dis import completions man" ;;
-    "import import") words="spec elle" ;;
+    "help help") words="run debug page permute check history drive threads word release asm dis completions man" ;;
     "completions completions") words="bash zsh fish words" ;;
     "run --explain=") words="always never" ;;
     "run --color=") words="always never auto" ;;
@@ -39,12 +38,6 @@ _hek() {
     "page --next") return ;;
     "page --grain") words="move split event" ;;
     "page --limit") return ;;
-    "figure --explain=") words="always never" ;;
-    "figure --level") words="serializable repeatable snapshot" ;;
-    "figure --output" | "figure -o") compopt -o default; return ;;
-    "figure --step") return ;;
-    "figure --part") return ;;
-    "figure --title") return ;;
     "permute --explain=") words="always never" ;;
     "permute --level") words="serializable repeatable snapshot" ;;
     "permute --grain") words="move split event" ;;
@@ -75,20 +68,15 @@ _hek() {
     "word --readers") return ;;
     "asm --explain=") words="always never" ;;
     "dis --explain=") words="always never" ;;
-    "import --explain=") words="always never" ;;
-    "import --permutation") return ;;
-    "import --level") words="serializable repeatable snapshot" ;;
-    "import --output" | "import -o") compopt -o default; return ;;
     esac
     if [ -n "$words" ]; then
         mapfile -t COMPREPLY < <(compgen -W "$words" -- "$word")
         return
     fi
     case "$command" in
-    run) words="--text --image --explain --color --state --state-at --why --changes --history --auto --level --json --help" files=yes ;;
+    run) words="--text --image --explain --color --state --state-at --why --changes --history --moves --auto --level --json --help" files=yes ;;
     debug) words="--text --image --explain --color --auto --level --help" files=yes ;;
-    page) words="--text --image --explain --level --auto --output --from --to --title --lesson --previous --next --orders --levels --split --grain --limit --json --help" files=yes ;;
-    figure) words="--text --image --explain --level --auto --output --step --part --title --help" files=yes ;;
+    page) words="--text --image --explain --level --auto --output --from --to --title --lesson --previous --next --orders --levels --split --grain --limit --machine --json --help" files=yes ;;
     permute) words="--text --image --explain --auto --level --split --grain --limit --part --jobs --each --order --levels --find --stats --add --json --help" files=yes ;;
     check) words="--text --image --explain --auto --level --why --summary --all --json --help" files=yes ;;
     history) words="--explain --level --levels --sessions --guarantees --order --effort --all --order-out --json --help" files=yes ;;
@@ -98,7 +86,6 @@ _hek() {
     release) words="--help" ;;
     asm) words="--explain --help" files=yes ;;
     dis) words="--text --image --explain --help" files=yes ;;
-    import) words="--explain --permutation --level --output --help" files=yes ;;
     completions) words="--help" ;;
     man) words="--help" ;;
     esac

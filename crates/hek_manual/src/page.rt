@@ -50,6 +50,9 @@ prints what each step changed under its line
 \fB\-\-history\fR
 prints the run as a log for hek history, in place of its trace
 .TP
+\fB\-\-moves\fR
+prints the run as its transactions see it, in place of its trace: a line for each read, write, wait and end; with \-\-why its reason
+.TP
 \fB\-\-auto\fR
 runs only the reads and writes of FILE, which may be a program, and begins and ends each transaction by itself
 .TP
@@ -162,7 +165,7 @@ at 2 break 1 \-> found 100
 .fi
 .RE
 .SS page
-Writes a schedule's run as a page for a browser.
+Writes a schedule's run, or a log, as a page for a browser.
 .PP
 \fBhek page [OPTIONS] <FILE>\fR
 .TP
@@ -220,8 +223,11 @@ cuts the end of a transaction into one move (move), two (split), or a move for e
 \fB\-\-limit\fR \fIN\fR
 with \-\-orders: writes nothing if there are more than N nodes (5000)
 .TP
+\fB\-\-machine\fR
+shows the machine alone, without the story
+.TP
 \fB\-\-json\fR
-writes the page's data alone, one object of JSON
+writes the page's data alone, one object of JSON, and then the plays of its story, an object each
 .PP
 Example:
 .RS 4
@@ -229,49 +235,7 @@ Example:
 hek page first.hek \-o first.html
 .fi
 .RE
-The page shows each step with its reply, and the versions, waits and lock words at each position. It needs no network and no other file. Comments of a schedule text are shown: those above its first line at the start, those above a step at that step. A line \(ga#? ..\(ga above a step is a question, which is asked where replies are guessed. A page has at most 2000 steps; of a longer schedule \-\-from and \-\-to say which.
-.SS figure
-Writes a step of a schedule's run as one picture, for a slide.
-.PP
-\fBhek figure [OPTIONS] <FILE>\fR
-.TP
-\fIFILE\fR
-a schedule: a text by its name (.hek) or its first word, otherwise an image; \- is standard input
-.TP
-\fB\-\-text\fR
-FILE is a schedule text, whatever it holds
-.TP
-\fB\-\-image\fR
-FILE is a schedule image, whatever it holds
-.TP
-\fB\-\-explain\fR[=\fIHOW\fR]
-says of each fault what is wrong, what is wanted and what is meant, as at a terminal; =never only names it (always, never)
-.TP
-\fB\-\-level\fR \fIL\fR
-judges or runs all transactions as serializable, repeatable or snapshot
-.TP
-\fB\-\-auto\fR
-shows only the reads and writes of FILE, which may be a program, and begins and ends each transaction by itself
-.TP
-\fB\-o\fR, \fB\-\-output\fR \fIOUT\fR
-writes the picture to a file; \- is standard output, also where that is a terminal
-.TP
-\fB\-\-step\fR \fIN\fR
-shows what is so after N steps, by default after the last; 0 is before the first
-.TP
-\fB\-\-part\fR \fIPART\fR
-shows one part: lanes, versions, waits or words
-.TP
-\fB\-\-title\fR \fITEXT\fR
-the picture's title, by default the name of FILE
-.PP
-Example:
-.RS 4
-.nf
-hek figure first.hek \-\-step 2 \-o first.svg
-.fi
-.RE
-The picture is SVG with its style inside: lanes, what the step says, versions, waits and lock words, in the colours of \(gahek page\(ga. With \-\-part it shows one of these.
+The page tells the run: each read, write, wait and end, the rows, what is to hold, and the verdict; and shows for each step its reply, the versions, waits and lock words. It needs no network and no other file. If FILE is a log, whose name ends in .jsonl, the page tells its transactions, with the cycle that hek history names. Comments of a schedule text are shown: those above its first line at the start, those above a step at that step. A line \(ga#? ..\(ga above a step is a question, which is asked where replies are guessed. A page has at most 2000 steps; of a longer schedule \-\-from and \-\-to say which.
 .SS permute
 Plays every order of a schedule's moves, and counts the outcomes.
 .PP
@@ -615,7 +579,7 @@ Explains lock words, as Begin and as End words.
 a word, as 16 hexadecimal digits, or \- for standard input, one word a line
 .TP
 \fB\-\-changes\fR
-reads exchanges, lines OLD NEW TXN or WORD OLD NEW TXN, and names the change that leads from OLD to NEW
+reads exchanges, lines OLD NEW TXN or WORD OLD NEW TXN, and names the change that leads from OLD to NEW, or what is wrong with it; lines over TXN say which transactions have ended
 .TP
 \fB\-\-clock\fR \fIN\fR
 refuses times from N on
@@ -713,60 +677,6 @@ Where first.img is the image of a schedule with one bucket and nothing else, it 
 .RS 4
 .nf
 buckets 1
-.fi
-.RE
-.SS import
-Makes schedules of a spec of PostgreSQL's isolation tests, or a log of a history of Jepsen.
-.PP
-\fBhek import [OPTIONS] <FORM> <FILE>\fR
-.TP
-\fIFORM\fR
-what FILE is [possible values: spec, elle]
-.TP
-\fIFILE\fR
-a spec or a history, or \- for standard input
-.TP
-\fB\-\-explain\fR[=\fIHOW\fR]
-says of each fault what is wrong, what is wanted and what is meant, as at a terminal; =never only names it (always, never)
-.TP
-\fB\-\-permutation\fR \fIN\fR
-makes the schedule of the Nth permutation, from 1
-.TP
-\fB\-\-level\fR \fIL\fR
-takes all transactions as serializable, repeatable or snapshot
-.TP
-\fB\-o\fR, \fB\-\-output\fR \fIOUT\fR
-writes the schedule or the log to a file; where OUT ends with /, a file for each permutation to this folder
-.PP
-\(gahek import elle FILE\(ga makes a log for \(gahek history\(ga of a history of Jepsen or Elle, in EDN or JSON: reads and writes of registers, or appends to lists.
-.PP
-Of a spec: rows of a table with a primary key become rows; select, insert, update and delete become steps: reads where a condition names the key, otherwise scans. Serializable stays so, repeatable read becomes snapshot, and read committed isn't there: \-\-level says which level to take. What can't be translated is left out and named, in comments too, with status 1; with status 4 if nothing is left. Without \-\-permutation the sessions follow one another: \(gahek permute\(ga plays all their orders.
-.PP
-Example:
-.RS 4
-.nf
-hek import spec skew.spec
-.fi
-.RE
-Where skew.spec has the lines
-.RS 4
-.nf
-setup { CREATE TABLE t (id int PRIMARY KEY, v int); INSERT INTO t VALUES (1, 10); }
-session "a"
-setup { BEGIN ISOLATION LEVEL SERIALIZABLE; }
-step "read" { SELECT v FROM t WHERE id = 1; }
-step "commit" { COMMIT; }
-.fi
-.RE
-it prints a schedule whose first lines are
-.RS 4
-.nf
-# skew: one session after another; permutations of the spec: 0
-buckets 1
-row 1 10
-txn a serializable
-a begin
-a read 1
 .fi
 .RE
 .SS completions

@@ -7,8 +7,7 @@ _hek() {
     commands=(
         'run:Runs the steps of a schedule, and prints each with its reply'
         'debug:Runs a schedule step by step, to breakpoints and watches, and back'
-        'page:Writes a schedule'\''s run as a page for a browser'
-        'figure:Writes a step of a schedule'\''s run as one picture, for a slide'
+        'page:Writes a schedule'\''s run, or a log, as a page for a browser'
         'permute:Plays every order of a schedule'\''s moves, and counts the outcomes'
         'check:Says whether each transaction of a trace got what its level promises'
         'history:Says whether a log of transactions has a serial order, and if not, why not'
@@ -18,7 +17,6 @@ _hek() {
         'release:Gives up one read lock of an End word'
         'asm:Makes the image of a schedule text'
         'dis:Prints the canonical text of a schedule'
-        'import:Makes schedules of a spec of PostgreSQL'\''s isolation tests, or a log of a history of Jepsen'
         'completions:Prints what a shell reads to complete the words of a command line'
         'man:Prints the manual page'
         'help:Print this message or the help of the given subcommand(s)'
@@ -43,6 +41,7 @@ _hek() {
                 '--why=-[prints the reasons of each reply under its line; =rules also names the definition of each and of the reply]::HOW:(reasons rules)' \
                 '--changes[prints what each step changed under its line]' \
                 '--history[prints the run as a log for hek history, in place of its trace]' \
+                '--moves[prints the run as its transactions see it, in place of its trace\: a line for each read, write, wait and end; with --why its reason]' \
                 '--auto[runs only the reads and writes of FILE, which may be a program, and begins and ends each transaction by itself]' \
                 '--level[judges or runs all transactions as serializable, repeatable or snapshot]:L:(serializable repeatable snapshot)' \
                 '--json[prints JSON, one object on each line]' \
@@ -80,21 +79,8 @@ _hek() {
                 '--split[with --orders\: makes finish and precommit a separate move]' \
                 '--grain[cuts the end of a transaction into one move (move), two (split), or a move for each event (event)]:GRAIN:(move split event)' \
                 '--limit[with --orders\: writes nothing if there are more than N nodes (5000)]:N:' \
-                '--json[writes the page'\''s data alone, one object of JSON]' \
-                '(- *)'{-h,--help}'[Print help]' \
-                '1:FILE:_files'
-            ;;
-        figure)
-            _arguments \
-                '--text[FILE is a schedule text, whatever it holds]' \
-                '--image[FILE is a schedule image, whatever it holds]' \
-                '--explain=-[says of each fault what is wrong, what is wanted and what is meant, as at a terminal; =never only names it]::HOW:(always never)' \
-                '--level[judges or runs all transactions as serializable, repeatable or snapshot]:L:(serializable repeatable snapshot)' \
-                '--auto[shows only the reads and writes of FILE, which may be a program, and begins and ends each transaction by itself]' \
-                {-o,--output}'[writes the picture to a file; - is standard output, also where that is a terminal]:OUT:_files' \
-                '--step[shows what is so after N steps, by default after the last; 0 is before the first]:N:' \
-                '--part[shows one part\: lanes, versions, waits or words]:PART:' \
-                '--title[the picture'\''s title, by default the name of FILE]:TEXT:' \
+                '--machine[shows the machine alone, without the story]' \
+                '--json[writes the page'\''s data alone, one object of JSON, and then the plays of its story, an object each]' \
                 '(- *)'{-h,--help}'[Print help]' \
                 '1:FILE:_files'
             ;;
@@ -183,7 +169,7 @@ _hek() {
             ;;
         word)
             _arguments \
-                '--changes[reads exchanges, lines OLD NEW TXN or WORD OLD NEW TXN, and names the change that leads from OLD to NEW]' \
+                '--changes[reads exchanges, lines OLD NEW TXN or WORD OLD NEW TXN, and names the change that leads from OLD to NEW, or what is wrong with it; lines over TXN say which transactions have ended]' \
                 '--clock[refuses times from N on]:N:' \
                 '--txns[refuses transactions past N]:N:' \
                 '--readers[refuses more than N readers]:N:' \
@@ -211,16 +197,6 @@ _hek() {
                 '--explain=-[says of each fault what is wrong, what is wanted and what is meant, as at a terminal; =never only names it]::HOW:(always never)' \
                 '(- *)'{-h,--help}'[Print help]' \
                 '1:FILE:_files'
-            ;;
-        import)
-            _arguments \
-                '--explain=-[says of each fault what is wrong, what is wanted and what is meant, as at a terminal; =never only names it]::HOW:(always never)' \
-                '--permutation[makes the schedule of the Nth permutation, from 1]:N:' \
-                '--level[takes all transactions as serializable, repeatable or snapshot]:L:(serializable repeatable snapshot)' \
-                {-o,--output}'[writes the schedule or the log to a file; where OUT ends with /, a file for each permutation to this folder]:OUT:_files' \
-                '(- *)'{-h,--help}'[Print help]' \
-                '1:FORM:(spec elle)' \
-                '2:FILE:_files'
             ;;
         completions)
             _arguments \

@@ -1,21 +1,13 @@
 -- What the data of a page say of the steps that it shows: what these change leads from the world before the first of them
 -- to the world after each.
-use Rattle.std.specs.Prelude.{ℕ, zero, suc, ◌≡◌, ◌+◌, ◌≤◌, min, List, [], ◌∷◌, ◌++◌, length, take}
-use Rattle.hek_rules.specs.declared.event.Event.{Event}
+use Rattle.std.specs.Prelude.{ℕ, zero, suc, ◌≡◌, ◌+◌, ◌≤◌, min, List, [], ◌∷◌, ◌++◌, length}
 use Rattle.hek_rules.specs.Plan.{Plan}
-use Rattle.hek_rules.specs.Run.{next, run}
-use Rattle.hek_rules.specs.World.{World}
 use Rattle.hek_machine.specs.declared.engine.Engine.{Engine}
-use Rattle.hek_machine.specs.Observed.{opening_of}
-use Rattle.hek_machine.specs.Stands.{StandsFor}
+use Rattle.hek_moves.specs.Steps.{world_at}
 use Rattle.hek_why.specs.declared.change.Change.{Change}
 use Rattle.hek_why.specs.Leads.{Leads, LeadOn}
 use Rattle.hek_page_command.specs.declared.step_text.StepText.{StepText}
 use Rattle.hek_page_command.specs.declared.story.StepRange.{StepRange}
-
--- the world after the first n steps of a schedule
-abbrev pub world_at : Plan → ℕ → World
-world_at p n = run (opening_of p 1) (take n p.steps)
 
 -- what the first n of some steps change, one after another
 abbrev pub changes_upto : ℕ → List StepText → List Change
@@ -43,10 +35,6 @@ pub record IsStory (p : Plan) (range : StepRange) (steps : List StepText) : Type
   pub count : done_in range (length p.steps) + length steps ≡ last_in range (length p.steps)
 
 -- ---- one step
-
--- the new machine stands for the world that the event leaves of each world that the old one stands for
-abbrev pub LeadsNext : Event → Engine → Engine → Type 0
-LeadsNext e before after = (w : World) → StandsFor before w → StandsFor after (next w e)
 
 -- one more step, whose changes lead from the old machine's worlds to the new one's
 pub record IsStepAdded (before after : Engine) (old new : List StepText) : Type 0 where

@@ -5,6 +5,7 @@ pub(crate) const FRONT: &str = r#"<!DOCTYPE html>
 <head>
 <meta charset="utf-8">
 <meta name="viewport" content="width=device-width, initial-scale=1">
+<meta http-equiv="Content-Security-Policy" content="default-src 'none'; script-src 'sha256-KIwZSQN00ZEjvsKVHwEYlW1xcI+8T3OdaT4QGdfmxds='; style-src 'sha256-AY1tIFHCMHv4jp+a5LPG6K5KoxXDsk+RaeCq0M0iV38='; style-src-attr 'unsafe-inline'; img-src data:; base-uri 'none'; form-action 'none'">
 <title>"#;
 
 pub(crate) const HEAD: &str = r#"</title>
@@ -22,6 +23,31 @@ pub(crate) const MIDDLE: &str = r##"</style>
 <pattern id="p-wait" width="12" height="12" patternUnits="userSpaceOnUse" patternTransform="rotate(45)"><rect width="12" height="12" class="pw1"/><rect width="5" height="12" class="pw2"/></pattern>
 <pattern id="p-never" width="8" height="8" patternUnits="userSpaceOnUse"><rect width="8" height="8" class="pn1"/><path d="M0 0L8 8M8 0L0 8" class="pn2"/></pattern>
 </defs></svg>
+<div class="story" id="story">
+<header class="st-bar">
+<a id="st-previous" class="way" hidden></a>
+<h1 id="st-title"></h1>
+<a id="st-after" class="way" hidden></a>
+<nav aria-label="Moves">
+<button type="button" id="st-prev" aria-label="One move back" title="← one move back; Home: to the start">‹</button>
+<output id="st-position"></output>
+<button type="button" id="st-next" aria-label="One move on" title="→ or space: one move on">›</button>
+<button type="button" id="st-end" title="End: what it all comes to">Verdict</button>
+</nav>
+<button type="button" id="st-back" hidden title="Back to where you were">‹ Back</button>
+<span id="st-which"></span>
+<button type="button" id="st-compare" aria-pressed="false" title="c: the levels under one another">Compare</button>
+<button type="button" id="st-machine" aria-pressed="false" title="m: versions, words and waits in this move">Machine</button>
+</header>
+<div class="st-body">
+<section id="st-main" aria-label="The story">
+<div id="st-say" aria-live="polite"></div>
+<div id="st-stage" tabindex="-1"><div id="st-grid"></div></div>
+<div id="st-cards" role="group" aria-label="This order at each level, and the outcomes of all orders"></div>
+</section>
+<aside id="st-beside"><pre id="st-text" aria-label="The text" tabindex="0"></pre><article id="st-prose" aria-label="The run in words" tabindex="0"></article></aside>
+</div>
+</div>
 <header id="bar">
 <a id="previous" class="way" hidden></a>
 <h1><span id="title"></span> <span id="about"></span></h1>
@@ -36,6 +62,7 @@ pub(crate) const MIDDLE: &str = r##"</style>
 <button type="button" data-do="last" aria-label="To the end" title="End"><svg viewBox="0 0 20 16" class="icon" aria-hidden="true"><path d="M14.600 2h2.4v12h-2.4zM3 2v12L13 8z"/></svg></button>
 </nav>
 <span class="modes">
+<button type="button" data-do="story" title="m : the story of this step" hidden>Story</button>
 <button type="button" data-do="levels" title="the outcomes at all levels" hidden>Levels</button>
 <button type="button" data-do="predict" aria-pressed="false" title="? : guess each reply before it is shown">Predict</button>
 <button type="button" data-do="secret" aria-pressed="false" title="? : hide the outcomes, to guess" hidden>Hide outcomes</button>
@@ -78,6 +105,11 @@ pub(crate) const MIDDLE: &str = r##"</style>
 <noscript><p>This page needs its script: the states are data in it.</p></noscript>
 <script type="application/json" id="data">
 "##;
+
+pub(crate) const BETWEEN: &str = r#"
+</script>
+<script type="application/json" id="plays">
+"#;
 
 pub(crate) const BACK: &str = r#"
 </script>

@@ -14,6 +14,9 @@ pub struct Heading<'a> {
     pub lesson: Option<u64>,
     pub previous: Option<&'a str>,
     pub next: Option<&'a str>,
+    /// The text of the schedule, and the plays of its story as lines of JSON; none of them where a page tells no story.
+    pub text: &'a str,
+    pub plays: &'a [u8],
 }
 
 impl Heading<'_> {
@@ -45,6 +48,7 @@ pub(crate) fn put_heading(
     put_title(alloc, heading, members)?;
     put_text(alloc, "about", comments.about.as_str(), members)?;
     put_text(alloc, "question", comments.question.as_str(), members)?;
+    put_text(alloc, "text", heading.text, members)?;
     put_value(alloc, "lesson", heading.lesson_value(alloc)?, members)?;
     put_link(alloc, "previous", heading.previous, members)?;
     put_link(alloc, "next", heading.next, members)

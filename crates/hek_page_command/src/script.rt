@@ -1,416 +1,810 @@
-//! The script of a page, in two parts. Written by tools/assets.
+//! The script of a page, in parts. Written by tools/assets.
 
-pub(crate) const SCRIPT: &str = r#""use strict";
+pub(crate) const SCRIPT_FIRST: &str = r##"// Written by tools/assets.
+const Story = {}; Story.text = (() => { const WIDTHS = "779eenh599af7977eeeeeeeeee77fffeqhhjjhgkj7dheljkhkjhgjhohhg777ce9eedee7ee66d6leeee9d7edjddd979f";
+const UNIT = 0.04, BOLD = 1.07, OTHER = 0.64, SQUARE = 1.02;
+const isSquare = (char) => /[\u1100-\u115f\u2e80-\ua4cf\uac00-\ud7a3\uf900-\ufaff\ufe30-\ufe6f\uff00-\uff60\uffe0-\uffe6]|[\u{1f000}-\u{3ffff}]/u.test(char);
+function widthOf(char) { const digit = WIDTHS[char.charCodeAt(0) - 32]; if (digit !== undefined) return UNIT * parseInt(digit, 36);
+  return /\p{M}/u.test(char) ? 0 : isSquare(char) ? SQUARE : OTHER; }
+const wide = (text, size, weight = 400) => [...String(text)].reduce((sum, char) => sum + widthOf(char), 0) * size * (weight > 500 ? BOLD : 1);
+function cut(text, room, size, weight = 400) { const all = [...String(text)]; if (wide(text, size, weight) <= room) return String(text);
+  let left = room - wide("…", size, weight), count = 0;
+  while (count < all.length && left >= wide(all[count], size, weight)) left -= wide(all[count++], size, weight);
+  return count ? all.slice(0, count).join("") + "…" : "…"; }
+const fitting = (texts, room, size, weight = 400) => texts.find((it) => wide(it, size, weight) <= room) ?? cut(texts.at(-1), room, size, weight);
+const HIDDEN = /[\u0000-\u0008\u000b-\u001f\u007f-\u009f\u061c\u200e\u200f\u202a-\u202e\u2066-\u2069]/g;
+const ENTITIES = { "&": "&amp;", "<": "&lt;", ">": "&gt;", '"': "&quot;", "'": "&#39;" };
+const shown = (text) => String(text).replace(HIDDEN, (it) => (it < " " ? String.fromCharCode(0x2400 + it.charCodeAt(0)) : it === "\u007f" ? "\u2421" : "\ufffd"));
+const esc = (text) => shown(text).replace(/[&<>"']/g, (it) => ENTITIES[it]);
+const parse = (json) => JSON.parse(json.replace(/"(?:[^"\\]|\\.)*"|-?\d{16,}/g, (it) => (it[0] === '"' ? it : `"${it}"`)));
+const list = (texts) => (texts.length < 2 ? texts.join("") : `${texts.slice(0, -1).join(", ")} and ${texts.at(-1)}`);
+const sentences = (all) => all.filter(Boolean).map((it) => it[0].toUpperCase() + it.slice(1) + (/[.!?]$/.test(it) ? "" : ".")).join(" ");
+const NAMED = /\{([^{}]*)\}/g; const plain = (sentence) => sentence.replace(NAMED, "$1"); function rich(sentence, names) {
+  return sentence.split(NAMED).map((part, index) => { const t = index % 2 ? names.indexOf(part) : -1;
+    return t < 0 ? esc(part.replace(/'/g, "’")) : `<b class="n${t % COLOURS_IN_USE}">${esc(part)}</b>`; }).join(""); }
+const COLOURS_IN_USE = 8; return { wide, cut, fitting, shown, esc, parse, list, sentences, plain, rich, COLOURS_IN_USE }; })(); Story.svg = (() => {
+const { esc } = Story.text; const S = 0.75; const M = 1; const L = 1.25; const XL = 1.75; const r1 = (length) => Math.round(length * 10) / 10;
+const clamp = (low, value, high) => Math.max(low, Math.min(value, high)); const colour = (t) => t % 8;
+const text = (x, y, size, words, kind = "", anchor = "middle") => `<text x="${r1(x)}" y="${r1(y)}" font-size="${r1(size)}" text-anchor="${anchor}" class="${kind}">${esc(words)}</text>`;
+const rect = (x, y, w, h, kind, round = 0) => `<rect x="${r1(x)}" y="${r1(y)}" width="${r1(Math.max(w, 0))}" height="${r1(Math.max(h, 0))}" rx="${r1(round)}" class="${kind}"/>`;
+const path = (line, kind) => `<path d="${line}" class="${kind}"/>`; const title = (words) => `<title>${esc(words)}</title>`;
+const svg = (w, h, label, inside, role = "img") =>
+  `<svg xmlns="http://www.w3.org/2000/svg" width="${r1(w)}" height="${r1(h)}" viewBox="0 0 ${r1(w)} ${r1(h)}" class="pic" role="${role}" aria-label="${esc(label)}">${inside}</svg>`;
+const COLOURS = { light: {
+    paper: "#ffffff", ink: "#101720", soft: "#4f5a67", line: "#c9d0d8", band: "#fff0bf", track: "#e9edf1", bad: "#a3001b", on: "#ffffff",
+    c0: "#0a4fb3", c1: "#a83a00", c2: "#6a22a3", c3: "#00635a", c4: "#9b1150", c5: "#4f5900", c6: "#3f4a58", c7: "#7a4b00", }, dark: {
+    paper: "#0e1217", ink: "#f2f5f8", soft: "#b4bfcc", line: "#3d4753", band: "#3d3410", track: "#232b34", bad: "#ff9c9c", on: "#0e1217",
+    c0: "#8dbdff", c1: "#ffab78", c2: "#d0adff", c3: "#66dccb", c4: "#ff9ac6", c5: "#d3df74", c6: "#c3ccd6", c7: "#e6b873", }, };
+const FONT = '"Segoe UI",-apple-system,"Helvetica Neue",Roboto,"Noto Sans","Liberation Sans",Arial,sans-serif';
+const STYLE = `.pic text{font-family:${FONT};font-variant-numeric:tabular-nums;fill:var(--ink)}
+.pic .b{font-weight:700}.pic .soft,.pic .slate{fill:var(--soft)}.pic .on{fill:var(--on)}.pic .badt{fill:var(--bad)}.pic .strike{text-decoration:line-through}
+.pic .box{fill:var(--paper);stroke-width:2}.pic .band{fill:var(--band)}.pic .halo{stroke:var(--paper);stroke-width:5;stroke-linejoin:round;paint-order:stroke}
+.pic .ghost{fill:none;stroke:var(--soft);stroke-dasharray:4 3;stroke-width:1.5}.pic .hatch{fill:url(#hatch);stroke:var(--soft)}
+.pic .chip{fill:var(--paper);stroke:none}.pic .seg{fill:var(--track)}.pic .tint{fill-opacity:.2;stroke:none}.pic .rule{stroke:var(--line);fill:none}
+.pic .pend{fill:none;stroke-width:1.5;stroke-dasharray:3 2}.pic .life{fill:none;stroke-width:3;stroke-opacity:.35}.pic .link{fill:none;stroke-width:2}
+.pic .view{fill:none;stroke-width:2;stroke-dasharray:2 4;stroke-linecap:round}.pic .edge{fill:none;stroke:var(--bad);stroke-width:3}.pic .bad{fill:var(--bad)}
+.pic .dim{opacity:.28}.pic .ok{fill:none;stroke:var(--soft)}.pic .faint{fill-opacity:.45}.pic .none{fill:none}.pic .mark{stroke:var(--ink);stroke-width:1.5}.pic .inkf{fill:var(--ink)}
+${Array.from({ length: 8 }, (_, t) => `.pic .f${t}{fill:var(--c${t})}.pic .s${t}{stroke:var(--c${t})}`).join("")}
+`;
+const DEFS = '<defs><pattern id="hatch" width="7" height="7" patternUnits="userSpaceOnUse" patternTransform="rotate(45)"><line x1="0" y1="0" x2="0" y2="7" style="stroke:var(--soft);stroke-width:2.5"/></pattern></defs>';
+const properties = (colours) => Object.entries(colours).map(([name, value]) => `--${name}:${value}`).join(";");
+const bezier = (from, to, bend) => [from, [from[0], from[1] + bend], [to[0], to[1] - bend], to]; const pointAt = (curve, part) => [0, 1].map((k) =>
+  (1 - part) ** 3 * curve[0][k] + 3 * part * (1 - part) ** 2 * curve[1][k] + 3 * part * part * (1 - part) * curve[2][k] + part ** 3 * curve[3][k]);
+const curved = (curve) => `M${curve[0].map(r1)}C${curve.slice(1).map((point) => point.map(r1)).join(" ")}`;
+const head = (x, y, isDown, size, kind) => path(`M${r1(x)} ${r1(y)}l${r1(-size / 2)} ${r1(isDown ? -size : size)}h${r1(size)}z`, kind);
+function join(story, at, one, other, [shift, shiftTo] = [0, 0]) {
+  const [from, to] = [story.columns[one], story.columns[other]], isDown = to.t > from.t, size = 0.6 * at.u; if (from.t === to.t) {
+    const y = at.y(from.t), rise = Math.max(0.5 * at.u, (at.gap / 2 - 0.8 * at.u) / 0.75), [x, toX] = [at.mid(one) + shift, at.mid(other) + shiftTo];
+    return { curve: [[x, y], [x, y - rise], [toX, y - rise], [toX, y - 0.5 * at.u]], tip: [toX, y], isDown: true, size }; }
+  const start = [at.mid(one) + shift, at.y(from.t) + (isDown ? at.high : 0)], tip = [at.mid(other) + shiftTo, at.y(to.t) + (isDown ? 0 : at.high)];
+  const end = [tip[0], tip[1] + (isDown ? -size : size) * 0.9];
+  return { curve: bezier(start, end, (isDown ? 1 : -1) * clamp(at.gap * 0.7, Math.abs(end[1] - start[1]) * 0.6, at.lane)), tip, isDown, size }; }
+return { S, M, L, XL, r1, clamp, colour, text, rect, path, title, svg, COLOURS, STYLE, DEFS, properties, pointAt, curved, head, join }; })();
+Story.story = (() => { const { list, sentences } = Story.text; const DRAWN = /^(read|scan|write|miss|skip|wait|commit|abort|unknown|refused)$/;
+const ENDS = /^(commit|abort|unknown)$/; const named = (name) => `{${name}}`; const unique = (all) => [...new Set(all)]; function storyOf(play, text = "") {
+  const { columns, at } = columnsOf(play); const story = {
+    names: play.names, levels: play.levels, level: unique(play.levels).length === 1 ? play.levels[0] : "", order: play.order ?? null, columns,
+    ends: play.names.map((name, t) => columns.findLast((it) => it.t === t && ENDS.test(it.kind))?.kind ?? null), };
+  const lines = text.split("\n").map((line) => line.replace(/#.*/, "")); story.waits = waitsOf(play, columns, at); story.views = viewsOf(play, columns, at);
+  story.tracks = tracksOf(play, columns); story.always = alwaysOf(play, columns, lines); story.verdict = verdictOf(play, story, at); sayMore(story, lines);
+  placeInOrder(story); return story; }
+function columnsOf({ moves, names }) { const columns = [], places = moves.map((move) => { if (!DRAWN.test(move.kind)) return null;
+    columns.push({ ...move, t: names.indexOf(move.txn), from: null, by: null, frees: [], breaks: null }); return columns.length - 1; });
+  const at = (number) => {
+    const { txn } = moves[number - 1] ?? {}, next = places.findIndex((place, index) => index >= number - 1 && place !== null && moves[index].txn === txn);
+    return next < 0 ? null : places[next]; }; for (const column of columns) { if (!column.writer) continue; column.from = at(column.writer.move);
+    column.by = names.indexOf(column.writer.txn); }
+  return { columns, at }; }
+function waitsOf({ moves, names }, columns, at) { const waits = columns.flatMap((column, from) => { if (column.kind !== "wait") return [];
+    const to = columns.findIndex((it, index) => index > from && it.t === column.t && ENDS.test(it.kind));
+    const keys = unique(column.for.map((it) => it.key).filter((key) => key !== undefined && key !== null));
+    return [{ t: column.t, from, to: to < 0 ? null : to, by: null, for: column.for.map((it) => names.indexOf(it.txn)), keys }]; });
+  moves.forEach((move, index) => { for (const number of move.ends ?? []) { const wait = waits.find((it) => it.from === at(number)), by = at(index + 1);
+      if (!wait || by === null || (wait.to !== null && wait.to <= by)) continue; wait.by = by; columns[by].frees.push(wait.t); } }); return waits; }
+function viewsOf({ moves, names, levels }, columns, at) { return moves.flatMap((move, index) => { const t = names.indexOf(move.txn);
+    if (move.kind !== "begin" || levels[t] !== "snapshot" || at(index + 1) === null) return [];
+    const next = moves.findIndex((it, other) => other > index && DRAWN.test(it.kind)); return [{ t, at: at(next + 1) }]; }); }
+function changesOf({ committed }, before) { if (!committed) return []; const now = new Map(committed), keys = unique([...before.keys(), ...now.keys()]);
+  return keys.filter((key) => before.get(key) !== now.get(key)).map((key) => [key, now.get(key) ?? null]); }
+function tracksOf({ rows }, columns) { if (!rows) return []; const tracks = new Map(rows.map(([key, value]) => [key, trackOf(key, value)]));
+  let before = new Map(rows); columns.forEach((column, index) => { const { t, kind, key } = column; if (kind === "write") {
+      if (!tracks.has(key)) tracks.set(key, trackOf(key, null));
+      const { pending } = tracks.get(key), before = pending.find((it) => it.t === t && it.to === null);
+      if (before) Object.assign(before, { to: index, end: "own" }); pending.push({ t, from: index, to: null, value: column.value, end: null }); }
+    if (!ENDS.test(kind)) return;
+    for (const { pending } of tracks.values()) for (const it of pending) if (it.t === t && it.to === null) Object.assign(it, { to: index, end: kind });
+    for (const [changed, value] of changesOf(column, before)) { const { segments } = tracks.get(changed); segments.at(-1).to = index;
+      segments.push({ from: index, to: null, value, t }); }
+    before = new Map(column.committed ?? before); });
+  return [...tracks.values()].sort(({ key: one }, { key: other }) => (typeof one === "number" && typeof other === "number" ? one - other : 0)); }
+const trackOf = (key, value) => ({ key, segments: [{ from: 0, to: null, value, t: null }], pending: [] });
+const filled = (words, valueOf) => words.replace(/@?[\p{L}_][\p{L}\p{N}_]*|@\d+/gu, (word) => valueOf(word) ?? (word[0] === "@" ? "–" : word));
+const valueIn = (pairs, word) => pairs.find(([key]) => String(key) === word.slice(1))?.[1]; function alwaysOf({ always = [], rows, names }, columns, lines) {
+  const done = new Set(); let now = rows ?? [];
+  const all = always.map(({ line }) => ({ line, text: (lines[line - 1] ?? "").replace(/^\s*\S+\s*/, "").trim(), states: [] }));
+  const valueOf = (word) => (word[0] === "@" ? valueIn(now, word) : names.includes(word) ? Number(done.has(word)) : undefined);
+  const note = (judged, from) => judged.forEach(({ holds }, index) => {
+    const { text, states } = all[index], words = filled(text, valueOf), last = states.at(-1);
+    if (!last || last.holds !== holds || last.words !== words) states.push({ from, holds, words }); }); note(always, 0); columns.forEach((column, index) => {
+    if (column.kind !== "commit" || !column.always) return; done.add(column.txn); now = column.committed;
+    const held = all.map(({ states }) => states.at(-1).holds); note(column.always, index);
+    column.breaks = all.find(({ states }, which) => held[which] && !states.at(-1).holds)?.line ?? null; }); return all; }
+function sayMore({ columns, always, names }, lines) { columns.forEach((column, index) => { const said = [column.why];
+    if (column.kind === "skip") said.push(whySkipped(column, sawBefore(column, index, columns), lines)); if (column.breaks !== null) {
+      const { text, states } = always.find((it) => it.line === column.breaks);
+      said.push(`What is to hold is broken: ${text} is now ${states.findLast((it) => it.from <= index).words}`); }
+    if (column.frees.length) said.push(`The wait of ${list(unique(column.frees).map((t) => named(names[t])))} is over`); column.why = sentences(said); }); }
+function sawBefore({ t }, index, columns) { const saw = new Map(); for (const it of columns.slice(0, index)) { if (it.t !== t) continue;
+    if (it.kind === "scan") for (const [key, value] of it.rows) saw.set(key, value);
+    else if (it.kind === "read" || it.kind === "write") saw.set(it.key, it.value ?? null); }
+  return [...saw]; }
+function whySkipped({ line }, saw, lines) { const words = (lines[line - 1] ?? "").split(/\sif\s/)[1]?.trim();
+  return words ? `Its condition doesn’t hold: ${words} is ${filled(words, (word) => (word[0] === "@" ? valueIn(saw, word) : undefined))}` : "Its condition doesn’t hold"; }
+function placeInOrder({ columns, names, order }) {
+  const places = names.map((name) => (order ?? []).flatMap((it, index) => (it === name ? [index] : []))), count = names.map(() => 0), waited = new Set();
+  let last = -1; for (const column of columns) { column.isLate = waited.has(column.t) && ENDS.test(column.kind);
+    if (!column.isLate) last = Math.max(last, places[column.t][count[column.t]++] ?? last); if (column.kind === "wait") waited.add(column.t);
+    column.place = last; } }
+const verdictKind = (word = "") => (/^not ser/.test(word) ? "not" : /another/.test(word) ? "other" : /^serial/.test(word) ? "serial" : "unknown");
+const VERDICTS = { not: "not serializable", other: "serializable in another order", serial: "serializable", unknown: "not judged" };
+function verdictOf({ together = {}, breaks = null, names, kind: what, level }, story, at) {
+  const kind = verdictKind(together.verdict), order = (together.order ?? []).map((name) => names.indexOf(name)), out = names.filter((name, t) => story.ends[t] === "abort");
+  const tail = out.length && kind !== "not" ? `${list(out.map(named))} aborted: as if ${out.length > 1 ? "they" : "it"} had never begun.` : "";
+  const edges = kind === "not" ? (together.cycle ?? []).map((edge) => edgeOf(edge, story, at)) : [];
+  const isWeaker = what === "log" && level !== "serializable" && kind !== "unknown";
+  const say = isWeaker ? `${kind === "not" ? "Fails" : "Holds"} at ${level}` : sayVerdict(kind, order.map((t) => named(names[t])), story);
+  return { kind, order, edges, tail, breaks, name: together.anomaly ?? "", say }; }
+function sayVerdict(kind, order, { ends }) { const then = order.join(", then "); if (kind === "not") return "Not serializable";
+  if (kind === "unknown") return "Not judged"; if (!ends.includes("commit")) return "Nobody committed";
+  if (kind === "other") return `Serializable, but only in another order: ${then}`;
+  return `Serializable${order.length ? `: as if ${then}${order.length === 1 ? " alone" : ""}` : ""}`; }
+function edgeOf(edge, { names, columns }, at) { const { kind, key, moves = [] } = edge, [from, to] = [edge.from, edge.to].map((name) => names.indexOf(name));
+  const [one, other] = [edge.from, edge.to].map((name) => (name ? named(name) : "the opening rows")), then = `${one}, then ${other}.`; const says = {
+    own: `${(edge.words ?? "").replace(/ \(operation \d+\)/g, "").replace(edge.from, () => one)}: there is no time at which both are right.`,
+    rw: `${one} read ${key} = ${edge.read ?? "nothing"} before ${other} wrote it: ${then}`, wr: `${other} read what ${one} wrote to ${key}: ${then}`,
+    ww: `${other} wrote ${key} after ${one}: ${then}`, };
+  const [a, b] = moves.length === 2 ? moves.map((it) => (it === null ? null : at(it))) : endsOf(edge, columns, from, to), isKnown = edge.from !== null && edge.to !== null;
+  return { kind: kind === "own" ? "twice" : kind, key, from, to, a: from < 0 ? null : a, b: to < 0 ? null : b, say: isKnown && says[kind] ? says[kind] : `${edge.words}.` }; }
+function endsOf({ kind, key, read, words = "" }, columns, from, to) {
+  const workOf = (t) => columns.flatMap((it, index) => (it.t === t && /^(read|scan|write|miss)$/.test(it.kind) ? [index] : [])); if (kind === "own") {
+    const own = workOf(from), [one, other] = [...words.matchAll(/operation (\d+)/g)].map((it) => own[it[1] - 1]); return [one ?? own[0], other ?? own.at(-1)]; }
+  const isRead = (it) => it.kind === "scan" || (it.key === key && (it.kind === "miss" || it.kind === "read")), isWrite = (it) => it.kind === "write" && it.key === key;
+  const last = (t, fits) => workOf(t).findLast((index) => fits(columns[index])) ?? null;
+  const reads = (t) => last(t, (it) => isRead(it) && (it.kind !== "read" || it.value === (read ?? it.value))) ?? last(t, isRead);
+  return [kind === "rw" ? reads(from) : last(from, isWrite), kind === "wr" ? reads(to) : last(to, isWrite)].map((it, index) => it ?? workOf([from, to][index]).at(-1) ?? null); }
+function shortVerdict({ verdict, names, ends }) { const out = names.filter((name, t) => ends[t] === "abort"), { kind, order } = verdict;
+  if (kind === "not" || verdict.breaks !== null) return kind === "not" ? VERDICTS.not : "broken";
+  if (out.length) return `${out.length > 2 ? out.length : out.join(", ")} aborted`;
+  if (!order.length || order.length > 3) return kind === "unknown" ? "" : VERDICTS[kind];
+  return `${kind === "other" ? "only " : ""}as if ${order.map((t) => names[t]).join(", ")}`; }
+function samePlace(from, position, to) { if (position > from.columns.length) return to.columns.length + 1; if (to === from || position === 0) return position;
+  if (position === from.columns.length) return to.columns.length;
+  return to.columns.findLastIndex((it) => !it.isLate && it.place <= from.columns[position - 1].place) + 1; }
+return { storyOf, verdictKind, VERDICTS, shortVerdict, samePlace }; })(); Story.layout = (() => { const { wide } = Story.text;
+const { L, M, S, XL, clamp } = Story.svg; function wordsOf(column) { const { kind, key, value } = column; switch (kind) {
+    case "read": return { tops: [`read ${key}`, `r ${key}`, `${key}`], value: value ?? "–" };
+    case "scan": return { tops: [`scan ${column.bucket ?? ""}`, "scan"], value: column.rows.map(([row, its]) => `${row}=${its}`).join(" ") || "–" };
+    case "write": return { tops: [`${key} :=`, `${key}:=`, `${key}`], value: value ?? "–" };
+    case "miss": return { tops: [`${key} :=`, `${key}`], value: column.op === "insert" ? "exists" : "no row" };
+    case "skip": return { tops: ["left out", "out"], value: `${key ?? ""}` }; case "refused": return { tops: ["refused", "ref."], value: "⊘" };
+    case "commit": return { tops: ["commit", ""], value: "✓" }; case "unknown": return { tops: ["commit", ""], value: "?" };
+    case "abort": return { tops: column.op ? [...(/read|scan/.test(column.op) ? [`${column.op} ${key}`, `r ${key}`] : [`${key} :=`]), `${key}`] : ["abort", ""], value: "✗" };
+    default: return { tops: [""], value: "" }; } }
+function need(column, size, isNarrow) { const { tops, value } = wordsOf(column), most = column.kind === "scan" ? 7 : 12;
+  if (column.kind === "wait") return isNarrow ? 2.2 : 3; if (column.kind === "commit" || column.kind === "unknown") return isNarrow ? 1.7 : 2.4;
+  return Math.min(Math.max(wide(tops.at(-1), S), wide(value, column.kind === "scan" ? S : size, 700)) + (isNarrow ? 0.5 : 0.8), most); }
+function slotsOf(stories) { const all = stories.map(({ columns }) => { let [place, late] = [-2, 0]; return columns.map((column, index) => {
+      const own = stories.length === 1 ? index : column.place; late = own === place ? late + 1 : 0; place = own; return own * 1000 + late; }); });
+  const slots = [...new Set(all.flat())].sort((a, b) => a - b); return { count: slots.length, of: all.map((its) => its.map((slot) => slots.indexOf(slot))) }; }
+function spread(stories, slots, widths, least) {
+  const xs = [], last = stories.map(() => new Map()), columnAt = slots.of.map((its) => new Map(its.map((slot, index) => [slot, index])));
+  for (let slot = 0; slot < slots.count; slot++) { let x = slot ? xs[slot - 1] + least : 0; stories.forEach(({ columns }, which) => {
+      const index = columnAt[which].get(slot); if (index === undefined) return; const before = last[which].get(columns[index].t);
+      x = Math.max(x, before === undefined ? widths[which][index] / 2 : xs[slots.of[which][before]] + (widths[which][before] + widths[which][index]) / 2);
+      last[which].set(columns[index].t, index); }); xs[slot] = x; }
+  return xs; }
+const end = (stories, slots, widths, xs) => Math.max(0, ...stories.flatMap((_, which) => widths[which].map((width, index) => xs[slots.of[which][index]] + width / 2)));
+function* ways(stories, slots, room, u, isNarrow) {
+  const even = (width) => stories.map(({ columns }) => columns.map(() => width)), needs = (size) => stories.map(({ columns }) => columns.map((it) => need(it, size, isNarrow) * u));
+  const most = (size) => Math.max(1, ...needs(size).flat()), column = Math.min(8 * u, room / Math.max(slots.count, 1));
+  for (const size of isNarrow ? [L] : [XL, L]) if (column >= Math.max(most(size), (isNarrow ? 2.6 : 3.4) * u)) yield { size, widths: even(column), least: column };
+  for (const size of isNarrow ? [L, M] : [XL, L, M]) { const least = Math.max(most(size), 2.6 * u);
+    for (let width = Math.max(4 * u, least); width >= least; width -= 0.1 * u) yield { size, widths: even(width), least: 1.2 * u }; }
+  for (const size of [L, M, S]) for (const least of [1, 0.6]) yield { size, widths: needs(size), least: least * u }; }
+function layout(story, { w, h, u, all = [story], rows = true }) {
+  const isNarrow = w < 34 * u, longest = Math.max(...story.names.map((name) => wide(name, 1, 700)), ...(rows ? story.tracks.map(({ key }) => wide(key, 1, 700)) : [])), nameSize = isNarrow && longest > 2.5 ? S : M;
+  const gutter = clamp(2.9 * u, longest * nameSize * u + (isNarrow ? 0.5 : 1.2) * u, w * 0.26), pad = (isNarrow ? 1.2 : 2.6) * u, tail = (isNarrow ? 0.4 : 3.2) * u, room = w - gutter - pad - tail;
+  const slots = slotsOf(all), own = slots.of[all.indexOf(story)]; let way, xs, length; for (way of ways(all, slots, room, u, isNarrow)) {
+    xs = spread(all, slots, way.widths, way.least); length = end(all, slots, way.widths, xs); if (length <= room + 0.5) break; }
+  const first = way.widths.flat()[0] ?? 0, isEven = way.least === first, stretch = isEven || length >= room ? 1 : clamp(1, (room - first) / Math.max(length - first, 1), 2);
+  const widths = way.widths[all.indexOf(story)], place = (x) => pad + first / 2 + (x - first / 2) * stretch;
+  const mid = (index) => place(xs[own[index]] ?? (xs.at(-1) ?? 0) + first), most = place(length - first / 2) + first / 2;
+  const left = (index) => mid(index) - (widths[index] ?? first) / 2, right = (index) => (index ? mid(index - 1) + (widths[index - 1] ?? first) / 2 : pad);
+  const high = heights(story, { h, u, rows, isNarrow });
+  return { w: Math.max(most + tail, w - gutter), u, count: story.columns.length, gutter, pad, nameSize, size: high.high > 3.6 * u ? way.size : Math.min(way.size, L), isNarrow, mid, left, right,
+    width: (index) => widths[index] ?? first, ...high }; }
+function heights(story, { h, u, rows, isNarrow }) {
+  const lanes = story.names.length, count = rows ? story.tracks.length + story.always.length : 0, top = (story.views.length ? 1.5 : 0.4) * u;
+  const row = (count > 6 ? 1.9 : 2.05) * u, low = rows && count ? top + row * count + u : 0;
+  const lane = clamp((lanes > 5 ? 3.3 : isNarrow ? 4.4 : rows ? 3.7 : 2.7) * u, (h - low) / lanes, 9 * u), high = clamp(2.5 * u, lane * (isNarrow ? 0.58 : 0.62), 4.6 * u);
+  return { lane, high, gap: lane - high, row, top, y: (t) => t * lane + (lane - high) / 2 }; }
+return { wordsOf, layout }; })(); Story.lanes = (() => { const { cut, esc, fitting, plain, wide } = Story.text;
+const { DEFS, L, M, S, XL, clamp, colour, curved, head, join, path, pointAt, r1, rect, svg, text, title } = Story.svg; const { wordsOf } = Story.layout;
+const ORDINALS = ["1st", "2nd", "3rd"]; function names(story, at, step) {
+  const isEnd = step > at.count, { order, kind } = story.verdict, size = at.nameSize * at.u; const parts = story.names.map((name, t) => {
+    const y = at.y(t) + at.high / 2, place = isEnd && kind !== "not" ? order.indexOf(t) : -1, isOut = isEnd && story.ends[t] === "abort", isTwo = isOut || (place >= 0 && order.length > 1);
+    const under = isOut ? text(2, y + 1.05 * at.u, S * at.u, fitting(["aborted", "out"], at.gutter - 4, S * at.u), "soft", "start") : isTwo ? text(2, y + 1.05 * at.u, S * at.u, ORDINALS[place] ?? `${place + 1}th`, "b", "start") : "";
+    return `<g>${title(name)}${text(2, y + (isTwo ? -0.1 : 0.35) * at.u, size, cut(name, at.gutter - 4, size, 700), `b f${colour(t)}`, "start")}${under}</g>`; });
+  return svg(at.gutter, at.lane * story.names.length, "transactions", parts.join("")); }
+function lines(column, at, box, tops, value, [topKind, valueKind], most = at.size) {
+  const { u } = at, room = box.w - 4, size = [XL, L, M, S].find((it) => it <= most && wide(value, it * u, 700) <= room) ?? S, isLarge = size > L;
+  const top = fitting(tops, room, S * u), middle = box.y + at.high / 2;
+  if (top === "") return text(box.x + box.w / 2, middle + 0.36 * size * u, size * u, cut(value, room, size * u, 700), valueKind);
+  return text(box.x + box.w / 2, middle - (isLarge ? 0.6 : 0.28) * u, S * u, top, topKind) +
+    text(box.x + box.w / 2, middle + (isLarge ? 1.2 : 0.98) * u, size * u, cut(value, room, size * u, 700), valueKind); }
+function scanned(column, at, box) {
+  const { u } = at, most = Math.max(1, Math.floor((at.high - 1.3 * u) / (0.95 * u))), all = column.rows.map(([key, value]) => `${key}=${value}`);
+  const few = all.length > most ? [column.rows.map(([key]) => key).join(" "), `${all.length} rows`].slice(0, most) : all.length ? all : ["–"];
+  const top = box.y + at.high / 2 - few.length * 0.475 * u, x = box.x + box.w / 2;
+  return text(x, top + 0.3 * u, S * u, fitting(wordsOf(column).tops, box.w - 4, S * u), `f${colour(column.t)}`) +
+    few.map((line, index) => text(x, top + (1.25 + index * 0.95) * u, S * u, cut(line, box.w - 4, S * u, 700), "b")).join(""); }
+function boxOf(column, at, index) {
+  const { u } = at, gap = at.width(index) < 3.2 * u ? 1.5 : 3, box = { x: at.left(index) + gap, y: at.y(column.t), w: at.width(index) - 2 * gap }, own = colour(column.t), { tops, value } = wordsOf(column);
+  const frame = (kind, round = 0.35 * u) => rect(box.x, box.y, box.w, at.high, kind, round), said = (kinds, most) => lines(column, at, box, tops, String(value), kinds, most);
+  switch (column.kind) { case "read": return frame(`box s${own}`) + said([`f${own}`, column.by === null ? "b" : `b f${colour(column.by)}`]);
+    case "scan": return frame(`box s${own}`) + scanned(column, at, box); case "write": { const whole = `${column.key} := ${value}`, size = at.size * u;
+      return frame(`f${own}`) + (wide(whole, size, 700) < box.w - 4 ? text(box.x + box.w / 2, box.y + at.high / 2 + 0.36 * size, size, whole, "b on") : said(["on", "b on"])); }
+    case "miss": return frame("ghost") + said(["soft", "b soft"], M); case "skip": return frame("ghost") + said(["soft", "soft strike"], L);
+    case "refused": return frame("ghost") + said(["soft", "b soft"], L);
+    case "commit": return frame(`box s${own}`, at.high / 2) + said([`f${own}`, `b f${own}`]);
+    case "unknown": return frame("ghost", at.high / 2) + said(["soft", "b soft"]); case "abort": return frame("bad") + said(["on", "b on"]);
+    default: return ""; } }
+function waitBar(story, at, wait, step) {
+  const { u } = at, isFree = wait.by !== null && wait.by < step && (wait.to === null || wait.by < wait.to), isOver = wait.to !== null && wait.to < step;
+  const to = Math.min(isFree ? at.mid(wait.by) + 0.5 * u : Infinity, isOver ? at.left(wait.to) : at.right(Math.min(step, at.count)));
+  const x = at.left(wait.from) + 3, w = Math.max(to - x - 3, 0.6 * u), h = at.high * 0.78, y = at.y(wait.t) + at.high * 0.11, who = wait.for.map((t) => story.names[t]).join(", "), size = S * u;
+  const all = `waits for ${who}`, long = wait.keys.length && wait.for.length === 1 ? `${all}, which read ${wait.keys.join(", ")}` : all;
+  const said = [[long], [all], ["waits", `for ${who}`]].find((lines) => lines.every((it) => wide(it, size, 700) <= w - 0.8 * u)), bar = rect(x, y, w, h, "hatch", 0.3 * u);
+  if (!said) return bar + text(x, y + h + 0.85 * u, size, cut(all, at.w - x, size, 700), "b halo", "start");
+  const middle = x + Math.min(w / 2, Math.max(...said.map((it) => wide(it, size, 700))) / 2 + 0.3 * u);
+  return bar + said.map((it, index) => text(middle, y + h / 2 + (said.length === 1 ? 0.27 : index ? 0.8 : -0.2) * u, size, it, "b halo")).join(""); }
+const isNear = (at, index, step) => index < step && (at.count <= 30 || index === step - 1);
+const links = (story, at, step) => story.columns.map((column, index) => {
+  if (!/read|scan/.test(column.kind) || column.from === null || column.by === column.t || !isNear(at, index, step)) return "";
+  const it = join(story, at, column.from, index);
+  return path(curved(it.curve), `link s${colour(column.by)}`) + head(...it.tip, it.isDown, it.size, `f${colour(column.by)}`); }).join("");
+const frees = (story, at, step) => story.waits.map((wait) => { if (wait.by === null || !isNear(at, wait.by, step)) return "";
+  const from = story.columns[wait.by].t, isDown = wait.t > from, y = at.y(from) + (isDown ? at.high : 0), to = at.y(wait.t) + at.high * (isDown ? 0.11 : 0.89);
+  return path(`M${r1(at.mid(wait.by))} ${r1(y)}V${r1(to)}`, "ghost") + head(at.mid(wait.by), to, isDown, 0.5 * at.u, "inkf"); }).join("");
+function clearance([x, y], [w, h], story, at, used, curves) {
+  const boxes = story.columns.map((column, index) => Math.max(Math.abs(at.mid(index) - x) - (at.width(index) + w) / 2, Math.abs(at.y(column.t) + at.high / 2 - y) - (at.high + h) / 2));
+  const labels = used.map((it) => Math.max(Math.abs(it.x - x) - (it.w + w) / 2 - 4, Math.abs(it.y - y) - h - 3));
+  const tips = curves.map(({ tip }) => Math.max(Math.abs(tip[0] - x) - w / 2 - 0.7 * at.u, Math.abs(tip[1] - y) - h / 2 - 0.9 * at.u));
+  return Math.min(...boxes, ...labels, ...tips, x - w / 2, at.w - x - w / 2); }
+const SHIFTS = [0, 0.9, -0.9, 1.8]; function edges(story, at) {
+  const ends = new Map(), used = [], all = story.verdict.edges.filter((it) => it.a !== null && it.b !== null && it.a !== undefined && it.b !== undefined);
+  const shift = (key) => { const count = ends.get(key) ?? 0; ends.set(key, count + 1); return SHIFTS[count % 4] * Math.min(at.u, at.width(0) / 4); };
+  const curves = all.map(({ a, b, from, to }) => join(story, at, a, b, [shift(`${a} ${to > from}`), shift(`${b} ${to < from}`)]));
+  const drawn = all.map(({ kind, key }, index) => {
+    const { curve, tip, isDown, size } = curves[index], words = `${kind} ${key ?? ""}`.trim(), type = (at.width(0) < 3 * at.u ? S : M) * at.u, w = wide(words, type, 700) + 0.9 * type, h = 1.45 * type;
+    const points = Array.from({ length: 41 }, (_, part) => pointAt(curve, 0.1 + part * 0.02)), score = (point) => clearance(point, [w, h], story, at, used, curves);
+    const [x, y] = points.map((point) => [score(point), point]).sort(([one], [other]) => other - one)[0][1], top = Math.max(y, h / 2 + 1), left = clamp(w / 2 + 1, x, at.w - w / 2 - 1);
+    used.push({ x: left, y: top, w });
+    return [path(curved(curve), "edge") + head(...tip, isDown, size * 1.5, "bad"), rect(left - w / 2, top - h / 2, w, h, "bad", 0.3 * at.u) + text(left, top + 0.35 * type, type, words, "b on")]; });
+  return drawn.map(([line]) => line).join("") + drawn.map(([, label]) => label).join(""); }
+function life(story, at, t, step) { const own = story.columns.flatMap((column, index) => (column.t === t && index < step ? [index] : []));
+  if (!own.length) return ""; const last = own.at(-1), isOver = /commit|abort|unknown/.test(story.columns[last].kind), y = r1(at.y(t) + at.high / 2);
+  return path(`M${r1(at.left(own[0]) + 3)} ${y}H${r1(isOver ? at.mid(last) : at.right(step))}`, `life s${colour(t)}`); }
+const labelOf = (column, index) => `${index + 1}: ${plain(column.say ?? "")}`; function lanes(story, at, step, isLive = false) {
+  const isEnd = step > at.count, now = Math.min(step, at.count), isCycle = isEnd && story.verdict.kind === "not", kept = new Set(story.verdict.edges.flatMap(({ a, b }) => [a, b])), h = at.lane * story.names.length;
+  const band = now > 0 && !isEnd ? rect(at.left(now - 1), 0, at.width(now - 1), h, "band") : "", dim = (is) => (is ? ' class="dim"' : "");
+  const rules = story.names.map((_, t) => path(`M0 ${r1(at.y(t) + at.high / 2)}H${r1(at.w)}`, "rule")).join(""), lives = story.names.map((_, t) => life(story, at, t, now)).join("");
+  const bars = story.waits.filter((wait) => wait.from < now).map((wait) => `<g${dim(isCycle)}>${waitBar(story, at, wait, now)}</g>`).join("");
+  const live = (column, index) => isLive ? ` data-step="${index + 1}" role="button" tabindex="${index === now - 1 ? 0 : -1}" aria-label="${esc(labelOf(column, index))}"${index === step - 1 ? ' aria-current="step"' : ""}` : "";
+  const boxes = story.columns.slice(0, now).map((column, index) => `<g${live(column, index)}${dim(isCycle && !kept.has(index))}>${title(plain(column.say ?? ""))}${boxOf(column, at, index)}</g>`).join("");
+  const under = isCycle ? story.columns.map((column, index) => (column.kind === "wait" ? "" : rect(at.left(index) + 2, at.y(column.t), at.width(index) - 4, at.high, "chip", column.kind === "commit" ? at.high / 2 : 6))).join("") : "";
+  const arrows = isCycle ? "" : frees(story, at, now), found = isCycle ? edges(story, at) : links(story, at, now);
+  return svg(at.w, h, `Lanes of ${story.names.join(", ")} after ${now} of ${at.count} moves`, DEFS + band + rules + lives + bars + arrows + under + boxes + found, isLive ? "group" : "img"); }
+return { names, labelOf, lanes }; })(); Story.rows = (() => { const { cut, wide } = Story.text;
+const { DEFS, M, S, colour, path, r1, rect, svg, text, title } = Story.svg; const NONE = "–";
+const height = (story, at) => at.top + at.row * (story.tracks.length + story.always.length) + 4; function keys(story, at) {
+  const { u } = at, count = story.tracks.length, room = at.gutter - 4;
+  const rows = story.tracks.map(({ key }, index) => `<g>${title(key)}${text(2, at.top + at.row * index + at.row - 0.27 * u, M * u, cut(key, room, M * u, 700), "b", "start")}</g>`);
+  const always = story.always.map((it, index) => text(2, at.top + at.row * (count + index) + 1.35 * u, S * u, cut("always", room, S * u, 700), "b", "start"));
+  return svg(at.gutter, height(story, at), "rows", (story.views.length ? text(2, at.u, S * u, "row", "soft", "start") : "") + rows.join("") + always.join("")); }
+function track({ segments, pending }, at, y, now, till) {
+  const { u } = at, bar = at.row - 1.19 * u, parts = [path(`M0 ${r1(y + at.row - 0.03 * u)}H${r1(at.w)}`, "rule")];
+  for (const { from, to, value, t } of segments) { if (t !== null && from >= now) continue;
+    const x = t === null ? 0 : at.mid(from), w = till(0, to) - x || at.pad, isOpening = t === null, words = value ?? NONE;
+    parts.push(rect(x, y + bar, Math.max(w, isOpening ? at.pad - 4 : 2) - 1, at.row - bar - 0.05 * u, isOpening ? "seg" : `tint f${colour(t)}`, 2));
+    if (!isOpening) parts.push(rect(x, y + bar, 4, at.row - bar - 0.05 * u, `f${colour(t)}`));
+    parts.push(`<g>${title(words)}${text(x + (isOpening ? 5 : 9), y + at.row - 0.27 * u, M * u, cut(words, Math.max(w - (isOpening ? 6 : 10), at.pad - 8), M * u, 700), `b ${isOpening ? "" : `f${colour(t)}`}`, "start")}</g>`); }
+  for (const { t, from, to, value, end } of pending) { if (from >= now) continue; const x = at.mid(from), until = till(0, to), w = Math.max(until - x, 2) - 2;
+    parts.push(rect(x, y + 0.06 * u, w, bar - 0.1 * u, `pend s${colour(t)}`, 2), text(x + 4, y + bar - 0.14 * u, S * u, cut(value ?? NONE, Math.max(w - 4, at.width(from) / 2), S * u), `f${colour(t)}`, "start"));
+    if (end === "abort" && to < now) parts.push(text(until + 1, y + bar - 0.12 * u, S * u, "✗", "b badt", "start")); }
+  return parts.join(""); }
+function looks(story, at, now, views) { const column = story.columns[now - 1], { u } = at; if (column?.kind !== "read") return "";
+  return story.tracks.map(({ key }, index) => { if (key !== column.key) return "";
+    const isOwn = column.by === column.t, y = at.top + at.row * index + (isOwn ? 0.4 * u : at.row - 0.6 * u), view = views.find((it) => it.t === column.t), x = at.mid(now - 1), to = view && !isOwn ? view.x : x;
+    return path(`M${r1(x)} 0V${r1(y)}H${r1(to)}`, `link s${colour(column.t)}`) + `<circle cx="${r1(to)}" cy="${r1(y)}" r="${r1(0.35 * u)}" class="f${colour(column.t)}"/>`; }).join(""); }
+const looking = (story, at, views) => views.map(({ x, t }, index) => {
+  const { u } = at, room = (views[index + 1]?.x ?? at.w) - x, name = story.names[t], long = `${name}’s view`;
+  return path(`M${r1(x)} ${r1(0.5 * u)}V${r1(at.top + at.row * story.tracks.length)}`, `view s${colour(t)}`) +
+    text(x + 4, u, S * u, wide(long, S * u, 700) < room - 6 ? long : cut(name, room - 4, S * u, 700), `b halo f${colour(t)}`, "start"); }).join("");
+function always({ states, text: words }, at, y, now, right) { const { u } = at; return states.map((state, index) => {
+    if (index > 0 && state.from >= now) return "";
+    const x = index ? at.mid(state.from) : 0, next = states[index + 1], to = next && next.from < now ? at.mid(next.from) : Math.max(right, at.pad), w = to - x, mark = state.holds ? "✓" : "✗", said = `${mark} ${state.words}`;
+    const label = w <= u ? "" : wide(said, S * u, 700) < w - 8 ? text(x + 6, y + 1.02 * u, S * u, said, `b ${state.holds ? "" : "on"}`, "start") : text(x + w / 2, y + 1.02 * u, S * u, mark, state.holds ? "b" : "b on");
+    return `<g>${title(`${words}: ${state.words}`)}${rect(x + 1, y, w - 2, 1.5 * u, state.holds ? "ok" : "bad", 3)}${label}</g>`; }).join(""); }
+function tracks(story, at, step) {
+  const isEnd = step > at.count, now = Math.min(step, at.count), right = isEnd || now === at.count ? at.w : at.right(now), low = at.top + at.row * (story.tracks.length + story.always.length);
+  const till = (_, to) => Math.min(right, to === null || to >= now ? right : at.mid(to));
+  const seen = story.views.filter((it) => it.at < now || (it.at === now && isEnd)).sort((one, other) => one.at - other.at);
+  const views = seen.map((it, index) => ({ t: it.t, x: at.left(it.at) + 3 + 5 * seen.slice(0, index).filter((other) => other.at === it.at).length }));
+  const parts = [DEFS, now > 0 && !isEnd ? rect(at.left(now - 1), 0, at.width(now - 1), low + 4, "band") : ""];
+  story.tracks.forEach((it, index) => parts.push(track(it, at, at.top + at.row * index, now, till))); if (!isEnd) parts.push(looks(story, at, now, views));
+  parts.push(looking(story, at, views));
+  story.always.forEach((it, index) => parts.push(always(it, at, at.top + at.row * (story.tracks.length + index) + 0.35 * at.u, now, right)));
+  return svg(at.w, low + 4, `Rows after ${now} moves`, parts.join("")); }
+return { keys, tracks }; })(); Story.cards = (() => { const { esc, wide } = Story.text;
+const { DEFS, S, colour, path, r1, rect, svg, text, title } = Story.svg; const { VERDICTS, verdictKind } = Story.story; const NONE = "–";
+function mini(story, w, h, u, step) {
+  const count = Math.max(story.columns.length, 1), column = w / count, lane = h / story.names.length, high = lane * 0.8, y = (t) => t * lane + lane * 0.1, size = Math.min(S * u, high * 0.9);
+  const rules = story.names.map((_, t) => path(`M0 ${r1(y(t) + high / 2)}H${r1(w)}`, "rule")).join("");
+  const waits = story.waits.map(({ t, from, to, by }) => { const until = by !== null && (to === null || by < to) ? by + 0.6 : to ?? count;
+    return rect(from * column + 1, y(t) + high * 0.1, (until - from) * column - 2, high * 0.8, "hatch", 2); }).join("");
+  const boxes = story.columns.map((it, index) => (column < 9 ? tiny(it, index * column, y(it.t), column - 0.5, high) : small(it, index * column, y(it.t), column, high, size))).join("");
+  return svg(w, h, `the run at ${story.level || "its levels"}`, DEFS + rules + waits + boxes + (step > 0 && step <= story.columns.length ? path(`M${r1(step * column)} 0V${r1(h)}`, "mark") : "")); }
+function tiny({ kind, t }, x, y, w, h) {
+  const kinds = { read: `faint f${colour(t)}`, scan: `faint f${colour(t)}`, write: `f${colour(t)}`, abort: "bad", commit: "inkf" };
+  return rect(x, y, w, h, kinds[kind] ?? "none"); }
+function small({ kind, t, value, by, rows }, x, y, w, h, size) {
+  const own = colour(t), middle = x + w / 2, base = y + h / 2 + size * 0.36, box = [x + 1, y, w - 2, h];
+  const said = (words, kinds) => (wide(words, size, 700) < w - 2 ? text(middle, base, size, words, kinds) : ""); switch (kind) {
+    case "read": return rect(...box, `box s${own}`, 3) + said(value ?? NONE, `b ${by === null ? "" : `f${colour(by)}`}`);
+    case "scan": return rect(...box, `box s${own}`, 3) + said(rows.length, "b"); case "write": return rect(...box, `f${own}`, 3) + said(value ?? NONE, "b on");
+    case "skip": case "miss": case "refused": return rect(...box, "chip") + rect(...box, "ghost", 3);
+    case "unknown": return rect(middle - size * 0.6, y, size * 1.2, h, "chip") + text(middle, base, size, "?", "b soft");
+    case "commit": return rect(middle - size * 0.6, y, size * 1.2, h, "chip") + text(middle, base, size, "✓", `b f${own}`);
+    case "abort": return rect(...box, "bad", 3) + text(middle, base, size, "✗", "b on"); default: return ""; } }
+const isBroken = (outcome) => verdictKind(outcome.verdict) === "not" || outcome.breaks !== undefined && outcome.breaks !== null;
+const sorted = (outcomes) => [...outcomes].sort((one, other) => isBroken(other) - isBroken(one) || other.orders - one.orders);
+const rowsOf = ({ rows }) => rows.map(([key, value]) => `${key}=${value}`).join(" "); function saidOutcome(outcome, { orders }) {
+  const ends = outcome.ends.map(({ txn, end }) => `${txn} ${end}`).join(", "), broken = outcome.breaks ? `; breaks line ${outcome.breaks}` : "";
+  return `${outcome.orders} of ${orders} orders: ${ends}; ${rowsOf(outcome)}; ${VERDICTS[verdictKind(outcome.verdict)]}${broken}`; }
+function bars(counted, names, w, u, isHere = () => false) {
+  const size = S * u, high = 1.45 * u, all = sorted(counted.outcomes), most = Math.max(...all.map((it) => it.orders)), alike = new Set(all.map((it) => it.ends.map(({ end }) => end).join())).size < all.length;
+  const short = names.join("").length > 6 ? names.map((name) => name.slice(0, 2)) : names, widths = short.map((name) => wide(`${name} ✓`, size, 700) + 0.45 * u), left = widths.reduce((sum, it) => sum + it, 0.4 * u);
+  const room = Math.max((w - left - wide(`✗ ${most}`, size, 700)) * 0.5, 2 * u);
+  return svg(w, high * all.length, "outcomes of all orders", DEFS + all.map((outcome, index) => {
+    const y = index * high, base = y + 1.02 * u, bad = isBroken(outcome), isOther = verdictKind(outcome.verdict) === "other", length = Math.max(2, room * outcome.orders / most), words = saidOutcome(outcome, counted);
+    const after = bad || isOther ? "" : alike ? rowsOf(outcome) : outcome.ends.find(({ end }) => end !== "committed")?.end.replace("aborted ", "") ?? "", count = bad ? `✗ ${outcome.orders}` : `${outcome.orders}`;
+    const x = left + length + 0.3 * u, next = x + wide(count, size, 700) + 0.5 * u;
+    const marks = outcome.ends.map(({ end }, t) => text(0.2 * u + widths.slice(0, t).reduce((sum, it) => sum + it, 0), base, size, `${short[t]} ${end === "committed" ? "✓" : "✗"}`, end === "committed" ? `b f${colour(t)}` : "badt", "start"));
+    return `<g data-order="${esc(outcome.first?.join(" ") ?? "")}" role="button" tabindex="0" aria-label="${esc(words)}">${title(words)}${rect(0, y, w, high - 1, isHere(outcome) ? "band" : "chip", 3)}${marks.join("")}` +
+      rect(left, y + 0.28 * u, length, 0.85 * u, bad ? "bad" : isOther ? "hatch" : "slate", 2) + text(x, base, size, count, `b ${bad ? "badt" : ""}`, "start") +
+      (wide(after, size) < w - next + 4 ? text(next, base, size, after, "soft", "start") : "") + "</g>"; }).join(""), "group"); }
+const hasOutcome = (story) => (outcome) => verdictKind(outcome.verdict) === story.verdict.kind && outcome.ends.every(({ end }, t) => end === endOf(story, t)) &&
+  outcome.rows.every(([key, value]) => story.tracks.find((it) => it.key === key)?.segments.at(-1).value === value); function endOf({ ends, columns }, t) {
+  if (ends[t] !== "abort") return ends[t] === "commit" ? "committed" : "unended";
+  return `aborted ${columns.find((it) => it.t === t && it.kind === "abort").cause}`; }
+return { mini, sorted, saidOutcome, bars, hasOutcome, endOf }; })(); Story.figure = (() => { const { fitting, plain } = Story.text;
+const { COLOURS, L, S, STYLE, XL, rect, r1, svg, text } = Story.svg; const { layout } = Story.layout; const { lanes, names } = Story.lanes;
+const { keys, tracks } = Story.rows; const painted = (drawing, colours) => drawing.replace(/var\(--(\w+)\)/g, (all, name) => colours[name] ?? all);
+function saying(story, step) { if (step === 0) return { say: "", isBad: false };
+  if (step > story.columns.length) return { say: plain(story.verdict.say), isBad: story.verdict.kind === "not" || story.verdict.breaks !== null };
+  const { say, breaks } = story.columns[step - 1]; return { say: plain(say), isBad: breaks !== null }; }
+function figure(story, { step = story.columns.length + 1, width = 1000, theme = "light", title = "" } = {}) {
+  const u = 16, at = layout(story, { w: width, h: 480, u }), hasRows = story.tracks.length + story.always.length > 0, { say, isBad } = saying(story, step);
+  const heading = title ? 1.6 * u : 0, top = heading + (say ? 2.4 * u : 0), low = top + at.lane * story.names.length + 8, wide = at.gutter + at.w;
+  const parts = [[0, top, names(story, at, step)], [at.gutter, top, lanes(story, at, step)], ...(hasRows ? [[0, low, keys(story, at)], [at.gutter, low, tracks(story, at, step)]] : [])];
+  const high = hasRows ? low + Number(/height="([\d.]+)"/.exec(parts[3][2])[1]) : low;
+  const words = (title ? text(2, 1.1 * u, S * u, fitting([title], wide - 4, S * u), "soft", "start") : "") + text(2, heading + 1.7 * u, (say.length > 60 ? L : XL) * u, say, isBad ? "b badt" : "b", "start");
+  const inside = `<style>${STYLE}</style>${rect(0, 0, wide, high, "chip")}${words}${parts.map(([x, y, part]) => `<g transform="translate(${r1(x)} ${r1(y)})">${part}</g>`).join("")}`;
+  return painted(svg(wide, high, title || "a run", inside), COLOURS[theme]); }
+return { figure }; })(); Story.log = (() => { const { parse } = Story.text; const MOST = { txns: 12, operations: 60 }; const named = (name) => `{${name}}`;
+const same = (one, other) => JSON.stringify(one) === JSON.stringify(other); const isLog = (text) => /^\ufeff?\s*\{/.test(text); function read(text) {
+  const lines = text.replace(/^\ufeff/, "").split("\n").flatMap((line, index) => (line.trim() ? [{ ...parse(line), line: index + 1 }] : []));
+  return { rows: lines.find((it) => !("txn" in it))?.rows ?? [], txns: lines.filter((it) => "txn" in it).map((it) => ({ ...it, name: String(it.txn), ops: it.ops ?? [] })) }; }
+const done = (flag) => flag !== false; function moveOf([op, ...rest], txn, line) {
+  const base = { txn, line, op, steps: [], ends: [], why: "" }, [key, value, flag] = rest; switch (op) {
+    case "read": return { ...base, kind: "read", key, value: value ?? null, writer: null, say: `${named(txn)} reads ${key}: ${value ?? "no such row"}` };
+    case "scan": case "range": { const rows = rest.at(-1) ?? [], where = op === "scan" ? `bucket ${key}` : `${key} to ${value}`;
+      return { ...base, kind: "scan", bucket: op === "scan" ? key : `${key}..${value}`, rows, say: `${named(txn)} scans ${where}: ${rows.map(([row, its]) => `${row} = ${its}`).join(", ") || "nothing"}` }; }
+    case "delete": return done(value) ? { ...base, kind: "write", key, value: null, say: `${named(txn)} deletes ${key}` } : miss(base, key, "isn't there");
+    default: return done(flag) ? { ...base, kind: "write", key, value, say: `${named(txn)} ${op === "insert" ? "inserts" : "writes"} ${key}: ${value}` } : miss(base, key, op === "insert" ? "is there already" : "isn't there"); } }
+const miss = (base, key, how) => ({ ...base, kind: "miss", key, value: null, say: `${named(base.txn)} writes nothing: ${key} ${how}` });
+function endOf({ name, status, line }) { const base = { txn: name, line, steps: [], ends: [], why: "" };
+  if (status === "aborted") return { ...base, kind: "abort", cause: "", op: null, say: `${named(name)} aborts` };
+  if (status === "unknown") return { ...base, kind: "unknown", say: `${named(name)} ends, and nobody knows how` };
+  return { ...base, kind: "commit", committed: null, say: `${named(name)} commits` }; }
+class Before { constructor(count) { this.after = Array.from({ length: count }, () => new Set()); }
+  reaches(from, to) { const seen = new Set([from]), left = [from]; while (left.length) { const at = left.pop(); if (at === to) return true;
+      for (const next of this.after[at]) if (!seen.has(next)) { seen.add(next); left.push(next); } }
+    return false; }
+  add(first, second) { if (first === undefined || second === undefined || first === second || this.reaches(second, first)) return;
+    this.after[first].add(second); }
+  order(moves) { const left = new Set(moves.keys()), blocked = (it) => [...left].some((other) => this.after[other].has(it)), order = []; while (left.size) {
+      const free = [...left].filter((it) => !blocked(it)), last = order.length ? moves[order.at(-1)].txn : null, next = free.find((it) => moves[it].txn === last) ?? free[0];
+      order.push(next); left.delete(next); }
+    return order; } }
+const writersOf = (moves, { txn, key, value }) => moves.flatMap((it, index) => (it.kind === "write" && it.txn !== txn && same([it.key, it.value], [key, value]) ? [index] : []));
+const foundBy = (it) => (it.kind === "read" ? (it.value === null ? [] : [[it.key, it.value]]) : it.kind === "scan" ? it.rows : []);
+function constraints(txns, moves, cycle) {
+  const before = new Before(moves.length), at = new Map(txns.map(({ name }) => [name, moves.flatMap((it, index) => (it.txn === name ? [index] : []))]));
+  for (const its of at.values()) its.slice(1).forEach((it, index) => before.add(its[index], it)); moves.forEach((it, index) => {
+    for (const [key, value] of foundBy(it)) { const [writer, ...more] = writersOf(moves, { txn: it.txn, key, value });
+      if (writer !== undefined && !more.length) { before.add(writer, index); it.found = writer; } } }); addTimes(before, txns, at);
+  for (const { from, to, ends: [first, second] } of cycle) if (from !== to) before.add(first, second); moves.forEach((it, index) => {
+    if (it.found === undefined) return;
+    const its = at.get(moves[it.found].txn), end = its.at(-1), later = its.find((other) => other > it.found && moves[other].kind === "write" && same(moves[other].key, it.key));
+    if (later !== undefined) before.add(index, later); if (moves[end].kind === "commit") before.add(end, index); else before.add(index, end); });
+  return before; }
+function addTimes(before, txns, at) { const times = ({ begin, end, at: [invoked, answered] = [] }) => [begin ?? invoked ?? null, end ?? answered ?? null];
+  for (const one of txns) for (const other of txns) { const [, ended] = times(one), [began] = times(other);
+    if (one !== other && ended !== null && began !== null && ended <= began) before.add(at.get(one.name).at(-1), at.get(other.name)[0]); } }
+function chosen(txns, cycle) { const isSmall = txns.length <= MOST.txns && txns.reduce((sum, { ops }) => sum + ops.length, 0) <= MOST.operations;
+  if (isSmall || !cycle.length) return isSmall ? txns : txns.slice(0, MOST.txns);
+  const names = new Set(cycle.flatMap(({ from, to, source, reader }) => [from, to, source, reader]).filter((it) => it !== null && it !== undefined).map(String));
+  return txns.filter(({ name }) => names.has(name)); }
+function edgeEnds({ kind, key, read: seen, written, from, to, operations, words = "" }, moves) {
+  const own = (name) => moves.flatMap((it, index) => (it.txn === String(name) && /^(read|scan|write|miss)$/.test(it.kind) ? [index] : []));
+  if (String(from) === String(to)) { const numbers = operations ?? [...words.matchAll(/operation (\d+)/g)].map((it) => Number(it[1])), its = own(from);
+    return [its[numbers[0] - 1] ?? its[0], its[numbers[1] - 1] ?? its.at(-1)]; }
+  const isAt = (it) => same(it.key, key), reads = (name, value) => own(name).findLast((it) => foundBy(moves[it]).some((pair) => same(pair, [key, value]))) ?? own(name).findLast((it) => (moves[it].kind === "read" || moves[it].kind === "miss") && isAt(moves[it])) ?? own(name).findLast((it) => moves[it].kind === "scan");
+  const writes = (name, value) => own(name).findLast((it) => moves[it].kind === "write" && isAt(moves[it]) && (value === null || value === undefined || same(moves[it].value, value))) ?? own(name).findLast((it) => moves[it].kind === "write" && isAt(moves[it]));
+  return [kind === "rw" ? reads(from, seen) : writes(from, kind === "wr" ? seen ?? written : null), kind === "wr" ? reads(to, seen ?? written) : writes(to, kind === "rw" ? written : null)] .map((it, index) => it ?? own(index ? to : from).at(-1)); }
+const VERDICT = { serial: "serializable", holds: "serializable", serializable: "serializable", "not serial": "not serializable", fails: "not serializable", "not serializable": "not serializable" };
+function playOfLog(text, answer) { const { rows, txns: all } = read(text), edges = answer.cycle ?? [], txns = chosen(all, edges);
+  const moves = txns.flatMap((txn) => [...txn.ops.map((op) => moveOf(op, txn.name, txn.line)), endOf(txn)]);
+  const cycle = edges.map((edge) => ({ ...edge, from: edge.from === null ? null : String(edge.from), to: edge.to === null ? null : String(edge.to), ends: edgeEnds(edge, moves) }));
+  const order = constraints(txns, moves, cycle).order(moves), place = (index) => order.indexOf(index) + 1;
+  const told = order.map((index) => ({ ...moves[index], ...found(moves[index], moves, rows, place) })); return {
+    kind: "log", level: answer.level ?? "serializable", names: txns.map(({ name }) => name), levels: txns.map(({ level }) => level ?? "serializable"), order: null, moves: told, breaks: null,
+    together: { verdict: VERDICT[answer.verdict] ?? "unknown", anomaly: answer.anomaly ?? "", order: answer.serial_order?.map(String) ?? [], cycle: cycle.map((edge) => ({ ...edge, moves: edge.ends.map((it) => (it === undefined ? null : place(it))) })) },
+    about: txns.length < all.length ? `The log has ${all.length} transactions; these are ${edges.length ? "those of the cycle" : "the first ones"}.` : "", }; }
+function found(it, moves, rows, place) {
+  if (it.found !== undefined) return { writer: { txn: moves[it.found].txn, move: place(it.found) }, why: `${named(moves[it.found].txn)} wrote it` };
+  if (it.kind !== "read" || it.value === null) return {};
+  const own = moves.some((other) => other.txn === it.txn && other.kind === "write" && same([other.key, other.value], [it.key, it.value]));
+  if (own) return { why: "It sees its own write" }; if (rows.some((row) => same(row, [it.key, it.value]))) return { why: "" };
+  return { why: writersOf(moves, it).length ? "Several have written this value" : "Nobody here wrote this value" }; }
+return { isLog, playOfLog }; })(); Story.view = (() => { const { esc, plain, rich, sentences } = Story.text; const { layout } = Story.layout;
+const { lanes, names } = Story.lanes; const { keys, tracks } = Story.rows; const { bars, hasOutcome, mini } = Story.cards;
+const { samePlace, shortVerdict } = Story.story; const WRITTEN = "as written"; function positionOf(at, story) { if (at === "start") return 0;
+  if (at === "end") return story.columns.length + 1; const all = story.columns.flatMap((it, index) => (fits(it, at) ? [index + 1] : []));
+  return all[(at.nth ?? 1) - 1] ?? -1; }
+const fits = (column, { kind, txn, key }) => column.kind === kind && (txn === undefined || column.txn === txn) && (key === undefined || String(column.key ?? column.bucket) === String(key));
+function edgesHtml({ verdict, always, names: all }) {
+  const broken = always.find((it) => it.line === verdict.breaks), rows = verdict.edges.map((edge) => [`${edge.kind} ${edge.key ?? ""}`, rich(edge.say, all)]);
+  if (verdict.breaks !== null) rows.push(["always", `${esc(broken?.text ?? `line ${verdict.breaks}`)} doesn’t hold at the end.`]);
+  return rows.length ? `<ul class="${rows.length > 3 ? "two" : ""}">${rows.map(([kind, said]) => `<li><span class="edge-kind">${esc(kind)}</span><span>${said}</span></li>`).join("")}</ul>` : ""; }
+function sentence(model, story, { step, mode }) { const column = story.columns[step - 1], { verdict } = story; if (step === 0 || mode === "compare") {
+    const asked = model.question || model.title, more = model.question && mode !== "compare" ? model.about : "";
+    return `<p>${esc(asked)}</p>${more ? `<p class="why">${esc(more)}</p>` : ""}`; }
+  if (column) return `<p class="${column.breaks === null ? "" : "not"}">${rich(column.say, story.names)}</p>${column.why ? `<p class="why">${rich(column.why, story.names)}</p>` : ""}`;
+  const isBad = verdict.kind === "not" || verdict.breaks !== null, tail = sentences([verdict.kind === "not" ? verdict.name : "", verdict.tail]);
+  return `<p class="verdict ${isBad ? "not" : ""}">${rich(verdict.say, story.names)}</p>${tail ? `<p class="why">${rich(tail, story.names)}</p>` : ""}${edgesHtml(story)}`; }
+function sentenceRoom(model, mode) { if (mode === "compare") return 3.2;
+  const rows = Object.values(model.stories).map(({ verdict }) => verdict.edges.length + (verdict.breaks === null ? 0 : 1)), most = Math.max(0, ...rows), lines = most > 3 ? Math.ceil(most / 2) : most;
+  return Math.max(6, (lines ? 4.8 : 3.2) + 1.4 * lines); }
+const cell = (kind, inside) => `<div class="${kind}">${inside}</div>`; function stage(story, step, { w, h, u }) {
+  const at = layout(story, { w, h, u }), parts = [cell("names", names(story, at, step)), cell("lanes", lanes(story, at, step, true))];
+  if (story.tracks.length + story.always.length) parts.push(cell("names", keys(story, at)), cell("tracks", tracks(story, at, step)));
+  return { html: parts.join(""), at }; }
+function compared(model, story, step, { w, h, u }) {
+  const all = model.levels.map((level) => [level, model.stories[level]]).filter(([, it]) => it), stories = all.map(([, it]) => it), heading = 2.2 * u;
+  const at = stories.map((it) => layout(it, { w, h: h / stories.length - heading, u, all: stories, rows: false }));
+  const html = all.map(([level, its], index) => {
+    const now = samePlace(story, step, its), isEnd = now > its.columns.length, { kind, breaks } = its.verdict, said = now ? rich(isEnd ? its.verdict.say : its.columns[now - 1].say, its.names) : "";
+    return `<h2 class="${isEnd && (kind === "not" || breaks !== null) ? "not" : ""}"><span>${esc(level)}</span> ${said}</h2>${cell("names", names(its, at[index], now))}<div class="lanes" data-level="${esc(level)}">${lanes(its, at[index], now, true)}</div>`; }).join("");
+  return { html, at: at[stories.indexOf(story)] }; }
+const KINDS = [["slate", "serializable"], ["hatch", "only in another order"], ["bad", "✗ not serializable"]];
+const swatch = ([kind, words]) => `<span class="kind"><svg class="pic" viewBox="0 0 22 16" aria-hidden="true"><rect width="22" height="16" rx="3" class="${kind}"/></svg>${words}</span>`;
+function legend({ outcomes, levels, uncounted }) { const counted = levels.map((level) => outcomes[level]).find(Boolean);
+  if (counted) return `<p class="st-legend">This order at each level, and the outcomes of all ${Number(counted.orders).toLocaleString("en")} orders: ${KINDS.map(swatch).join(" ")}. A bar plays one.</p>`;
+  return `<p class="st-legend">This order at each level.${uncounted ? ` ${esc(uncounted)}` : ""}</p>`; }
+function cards(model, story, { level, step }, { w, u, narrow }) {
+  const inner = (narrow ? w : (w - 0.8 * u * (model.levels.length - 1)) / model.levels.length) - 1.4 * u;
+  return legend(model) + model.levels.map((name, index) => { const its = model.stories[name], counted = model.outcomes[name], isHere = name === level;
+    if (!its) return `<div class="level"><p class="head">${esc(name)}</p></div>`;
+    const isBad = its.verdict.kind === "not" || its.verdict.breaks !== null, head = `<span class="head"><span>${esc(name)}</span> <span class="end ${isBad ? "not" : ""}">${esc(shortVerdict(its))}</span></span>`;
+    const small = mini(its, inner, Math.min(3.9, 1.25 * its.names.length) * u, u, samePlace(story, step, its)), label = `this order at ${name}`;
+    const card = isHere ? `<div class="card" aria-current="true">${head}${small}</div>` : `<button class="card" data-level="${esc(name)}" title="${index + 1}: ${label}">${head}${small}</button>`;
+    return `<div class="level"${isHere ? " data-here" : ""} data-card="${esc(name)}">${card}${counted ? bars(counted, its.names, inner, u, hasOutcome(its)) : ""}</div>`; }).join(""); }
+function told(model, story, { level }, hidesAfter = Infinity) { const end = story.columns.length + 1, isOwn = model.isOwnOrder !== false;
+  const asides = model.asides.filter((it) => (!it.level || it.level === level) && (!it.verdict || it.verdict === story.verdict.kind) && (isOwn || it.isGeneral));
+  const beside = (position) => asides.filter((it) => positionOf(it.at, story) === position).map((it) => `<div class="aside">${it.html}</div>`).join("");
+  const tell = (position, html) => (position > hidesAfter ? "" : `<div class="tell" data-step="${position}">${html}</div>${beside(position)}`);
+  const moves = story.columns.map((it, index) => tell(index + 1, `<p><b>${index + 1}</b> ${rich(sentences([it.say, it.why]), story.names)}</p>`));
+  const { verdict } = story, said = `<p><b>${rich(verdict.say, story.names)}.</b> ${rich([verdict.tail, ...verdict.edges.map((it) => it.say)].filter(Boolean).join(" "), story.names)}</p>`;
+  return tell(0, model.intro ?? `<p>${esc(model.about)}</p>${model.question ? `<p class="ask">${esc(model.question)}</p>` : ""}`) + moves.join("") + tell(end, said) + (hidesAfter < end ? "" : model.after ?? ""); }
+const lines = (story) => [...story.columns.map((it, index) => `${index + 1}. ${plain(sentences([it.say, it.why]))}`), `${plain(story.verdict.say)}.`].join("\n");
+return { WRITTEN, positionOf, sentence, sentenceRoom, stage, compared, legend, cards, told, lines }; })(); Story.ask = (() => {
+const { VERDICTS } = Story.story; const { esc, plain, rich } = Story.text; const named = (name) => `{${name}}`;
+const isOpen = (story, t, index) => story.columns.some((it, at) => it.t === t && at < index) && !story.columns.some((it, at) => it.t === t && at < index && /commit|abort/.test(it.kind));
+const others = (story, t, index) => story.names.map((_, other) => other).filter((other) => other !== t && isOpen(story, other, index));
+function candidates(story, key, index) { const track = story.tracks.find((it) => String(it.key) === String(key));
+  const seen = [...(track?.segments ?? []), ...(track?.pending ?? [])].filter((it) => it.t === null || it.from < index).map(({ value }) => value ?? "nothing");
+  return [...new Set(seen.map(String))]; }
+const wasWritten = (story, { t, key }, index) => story.columns.some((it, at) => at < index && it.kind === "write" && it.t !== t && String(it.key) === String(key));
+function answerOf(story, column) { const { kind, value } = column; if (kind === "read") return String(value ?? "nothing");
+  if (kind === "wait") return `waits for ${column.for.map(({ txn }) => named(txn)).join(", ")}`;
+  return { write: "writes", miss: "writes nothing", skip: "leaves it out", commit: "commits", abort: "aborts" }[kind]; }
+function choicesOf(story, column, index) { const { kind, t, key } = column, isEnd = /wait|commit/.test(kind) || (kind === "abort" && !column.op);
+  if (kind === "read" || (kind === "abort" && column.op === "read")) return [...candidates(story, key, index), "aborts"];
+  if (isEnd) return ["commits", ...others(story, t, index).map((other) => `waits for ${named(story.names[other])}`), "aborts"];
+  if (kind === "skip") return ["writes", "leaves it out"]; return wasWritten(story, column, index) || kind !== "write" ? ["writes", "aborts"] : []; }
+const wordsOf = (column) => { const isEnd = /wait|commit/.test(column.kind) || (column.kind === "abort" && !column.op), me = named(column.txn);
+  if (isEnd) return `${me} wants to commit. What happens?`;
+  return column.kind === "read" || column.op === "read" ? `${me} reads ${column.key}. What does it find?` : `${me} wants to write ${column.key}. What happens?`; };
+function questionAt(story, position) { const column = story.columns[position];
+  if (position === story.columns.length) return { words: "And all of it together?", choices: Object.values(VERDICTS).slice(0, 3), right: VERDICTS[story.verdict.kind] };
+  if (!column || column.kind === "scan" || column.kind === "refused" || (column.isLate && column.kind === "commit")) return null;
+  if (column.kind === "abort" && column.cause === "asked") return null;
+  const right = answerOf(story, column), choices = [...new Set([...choicesOf(story, column, position), right])];
+  return choices.length > 2 || (choices.length === 2 && !/read/.test(column.kind)) ? { words: wordsOf(column), choices, right } : null; }
+const questions = (story) => Array.from({ length: story.columns.length + 1 }, (_, position) => ({ position, ...questionAt(story, position) })).filter((it) => it.words);
+const questionHtml = ({ words, choices }, names) => `<p>${rich(words, names)}</p><p class="choices">${choices.map((it, index) => `<button data-choice="${index}"><kbd>${index + 1}</kbd> ${rich(it, names)}</button>`).join(" ")}</p>`;
+function result(title, story, answers) {
+  const asked = questions(story).filter(({ position }) => answers.has(position)), right = asked.filter(({ position, right: it }) => answers.get(position) === it).length;
+  const line = ({ position, words, right: it }) => `${position + 1}. ${plain(words)} ${plain(answers.get(position))} ${answers.get(position) === it ? "✓" : `✗ (${plain(it)})`}`;
+  return [`${title}: ${right} of ${asked.length} right`, ...asked.map(line)].join("\n"); }
+function worksheet(story) {
+  const item = ({ position, words, choices }) => `<li value="${Math.min(position + 1, story.columns.length + 1)}"><p>${rich(words, story.names)}</p><p>${choices.map((it) => `☐ ${rich(it, story.names)}`).join(" &nbsp; ")}</p></li>`;
+  const asked = new Map(questions(story).map((it) => [it.position, it]));
+  const plainly = (column, position) => `<li value="${position + 1}"><p>${rich(column.kind === "scan" ? `${named(column.txn)} scans: ______` : column.kind === "commit" || column.kind === "abort" ? `${named(column.txn)} ends: ______` : column.kind === "read" ? `${named(column.txn)} reads ${column.key}: ______` : column.say, story.names)}</p></li>`;
+  const moves = story.columns.map((column, position) => (asked.has(position) ? item(asked.get(position)) : plainly(column, position))).join("");
+  const last = asked.get(story.columns.length), rows = story.tracks.map(({ key }) => `${esc(key)} = ______`).join(" &nbsp; ");
+  return `<ol class="sheet">${moves}${last ? item(last) : ""}</ol>${rows ? `<p>The rows at the end: ${rows}</p>` : ""}<p>${story.names.map((name, t) => `${rich(named(name), story.names)}: ☐ committed ☐ aborted`).join(" &nbsp; ")}</p>`; }
+return { questionAt, questions, questionHtml, result, worksheet }; })(); Story.player = (() => {
+const { cards, compared, sentence, sentenceRoom, stage, told } = Story.view; const { questionAt, questionHtml, questions, result } = Story.ask;
+const { samePlace } = Story.story; const { esc, rich } = Story.text; const NARROW = "(max-width: 50rem)";
+const FORWARD = { ArrowRight: 1, ArrowDown: 1, PageDown: 1, ArrowLeft: -1, ArrowUp: -1, PageUp: -1 }; const READING = 700; class Player { constructor(host) {
+    this.host = host; this.model = this.place = null; this.reading = -Infinity; this.answers = new Map(); this.isAsking = false; this.listen(); }
+  get story() { return this.model?.stories[this.place.level] ?? null; }
+  get end() { return (this.story?.columns.length ?? 0) + 1; }
+  show(model, place, { scrolls = true } = {}) { const isNew = model !== this.model || place.level !== this.place?.level;
+    if (model.id !== this.model?.id || place.level !== this.place?.level || !place.asks) { this.answers.clear(); this.isAsking = false; }
+    [this.model, this.place] = [model, place]; const { story } = this; if (!story) return this.clear();
+    this.unit = parseFloat(getComputedStyle(document.documentElement).fontSize); this.showSentence(story); this.showCards(story); this.showStage(story);
+    this.showTold(story, isNew, scrolls); this.showState(story); return undefined; }
+  clear() { for (const id of ["st-say", "st-grid", "st-cards", "st-prose"]) byId(id).replaceChildren(); byId("st-position").textContent = ""; }
+  showSentence(story) { const { model, place } = this, say = byId("st-say"), question = this.isAsking ? questionAt(story, place.step) : null;
+    say.style.minHeight = `${sentenceRoom(model, place.mode)}rem`;
+    put(say, question ? questionHtml(question, story.names) : this.feedback(story) + sentence(model, story, place)); }
+  feedback(story) { const { asks, step } = this.place, answer = this.answers.get(step - 1); if (!asks || answer === undefined) return "";
+    const isRight = answer === questionAt(story, step - 1).right;
+    return `<p class="guess ${isRight ? "" : "not"}">${isRight ? "✓ Right." : `✗ The guess was: ${rich(answer, story.names)}.`}</p>`; }
+"##;
 
-/* ================================================================ the data */
-
-const sheet = JSON.parse(document.getElementById("data").textContent);
-/** What is shown: the sheet, or of one with all levels the tree of one of them. */
-let data = sheet.kind === "levels" ? sheet.trees[0] : sheet;
-const $ = (id) => document.getElementById(id);
+pub(crate) const SCRIPT_SECOND: &str = r##"  showCards(story) {
+    const { model, place, unit } = this, box = byId("st-cards"), isHidden = place.mode !== "" || place.asks || model.levels.length < 2, narrow = matchMedia(NARROW).matches;
+    box.hidden = isHidden; if (isHidden) return put(box, ""); box.style.setProperty("--cards", model.levels.length);
+    const scrolled = [...box.querySelectorAll(".level")].map((it) => it.scrollTop);
+    put(box, cards(model, story, place, { w: box.clientWidth, u: unit, narrow })); box.querySelectorAll(".level").forEach((card, index) => {
+      card.scrollTop = scrolled[index] ?? 0; const more = Math.ceil((card.scrollHeight - card.clientHeight) / (1.45 * unit) - 0.2);
+      if (more > 0) card.insertAdjacentHTML("beforeend", `<div class="more">${more + 1} more ↓</div>`); }); return undefined; }
+  showStage(story) {
+    const { model, place, unit: u } = this, main = byId("st-main"), view = byId("st-stage"), narrow = matchMedia(NARROW).matches, style = getComputedStyle(main);
+    const w = main.clientWidth - parseFloat(style.paddingLeft) - parseFloat(style.paddingRight), below = byId("st-cards").hidden ? 0 : byId("st-cards").offsetHeight + 0.5 * u;
+    const room = { w, h: narrow ? 0 : main.clientHeight - byId("st-say").offsetHeight - below - 1.2 * u, u };
+    const { html, at } = place.mode === "compare" ? compared(model, story, place.step, room) : stage(story, place.step, room), hadFocus = view.contains(document.activeElement) && document.activeElement !== view;
+    put(byId("st-grid"), html); if (hadFocus) (view.querySelector('[tabindex="0"]') ?? view).focus({ preventScroll: true });
+    const x = place.step ? at.left(place.step - 1) : 0, edge = view.clientWidth - at.gutter;
+    if (x < view.scrollLeft || x + at.width(0) * 1.5 > view.scrollLeft + edge) view.scrollLeft = Math.max(0, x - edge * 0.6);
+    view.classList.toggle("cut", view.scrollWidth > view.clientWidth + 1); }
+  showTold(story, isNew, scrolls) { const { model, place } = this, prose = byId("st-prose"), { step, asks } = place;
+    if (isNew || asks !== prose.asked || asks) put(prose, told(model, story, place, asks ? step : Infinity)); prose.asked = asks;
+    prose.classList.toggle("asks", asks === true);
+    for (const it of prose.querySelectorAll(".tell")) it.classList.toggle("here", Number(it.dataset.step) === step);
+    const here = prose.querySelector(".tell.here");
+    if (scrolls && here && prose.scrollHeight > prose.clientHeight) prose.scrollTop = step === 0 ? 0 : here.offsetTop - prose.clientHeight * 0.3; }
+  showState(story) { const { step, mode } = this.place, isEnd = step >= this.end;
+    byId("st-position").textContent = isEnd ? "verdict" : `${step} / ${story.columns.length}`; byId("st-prev").disabled = step === 0;
+    for (const id of ["st-next", "st-end"]) byId(id).disabled = isEnd; byId("st-compare").hidden = this.model.levels.length < 2;
+    for (const name of ["compare", "machine"]) byId(`st-${name}`).setAttribute("aria-pressed", mode === name);
+    const which = this.model.isOwnOrder === false ? `order ${this.model.order.join(" ")}` : "";
+    byId("st-which").textContent = this.place.asks ? this.score(story) : which; byId("st-which").title = which; document.body.dataset.position = step; }
+  score(story) { const asked = [...this.answers], right = asked.filter(([position, answer]) => questionAt(story, position).right === answer).length;
+    return `${right} of ${asked.length} right, ${questions(story).length} questions`; }
+  result() { return result(this.model.title, this.story, this.answers); }
+  step(to, options) { const step = Math.max(0, Math.min(this.end, to)); if (this.isAsking) return;
+    if (this.place.asks && step === this.place.step + 1 && !this.answers.has(this.place.step) && questionAt(this.story, this.place.step)) {
+      this.isAsking = true; this.show(this.model, this.place); } else if (step !== this.place.step) this.host.go({ step: this.place.asks ? Math.min(step, this.furthest()) : step }, false, options); }
+  furthest() { const open = questions(this.story).find(({ position }) => !this.answers.has(position) && position >= this.place.step);
+    return open ? Math.max(open.position, this.place.step) : this.end; }
+  choose(index) { const { choices } = questionAt(this.story, this.place.step); if (!choices[index]) return; this.answers.set(this.place.step, choices[index]);
+    this.isAsking = false; this.host.go({ step: this.place.step + 1 }, false); }
+  toLevel(level) { const to = this.model.stories[level];
+    if (to && level !== this.place.level) this.host.go({ level, step: samePlace(this.story, this.place.step, to) }, true); }
+  flip(mode) { if (mode === "compare" && this.model.levels.length < 2) return; this.host.go({ mode: this.place.mode === mode ? "" : mode }, false); }
+  listen() { byId("st-prev").addEventListener("click", () => { this.isAsking = false; this.step(this.place.step - 1); });
+    byId("st-next").addEventListener("click", () => this.step(this.place.step + 1)); byId("st-end").addEventListener("click", () => this.step(this.end));
+    byId("st-compare").addEventListener("click", () => this.flip("compare")); byId("st-machine").addEventListener("click", () => this.flip("machine"));
+    for (const id of ["st-say", "st-grid", "st-cards", "st-prose"]) byId(id).addEventListener("click", (event) => this.pressed(event.target));
+    const prose = byId("st-prose");
+    for (const kind of ["wheel", "touchmove", "pointerdown"]) prose.addEventListener(kind, () => { this.reading = performance.now(); }, { passive: true });
+    prose.addEventListener("scroll", () => this.scrolled(prose)); }
+  pressed(target) {
+    const choice = target.closest("[data-choice]"), bar = target.closest("[data-order]"), move = target.closest("[data-step]"), level = target.closest("[data-level]");
+    if (choice) this.choose(Number(choice.dataset.choice));
+    else if (bar) this.host.go({ order: bar.dataset.order.split(" "), level: bar.closest("[data-card]").dataset.card, step: 0 }, true);
+    else if (move && !target.closest("a, button:not([data-step]), summary, details")) this.toMove(Number(move.dataset.step), level?.dataset.level);
+    else if (level && level.tagName === "BUTTON") this.toLevel(level.dataset.level); else return false; return true; }
+  toMove(step, level) { if (level && level !== this.place.level) this.host.go({ level, step }, true); else this.step(step); }
+  scrolled(prose) { if (performance.now() - this.reading > READING || this.place?.asks || prose.scrollHeight <= prose.clientHeight) return;
+    this.reading = performance.now();
+    const y = prose.scrollTop + prose.clientHeight * 0.3, all = [...prose.querySelectorAll(".tell")], at = all.filter((it) => it.offsetTop <= y + 8).length - 1, to = Number(all[Math.max(0, at)]?.dataset.step ?? 0);
+    if (to !== this.place.step) this.host.go({ step: to }, false, { scrolls: false }); }
+  key(event) { const { key, target } = event, press = target.closest?.("[data-order], [data-step][role], button, a, summary"); if (!this.story) return false;
+    if ((key === "Enter" || key === " ") && press) { if (!press.matches("[data-order], g[data-step]")) return false; return this.pressed(press); }
+    if (this.isAsking && /^[1-9]$/.test(key)) { this.choose(Number(key) - 1); return true; }
+    if (this.isAsking && (key === "Escape" || FORWARD[key] < 0)) { this.isAsking = false; this.show(this.model, this.place); return true; }
+    if (FORWARD[key]) this.step(this.place.step + FORWARD[key]); else if (key === " ") this.step(this.place.step + (event.shiftKey ? -1 : 1));
+    else if (key === "Home") this.step(0); else if (key === "End") this.step(this.end);
+    else if (/^[1-4]$/.test(key) && this.model.levels[key - 1]) this.toLevel(this.model.levels[key - 1]);
+    else if (key === "c" || key === "m") this.flip(key === "c" ? "compare" : "machine"); else return false; return true; } }
+const byId = (id) => document.getElementById(id); function put(element, html) { if (element.put === html) return; element.innerHTML = html; element.put = html; }
+function showText(element, text, story, step) {
+  const column = story?.columns[step - 1], isEnd = step > (story?.columns.length ?? 0), broken = isEnd ? story?.verdict.breaks : column?.breaks;
+  put(element, text.trimEnd().split("\n").map((line) => `<span>${esc(line) || " "}</span>`).join("")); [...element.children].forEach((line, index) => {
+    line.classList.toggle("here", column?.line === index + 1); line.classList.toggle("broken", broken === index + 1); });
+  const here = element.querySelector(".here, .broken") ?? (step === 0 ? element.firstElementChild : null);
+  if (here) element.scrollTop = here.offsetTop - element.offsetTop - element.clientHeight / 2; }
+return { Player, showText }; })(); Story.page = (() => { const { Player, showText } = Story.player; const { playOfLog } = Story.log;
+const { storyOf } = Story.story; const { WRITTEN } = Story.view; const LEVELS = ["serializable", "repeatable", "snapshot"];
+const byId = (id) => document.getElementById(id); const wordOf = (level) => (level === WRITTEN ? "written" : level);
+const same = (one, other) => one.join(" ") === other.join(" ");
+const levelOf = ({ level, levels }) => level ?? (new Set(levels).size === 1 ? levels[0] : WRITTEN); function outcomesOf(rows) { if (!rows.length) return {};
+  return Object.fromEntries(LEVELS.map((level) => {
+    const outcomes = rows.filter((it) => Number(it.levels[level]) > 0).map((it) => ({ ...it, orders: Number(it.levels[level]), first: it.first[level] }));
+    return [level, { orders: outcomes.reduce((sum, it) => sum + it.orders, 0), outcomes }]; })); }
+class StoryPage { constructor(sheet, objects, panels) { Object.assign(this, { sheet, panels, models: new Map() }); this.text = sheet.text ?? "";
+    const log = objects.find((it) => it.verdict !== undefined && it.kind === undefined && it.levels === undefined);
+    this.plays = log ? [playOfLog(this.text, log)] : objects.filter((it) => it.kind === "play");
+    this.outcomes = outcomesOf(objects.filter((it) => it.kind === undefined && it.levels !== undefined)); this.isLog = Boolean(log); [this.own] = this.plays;
+    this.place = { level: log ? "serializable" : levelOf(this.own), step: 0, mode: "", asks: false }; this.order = this.own.order ?? [];
+    this.player = new Player({ go: (change, isEntry, options) => this.go(change, isEntry, options) });
+    byId("st-back").addEventListener("click", () => history.back()); byId("st-machine").hidden = this.isLog || !panels; }
+  model(order) { const id = order.join(" "); if (!this.models.has(id)) { const stories = {};
+      for (const play of this.plays) if (same(play.order ?? [], order)) stories[this.isLog ? "serializable" : levelOf(play)] ??= storyOf(play, this.text);
+      const { title, about, question } = this.sheet;
+      this.models.set(id, { id, title, text: this.text, about: about ?? "", question: question ?? "", stories, outcomes: this.outcomes, levels: [WRITTEN, ...LEVELS].filter((it) => stories[it]),
+        order, isOwnOrder: same(order, this.own.order ?? []), asides: [], uncounted: "" }); }
+    return this.models.get(id); }
+  has(order, level = null) { return this.plays.some((it) => same(it.order ?? [], order) && (level === null || levelOf(it) === level)); }
+  open(order, level) { this.order = order; this.place = { ...this.place, level: level ?? this.place.level, step: 0, mode: "" }; this.show(); this.write(); }
+  show(options) { const model = this.model(this.order); if (!model.stories[this.place.level]) this.place.level = model.levels[0];
+    this.place.step = Math.max(0, Math.min(this.place.step, model.stories[this.place.level].columns.length + 1)); this.player.show(model, this.place, options);
+    showText(byId("st-text"), this.text, this.player.story, this.place.step); byId("st-back").hidden = !(history.state?.depth > 0);
+    document.documentElement.classList.add("told"); }
+  get isOpen() { return document.documentElement.classList.contains("told"); }
+  go(change, isEntry = false, options = {}) { if (change.mode === "machine") return this.openMachine(); const { order, ...rest } = change;
+    if (isEntry) try { history.pushState({ depth: (history.state?.depth ?? 0) + 1 }, "", this.address()); } catch {}
+    if (order && this.has(order)) this.order = order; this.place = { ...this.place, ...rest }; this.show(options); this.write(); return undefined; }
+  openMachine() { if (!this.panels || this.isLog) return; document.documentElement.classList.remove("told");
+    this.panels.open(Math.max(0, ...this.player.story.columns.slice(0, this.place.step).flatMap((it) => it.steps))); }
+  close(step) { this.place = { ...this.place, mode: "", step: this.player.story.columns.filter((it) => it.steps.some((other) => other <= step)).length };
+    this.show(); this.write(); }
+  address() {
+    const { level, step } = this.place, isOwn = same(this.order, this.own.order ?? []), order = isOwn ? "" : `/${this.order.join(".")}`, front = isOwn && level === levelOf(this.own) ? "" : `${wordOf(level)}${order}`;
+    return `#${front}${step || front ? `@${step}` : ""}`; }
+  write() { const to = this.address();
+    if (location.hash !== to) try { history.replaceState(history.state, "", to === "#" ? location.pathname + location.search : to); } catch {} }
+  read(hash, isFirst) { if (hash.replace(/^#/, "") === "" && !isFirst) return false;
+    const [front, at = ""] = hash.replace(/^#/, "").split("@"), [word, order] = front.split("/"), level = word === "written" ? WRITTEN : word;
+    if (!/^\d{0,6}$/.test(at) || (front !== "" && level !== WRITTEN && !LEVELS.includes(level)) || (front === "" && at === "" && hash.replace(/^#/, "") !== "")) return false;
+    const asked = order?.split(".") ?? this.own.order ?? []; this.order = this.has(asked) ? asked : this.own.order ?? [];
+    this.place = { ...this.place, level: front ? level : levelOf(this.own), step: Number(at || 0), mode: "" };
+    if (this.isLog) this.place.level = "serializable"; this.show(); return true; } }
+return { StoryPage }; })(); "use strict"; const sheet = JSON.parse(document.getElementById("data").textContent);
+let data = sheet.kind === "levels" ? sheet.trees[0] : sheet; const $ = (id) => document.getElementById(id);
 const linesOf = (text) => text.split("\n").filter((line) => line !== "");
-const esc = (text) => String(text).replace(/[&<>"]/g, (it) => ({ "&": "&amp;", "<": "&lt;", ">": "&gt;", '"': "&quot;" })[it]);
-
-/** An event with its reply: `a read 10 -> found 100`, without a number. */
-function eventOf(line) {
-  const [done, reply] = line.split(" -> ");
-  const words = done.split(" ");
-  const name = done === "detect" ? null : words.shift();
-  return { name, op: words[0], args: words.slice(1), event: words.join(" "), reply, r: reply.split(" ") };
-}
-
+const esc = (text) => String(text).replace(/[&<>"]/g, (it) => ({ "&": "&amp;", "<": "&lt;", ">": "&gt;", '"': "&quot;" })[it]); function eventOf(line) {
+  const [done, reply] = line.split(" -> "); const words = done.split(" "); const name = done === "detect" ? null : words.shift();
+  return { name, op: words[0], args: words.slice(1), event: words.join(" "), reply, r: reply.split(" ") }; }
 function versionOf(line) {
   const [, v, key, value, begin, bt, end, et] = /^version (\d+): key (\d+) value (\d+); ([0-9A-F]{16}) begin ([^;]*); ([0-9A-F]{16}) end (.*)$/.exec(line);
-  const lock = /^lock readers (\d+) writer (\S+) no-more-reads (\S+)/.exec(et);
-  return {
-    line, v: Number(v), key, value, begin, bt, end, et,
-    maker: /^transaction (\d+)/.exec(bt)?.[1] ?? null,
-    made: /^time (\d+)/.exec(bt)?.[1] ?? null,
-    ended: /^time (\d+)/.exec(et)?.[1] ?? null,
-    readers: lock ? Number(lock[1]) : 0,
-    writer: lock && lock[2] !== "none" ? lock[2] : null,
-    noMore: lock?.[3] === "set",
-  };
-}
-
-const listIn = (field) => { const words = field.split(" ").slice(1); return words[0] === "none" ? [] : words; };
-
-function txnOf(line) {
-  const [head, state, ...f] = line.split("; ");
-  const [, id, name, level] = /^txn (\d+) (\S+): (\S+)$/.exec(head);
-  const word = (at) => f[at].split(" ")[1];
-  const time = (at) => (word(at) === "none" ? null : word(at));
-  return {
+  const lock = /^lock readers (\d+) writer (\S+) no-more-reads (\S+)/.exec(et); return { line, v: Number(v), key, value, begin, bt, end, et,
+    maker: /^transaction (\d+)/.exec(bt)?.[1] ?? null, made: /^time (\d+)/.exec(bt)?.[1] ?? null, ended: /^time (\d+)/.exec(et)?.[1] ?? null,
+    readers: lock ? Number(lock[1]) : 0, writer: lock && lock[2] !== "none" ? lock[2] : null, noMore: lock?.[3] === "set", }; }
+const listIn = (field) => { const words = field.split(" ").slice(1); return words[0] === "none" ? [] : words; }; function txnOf(line) {
+  const [head, state, ...f] = line.split("; "); const [, id, name, level] = /^txn (\d+) (\S+): (\S+)$/.exec(head); const word = (at) => f[at].split(" ")[1];
+  const time = (at) => (word(at) === "none" ? null : word(at)); return {
     line, id, name, level, state, kind: state.split(" ")[0], cause: state.split(" ")[1] ?? "",
     begin: time(0), end: time(1), waits: Number(word(2)), commits: Number(word(3)), finished: word(4) === "set", doomed: word(5) === "set",
-    reads: listIn(f[6]), writes: listIn(f[7]), buckets: listIn(f[8]), waiting: listIn(f[9]), dependents: listIn(f[10]),
-  };
-}
-
-const bucketOf = (line) => ({ line, bucket: /^bucket (\d+)/.exec(line)[1], holders: listIn(line.split("; ")[1]) });
-
-/* ================================================================ a run: the machine at each position */
-
-/** Of pairs of a position and a thing, by position, the last thing up to a position, or null. */
-function lastOf(list, position) {
-  let [low, high] = [0, list.length];
-  while (low < high) { const mid = (low + high) >> 1; if (list[mid][0] <= position) low = mid + 1; else high = mid; }
-  return low === 0 ? null : list[low - 1][1];
-}
-
-class Run {
-  /** `opening`, `waits`, `asked`: the state before the first step, who waits there, and who has asked. `steps`: objects of `line` (event
-      and reply), `changed`, `gone`, `why`, `rule`, `sentence`, `definition`, `comes`, `sees`, `ends`, and `waits` where these have changed; all are texts. */
-  constructor({ opening, waits, asked }, steps, done) {
-    this.done = done;
-    this.steps = steps.map((it) => ({ ...it, ...eventOf(it.line) }));
-    this.last = steps.length;
-    this.past = new Map();
-    this.touched = [[]];
-    this.waitsAt = [[0, waits]];
-    for (const line of linesOf(opening)) this.keep(line, 0);
-    steps.forEach((step, index) => {
-      const at = index + 1;
-      this.touched.push([]);
-      for (const line of linesOf(step.changed)) this.keep(line, at);
-      for (const subject of linesOf(step.gone)) this.put(subject, at, null);
-      if (step.waits !== null) this.waitsAt.push([at, step.waits]);
-    });
-    this.txnIds = [...this.past.keys()].filter((it) => it.startsWith("txn ")).map((it) => it.slice(4));
-    this.txnIds.sort((a, b) => a - b);
+    reads: listIn(f[6]), writes: listIn(f[7]), buckets: listIn(f[8]), waiting: listIn(f[9]), dependents: listIn(f[10]), }; }
+const bucketOf = (line) => ({ line, bucket: /^bucket (\d+)/.exec(line)[1], holders: listIn(line.split("; ")[1]) }); function lastOf(list, position) {
+  let [low, high] = [0, list.length]; while (low < high) { const mid = (low + high) >> 1; if (list[mid][0] <= position) low = mid + 1; else high = mid; }
+  return low === 0 ? null : list[low - 1][1]; }
+class Run { constructor({ opening, waits, asked }, steps, done) { this.done = done; this.steps = steps.map((it) => ({ ...it, ...eventOf(it.line) }));
+    this.last = steps.length; this.past = new Map(); this.touched = [[]]; this.waitsAt = [[0, waits]]; for (const line of linesOf(opening)) this.keep(line, 0);
+    steps.forEach((step, index) => { const at = index + 1; this.touched.push([]); for (const line of linesOf(step.changed)) this.keep(line, at);
+      for (const subject of linesOf(step.gone)) this.put(subject, at, null); if (step.waits !== null) this.waitsAt.push([at, step.waits]); });
+    this.txnIds = [...this.past.keys()].filter((it) => it.startsWith("txn ")).map((it) => it.slice(4)); this.txnIds.sort((a, b) => a - b);
     this.versionIds = [...this.past.keys()].filter((it) => it.startsWith("version ")).map((it) => it.slice(8));
-    this.bucketIds = [...this.past.keys()].filter((it) => it.startsWith("bucket "));
-    this.names = new Map(this.txnIds.map((id) => [id, this.txn(id, 0).name]));
-    this.ids = new Map([...this.names].map(([id, name]) => [name, id]));
-    this.short = shortForms([...this.names.values()]);
+    this.bucketIds = [...this.past.keys()].filter((it) => it.startsWith("bucket ")); this.names = new Map(this.txnIds.map((id) => [id, this.txn(id, 0).name]));
+    this.ids = new Map([...this.names].map(([id, name]) => [name, id])); this.short = shortForms([...this.names.values()]);
     const acting = new Set(this.steps.map((it) => it.name));
     this.laneIds = this.txnIds.filter((id) => isTree || acting.has(this.names.get(id)) || this.past.get("txn " + id).length > 1);
-    this.hasDetect = acting.has(null);
-    this.follow(linesOf(asked));
-    Object.assign(this, columnsOf(isTree ? [] : this.polls, this.last));
-  }
-
-  keep(line, at) {
-    if (line.startsWith("clock")) this.put("clock", at, Number(line.slice(6)));
+    this.hasDetect = acting.has(null); this.follow(linesOf(asked)); Object.assign(this, columnsOf(isTree ? [] : this.polls, this.last)); }
+  keep(line, at) { if (line.startsWith("clock")) this.put("clock", at, Number(line.slice(6)));
     else if (line.startsWith("version")) { const it = versionOf(line); this.put("version " + it.v, at, it); }
     else if (line.startsWith("txn")) { const it = txnOf(line); this.put("txn " + it.id, at, it); }
-    else { const it = bucketOf(line); this.put("bucket " + it.bucket, at, it); }
-  }
-
-  put(subject, at, it) {
-    let list = this.past.get(subject);
-    if (!list) this.past.set(subject, (list = []));
-    list.push([at, it]);
-    if (at > 0) this.touched[at].push(subject);
-  }
-
-  get(subject, position) {
-    const list = this.past.get(subject);
-    return list ? lastOf(list, position) : null;
-  }
-
+    else { const it = bucketOf(line); this.put("bucket " + it.bucket, at, it); } }
+  put(subject, at, it) { let list = this.past.get(subject); if (!list) this.past.set(subject, (list = [])); list.push([at, it]);
+    if (at > 0) this.touched[at].push(subject); }
+  get(subject, position) { const list = this.past.get(subject); return list ? lastOf(list, position) : null; }
   txn(id, position) { return this.get("txn " + id, position); }
   version(v, position) { return this.get("version " + v, position); }
   clock(position) { return this.get("clock", position); }
-
-  /** Phases, waits, arrows and steps that only ask again of the whole run, found once. `asked`: the transactions that wait at the start. */
-  follow(asked) {
-    this.phases = new Map(this.txnIds.map((id) => [id, []]));
-    this.waitings = new Map(this.txnIds.map((id) => [id, []]));
-    this.arrows = Array.from({ length: this.last + 1 }, () => []);
-    const open = new Map();
-    this.polls = [];
-    for (const id of this.txnIds) this.notePhase(id, 0);
-    for (const line of asked) { const [id, kind] = line.split(" "); this.openWait(id, 0, kind, open); }
-    this.steps.forEach((step, index) => {
-      const at = index + 1;
-      const who = step.name === null ? "detect" : this.ids.get(step.name);
+  follow(asked) { this.phases = new Map(this.txnIds.map((id) => [id, []])); this.waitings = new Map(this.txnIds.map((id) => [id, []]));
+    this.arrows = Array.from({ length: this.last + 1 }, () => []); const open = new Map(); this.polls = [];
+    for (const id of this.txnIds) this.notePhase(id, 0); for (const line of asked) { const [id, kind] = line.split(" "); this.openWait(id, 0, kind, open); }
+    this.steps.forEach((step, index) => { const at = index + 1; const who = step.name === null ? "detect" : this.ids.get(step.name);
       for (const id of linesOf(step.ends)) this.closeWait(id, at, who, open);
       for (const subject of this.touched[at]) if (subject.startsWith("txn ")) this.noteTxn(subject.slice(4), at, who);
       this.polls[at] = step.r[0] === "waiting" && open.has(who) && this.touched[at].length === 0;
-      if (step.r[0] === "waiting") this.openWait(who, at, step.r[1] === "commits" ? "commits" : "waits", open);
-    });
-  }
-
-  openWait(id, at, kind, open) {
-    if (open.has(id)) return;
-    const wait = { from: at, to: null, kind };
-    open.set(id, wait);
-    this.waitings.get(id).push(wait);
-  }
-
-  closeWait(id, at, who, open) {
-    const wait = open.get(id);
-    const now = this.txn(id, at);
-    wait.to = at;
-    open.delete(id);
-    if (who !== id) this.arrow(at, who, id, now.kind === "aborted" || now.doomed ? "abort" : "free");
-  }
-
-  noteTxn(id, at, who) {
-    this.notePhase(id, at);
-    const [old, now] = [this.txn(id, at - 1), this.txn(id, at)];
+      if (step.r[0] === "waiting") this.openWait(who, at, step.r[1] === "commits" ? "commits" : "waits", open); }); }
+  openWait(id, at, kind, open) { if (open.has(id)) return; const wait = { from: at, to: null, kind }; open.set(id, wait); this.waitings.get(id).push(wait); }
+  closeWait(id, at, who, open) { const wait = open.get(id); const now = this.txn(id, at); wait.to = at; open.delete(id);
+    if (who !== id) this.arrow(at, who, id, now.kind === "aborted" || now.doomed ? "abort" : "free"); }
+  noteTxn(id, at, who) { this.notePhase(id, at); const [old, now] = [this.txn(id, at - 1), this.txn(id, at)];
     for (const it of now.dependents) if (!old.dependents.includes(it)) this.arrow(at, it, id, "depends");
     for (const it of old.dependents) if (!now.dependents.includes(it)) this.arrow(at, id, it, this.txn(it, at).doomed ? "abort" : "free");
-    if (who === "detect" && now.kind === "aborted" && old.kind !== "aborted") this.arrow(at, who, id, "abort");
-  }
-
-  arrow(at, from, to, kind) {
-    if (!this.arrows[at].some((it) => it.from === from && it.to === to)) this.arrows[at].push({ from, to, kind });
-  }
-
-  notePhase(id, at) {
-    const it = this.txn(id, at);
-    const kind = it.kind === "active" && it.finished ? "finished" : it.kind === "not" ? "none" : it.kind;
-    const list = this.phases.get(id);
-    if (list.at(-1)?.kind !== kind) list.push({ from: at, kind });
-  }
-
-  /** Who waits for whom at a position, as the program says it: for each pair and kind what the waits are by. */
-  edges(position) {
-    const edges = new Map();
-    for (const line of linesOf(lastOf(this.waitsAt, position))) {
-      const [from, to, what, number] = line.split(" ");
-      const kind = what === "commit" ? "commits" : "waits";
-      const key = `${from} ${to} ${kind}`;
+    if (who === "detect" && now.kind === "aborted" && old.kind !== "aborted") this.arrow(at, who, id, "abort"); }
+  arrow(at, from, to, kind) { if (!this.arrows[at].some((it) => it.from === from && it.to === to)) this.arrows[at].push({ from, to, kind }); }
+  notePhase(id, at) { const it = this.txn(id, at); const kind = it.kind === "active" && it.finished ? "finished" : it.kind === "not" ? "none" : it.kind;
+    const list = this.phases.get(id); if (list.at(-1)?.kind !== kind) list.push({ from: at, kind }); }
+  edges(position) { const edges = new Map(); for (const line of linesOf(lastOf(this.waitsAt, position))) { const [from, to, what, number] = line.split(" ");
+      const kind = what === "commit" ? "commits" : "waits"; const key = `${from} ${to} ${kind}`;
       if (!edges.has(key)) edges.set(key, { from, to, kind, by: [] });
-      edges.get(key).by.push(what === "version" ? `v${number}` : what !== "bucket" ? what : number === undefined ? "listed" : `bucket ${number}`);
-    }
-    return [...edges.values()];
-  }
-}
-
-/* ================================================================ the tree of all orders (explorer) */
-
-const isTree = data.kind === "tree";
-let tree = null;
-/** The names of those that move in the order that was asked for, where the page shows another one after which the same can happen; else null. */
-let asked = null;
-
-/** The tree in some data. Where it has a node for each state, a move may join the state of a node whose parent is another: the path to a node
-    is the first order that comes to it, and its steps are those of that order. */
-function treeOf(data) {
-  const text = (at) => data.texts[at];
+      edges.get(key).by.push(what === "version" ? `v${number}` : what !== "bucket" ? what : number === undefined ? "listed" : `bucket ${number}`); }
+    return [...edges.values()]; } }
+const isTree = data.kind === "tree"; let tree = null; let asked = null; function treeOf(data) { const text = (at) => data.texts[at];
   const steps = data.steps.map(([line, changed, gone, why, sees, waits, ends, rule, sentence, definition, comes]) => ({
     line: text(line), changed: text(changed), gone: text(gone), why: text(why), sees: text(sees), waits: waits === null ? null : text(waits), ends: text(ends), rule: text(rule),
-    sentence: text(sentence), definition: text(definition), comes: text(comes),
-  }));
+    sentence: text(sentence), definition: text(definition), comes: text(comes), }));
   const nodes = data.nodes.map(([parent, who, places, outcome, counts, joins = []], index) => ({ index, parent, who: who - 1, steps: places.map((at) => steps[at]), outcome, next: [], counts, joins, own: new Set() }));
   for (const node of nodes.slice(1)) nodes[node.parent].next[node.who] = node.index;
-  for (const node of nodes) for (const [who, joined] of node.joins) node.next[who - 1] = joined;
-  // the outcomes to which moves lead from a node without a join
-  for (const node of [...nodes].reverse()) {
-    if (node.outcome !== null) node.own.add(node.outcome);
-    for (const outcome of node.own) nodes[node.parent].own.add(outcome);
-  }
-  return { nodes, names: data.names, moves: data.moves, path: [0], isMerged: nodes.some((it) => it.joins.length > 0) };
-}
-
-/** The path to a node, from the start. */
-function pathTo(its, at) {
-  const path = [at];
-  while (path[0] > 0) path.unshift(its.nodes[path[0]].parent);
-  return path;
-}
-
-/** The names of those that move along a path. */
-const namesOf = (its, path) => path.slice(1).map((at) => its.names[its.nodes[at].who]);
-
-/** Whether a move from one node to another joins. */
-const isJoin = (its, at, next) => its.nodes[next].parent !== at;
-
-/** The path to the node at which an order arrives, as far as there are such moves. */
-function pathOf(its, order) {
-  let at = 0;
-  for (const name of order) {
-    const next = its.nodes[at].next[its.names.indexOf(name)];
-    if (next === undefined) break;
-    at = next;
-  }
-  return pathTo(its, at);
-}
-
-/** As much of an order as a path has, if the path is that of another order; else null. */
-function askedOf(its, path, order) {
-  const part = order.slice(0, path.length - 1);
-  return part.join() === namesOf(its, path).join() ? null : part;
-}
-
-/** The first moves from a node to the end, without a join where that can be: to an outcome, or to any. `order` has the names of those that move,
-    `last` the last node, `joined` how many moves there are up to the last that joins. */
-function movesOn(its, at, outcome = null) {
-  const order = [];
-  let [node, joined] = [its.nodes[at], 0];
-  while (node.next.length) {
+  for (const node of nodes) for (const [who, joined] of node.joins) node.next[who - 1] = joined; for (const node of [...nodes].reverse()) {
+    if (node.outcome !== null) node.own.add(node.outcome); for (const outcome of node.own) nodes[node.parent].own.add(outcome); }
+  return { nodes, names: data.names, moves: data.moves, path: [0], isMerged: nodes.some((it) => it.joins.length > 0) }; }
+function pathTo(its, at) { const path = [at]; while (path[0] > 0) path.unshift(its.nodes[path[0]].parent); return path; }
+const namesOf = (its, path) => path.slice(1).map((at) => its.names[its.nodes[at].who]); const isJoin = (its, at, next) => its.nodes[next].parent !== at;
+function pathOf(its, order) { let at = 0; for (const name of order) { const next = its.nodes[at].next[its.names.indexOf(name)]; if (next === undefined) break;
+    at = next; }
+  return pathTo(its, at); }
+function askedOf(its, path, order) { const part = order.slice(0, path.length - 1); return part.join() === namesOf(its, path).join() ? null : part; }
+function movesOn(its, at, outcome = null) { const order = []; let [node, joined] = [its.nodes[at], 0]; while (node.next.length) {
     const ways = node.next.filter((it) => it !== undefined && (outcome === null || its.nodes[it].counts[outcome] > 0));
     const next = ways.find((it) => !isJoin(its, node.index, it) && (outcome === null || its.nodes[it].own.has(outcome))) ?? ways[0];
-    order.push(its.names[node.next.indexOf(next)]);
-    if (isJoin(its, node.index, next)) joined = order.length;
-    node = its.nodes[next];
-  }
-  return { order, last: node.index, joined };
-}
-
-/** How many moves of each transaction have come at a node. */
-function movesDone(node) {
-  const done = tree.names.map(() => 0);
-  for (let at = node; at > 0; at = tree.nodes[at].parent) done[tree.nodes[at].who]++;
-  return done;
-}
-
-function runOfPath() {
-  const steps = tree.path.flatMap((at) => tree.nodes[at].steps);
-  return new Run(data, steps, 0);
-}
-
-/** For each node of the path the position after it. */
-function endsOfPath() {
-  let at = 0;
-  return tree.path.map((node) => (at += tree.nodes[node].steps.length));
-}
-
-/** The place in the path up to which all is done here. A move that does nothing ends where the one before it does. */
-function placeHere() {
-  const ends = endsOfPath();
-  let place = 0;
-  ends.forEach((end, index) => { if (end <= here) place = index; });
-  return place;
-}
-
-
-/* ================================================================ state of the page */
-
-let run = null;
-let here = 0;
-let pinned = null;
-let isFuture = false;
-let isPredict = false;
-let guess = null;
-const told = { right: 0, asked: 0, answers: new Map() };
-
-/* ================================================================ names in few letters */
-
-/** Names of so many letters stand as they are. */
-const MOST_LETTERS = 2;
-
-/** For each of some names a short form that tells it apart: its first letter, or two of its letters, or a letter and its number. */
-function shortForms(names) {
+    order.push(its.names[node.next.indexOf(next)]); if (isJoin(its, node.index, next)) joined = order.length; node = its.nodes[next]; }
+  return { order, last: node.index, joined }; }
+function movesDone(node) { const done = tree.names.map(() => 0); for (let at = node; at > 0; at = tree.nodes[at].parent) done[tree.nodes[at].who]++;
+  return done; }
+function runOfPath() { const steps = tree.path.flatMap((at) => tree.nodes[at].steps); return new Run(data, steps, 0); }
+function endsOfPath() { let at = 0; return tree.path.map((node) => (at += tree.nodes[node].steps.length)); }
+function placeHere() { const ends = endsOfPath(); let place = 0; ends.forEach((end, index) => { if (end <= here) place = index; }); return place; }
+let run = null; let here = 0; let pinned = null; let isFuture = false; let isPredict = false; let guess = null;
+const told = { right: 0, asked: 0, answers: new Map() }; const MOST_LETTERS = 2; function shortForms(names) {
   const short = new Map(names.filter((it) => it.length <= MOST_LETTERS).map((it) => [it, it]));
-  for (const formsOf of [(it) => [it[0]], numberedForms, pairsOf]) {
-    const left = names.filter((it) => !short.has(it));
-    const uses = new Map();
-    for (const name of left) for (const form of new Set(formsOf(name))) uses.set(form, (uses.get(form) ?? 0) + 1);
-    const taken = new Set(short.values());
-    for (const name of left) {
-      const form = formsOf(name).find((it) => uses.get(it) === 1 && !taken.has(it));
-      if (form) { short.set(name, form); taken.add(form); }
-    }
-  }
-  names.forEach((name, index) => { if (!short.has(name)) short.set(name, `${headOf(name)}${index + 1}`); });
-  return short;
-}
-
-/** The letter before a number: a small v with a number is a version. */
-const headOf = (name) => (name[0] === "v" ? "V" : name[0]);
-
-/** `c8` of `customer8`. */
-function numberedForms(name) {
-  const [number] = /\d{1,2}$/.exec(name) ?? [];
-  return number ? [headOf(name) + number] : [];
-}
-
-/** The first letter with each later one: `au`, `ad`, .. of `audit`. */
+  for (const formsOf of [(it) => [it[0]], numberedForms, pairsOf]) { const left = names.filter((it) => !short.has(it)); const uses = new Map();
+    for (const name of left) for (const form of new Set(formsOf(name))) uses.set(form, (uses.get(form) ?? 0) + 1); const taken = new Set(short.values());
+    for (const name of left) { const form = formsOf(name).find((it) => uses.get(it) === 1 && !taken.has(it));
+      if (form) { short.set(name, form); taken.add(form); } } }
+  names.forEach((name, index) => { if (!short.has(name)) short.set(name, `${headOf(name)}${index + 1}`); }); return short; }
+const headOf = (name) => (name[0] === "v" ? "V" : name[0]); function numberedForms(name) { const [number] = /\d{1,2}$/.exec(name) ?? [];
+  return number ? [headOf(name) + number] : []; }
 const pairsOf = (name) => [...name.slice(1)].filter((it) => it !== "_").map((it) => (/\d/.test(it) ? headOf(name) : name[0]) + it);
-
-/** The short form of a transaction's name, where there is no room for the whole. */
 const shortOf = (id) => run.short.get(nameOf(id)) ?? String(id);
-
-/** A text about transactions: with their names, or with their short forms. */
 const namedTexts = (id, textOf) => (nameOf(id) === shortOf(id) ? [textOf(nameOf(id))] : [textOf(nameOf(id)), textOf(shortOf(id))]);
-
-/* ================================================================ steps that ask again, and change nothing */
-
-/** The columns of the timeline: each step has its own, but steps side by side that only ask again share one. `polls` says for each step
-    from 1 on whether it only asks again. Answers for each column its first and last step, and for each step its column, both from 1 on. */
-function columnsOf(polls, last) {
-  const [spans, columnAt] = [[null], [0]];
-  for (let at = 1; at <= last; at++) {
-    if (at > 1 && polls[at] && polls[at - 1]) spans.at(-1).to = at;
-    else spans.push({ from: at, to: at });
-    columnAt.push(spans.length - 1);
-  }
-  return { spans, columnAt };
-}
-
-/** The column of a step; one past the last step is one past the last column. */
-const columnOf = (at) => run.columnAt[at] ?? run.spans.length + at - run.last - 1;
-
-/** The steps that share the column of a step; of the start the start alone. */
-const spanOf = (at) => run.spans[columnOf(at)] ?? { from: at, to: at };
-
-/** How many columns there are. */
-const columnCount = () => run.spans.length - 1;
-
-/** Whether a step shares its column with others. */
-const isFolded = (at) => at > 0 && spanOf(at).from < spanOf(at).to;
-
-/** The position one column on, or back. */
-const positionOn = (at) => (at >= run.last ? at : spanOf(at + 1).to);
-const positionBack = (at) => (at === 0 ? 0 : spanOf(at).from - 1);
-
-/** How often each transaction asks again in the column of a step, by ID. */
-function askedAgain(at) {
-  const counts = new Map();
-  const { from, to } = spanOf(at);
-  for (let each = from; each <= to; each++) {
-    const id = run.ids.get(run.steps[each - 1].name);
-    counts.set(id, (counts.get(id) ?? 0) + 1);
-  }
-  return counts;
-}
-
-const timesSaid = (count) => (count === 1 ? "once" : count === 2 ? "twice" : `${count} times`);
-
-/** What the folded steps say together, as HTML. */
-function foldedSentence(at) {
+function columnsOf(polls, last) { const [spans, columnAt] = [[null], [0]]; for (let at = 1; at <= last; at++) {
+    if (at > 1 && polls[at] && polls[at - 1]) spans.at(-1).to = at; else spans.push({ from: at, to: at }); columnAt.push(spans.length - 1); }
+  return { spans, columnAt }; }
+const columnOf = (at) => run.columnAt[at] ?? run.spans.length + at - run.last - 1; const spanOf = (at) => run.spans[columnOf(at)] ?? { from: at, to: at };
+const columnCount = () => run.spans.length - 1; const isFolded = (at) => at > 0 && spanOf(at).from < spanOf(at).to;
+const positionOn = (at) => (at >= run.last ? at : spanOf(at + 1).to); const positionBack = (at) => (at === 0 ? 0 : spanOf(at).from - 1);
+function askedAgain(at) { const counts = new Map(); const { from, to } = spanOf(at); for (let each = from; each <= to; each++) {
+    const id = run.ids.get(run.steps[each - 1].name); counts.set(id, (counts.get(id) ?? 0) + 1); }
+  return counts; }
+const timesSaid = (count) => (count === 1 ? "once" : count === 2 ? "twice" : `${count} times`); function foldedSentence(at) {
   const parts = [...askedAgain(at)].map(([id, count]) => `${tag(id)} asks again <b>${timesSaid(count)}</b>`);
-  return `${parts.join(", ")}. Each answer is the same: <b>waiting</b>. Nothing changes.`;
-}
-
-
-/* ================================================================ what is said */
-
-const nameOf = (id) => run.names.get(String(id)) ?? `transaction ${id}`;
-const colourOf = (id) => `c${(Number(id) - 1) % 6}`;
-const tag = (id) => `<b class="t ${colourOf(id)}">${esc(nameOf(id))}</b>`;
-const tagName = (name) => (run.ids.has(name) ? tag(run.ids.get(name)) : esc(name));
+  return `${parts.join(", ")}. Each answer is the same: <b>waiting</b>. Nothing changes.`; }
+const nameOf = (id) => run.names.get(String(id)) ?? `transaction ${id}`; const colourOf = (id) => `c${(Number(id) - 1) % 6}`;
+const tag = (id) => `<b class="t ${colourOf(id)}">${esc(nameOf(id))}</b>`; const tagName = (name) => (run.ids.has(name) ? tag(run.ids.get(name)) : esc(name));
 const things = (count) => (count === "1" || count === 1 ? "1 thing" : `${count} things`);
-
-/** How many transactions a commit depends on. */
 const preparing = (count) => (count === "1" ? "1 transaction that is still preparing" : `${count} transactions that are still preparing`);
-
-/** What a step fills into the sentence of its reply, by name, as HTML. */
-function partsOf(step, position) {
-  const { args, r } = step;
-  const txn = step.name === null ? null : run.txn(run.ids.get(step.name), position);
+function partsOf(step, position) { const { args, r } = step; const txn = step.name === null ? null : run.txn(run.ids.get(step.name), position);
   const parts = { me: step.name === null ? "" : tagName(step.name), things: things(r[1]), preparing: preparing(r[2]) };
   args.forEach((it, index) => { parts[`a${index}`] = esc(it); });
   r.forEach((it, index) => { parts[`r${index}`] = esc(it); if (/^\d+$/.test(it)) parts[`t${index}`] = tag(it); });
   parts.made = run.touched[position].filter((it) => it.startsWith("version ") && !run.get(it, position - 1)).map((it) => "v" + it.slice(8))[0] ?? "";
-  parts.snap = txn?.level === "snapshot" ? `, as of its begin at time ${txn.begin}` : "";
-  parts.end = txn?.end ?? "";
-  parts.rows = r.slice(1).map(esc).join(", ") || "nothing";
-  parts.cycle = [...r.slice(3), r[3] ?? ""].map((it) => tag(it)).join(" waits for ");
-  return parts;
-}
-
-/** The step in plain English, as HTML: the sentence of its reply, by the program's table, with what the step fills in. */
-function sentenceOf(step, position) {
-  const parts = partsOf(step, position);
-  return esc(step.sentence).replace(/\{(\w+)\}/g, (all, name) => parts[name] ?? all).replace(/\*([^*]+)\*/g, "<b>$1</b>");
-}
-
-/** The definition that decides the step's reply, and when that reply comes, by the program's table. */
+  parts.snap = txn?.level === "snapshot" ? `, as of its begin at time ${txn.begin}` : ""; parts.end = txn?.end ?? "";
+  parts.rows = r.slice(1).map(esc).join(", ") || "nothing"; parts.cycle = [...r.slice(3), r[3] ?? ""].map((it) => tag(it)).join(" waits for "); return parts; }
+function sentenceOf(step, position) { const parts = partsOf(step, position);
+  return esc(step.sentence).replace(/\{(\w+)\}/g, (all, name) => parts[name] ?? all).replace(/\*([^*]+)\*/g, "<b>$1</b>"); }
 function ruleOf(step) {
   const whose = /^aborted (?!again)/.test(step.rule) ? "It comes to a transaction that " : step.rule.startsWith("refused ") ? "The event " : "";
   return [step.definition, `${step.reply}: ${whose}${step.comes.replace(/`/g, "")}`];
@@ -572,7 +966,7 @@ function verdictText() {
   last.sort((a, b) => a.end - b.end);
   const order = last.map((it) => `${tag(it.id)} at ${it.end}`).join(", then ");
   const promised = data.fault ? `<b>no</b>, from step ${data.fault} on` : "<b>yes</b>";
-  return `<p class="note verdict">As promised: ${promised}. As one after another: ${togetherSaid(order)}.</p>`;
+  return `<p class="note verdict">Each level’s promise is kept: ${promised}. Serializable: ${togetherSaid(order)}.</p>`;
 }
 
 function kindOf(step) {
@@ -1112,7 +1506,9 @@ function laneStrip(id, y, { stripH: h, x, xEdge, first, shownLast, horizon, u, c
     if (text) out.push(`<g><rect class="plate ${phase.kind}" x="${f1(left + 0.2 * u)}" y="${f1(y + 0.28 * u)}" width="${f1(widthOf(text, 0.95 * u, 600) + 0.4 * u)}" height="${f1(h - 0.16 * u)}"/><text class="phase ${phase.kind}" x="${f1(left + 0.4 * u)}" y="${f1(y + 0.2 * u + h * 0.78)}">${text}</text></g>`);
   });
   return out;
-}
+"##;
+
+pub(crate) const SCRIPT_THIRD: &str = r#"}
 
 /* ---- the versions on an axis of time */
 
@@ -1363,7 +1759,7 @@ function versionRow(it, y, h, at) {
       const from = Math.max(x0, futureX);
       out.push(`<path class="taken ${colourOf(it.writer)}" d="M${f1(from)} ${f1(barY + 2)}H${f1(endX - arrow)}L${f1(endX + 0.3 * u - 3)} ${f1(barY + barH / 2)}L${f1(endX - arrow)} ${f1(barY + barH - 2)}H${f1(from)}Z"/>`);
       const text = fitting([...namedTexts(it.writer, (name) => `until ${name} commits`), ...namedTexts(it.writer, (name) => `until ${name}`)], endX - from - 0.75 * u, 0.95 * u, 600);
-      if (text && x0 < from - 0.2 * u) out.push(`<text class="by ${colourOf(it.writer)}" x="${f1(from + 0.45 * u)}" y="${f1(y + h / 2 + 0.33 * u)}">${esc(text)}</text>`);
+      if (text && it.writer !== it.maker && x0 < from - 0.2 * u) out.push(`<text class="by ${colourOf(it.writer)}" x="${f1(from + 0.45 * u)}" y="${f1(y + h / 2 + 0.33 * u)}">${esc(text)}</text>`);
     }
     if (close === "promised") out.push(`<path class="tail ${colourOf(it.writer)}" d="M${f1(x1)} ${f1(barY)}H${f1(endX)}M${f1(x1)} ${f1(barY + barH)}H${f1(endX)}"/><line class="cut ${colourOf(it.writer)}" x1="${f1(x1)}" x2="${f1(x1)}" y1="${f1(barY - 2)}" y2="${f1(barY + barH + 2)}"/>`);
   }
@@ -1375,15 +1771,13 @@ function versionRow(it, y, h, at) {
   if (it.made && it.made === it.ended && !it.writer) out.push(`<text class="by" x="${f1(x1 + 0.7 * u)}" y="${f1(mid + 0.33 * u)}">at no time</text>`);
   // which transaction made it, until that is decided
   if (!isNever && it.maker) {
-    const words = open0 === "unborn" ? [`made by ${nameOf(it.maker)}, not committed`, ...namedTexts(it.maker, (name) => `valid if ${name} commits`), ...namedTexts(it.maker, (name) => `if ${name} commits`), `${shortOf(it.maker)}'s`]
+    const words = it.writer === it.maker ? [...namedTexts(it.maker, (name) => `written over by ${name} itself`), ...namedTexts(it.maker, (name) => `gone, by ${name}`), "gone"] : open0 === "unborn" ? [`made by ${nameOf(it.maker)}, not committed`, ...namedTexts(it.maker, (name) => `valid if ${name} commits`), ...namedTexts(it.maker, (name) => `if ${name} commits`), `${shortOf(it.maker)}'s`]
       : open0 === "promised" ? [...namedTexts(it.maker, (name) => `if ${name} commits`), `${shortOf(it.maker)}?`] : namedTexts(it.maker, (name) => `by ${name}, not stamped yet`).concat(namedTexts(it.maker, (name) => `by ${name}`));
     let from = x0 + 0.45 * u;
     if (lookX !== null && from < lookX + 0.4 * u && from + 4 * u > lookX) from = lookX + 0.4 * u;
     const text = fitting(words, Math.min(x1, close === "written" && !open0 ? futureX : endX - 0.5 * u) - from - 0.1 * u, 0.95 * u, open0 ? 600 : 400);
     if (text) out.push(`<text class="by ${open0 ? colourOf(it.maker) : ""}" x="${f1(from)}" y="${f1(mid + 0.33 * u)}">${esc(text)}</text>`);
-"#;
-
-pub(crate) const SCRIPT_REST: &str = r##"  }
+  }
   if (isNever) {
     const words = maker ? [...namedTexts(it.maker, (name) => `${name} aborted`), "aborted", "\u2717"] : ["never valid", "never", "\u2717"];
     const text = fitting(words, endX - futureX - 0.5 * u, 0.95 * u) || "\u2717";
@@ -1526,7 +1920,7 @@ function hasRing() {
 function showGraph() {
   const together = togetherHere();
   if (together && !isGraphCovered()) { showTogether(together); return; }
-  const edges = run.edges(here);
+  const edges = run.edges(here).filter((it) => !isEnded(it.from));
   const step = here > 0 ? run.steps[here - 1] : null;
   const cycle = step?.r[0] === "victim" ? step.r.slice(3) : [];
   const live = run.txnIds.filter((id) => { const it = run.txn(id, here); return it.kind !== "not" && it.kind !== "terminated"; });
@@ -1541,6 +1935,9 @@ function showGraph() {
   const bare = drawGraph(nodes, edges, cycle, cycle.length ? step.r[1] : null);
   if (bare) showGraphTitle(edges, nodes, bare);
 }
+
+/** Whether a transaction has ended, so that it waits for nobody. */
+const isEnded = (id) => ["aborted", "committed", "terminated"].includes(run.txn(id, here).kind);
 
 /** Whether a transaction has asked for what it waits for. */
 const hasAsked = (edge) => run.waitings.get(edge.from).some((it) => it.kind === "waits" && it.from <= here && (it.to === null || it.to > here));
@@ -1594,11 +1991,9 @@ function drawGraph(nodes, edges, cycle, victim) {
   const shapes = [];
   for (const edge of edges) {
     if (!spot.has(edge.from) || !spot.has(edge.to)) continue;
-    const from = run.txn(edge.from, here);
     const isHot = edge.kind === "waits" && inCycle.has(`${edge.from} ${edge.to}`);
-    const isGone = from.kind === "aborted" || from.kind === "committed" || from.kind === "terminated";
     const both = edges.some((it) => it.from === edge.to && it.to === edge.from);
-    shapes.push(edgeShape(spot.get(edge.from), spot.get(edge.to), { ...edge, isHot, isWeak: !isHot && ((edge.kind === "waits" && !hasAsked(edge)) || isGone) }, r, u, both, isFlat ? Math.abs(nodes.indexOf(edge.from) - nodes.indexOf(edge.to)) : 0));
+    shapes.push(edgeShape(spot.get(edge.from), spot.get(edge.to), { ...edge, isHot, isWeak: !isHot && edge.kind === "waits" && !hasAsked(edge) }, r, u, both, isFlat ? Math.abs(nodes.indexOf(edge.from) - nodes.indexOf(edge.to)) : 0));
   }
   return putGraph(shapes, nodes.map((id) => graphNode(id, at, victim === id)), at);
 }
@@ -2120,6 +2515,7 @@ function takeMove(next) {
 function goToPlace(place, order = null) {
   tree.cursor = place;
   move(endsOfPath()[place], order);
+  if (place > 0 && tree.nodes[tree.path[place]].next.length === 0) tellLeaf();
 }
 
 /** Shows the moves from here to an outcome; if one of them joins, it is at the last that does. */
@@ -2166,7 +2562,9 @@ function columnAt(at) {
   const text = outcome === null ? "" : sheet.trees[at].outcomes[outcome];
   const other = askedOf(its, path, levels.order) === null ? "" : `<p class="joined">${JOINS} Shown as ${esc(namesOf(its, path).join(" "))}, which ends the same.</p>`;
   return `<section><h3>${LEVELS[at]} <button type="button" data-level="${at}">story</button></h3>${other}<ol>${lines.join("")}</ol><p class="ends">${endsSaid(text)}</p></section>`;
-}
+"#;
+
+pub(crate) const SCRIPT_FOURTH: &str = r##"}
 
 /** Whether a step says what its transaction hasn't said last. */
 function isNews() {
@@ -2392,6 +2790,7 @@ function outcomesInPrint() {
 }
 
 function buildPrint() {
+  if (storyPage?.isOpen) return;
   const table = document.createElement("table");
   table.innerHTML = isTree ? outcomesInPrint() : tableInPrint();
   $("print").replaceChildren(...(isTree ? [] : picturesInPrint()), table);
@@ -2484,6 +2883,7 @@ const DOES = {
   fields: () => { const step = run.steps[here - 1]; tellTxn(step?.name ? run.ids.get(step.name) : run.txnIds[0]); },
   unpin: () => { pinned = null; show(); },
   undo: () => { const place = placeHere(); if (place > 0) { tree.path = tree.path.slice(0, place); run = runOfPath(); move(run.last); } },
+  story: () => { if (storyPage) (isTree ? tellLeaf() : storyPage.close(run.done + here)); },
   graph: () => { isGraphShown = !isGraphShown; showGraph(); },
   blank: () => { $("blank").hidden = !$("blank").hidden; tellParent(); },
 };
@@ -2505,7 +2905,16 @@ function tellTxn(id) {
 
 let digits = "";
 const MOVES = { ArrowRight: 1, ArrowDown: 1, PageDown: 1, ArrowLeft: -1, ArrowUp: -1, PageUp: -1 };
-const LETTERS = { "?": "predict", f: "future", p: "present", l: "far", d: "theme", h: "help", w: "pin", t: "fields", g: "legend", i: "picture", ".": "blank", b: "blank" };
+const LETTERS = { "?": "predict", f: "future", p: "present", l: "far", d: "theme", h: "help", w: "pin", t: "fields", g: "legend", i: "picture", ".": "blank", b: "blank", m: "story" };
+
+/** The keys of the story, and of the page that has it. */
+function storyKey(event) {
+  const { key } = event;
+  if (key === "d") DOES.theme();
+  else if (key === "b" || key === ".") DOES.blank();
+  else if (!storyPage.player.key(event)) return;
+  event.preventDefault();
+}
 
 function onKey(event) {
   if (event.ctrlKey || event.altKey || event.metaKey) { tellPrint(event); return; }
@@ -2516,6 +2925,7 @@ function onKey(event) {
     return;
   }
   if (!$("blank").hidden) { DOES.blank(); event.preventDefault(); return; }
+  if (storyPage?.isOpen) { storyKey(event); return; }
   if (key === " " && event.target.tagName === "BUTTON") return;
   if (key === " ") (event.shiftKey ? back : on)();
   else if (key in MOVES) (MOVES[key] > 0 ? on : back)();
@@ -2568,12 +2978,12 @@ document.addEventListener("click", (event) => {
 $("skip").addEventListener("click", (event) => { event.preventDefault(); $("said").focus(); });
 $("slider").addEventListener("input", () => jump(Number($("slider").value)));
 $("blank").addEventListener("click", () => DOES.blank());
-addEventListener("hashchange", () => fromHash());
+for (const kind of ["hashchange", "popstate"]) addEventListener(kind, () => goToHash());
 
 let touch = null;
 addEventListener("touchstart", (event) => { touch = event.touches.length === 1 && !event.target.closest("#path, input") ? { x: event.touches[0].clientX, y: event.touches[0].clientY } : null; }, { passive: true });
 addEventListener("touchend", (event) => {
-  if (!touch) return;
+  if (!touch || storyPage?.isOpen) return;
   const [dx, dy] = [event.changedTouches[0].clientX - touch.x, event.changedTouches[0].clientY - touch.y];
   if (Math.abs(dx) > 50 && Math.abs(dx) > 2 * Math.abs(dy)) (dx < 0 ? on : back)();
   touch = null;
@@ -2582,6 +2992,8 @@ addEventListener("touchend", (event) => {
 /* ---- in a frame: the page around it learns where this one is, and sends it elsewhere */
 
 const isFramed = parent !== window;
+/** Whether the page around this one has asked where it is: nothing is told to one that hasn't. */
+let isWatched = false;
 let isGoing = false;
 
 /** What stays from one page to the next. */
@@ -2592,13 +3004,13 @@ function modesNow() {
 
 /** Tells the page around this one the place, the modes, and for each guess its step and whether it was right. `went`: it was sent here. */
 function tellParent(went = false) {
-  if (!isFramed || isGoing) return;
+  if (!isFramed || isGoing || !isWatched) return;
   const guesses = [...told.answers].map(([at, reply]) => [run.done + at + 1, reply === run.steps[at].reply]);
   parent.postMessage({ hek: "place", place: placeSaid(), modes: modesNow(), isBlank: !$("blank").hidden, guesses, went }, "*");
 }
 
 /** A key that means nothing here is one for the page around this one. */
-function tellKey({ key }) { if (isFramed) parent.postMessage({ hek: "key", key }, "*"); }
+function tellKey({ key }) { if (isFramed && isWatched) parent.postMessage({ hek: "key", key }, "*"); }
 
 /** The page around this one is printed in its place. */
 function tellPrint(event) {
@@ -2608,18 +3020,20 @@ function tellPrint(event) {
 }
 
 function takeModes(modes) {
-  if (modes.theme) document.documentElement.dataset.theme = modes.theme;
+  if (/^(light|dark)$/.test(modes.theme)) document.documentElement.dataset.theme = modes.theme;
   for (const [name, isOn] of Object.entries(modesNow())) if (name !== "theme" && name in modes && modes[name] !== isOn) DOES[name]();
 }
 
+/** Takes a message of the known form: an object of modes, a place, a key that is pressed. */
 function go({ modes, place, key, isShift }) {
-  if (modes) takeModes(modes);
-  if (place !== undefined) fromHash(place);
-  if (key) document.body.dispatchEvent(new KeyboardEvent("keydown", { key, shiftKey: isShift, bubbles: true }));
+  if (modes !== null && typeof modes === "object") takeModes(modes);
+  if (typeof place === "string") fromHash(place);
+  if (typeof key === "string") document.body.dispatchEvent(new KeyboardEvent("keydown", { key, shiftKey: isShift === true, bubbles: true }));
 }
 
 addEventListener("message", ({ source, data: sent }) => {
   if (!isFramed || source !== parent || sent?.hek !== "go") return;
+  isWatched = true;
   isGoing = true;
   go(sent);
   isGoing = false;
@@ -2628,9 +3042,16 @@ addEventListener("message", ({ source, data: sent }) => {
 
 /* ---- the start */
 
-function fromHash(hash = decodeURIComponent(location.hash.slice(1))) {
-  if (!isTree) { jump(hash === "" ? 0 : Number(hash) - run.done || 0); return; }
-  const [level, place] = isLevels ? hash.split(":") : ["", hash];
+/** The address's place in words; each address has one. */
+function placeIn(hash) {
+  try { return decodeURIComponent(hash.slice(1)); } catch { return ""; }
+}
+
+/** Goes to a place of the machine or the explorer. What is none is the start. */
+function fromHash(hash = placeIn(location.hash)) {
+  document.documentElement.classList.remove("told");
+  if (!isTree) { jump(Math.trunc(Number(hash) - run.done) || 0); return; }
+  const [level, place = ""] = isLevels ? hash.split(":") : ["", hash];
   if (isLevels) {
     if (!LEVELS.includes(level)) { document.body.classList.add("levels"); levels.shown = null; show(); return; }
     takeLevel(LEVELS.indexOf(level));
@@ -2641,7 +3062,30 @@ function fromHash(hash = decodeURIComponent(location.hash.slice(1))) {
   run = runOfPath();
   const other = askedOf(tree, tree.path, order);
   // A number of steps is one of the order in the address.
-  jump(at === undefined || other !== null ? run.last : Number(at), other);
+  jump(at === undefined || other !== null ? run.last : Math.trunc(Number(at)) || 0, other);
+}
+
+// ---- the story, if its plays are here
+
+let storyPage = null;
+
+function plantStory() {
+  const objects = $("plays").textContent.trim().split("\n").filter(Boolean).map(Story.text.parse);
+  if (!objects.length) return;
+  storyPage = new Story.page.StoryPage(sheet, objects, { open: (step) => { fromHash(isTree ? placeSaid() : String(step)); resized(); } });
+  $("st-title").textContent = $("title").textContent;
+  document.querySelector('[data-do="story"]').hidden = false;
+}
+
+/** Goes where the address says: to the story, or to the machine and the explorer. */
+function goToHash() {
+  if (!storyPage?.read(location.hash, !isTree)) fromHash();
+}
+
+/** At the end of an order the explorer shows its story. */
+function tellLeaf() {
+  const order = namesOf(tree, tree.path), level = isLevels ? LEVELS[levels.shown] : null;
+  if (storyPage?.has(order, level)) storyPage.open(order, level);
 }
 
 function resized() {
@@ -2655,14 +3099,18 @@ if (isTree) { tree = isLevels ? levels.trees[0] : treeOf(data); run = runOfPath(
   run = new Run(data, data.steps.map((it, index) => ({ ...it, line: lines[index] })), data.done);
 }
 $("title").textContent = (data.lesson ? `${data.lesson}. ` : "") + data.title;
+plantStory();
 $("about").textContent = /^[^.:]*[.:]?/.exec(data.about ?? "")[0].replace(/:$/, ".");
-for (const way of ["previous", "next"]) {
-  if (!data[way]) continue;
+for (const [way, ids] of [["previous", ["previous", "st-previous"]], ["next", ["next", "st-after"]]]) {
+  // A link goes to another page, and runs nothing.
+  if (!data[way] || /^\s*(?!https?:)[a-z][a-z0-9+.-]*:/i.test(data[way][0])) continue;
   const [file, title] = data[way];
-  $(way).hidden = false;
-  $(way).href = file;
-  $(way).title = `${way}: ${title}`;
-  $(way).innerHTML = way === "next" ? `<span class="hidden">${esc(title)}</span> \u203a` : `\u2039 <span class="hidden">${esc(title)}</span>`;
+  for (const link of ids.map($)) {
+    link.hidden = false;
+    link.href = file;
+    link.title = `${way}: ${title}`;
+    link.innerHTML = way === "next" ? `<span class="hidden">${esc(title)}</span> \u203a` : `\u2039 <span class="hidden">${esc(title)}</span>`;
+  }
 }
 if (isLevels) document.querySelector('[data-do="levels"]').hidden = false;
 if (isTree) {
@@ -2671,7 +3119,7 @@ if (isTree) {
   for (const name of ["predict", "future"]) document.querySelector(`[data-do="${name}"]`).hidden = true;
 }
 measure();
-fromHash();
+goToHash();
 measure();
 show();
 for (const id of [...Object.keys(DRAWN), "because"]) watcher.observe($(id));

@@ -5,9 +5,9 @@ ghost use Rattle.hek_report.specs.Files.{IsStop};
 ghost use Rattle.hek_page_command.specs.Pages.{WritesPage};
 ghost use Rattle.hek_page_command.specs.Sheets.{escaped};
 
-use crate::frame::{BACK, END, FRONT, HEAD, MIDDLE};
+use crate::frame::{BACK, BETWEEN, END, FRONT, HEAD, MIDDLE};
 use crate::heading::Heading;
-use crate::script::{SCRIPT, SCRIPT_REST};
+use crate::script::{SCRIPT_FIRST, SCRIPT_FOURTH, SCRIPT_SECOND, SCRIPT_THIRD};
 use crate::style::STYLE;
 use hek_report::{HekFault, send};
 use hek_rules::NoMemory;
@@ -33,6 +33,8 @@ fn sheet_of(alloc: Global, heading: &Heading<'_>, data: &Value) -> Result<Vec<u8
     let mut sheet = Vec::new(alloc);
     put_head(alloc, heading, &mut sheet)?;
     put_data(alloc, data, &mut sheet)?;
+    put_part(BETWEEN, &mut sheet)?;
+    put_bytes(heading.plays, &mut sheet)?;
     put_foot(&mut sheet)?;
     Ok(sheet)
 }
@@ -49,8 +51,10 @@ fn put_head(alloc: Global, heading: &Heading<'_>, sheet: &mut Vec<u8>) -> Result
 /// Appends what is after the data.
 fn put_foot(sheet: &mut Vec<u8>) -> Result<(), NoMemory> {
     put_part(BACK, sheet)?;
-    put_part(script_text(), sheet)?;
-    put_part(rest_of_script(), sheet)?;
+    put_part(first_part(), sheet)?;
+    put_part(second_part(), sheet)?;
+    put_part(third_part(), sheet)?;
+    put_part(fourth_part(), sheet)?;
     put_part(END, sheet)
 }
 
@@ -68,12 +72,20 @@ fn body_text() -> &'static str {
     MIDDLE
 }
 
-fn script_text() -> &'static str {
-    SCRIPT
+fn first_part() -> &'static str {
+    SCRIPT_FIRST
 }
 
-fn rest_of_script() -> &'static str {
-    SCRIPT_REST
+fn second_part() -> &'static str {
+    SCRIPT_SECOND
+}
+
+fn third_part() -> &'static str {
+    SCRIPT_THIRD
+}
+
+fn fourth_part() -> &'static str {
+    SCRIPT_FOURTH
 }
 
 fn put_title_of(alloc: Global, heading: &Heading<'_>, sheet: &mut Vec<u8>) -> Result<(), NoMemory> {
@@ -102,7 +114,14 @@ fn put_title(title: &str, sheet: &mut Vec<u8>) -> Result<(), NoMemory> {
 fn put_json(json: &str, sheet: &mut Vec<u8>) -> Result<(), NoMemory>
     ensures { OnOk result (sheet.new.items ≡ sheet.old.items ++ flat_map escaped json.now) }
 {
-    let mut rest = json.as_bytes();
+    put_bytes(json.as_bytes(), sheet)
+}
+
+/// Appends bytes, each as a page has it.
+fn put_bytes(json: &[u8], sheet: &mut Vec<u8>) -> Result<(), NoMemory>
+    ensures { OnOk result (sheet.new.items ≡ sheet.old.items ++ flat_map escaped json.now) }
+{
+    let mut rest = json;
     while let Some((byte, later)) = rest.split_first() {
         put_byte(*byte, sheet)?;
         rest = later;

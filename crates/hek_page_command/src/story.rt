@@ -6,7 +6,8 @@ ghost use Rattle.hek_rules.specs.Run.{next};
 ghost use Rattle.hek_laws.specs.Runs.{IsPlaced};
 ghost use Rattle.hek_asm.specs.Trace.{NamesDeclared};
 ghost use Rattle.hek_machine.specs.Stands.{StandsFor};
-ghost use Rattle.hek_page_command.specs.Tellings.{world_at, AreTold, IsStory, IsStepAdded, LeadsNext};
+ghost use Rattle.hek_moves.specs.Steps.{world_at, LeadsNext};
+ghost use Rattle.hek_page_command.specs.Tellings.{AreTold, IsStory, IsStepAdded};
 
 use crate::changed::put_clock;
 use crate::step_text::{StepText, Watch, step_text};

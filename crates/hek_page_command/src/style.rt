@@ -1,30 +1,105 @@
 //! The style of a page. Written by tools/assets.
 
-pub(crate) const STYLE: &str = r#":root {
-  --bg: #ffffff; --panel: #f4f6f8; --ink: #101720; --soft: #47515e; --line: #c3cad3; --strong: #101720; --here: #ffe28a; --here-ink: #101720;
-  --c0: #0a4fb3; --c1: #a83a00; --c2: #6a22a3; --c3: #00635a; --c4: #9b1150; --c5: #4f5900; --on: #ffffff;
-  --act: #cfe0f5; --act-line: #35598a; --com: #14532d; --com-on: #ffffff; --bad: #a3001b; --bad-bg: #fde3e3; --good: #14532d; --good-bg: #dff3e4;
-  --warn: #8a4b00; --warn-bg: #ffe7bd; --bar: #dde3ea; --bar-line: #44505e; --moved: #ffd24d; --moved-ink: #101720; --shade: #eceff3;
-  --o0: #0a4fb3; --o1: #c2570c; --o2: #6a22a3; --o3: #00857a; --o4: #c0246b; --o5: #7c8a00;
-  color-scheme: light;
+pub(crate) const STYLE: &str = r#"/* Written by tools/assets. */
+:root{--paper:#ffffff;--ink:#101720;--soft:#4f5a67;--line:#c9d0d8;--band:#fff0bf;--track:#e9edf1;--bad:#a3001b;--on:#ffffff;--c0:#0a4fb3;--c1:#a83a00;--c2:#6a22a3;--c3:#00635a;--c4:#9b1150;--c5:#4f5900;--c6:#3f4a58;--c7:#7a4b00}
+@media screen and (prefers-color-scheme:dark){:root:not([data-theme=light]){--paper:#0e1217;--ink:#f2f5f8;--soft:#b4bfcc;--line:#3d4753;--band:#3d3410;--track:#232b34;--bad:#ff9c9c;--on:#0e1217;--c0:#8dbdff;--c1:#ffab78;--c2:#d0adff;--c3:#66dccb;--c4:#ff9ac6;--c5:#d3df74;--c6:#c3ccd6;--c7:#e6b873}}
+@media screen{:root[data-theme=dark]{--paper:#0e1217;--ink:#f2f5f8;--soft:#b4bfcc;--line:#3d4753;--band:#3d3410;--track:#232b34;--bad:#ff9c9c;--on:#0e1217;--c0:#8dbdff;--c1:#ffab78;--c2:#d0adff;--c3:#66dccb;--c4:#ff9ac6;--c5:#d3df74;--c6:#c3ccd6;--c7:#e6b873}}
+.pic text{font-family:"Segoe UI",-apple-system,"Helvetica Neue",Roboto,"Noto Sans","Liberation Sans",Arial,sans-serif;font-variant-numeric:tabular-nums;fill:var(--ink)}
+.pic .b{font-weight:700}.pic .soft,.pic .slate{fill:var(--soft)}.pic .on{fill:var(--on)}.pic .badt{fill:var(--bad)}.pic .strike{text-decoration:line-through}
+.pic .box{fill:var(--paper);stroke-width:2}.pic .band{fill:var(--band)}.pic .halo{stroke:var(--paper);stroke-width:5;stroke-linejoin:round;paint-order:stroke}
+.pic .ghost{fill:none;stroke:var(--soft);stroke-dasharray:4 3;stroke-width:1.5}.pic .hatch{fill:url(#hatch);stroke:var(--soft)}
+.pic .chip{fill:var(--paper);stroke:none}.pic .seg{fill:var(--track)}.pic .tint{fill-opacity:.2;stroke:none}.pic .rule{stroke:var(--line);fill:none}
+.pic .pend{fill:none;stroke-width:1.5;stroke-dasharray:3 2}.pic .life{fill:none;stroke-width:3;stroke-opacity:.35}.pic .link{fill:none;stroke-width:2}
+.pic .view{fill:none;stroke-width:2;stroke-dasharray:2 4;stroke-linecap:round}.pic .edge{fill:none;stroke:var(--bad);stroke-width:3}.pic .bad{fill:var(--bad)}
+.pic .dim{opacity:.28}.pic .ok{fill:none;stroke:var(--soft)}.pic .faint{fill-opacity:.45}.pic .none{fill:none}.pic .mark{stroke:var(--ink);stroke-width:1.5}.pic .inkf{fill:var(--ink)}
+.pic .f0{fill:var(--c0)}.pic .s0{stroke:var(--c0)}.pic .f1{fill:var(--c1)}.pic .s1{stroke:var(--c1)}.pic .f2{fill:var(--c2)}.pic .s2{stroke:var(--c2)}.pic .f3{fill:var(--c3)}.pic .s3{stroke:var(--c3)}.pic .f4{fill:var(--c4)}.pic .s4{stroke:var(--c4)}.pic .f5{fill:var(--c5)}.pic .s5{stroke:var(--c5)}.pic .f6{fill:var(--c6)}.pic .s6{stroke:var(--c6)}.pic .f7{fill:var(--c7)}.pic .s7{stroke:var(--c7)}
+:root { --s: 0.75rem; --m: 1rem; --l: 1.25rem; --xl: 1.75rem; --xxl: 2.5rem; --mono: ui-monospace, Menlo, Consolas, "Liberation Mono", "DejaVu Sans Mono", monospace; }
+.story { font: var(--m)/1.4 "Segoe UI", -apple-system, "Helvetica Neue", Roboto, "Noto Sans", "Liberation Sans", Arial, sans-serif; font-variant-numeric: tabular-nums; color: var(--ink); background: var(--paper); }
+.story[hidden], .story [hidden] { display: none !important; }
+.story, .story * { box-sizing: border-box; }
+.story button, .story select { font: inherit; color: inherit; background: var(--paper); border: 1px solid var(--line); border-radius: 0.35rem; padding: 0.15rem 0.7rem; cursor: pointer; }
+.story button:hover:not(:disabled), .story select:hover { border-color: var(--soft); background: var(--track); }
+.story button:disabled { color: var(--soft); cursor: default; }
+.story button[aria-pressed="true"] { background: var(--ink); color: var(--paper); }
+.story :focus-visible { outline: 3px solid var(--c0); outline-offset: 1px; }
+.st-bar { display: flex; gap: 0.6rem; align-items: center; padding: 0.5rem 1.2rem; }
+.st-bar select { max-width: 22rem; min-width: 0; font-weight: 700; border-color: transparent; padding-left: 0; }
+.st-bar nav { display: flex; gap: 0.3rem; align-items: center; flex: none; }
+.st-bar nav button { padding: 0.15rem 0.8rem; }
+.st-bar :is(h1, .way) { margin: 0; font-size: var(--m); font-weight: 700; min-width: 0; white-space: nowrap; overflow: hidden; text-overflow: ellipsis; flex: 0 1 auto; }
+#st-position { min-width: 4.2rem; text-align: center; font-weight: 700; white-space: nowrap; }
+#st-which { flex: 1; color: var(--soft); font-size: var(--s); min-width: 0; white-space: nowrap; overflow: hidden; text-overflow: ellipsis; }
+.st-body { flex: 1; min-height: 0; display: grid; grid-template-columns: minmax(0, 1fr) minmax(0, var(--beside, clamp(15rem, 27vw, 27rem))); }
+#st-main { display: flex; flex-direction: column; min-height: 0; min-width: 0; padding: 0 1.2rem 0.8rem; }
+#st-say { font-size: var(--xl); line-height: 1.25; font-weight: 650; flex: none; overflow-wrap: anywhere; }
+#st-say p { margin: 0.2rem 0 0; text-wrap: pretty; }
+#st-say .why { font-size: var(--l); line-height: 1.35; font-weight: 400; }
+#st-say .verdict { font-size: var(--xxl); line-height: 1.1; font-weight: 750; }
+#st-say .guess { font-size: var(--l); }
+.story .not { color: var(--bad); }
+#st-say ul { margin: 0.35rem 0 0; padding: 0; list-style: none; font-size: var(--m); line-height: 1.35; font-weight: 400; }
+#st-say li { display: flex; break-inside: avoid; }
+#st-say li span { min-width: 0; }
+#st-say .two { columns: 2; column-gap: 1.5rem; }
+.edge-kind { flex: none; align-self: start; margin-top: 0.25em; min-width: 4.6em !important; font-size: var(--s); font-weight: 700; background: var(--bad); color: var(--on); border-radius: 0.25rem; padding: 0 0.4em; margin-right: 0.5em; text-align: center; }
+#st-say .choices { display: flex; flex-wrap: wrap; gap: 0.5rem; margin-top: 0.5rem; font-size: var(--l); font-weight: 400; }
+.story kbd { font: inherit; font-size: var(--s); color: var(--soft); border: 1px solid var(--line); border-radius: 0.2rem; padding: 0 0.3em; }
+#st-stage { overflow: auto; flex: 0 1 auto; min-height: 6rem; outline-offset: -3px; }
+#st-grid { display: grid; grid-template-columns: max-content max-content; width: max-content; row-gap: 0.3rem; }
+#st-grid > div { line-height: 0; }
+#st-grid h2 { grid-column: 1 / -1; position: sticky; left: 0; width: max-content; max-width: 100%; margin: 0.3rem 0 -0.3rem; font-size: var(--l); line-height: 1.3; font-weight: 400; color: var(--ink); }
+#st-grid h2 > span:first-child { display: inline-block; min-width: 8rem; font-weight: 700; }
+#st-grid h2.not { color: var(--bad); font-weight: 700; }
+.names { position: sticky; left: 0; background: var(--paper); z-index: 1; }
+.lanes [data-step] { cursor: pointer; }
+.lanes g:focus-visible { outline: 3px solid var(--ink); outline-offset: 2px; }
+#st-cards { display: grid; grid-template-columns: repeat(var(--cards, 3), minmax(0, 1fr)); gap: 0.8rem; margin-top: auto; padding-top: 0.5rem; flex: 0 0 auto; max-height: 14.5rem; overflow: hidden; }
+.level { max-height: 12.5rem; border: 1px solid var(--line); border-radius: 0.4rem; padding: 0.35rem 0.6rem 0.5rem; min-width: 0; overflow-y: auto; position: relative; }
+.level[data-here] { border: 3px solid var(--ink); padding: calc(0.35rem - 2px) calc(0.6rem - 2px) calc(0.5rem - 2px); }
+.story .card { display: block; width: 100%; margin: 0 0 0.35rem; border: 0; padding: 0; text-align: left; line-height: 0; background: none; }
+.level .head { display: flex; justify-content: space-between; gap: 0.5rem; line-height: 1.5; font-weight: 700; }
+.level .head > span:first-child { flex: none; }
+.level .end { font-weight: 400; white-space: nowrap; overflow: hidden; text-overflow: ellipsis; }
+.level .end.not { font-weight: 700; }
+.st-legend { grid-column: 1 / -1; margin: 0 0 -0.4rem; font-size: var(--s); color: var(--soft); }
+.kind { white-space: nowrap; margin-left: 0.5em; }
+.kind svg { width: 1.3em; height: 0.85em; vertical-align: -0.08em; margin-right: 0.35em; }
+.more { position: sticky; bottom: -0.5rem; margin: -1.45rem -0.6rem -0.5rem; padding: 0.1rem 0.8rem 0.35rem; background: var(--paper); font-size: var(--s); color: var(--soft); pointer-events: none; }
+.level svg { display: block; }
+.level [data-order] { cursor: pointer; }
+.level [data-order]:hover .chip { fill: var(--track); }
+#st-beside { display: flex; flex-direction: column; min-height: 0; min-width: 0; border-left: 1px solid var(--line); }
+#st-text { flex: none; max-height: 40%; overflow: auto; margin: 0; padding: 0.1rem 0 0.5rem; font: var(--s)/1.5 var(--mono); border-bottom: 1px solid var(--line); }
+#st-text span { display: block; padding: 0 1.1rem 0 2.2rem; text-indent: -1.1rem; white-space: pre-wrap; overflow-wrap: anywhere; }
+#st-text .here { background: var(--band); font-weight: 700; }
+#st-text .broken { background: var(--bad); color: var(--on); font-weight: 700; }
+#st-prose { flex: 1; min-height: 0; overflow-y: auto; padding: 0.5rem 1.1rem 45vh; position: relative; outline-offset: -3px; }
+#st-prose p { margin: 0 0 0.6rem; }
+#st-prose .ask { font-weight: 700; }
+#st-prose .tell { border-left: 4px solid transparent; margin: 0 -1.1rem 0.35rem; padding: 0.1rem 1.1rem 0.1rem calc(1.1rem - 4px); color: var(--soft); cursor: pointer; }
+#st-prose .tell > p { margin: 0; }
+#st-prose .tell.here { border-color: var(--ink); background: var(--band); color: var(--ink); }
+#st-prose .aside { margin: 0.3rem 0 0.9rem; }
+#st-prose.asks details { display: none; }
+.n0 { color: var(--c0); } .n1 { color: var(--c1); } .n2 { color: var(--c2); } .n3 { color: var(--c3); } .n4 { color: var(--c4); } .n5 { color: var(--c5); } .n6 { color: var(--c6); } .n7 { color: var(--c7); }
+@media screen and (max-width: 50rem) {
+  .st-bar { position: sticky; top: 0; background: var(--paper); z-index: 3; flex-wrap: wrap; padding: 0.4rem 0.7rem; border-bottom: 1px solid var(--line); gap: 0.4rem; }
+  .st-bar select { max-width: none; flex: 1 1 auto; }
+  .st-bar nav { order: 8; flex: 1 1 auto; }
+  .st-bar nav button { flex: 1 1 auto; padding: 0.35rem 0.3rem; min-width: 2.2rem; }
+  .st-bar > button { order: 9; padding: 0.35rem 0.4rem; }
+  .st-bar :is(#st-end, #st-compare, #st-machine) { font-size: var(--s); }
+  #st-position { min-width: 3.4rem; }
+  #st-which { flex-basis: 100%; order: 10; } #st-which:empty { display: none; }
+  .story { --xl: 1.25rem; --xxl: 1.75rem; }
+  .st-body { display: block; }
+  #st-main { padding: 0.3rem 0.7rem; display: block; } #st-cards { grid-template-columns: minmax(0, 1fr); max-height: none; } .level { max-height: none; } #st-say .two { columns: 1; }
+  #st-beside { border: 0; } #st-text { max-height: none; } #st-prose { overflow: visible; padding-bottom: 2rem; }
 }
-:root[data-theme="dark"] {
-  --bg: #0e1217; --panel: #171d25; --ink: #f2f5f8; --soft: #b4bfcc; --line: #46515f; --strong: #f2f5f8; --here: #5c4a00; --here-ink: #ffffff;
-  --c0: #8dbdff; --c1: #ffab78; --c2: #d0adff; --c3: #66dccb; --c4: #ff9ac6; --c5: #d3df74; --on: #0e1217;
-  --act: #26405f; --act-line: #9cc3f2; --com: #8ee0a8; --com-on: #0e1217; --bad: #ff9c9c; --bad-bg: #4a1418; --good: #8ee0a8; --good-bg: #12351f;
-  --warn: #ffc66b; --warn-bg: #4a3100; --bar: #2b3643; --bar-line: #b4bfcc; --moved: #ffd24d; --moved-ink: #101720; --shade: #1b222b;
-  --o0: #8dbdff; --o1: #ffab78; --o2: #d0adff; --o3: #66dccb; --o4: #ff9ac6; --o5: #d3df74;
-  color-scheme: dark;
-}
+:root { --bg: #ffffff; --panel: #f4f6f8; --ink: #101720; --soft: #47515e; --line: #c3cad3; --strong: #101720; --here: #ffe28a; --here-ink: #101720; --c0: #0a4fb3; --c1: #a83a00; --c2: #6a22a3; --c3: #00635a; --c4: #9b1150; --c5: #4f5900; --on: #ffffff; --act: #cfe0f5; --act-line: #35598a; --com: #14532d; --com-on: #ffffff; --bad: #a3001b; --bad-bg: #fde3e3; --good: #14532d; --good-bg: #dff3e4; --warn: #8a4b00; --warn-bg: #ffe7bd; --bar: #dde3ea; --bar-line: #44505e; --moved: #ffd24d; --moved-ink: #101720; --shade: #eceff3; --o0: #0a4fb3; --o1: #c2570c; --o2: #6a22a3; --o3: #00857a; --o4: #c0246b; --o5: #7c8a00; color-scheme: light; }
+:root[data-theme="dark"] { --bg: #0e1217; --panel: #171d25; --ink: #f2f5f8; --soft: #b4bfcc; --line: #46515f; --strong: #f2f5f8; --here: #5c4a00; --here-ink: #ffffff; --c0: #8dbdff; --c1: #ffab78; --c2: #d0adff; --c3: #66dccb; --c4: #ff9ac6; --c5: #d3df74; --on: #0e1217; --act: #26405f; --act-line: #9cc3f2; --com: #8ee0a8; --com-on: #0e1217; --bad: #ff9c9c; --bad-bg: #4a1418; --good: #8ee0a8; --good-bg: #12351f; --warn: #ffc66b; --warn-bg: #4a3100; --bar: #2b3643; --bar-line: #b4bfcc; --moved: #ffd24d; --moved-ink: #101720; --shade: #1b222b; --o0: #8dbdff; --o1: #ffab78; --o2: #d0adff; --o3: #66dccb; --o4: #ff9ac6; --o5: #d3df74; color-scheme: dark; }
 @media (prefers-color-scheme: dark) {
-  :root:not([data-theme="light"]) {
-    --bg: #0e1217; --panel: #171d25; --ink: #f2f5f8; --soft: #b4bfcc; --line: #46515f; --strong: #f2f5f8; --here: #5c4a00; --here-ink: #ffffff;
-    --c0: #8dbdff; --c1: #ffab78; --c2: #d0adff; --c3: #66dccb; --c4: #ff9ac6; --c5: #d3df74; --on: #0e1217;
-    --act: #26405f; --act-line: #9cc3f2; --com: #8ee0a8; --com-on: #0e1217; --bad: #ff9c9c; --bad-bg: #4a1418; --good: #8ee0a8; --good-bg: #12351f;
-    --warn: #ffc66b; --warn-bg: #4a3100; --bar: #2b3643; --bar-line: #b4bfcc; --moved: #ffd24d; --moved-ink: #101720; --shade: #1b222b;
-    --o0: #8dbdff; --o1: #ffab78; --o2: #d0adff; --o3: #66dccb; --o4: #ff9ac6; --o5: #d3df74;
-    color-scheme: dark;
-  }
+  :root:not([data-theme="light"]) { --bg: #0e1217; --panel: #171d25; --ink: #f2f5f8; --soft: #b4bfcc; --line: #46515f; --strong: #f2f5f8; --here: #5c4a00; --here-ink: #ffffff; --c0: #8dbdff; --c1: #ffab78; --c2: #d0adff; --c3: #66dccb; --c4: #ff9ac6; --c5: #d3df74; --on: #0e1217; --act: #26405f; --act-line: #9cc3f2; --com: #8ee0a8; --com-on: #0e1217; --bad: #ff9c9c; --bad-bg: #4a1418; --good: #8ee0a8; --good-bg: #12351f; --warn: #ffc66b; --warn-bg: #4a3100; --bar: #2b3643; --bar-line: #b4bfcc; --moved: #ffd24d; --moved-ink: #101720; --shade: #1b222b; --o0: #8dbdff; --o1: #ffab78; --o2: #d0adff; --o3: #66dccb; --o4: #ff9ac6; --o5: #d3df74; color-scheme: dark; }
 }
 html { font-size: clamp(13px, min(max(1.25vw, 0.55vw + 9px), 2.05vh), 80px); }
 html.present { font-size: clamp(16px, min(max(1.52vw, 0.66vw + 11px), 2.45vh), 100px); }
@@ -50,7 +125,6 @@ button[aria-pressed="true"] { background: var(--ink); color: var(--bg); }
 .defs { position: absolute; }
 .soft { color: var(--soft); }
 .space { flex: 1; }
-
 #bar { display: flex; align-items: center; gap: 0.5rem; padding: 0.35rem 0.8rem; border-bottom: 1px solid var(--line); min-height: 2.7rem; }
 #bar h1 { font-size: 1.15rem; margin: 0; min-width: 0; white-space: nowrap; overflow: hidden; text-overflow: ellipsis; flex: 0 1 auto; }
 #about { font-weight: 400; font-size: 0.95rem; color: var(--soft); margin-left: 0.4rem; }
@@ -61,7 +135,6 @@ button[aria-pressed="true"] { background: var(--ink); color: var(--bg); }
 .way:hover { background: var(--shade); }
 .way span:not(.hidden) { color: var(--soft); font-size: 0.9rem; }
 #score { font-weight: 700; color: var(--good); white-space: nowrap; flex: none; }
-
 main { flex: 1; min-height: 0; display: grid; grid-template-columns: minmax(0, 1.32fr) minmax(0, 1fr); grid-template-rows: auto minmax(8.4rem, 0.82fr) minmax(0, 1.18fr); gap: 0.6rem; padding: 0.4rem 0.8rem 0.7rem; }
 body[data-ring] main { grid-template-rows: auto minmax(min(10.5rem, 22vh), 1.12fr) minmax(6.7rem, 0.88fr); } html.present body[data-ring] main { grid-template-rows: auto minmax(0, 0.95fr) minmax(6.5rem, 1fr); }
 @media (max-width: 62rem) { [data-do="legend"], [data-do="picture"] { display: none; } html.present :is(.why, .note) { font-size: 0.96rem; line-height: 1.15; } html.present .event { font-size: 1.05rem; } html.present .chips { line-height: 1.45; font-size: 0.94rem; } html.present .plain { line-height: 1.15; } html.present .plain { font-size: 1.14rem; } html.present .plain.long { font-size: 1.02rem; } html.present .plain.long ~ .note:not(.verdict) { display: none; } }
@@ -76,12 +149,9 @@ body[data-ring] main { grid-template-rows: auto minmax(min(10.5rem, 22vh), 1.12f
 .fill { flex: 1; min-height: 0; overflow: hidden auto; position: relative; contain: layout paint style; }
 .fill svg, #lanes svg { display: block; }
 .quiet { position: absolute; left: 0; bottom: 0; margin: 0; }
-
-:where(text) { fill: var(--ink); font-size: 1rem; }
+:where(text:not(.pic *)) { fill: var(--ink); font-size: 1rem; }
 .c0 { --c: var(--c0); } .c1 { --c: var(--c1); } .c2 { --c: var(--c2); } .c3 { --c: var(--c3); } .c4 { --c: var(--c4); } .c5 { --c: var(--c5); }
 .t { color: var(--c); font-weight: 700; }
-
-/* the timeline */
 #lanes { overflow: hidden; cursor: default; touch-action: pan-y; }
 #lanes .now { fill: var(--here); }
 .rule { stroke: var(--line); stroke-width: 1; fill: none; }
@@ -137,8 +207,6 @@ body[data-ring] main { grid-template-rows: auto minmax(min(10.5rem, 22vh), 1.12f
 .flow.weak line { stroke: var(--soft); stroke-width: 2; } .flow.weak path { fill: var(--soft); }
 .flow.depends line { stroke: var(--ink); stroke-dasharray: 2 4; stroke-linecap: round; }
 #slider { width: 100%; margin: 0; height: 1.2rem; accent-color: var(--ink); display: block; }
-
-/* the step */
 #say { display: grid; grid-template-columns: minmax(0, 1.25fr) minmax(0, 1fr); gap: 0.2rem 1.4rem; height: 7.6rem; padding: 0.45rem 0.8rem 0.3rem; margin-top: 0.35rem; border-left: 0.5rem solid var(--bar-line); background: var(--panel); border-radius: 0 0.5rem 0.5rem 0; overflow: hidden; }
 #say.waits { border-color: var(--warn); } #say.aborts { border-color: var(--bad); } #say.commits { border-color: var(--com); } #say.asks { border-color: var(--c2); }
 #say p { margin: 0; }
@@ -183,8 +251,6 @@ html.present #said:has(.verdict) .plain { font-size: 1rem; } html.present .verdi
 .told { font-weight: 700; font-size: 1.1rem; margin-bottom: 0.15rem !important; }
 .told.right { color: var(--good); } .told.wrong { color: var(--bad); }
 kbd { display: inline-block; min-width: 1.5em; text-align: center; border: 1px solid var(--bar-line); border-radius: 0.25rem; padding: 0 0.3em; font-size: 0.88em; background: var(--bg); color: var(--ink); }
-
-/* the versions */
 :where(#chains text, #graph text) { font-size: 1em; }
 .ahead { fill: var(--shade); }
 .grid { stroke: var(--line); stroke-dasharray: 2 4; }
@@ -215,11 +281,8 @@ kbd { display: inline-block; min-width: 1.5em; text-align: center; border: 1px s
 .look .plate { fill: var(--c); } .looktext { fill: var(--on); font-size: 0.95em; font-weight: 600; }
 .sight { font-weight: 700; font-size: 1em; } .sight.seen { fill: var(--good); } .sight.unseen { fill: var(--soft); font-weight: 400; }
 #chains .tick { font-size: 0.95rem; } #chains .tick.at { font-size: 1.05rem; } #chains .inf { font-size: 1.2rem; } #chains .bucket { font-size: 1rem; } #chains .looktext { font-size: 0.95rem; }
-
 .bucketbox { fill: none; stroke: var(--bar-line); stroke-width: 1.4; } .bucket .head { fill: var(--shade); } .bucket.moved .head { fill: var(--moved); } .bucket.moved :is(.vname, .bucketname) { fill: var(--moved-ink); }
 .bucketname { font-weight: 700; } .slot { fill: var(--bg); stroke: var(--line); } .slot.moved { fill: var(--moved); stroke: var(--moved-ink); stroke-width: 2; } .slot.moved + .vname { fill: var(--moved-ink); }
-
-/* who waits for whom */
 .node circle { fill: var(--c); }
 .nodename { fill: var(--on); font-weight: 700; font-size: 1.2em; }
 .nodenote { font-size: 1em; fill: var(--soft); } .nodenote.bad { fill: var(--bad); }
@@ -232,8 +295,6 @@ kbd { display: inline-block; min-width: 1.5em; text-align: center; border: 1px s
 .edge.hot .line { stroke: var(--bad); stroke-width: 6; } .edge.hot .tip { fill: var(--bad); } .edge.hot text { fill: var(--bad); }
 .edge.weak .line { stroke: var(--soft); stroke-width: 2; stroke-dasharray: 6 5; } .edge.weak .tip, .edge.weak text { fill: var(--soft); }
 .edge.commits .line { stroke-dasharray: 2 5; stroke-linecap: round; }
-
-/* the word */
 .wordbox { margin: 0 0 0.4rem; } .wordbox:last-child { margin: 0; } figcaption { font-size: 1.02rem; line-height: 1.3; display: flex; justify-content: space-between; gap: 0.5rem; } figcaption code b { background: var(--moved); color: var(--moved-ink); }
 .hex { margin: 0; font-size: 1.02rem; line-height: 1.25; color: var(--soft); } .hex .new { color: var(--ink); } .hex .new b { background: var(--moved); color: var(--moved-ink); }
 .field { font-size: 0.95rem; fill: var(--soft); } .rowname { font-size: 0.95rem; fill: var(--soft); }
@@ -242,8 +303,6 @@ kbd { display: inline-block; min-width: 1.5em; text-align: center; border: 1px s
 .bit.moved { fill: var(--moved); stroke: var(--moved-ink); stroke-width: 2; } .bittext.moved { fill: var(--moved-ink); font-weight: 700; }
 .folded, .whole { fill: var(--bg); stroke: var(--line); stroke-dasharray: 4 3; } .folded.moved, .whole.moved { fill: var(--moved); stroke: var(--moved-ink); }
 .foldtext, .infinity { font-size: 0.98rem; fill: var(--soft); } .folded.moved + text, .whole.moved + text { fill: var(--moved-ink); }
-
-/* the explorer */
 #path { display: flex; align-items: center; gap: 0.3rem; overflow-x: auto; white-space: nowrap; padding: 0.25rem 0; scrollbar-width: thin; }
 #path button { padding: 0.05rem 0.5rem; } #path [aria-current] { background: var(--here); color: var(--here-ink); font-weight: 700; }
 #path button.ahead { border-style: dashed; opacity: 0.8; }
@@ -269,19 +328,16 @@ kbd { display: inline-block; min-width: 1.5em; text-align: center; border: 1px s
 .final { font-size: 1.25rem; }
 .events { display: flex; flex-wrap: wrap; gap: 0.2rem; margin-top: 0.25rem !important; } .events button { font-size: 0.95rem; padding: 0 0.4rem; border-color: var(--line); } .events .waits { background: var(--warn-bg); border-color: var(--warn); } .events .aborts { border-color: var(--bad); color: var(--bad); font-weight: 700; } .events .commits { border-color: var(--com); color: var(--good); font-weight: 700; } .events [aria-current] { outline: 2px solid var(--ink); } .events .ahead { border-style: dashed; }
 .tree .plain { font-size: 1.3rem; }
-
 #levels { display: none; } body.levels main > :not(#levels) { display: none; } body.levels main { display: block; overflow: auto; } body.levels #levels { display: block; } body.levels #bar nav { visibility: hidden; }
 #levels table { border-collapse: collapse; width: 100%; margin: 0.6rem 0 1rem; } #levels caption { text-align: left; color: var(--soft); padding-bottom: 0.3rem; } #levels :is(td, th) { text-align: left; padding: 0.2rem 0.7rem; border-bottom: 1px solid var(--line); } #levels thead th { font-weight: 600; }
 #levels .n { width: 8rem; } #levels .n button { min-width: 5rem; font-size: 1.2rem; font-weight: 700; } #levels .none { color: var(--soft); padding-left: 1.4rem; font-size: 1.2rem; } #levels h2 { font-size: 1.1rem; margin: 0 0 0.4rem; } .good { color: var(--good); }
 .columns { display: grid; grid-template-columns: repeat(3, minmax(0, 1fr)); gap: 0.8rem; } .columns section { background: var(--panel); border-radius: 0.5rem; padding: 0.4rem 0.7rem; } .columns h3 { margin: 0 0 0.3rem; font-size: 1.05rem; } .columns ol { list-style: none; margin: 0; padding: 0; } .columns li { padding: 0 0.3rem; border-left: 0.3rem solid var(--line); } .columns .waits { border-color: var(--warn); } .columns .aborts { border-color: var(--bad); color: var(--bad); } .columns .commits { border-color: var(--com); } .columns .ends { margin: 0.4rem 0 0; }
 @media (max-width: 40rem) { .columns { grid-template-columns: 1fr; } #levels .n { width: auto; } #levels .n button { min-width: 3rem; } }
-
 dialog { border: 1px solid var(--bar-line); border-radius: 0.6rem; background: var(--bg); color: var(--ink); max-width: 46rem; font-size: 1.1rem; padding: 1rem 1.4rem; }
 dialog h2 { margin: 0 0 0.5rem; font-size: 1.3rem; } dialog td, dialog th { text-align: left; padding: 0.12rem 1rem 0.12rem 0; font-weight: 400; } dialog th { color: var(--soft); }
 dialog::backdrop { background: #0009; }
 #blank { position: fixed; inset: 0; background: #000; z-index: 9; }
 #print { display: none; }
-
 @media (prefers-reduced-motion: no-preference) {
   .touched .bar, .bit.moved, .folded.moved, .whole.moved { animation: lit 0.5s ease-out; }
   @keyframes lit { from { opacity: 0.15; } }
@@ -309,4 +365,10 @@ dialog::backdrop { background: #0009; }
 }
 .icon { height: 0.95em; width: auto; display: inline-block; vertical-align: -0.1em; fill: currentColor; }
 .legend { margin-left: 1rem; white-space: nowrap; } .legend svg { height: 1em; width: 1em; display: inline-block; vertical-align: -0.15em; margin: 0 0.25em 0 0.7em; fill: none; stroke: var(--ink); stroke-width: 2.5; } .legend rect { fill: var(--ink); } .legend .g { fill: var(--bad); stroke: none; } .legend .g path { stroke: var(--bg); stroke-width: 4; }
+html:not(.told) #story { display: none; }
+html.told body > :is(#bar, main, .skip) { display: none; }
+html.told { font-size: clamp(14px, min(1.2vw + 1px, 2.1vh), 40px); }
+#story { flex: 1; min-height: 0; display: flex; flex-direction: column; }
+@media screen and (max-width: 50rem) { html.told { font-size: 15px; } html.told, html.told body { height: auto; overflow: visible; } html.told body { display: block; } #story { display: block; } }
+@media print { html.told body > #story { display: block; } html.told .st-bar { display: none; } html.told .st-body { display: block; } html.told :is(#st-main, #st-beside, #st-stage, #st-prose, #st-text) { display: block; overflow: visible; max-height: none; height: auto; border: 0; } html.told #st-prose { columns: 2; padding: 1rem 0; } }
 "#;

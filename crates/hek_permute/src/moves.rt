@@ -114,7 +114,7 @@ impl Moves {
     }
 
     /// The first place from one on whose step is not skipped.
-    pub(crate) fn ahead(&self, place: usize, txn: TxnId, history: &[Entry]) -> usize
+    pub fn ahead(&self, place: usize, txn: TxnId, history: &[Entry]) -> usize
         ensures { result ≡ ahead (shown_to self.now txn history.now).acts place }
     {
         let number = txn.number();

@@ -39,7 +39,7 @@ fn ended<'a, R: Read + Drop>(
 /// The events of the order that a file has.
 fn events_in_file<'a>(alloc: Global, given: &Given<'_>) -> Result<Vec<Event>, HekFault<'a>> {
     let moves = moves_of(alloc, given.schedule, given.rules)?;
-    let order = order_in_file(alloc, given, moves.as_slice())?;
+    let order = order_of_file(alloc, given, moves.as_slice())?;
     events_of(
         alloc,
         given.schedule,
@@ -61,7 +61,7 @@ struct Track {
 }
 
 /// The order of moves, by events, in which a file has the steps of its transactions.
-fn order_in_file(
+pub(crate) fn order_of_file(
     alloc: Global,
     given: &Given<'_>,
     moves: &[Moves],

@@ -1,5 +1,6 @@
 //! How many orders have an outcome.
 use hek_permute::{Outcome, Tally};
+use hek_rules::TxnId;
 
 /// Whether no tally before this one has the outcome.
 pub(crate) fn is_first(tallies: &[Tally], column: usize, outcome: &Outcome) -> bool {
@@ -19,6 +20,16 @@ pub(crate) fn count_of(tally: &Tally, outcome: &Outcome) -> u64 {
         }
     }
     0
+}
+
+/// The first order that has the outcome.
+pub(crate) fn first_of<'t>(tally: &'t Tally, outcome: &Outcome) -> Option<&'t [TxnId]> {
+    for row in tally.rows() {
+        if row.outcome().same(outcome) {
+            return Some(row.first());
+        }
+    }
+    None
 }
 
 /// How many orders a tally has.

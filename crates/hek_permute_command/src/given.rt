@@ -1,6 +1,6 @@
 //! What a file gives to play: a schedule, or a program.
 use hek_permute::{Ending, Outcome};
-use hek_program::{AtEnd, Program, ProgramFault, Rule, read_program};
+use hek_program::{Always, AtEnd, Program, ProgramFault, Rule, read_program};
 use hek_report::{HekFault, ScheduleFile, schedule_in};
 use hek_rules::{Event, NoMemory, Schedule};
 use std::alloc::Global;
@@ -32,6 +32,11 @@ impl<'p> Given<'p> {
             rules: self.rules,
             program: self.program,
         }
+    }
+
+    /// What is to hold.
+    pub(crate) fn always(&self) -> &'p [Always] {
+        self.program.always()
     }
 
     /// Whether the step at a place is a `fail` under a condition.
@@ -80,7 +85,7 @@ pub fn program_in<'a, R: Read + Drop>(
     }
 }
 
-fn program_of_text<'a>(alloc: Global, text: &[u8]) -> Result<Program, HekFault<'a>> {
+pub(crate) fn program_of_text<'a>(alloc: Global, text: &[u8]) -> Result<Program, HekFault<'a>> {
     let Ok(text) = str::from_utf8(text) else {
         return Err(HekFault::NotText);
     };

@@ -1,5 +1,5 @@
 //! Orders and outcomes as objects of JSON.
-use crate::counts::{count_of, is_first, orders_of};
+use crate::counts::{count_of, first_of, is_first, orders_of};
 use crate::details::details_of;
 use crate::find::Found;
 use crate::given::Given;
@@ -146,8 +146,22 @@ fn put_leveled(
     out.end_object();
     put_judged(given.schedule, outcome, out);
     put_broken(alloc, given, outcome, out)?;
+    put_firsts(given.schedule, tallies, outcome, out);
     out.end_line();
     Ok(())
+}
+
+/// For each level the first order that has an outcome, or null.
+fn put_firsts(schedule: &Schedule, tallies: &[Tally], outcome: &Outcome, out: &mut Lines) {
+    out.put_key("first");
+    out.begin_object();
+    for (tally, level) in tallies.iter().zip(Level::ALL.iter()) {
+        match first_of(tally, outcome) {
+            Some(order) => out.put_names((*level).word(), schedule, order),
+            None => out.put_null((*level).word()),
+        }
+    }
+    out.end_object();
 }
 
 /// The moves of an order, and the steps of their play.

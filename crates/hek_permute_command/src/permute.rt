@@ -3,12 +3,14 @@ use crate::choice::{Choice, Extent, range_of};
 use crate::each::write_each;
 use crate::find::{Answer, found_in};
 use crate::given::{Given, program_in};
+use crate::lines::step_lines_in;
 use crate::one::{fault_of, leveled, one_order};
+use crate::play::{put_at_levels, put_order_play};
 use crate::players::{Alone, Players, Team};
 use crate::printed::{put_found, put_levels, put_none, put_played, put_tally};
 use crate::progress::{Census, Progress};
 use hek_permute::{Form, OrderFault, Tally, moves_of, order_count};
-use hek_report::{HekFault, ScheduleFile, send};
+use hek_report::{HekFault, Lines, Printing, ScheduleFile, send};
 use hek_rules::Level;
 use std::alloc::Global;
 use std::io::{Read, Write};
@@ -53,8 +55,13 @@ fn permute_with<'a, P: Players, R: Read + Drop, W: Write, E: Write>(
 ) -> Result<u8, HekFault<'a>>
     requires { P.can_play players.now }
 {
+    let lines = step_lines_in(alloc, &file)?;
     let program = program_in(alloc, file)?;
-    permute(players, alloc, &Given::of(&program), choice, out, faults)
+    let given = Given::of(&program);
+    match choice.order {
+        Some(names) => at_order(alloc, &given, choice, names, lines.as_slice(), out),
+        None => permute(players, alloc, &given, choice, out, faults),
+    }
 }
 
 fn permute<'a, P: Players, W: Write, E: Write>(
@@ -67,9 +74,6 @@ fn permute<'a, P: Players, W: Write, E: Write>(
 ) -> Result<u8, HekFault<'a>>
     requires { P.can_play players.now }
 {
-    if let Some(names) = choice.order {
-        return at_order(alloc, given, choice, names, out);
-    }
     let Some(extent) = extent_of(alloc, given, choice, faults)? else {
         return Ok(choice.status_unplayed());
     };
@@ -150,31 +154,73 @@ fn most_plays(choice: Choice<'_>, extent: Extent) -> Option<u64> {
     }
 }
 
-/// The events of one order.
+/// The events of one order, or its plays at all levels.
 fn at_order<'a, W: Write>(
     alloc: Global,
     given: &Given<'_>,
     choice: Choice<'_>,
     names: &str,
+    lines: &[u64],
     out: &mut W,
 ) -> Result<u8, HekFault<'a>> {
-    let mut lines = lines_of_order(alloc, given, choice, names)?;
-    send(&mut lines, out)?;
+    if choice.levels && choice.printing == Printing::Text {
+        return Err(HekFault::BadArgument);
+    }
+    let mut said = Vec::new(alloc);
+    if !choice.levels {
+        put_events(alloc, given, choice, names, &mut said)?;
+    }
+    if choice.printing == Printing::Json {
+        put_plays(alloc, given, choice, names, lines, &mut said)?;
+    }
+    send(&mut said, out)?;
     Ok(0)
 }
 
-/// The lines of one order.
-fn lines_of_order<'a>(
+/// The schedule of one order's events, or an object for each of them.
+fn put_events<'a>(
     alloc: Global,
     given: &Given<'_>,
     choice: Choice<'_>,
     names: &str,
-) -> Result<Vec<u8>, HekFault<'a>> {
+    said: &mut Vec<u8>,
+) -> Result<(), HekFault<'a>> {
     let leveled = leveled(alloc, given.schedule, choice.level, given.schedule.steps())?;
     let played = one_order(alloc, &given.over(&leveled), choice.form, names)?;
-    let mut lines = Vec::new(alloc);
-    put_played(alloc, choice.printing, &played, &mut lines)?;
-    Ok(lines)
+    put_played(alloc, choice.printing, &played, said)?;
+    Ok(())
+}
+
+/// The play of one order as an object: at the level that is asked for, or at the levels of what is given and then at each.
+fn put_plays<'a>(
+    alloc: Global,
+    given: &Given<'_>,
+    choice: Choice<'_>,
+    names: &str,
+    lines: &[u64],
+    said: &mut Vec<u8>,
+) -> Result<(), HekFault<'a>> {
+    let mut objects = Lines::after(alloc, said);
+    put_plays_named(alloc, given, choice, names, lines, &mut objects)?;
+    objects.put_back(said)?;
+    Ok(())
+}
+
+fn put_plays_named<'a>(
+    alloc: Global,
+    given: &Given<'_>,
+    choice: Choice<'_>,
+    names: &str,
+    lines: &[u64],
+    out: &mut Lines,
+) -> Result<(), HekFault<'a>> {
+    let played = one_order(alloc, given, choice.form, names)?;
+    let (form, order) = (choice.form, played.moves.as_slice());
+    put_order_play(alloc, given, form, order, choice.level, lines, out)?;
+    if choice.levels {
+        put_at_levels(alloc, given, form, order, lines, out)?;
+    }
+    Ok(())
 }
 
 /// How the outcomes that a choice asks for are counted; None if there are too many orders.

@@ -6,7 +6,7 @@ use Rattle.hek_asm.specs.declared.fault.TraceFault.TheVariants as trace
 use Rattle.hek_image.specs.declared.fault.LoadFault.{LoadFault}
 use Rattle.hek_image.specs.declared.fault.LoadFault.TheVariants as load
 use Rattle.hek_report.specs.declared.fault.HekFault.{HekFault}
-use Rattle.hek_report.specs.declared.fault.HekFault.TheVariants.{BadArgument, NotAWord, NoReader, BadWaits, Line, Image, TraceLine, CommandLine, Computed, Wanted, NoWorker, Mismatch, NotText, CannotRead, CannotWrite, NoMemory}
+use Rattle.hek_report.specs.declared.fault.HekFault.TheVariants.{BadArgument, NotAWord, NoReader, BadWaits, Line, Image, TraceLine, CommandLine, Wanted, NoWorker, Mismatch, NotText, CannotRead, CannotWrite, NoMemory}
 
 -- the exit status of a command with this fault
 abbrev pub status_of : HekFault → ℕ
@@ -18,7 +18,6 @@ status_of (Line number kind) = 1
 status_of (Image fault) = 1
 status_of (TraceLine number) = 1
 status_of (CommandLine number) = 1
-status_of (Computed line what) = 1
 status_of (Wanted line column wanted) = 1
 status_of NoWorker = 1
 status_of (Mismatch worker) = 1

@@ -36,12 +36,6 @@ pub enum HekFault<'a> {
     /// The number of the first line that is not a command of the debugger.
     #[error("hek: command line {0}")]
     CommandLine(u64),
-    /// The number of the first line that only a program has, and what it is, where a schedule is wanted.
-    #[error("hek: line {line}: {what} wants --auto")]
-    Computed {
-        line: u64,
-        what: &'a str,
-    },
     /// What is wanted at a place of a program: the number of the line, and that of the byte in it, from 1.
     #[error("hek: line {line}, column {column}: {wanted} is wanted")]
     Wanted {
@@ -80,7 +74,6 @@ impl HekFault<'_> {
             | HekFault::Image(_)
             | HekFault::TraceLine(_)
             | HekFault::CommandLine(_)
-            | HekFault::Computed { .. }
             | HekFault::Wanted { .. }
             | HekFault::NoWorker
             | HekFault::Mismatch(_)

@@ -5,7 +5,6 @@ pub mod Bound
 pub mod VictimLaw
 pub mod Agree
 pub mod PlanLemmas
-pub mod IndexLemmas
 pub mod NameLemmas
 pub mod SameLemmas
 pub mod TextLemmas

@@ -1,21 +1,17 @@
--- A schedule's plan after each builder, and names as lists of bytes.
-use Rattle.std.proofs.Common.{◌≡◌, ℕ, ◌<◌, ◌≤◌, ◌^◌, true, false, ◌&&◌, not, List, [], ◌∷◌, ◌++◌, length, String, Some, Result, Ok, Err, sym, ap, subst, ◌∙◌, arith, nat_eq, nat_lt, get_or, slice_get, IsTrue}
-use Rattle.std.specs.Cmp.{nat_eq_equiv}
-use Rattle.std.specs.Cmp.Lexicographic.{nat_list_eq_equiv}
-use Rattle.std.specs.List.{AllByRecursion, IsDistinct}
-use Rattle.std.specs.Map.{keys_of}
+-- A schedule's plan after each builder, and its names as lists of bytes.
+use Rattle.std.proofs.Common.{◌≡◌, ℕ, ◌<◌, ◌≤◌, ◌^◌, Bool, true, false, ◌&&◌, not, List, [], ◌∷◌, ◌++◌, length, map, Option, Some, None, refl, sym, ap, subst, ◌∙◌, arith, nat_eq, nat_lt, slice_get, IsTrue}
+use Rattle.std.specs.Prelude.{is_some, position}
+use Rattle.std.specs.List.{AllByRecursion, IsDistinct, list_any, prefix_len}
 use Rattle.std.specs.Option.{option_map}
-use Rattle.std.specs.Result.{OnOk, OnErr}
 use Rattle.std.specs.Str.{bytes_eq}
-use Rattle.std.specs.String.{string_bytes}
+use Rattle.std.specs.Map.{keys_of, lookup}
 use Rattle.std.proofs.lemmas.Bool.{and_parts, not-true, ltb-true}
 use Rattle.std.proofs.lemmas.List.{length-map, map_push, length_push}
-use Rattle.std.proofs.lemmas.Map.Keys.{IsDistinct-push}
-use Rattle.std.proofs.lemmas.Option.{slice_get-map, slice_get_read}
+use Rattle.std.proofs.lemmas.Option.{slice_get-map}
+use Rattle.std.proofs.lemmas.Map.Made.{is_some-lookup}
 use Rattle.hek_rules.specs.declared.event.Level.{Level}
 use Rattle.hek_rules.specs.declared.event.Event.{Event}
 use Rattle.hek_rules.specs.declared.event.Event.TheVariants as event
-use Rattle.hek_rules.specs.Indexed.{named}
 use Rattle.hek_rules.specs.Name.{is_name}
 use Rattle.hek_rules.specs.Plan.{Plan, IsPlan, IsDeclared, IsRow, IsStep, names_of, row_fits, txn_fits, has_key, has_name}
 
@@ -24,24 +20,66 @@ pub all_push : {X : Type 0} (P : X → Type 0) (xs : List X) (y : X) → AllByRe
 all_push P [] y h p = (p, tt)
 all_push P (x ∷ xs) y h p = (h.0, all_push P xs y h.1 p)
 
--- what holds of the list before a call and of the longer one holds of the list after it
-pub kept_or_added : {T E A : Type 0} (P : A → Type 0) (r : Result T E) (old more now : A) → OnOk r (now ≡ more) → OnErr r (now ≡ old) → P old → P more → P now
-kept_or_added P (Ok x) old more now ok err p q = subst P (sym ok) q
-kept_or_added P (Err x) old more now ok err p q = subst P (sym err) p
+-- a look-up that is not Some is None
+pub none_from_not_some : {X : Type 0} (o : Option X) → is_some o ≡ false → o ≡ None
+none_from_not_some None e = refl
+none_from_not_some (Some x) e = absurd cc
 
--- ---- names as lists of bytes
-module _ {Y L : Type 0} where
+pub absent : {K X : Type 0} (test : K → Bool) (es : List (K × X)) → list_any test (keys_of es) ≡ false → lookup test es ≡ None
+absent test es e = none_from_not_some (lookup test es) (is_some-lookup test es ∙ e)
+
+-- ---- keys seen through a function of them
+prefix_len-map : {X Y : Type 0} (p : Y → Bool) (f : X → Y) (xs : List X) → prefix_len p (map f xs) ≡ prefix_len (λ x. p (f x)) xs
+prefix_len-map p f [] = refl
+prefix_len-map p f (x ∷ xs) = rw (prefix_len-map p f xs) refl
+
+pub position-map : {X Y : Type 0} (p : Y → Bool) (f : X → Y) (xs : List X) → position p (map f xs) ≡ position (λ x. p (f x)) xs
+position-map p f xs = rw (prefix_len-map (λ x. not (p x)) f xs, length-map xs f) refl
+
+all_map : {X Y : Type 0} (P : Y → Type 0) (f : X → Y) (xs : List X) → AllByRecursion (λ x. P (f x)) xs → AllByRecursion P (map f xs)
+all_map P f [] h = tt
+all_map P f (x ∷ xs) h = (h.0, all_map P f xs h.1)
+
+distinct_map : {X Y : Type 0} (same : Y → Y → Bool) (f : X → Y) (xs : List X) → IsDistinct (λ a b. same (f a) (f b)) xs → IsDistinct same (map f xs)
+unfolding IsDistinct
+distinct_map same f [] h = tt
+distinct_map same f (x ∷ xs) h = (all_map (λ y. same (f x) y ≡ false) f xs h.0, distinct_map same f xs h.1)
+
+module _ {K L : Type 0} (f : K → List ℕ) where
+  abbrev pub texts : List (K × L) → List (List ℕ × L)
+  texts es = map (λ p. (f p.0, p.1)) es
+
+  pub keys_of-texts : (es : List (K × L)) → keys_of (texts es) ≡ map f (keys_of es)
+  keys_of-texts [] = refl
+  keys_of-texts (e ∷ es) = ap (λ ys. f e.0 ∷ ys) (keys_of-texts es)
+
+  pub list_any-texts : (w : List ℕ) (es : List (K × L)) → list_any (λ k. bytes_eq w (f k)) (keys_of es) ≡ list_any (bytes_eq w) (keys_of (texts es))
+  list_any-texts w [] = refl
+  list_any-texts w (e ∷ es) = rw (list_any-texts w es) refl
+
+  pub position-texts : (w : List ℕ) (es : List (K × L)) → position (λ k. bytes_eq w (f k)) (keys_of es) ≡ position (bytes_eq w) (keys_of (texts es))
+  position-texts w es = sym (ap (position (bytes_eq w)) (keys_of-texts es) ∙ position-map (bytes_eq w) f (keys_of es))
+
+  pub distinct-texts : (es : List (K × L)) → IsDistinct (λ a b. bytes_eq (f a) (f b)) (keys_of es) → IsDistinct bytes_eq (keys_of (texts es))
+  distinct-texts es h = subst (IsDistinct bytes_eq) (sym (keys_of-texts es)) (distinct_map bytes_eq f (keys_of es) h)
+
   -- a new name is the last in the list of names
-  pub named_push : (es fs : List (String Y × L)) (k : String Y) (l : L) (w : List ℕ) → fs ≡ es ++ (k, l) ∷ [] → string_bytes k ≡ w → named fs ≡ named es ++ (w, l) ∷ []
-  named_push es fs k l w e same = ap named e ∙ map_push (λ (p : String Y × L). (string_bytes p.0, p.1)) es (k, l) ∙ ap (λ (x : List ℕ). named es ++ (x, l) ∷ []) same
+  pub texts_push : (es fs : List (K × L)) (k : K) (l : L) (w : List ℕ) → fs ≡ es ++ (k, l) ∷ [] → f k ≡ w → texts fs ≡ texts es ++ (w, l) ∷ []
+  texts_push es fs k l w e same = ap texts e ∙ map_push (λ (p : K × L). (f p.0, p.1)) es (k, l) ∙ ap (λ (x : List ℕ). texts es ++ (x, l) ∷ []) same
 
-  -- the entry at a place
-  pub named_at : (es : List (String Y × L)) (ts : List (List ℕ × L)) (i : ℕ) (e : String Y × L) → named es ≡ ts → i < length ts → e ≡ get_or es i e → slice_get ts i ≡ Some (string_bytes e.0, e.1)
-  named_at es ts i e same lt is =
-      let long : length ts ≡ length es = ap length (sym same) ∙ length-map es (λ (p : String Y × L). (string_bytes p.0, p.1)) in
-      ap (λ (xs : List (List ℕ × L)). slice_get xs i) (sym same)
-      ∙ slice_get-map (λ (p : String Y × L). (string_bytes p.0, p.1)) es i
-      ∙ ap (option_map (λ (p : String Y × L). (string_bytes p.0, p.1))) (slice_get_read es (length ts) i e long lt is)
+  -- the name at a place
+  pub name_at : (es : List (K × L)) (i j : ℕ) (k : K) (l : L) (w : List ℕ) → slice_get es i ≡ Some (k, l) → w ≡ f k → i ≡ j → slice_get (keys_of (texts es)) j ≡ Some w
+  name_at es i j k l w h same place =
+      let seen : slice_get (texts es) i ≡ Some (f k, l) = slice_get-map (λ (p : K × L). (f p.0, p.1)) es i ∙ ap (option_map (λ (p : K × L). (f p.0, p.1))) h in
+      let named : slice_get (keys_of (texts es)) i ≡ Some (f k) = slice_get-map (λ (p : List ℕ × L). p.0) (texts es) i ∙ ap (option_map (λ (p : List ℕ × L). p.0)) seen in
+      subst (λ (n : ℕ). slice_get (keys_of (texts es)) n ≡ Some w) place (named ∙ ap (λ (x : List ℕ). Some x) (sym same))
+
+  -- the value at a place
+  pub value_at : (es : List (K × L)) (i j : ℕ) (k : K) (l : L) → slice_get es i ≡ Some (k, l) → i ≡ j → slice_get (map (λ (p : List ℕ × L). p.1) (texts es)) j ≡ Some l
+  value_at es i j k l h place =
+      let seen : slice_get (texts es) i ≡ Some (f k, l) = slice_get-map (λ (p : K × L). (f p.0, p.1)) es i ∙ ap (option_map (λ (p : K × L). (f p.0, p.1))) h in
+      let valued : slice_get (map (λ (p : List ℕ × L). p.1) (texts es)) i ≡ Some l = slice_get-map (λ (p : List ℕ × L). p.1) (texts es) i ∙ ap (option_map (λ (p : List ℕ × L). p.1)) seen in
+      subst (λ (n : ℕ). slice_get (map (λ (p : List ℕ × L). p.1) (texts es)) n ≡ Some l) place valued
 
 -- ---- plans
 pub empty_plan : (p : Plan) → (0 < p.buckets) × (p.buckets ≤ 1024) → p.rows ≡ [] → p.txns ≡ [] → p.steps ≡ [] → IsPlan p
@@ -63,8 +101,8 @@ row_fits_parts p k h =
     let both = and_parts (nat_lt (length p.rows) 65536) (not (has_key p k)) h in
     (ltb-true (length p.rows) 65536 both.0, not-true (has_key p k) both.1)
 
-pub row_added : (p : Plan) (k v : ℕ) → IsPlan p → IsTrue (row_fits p k) → k < 2 ^ 64 → v < 2 ^ 64 → IsPlan (record p { rows = p.rows ++ (k, v) ∷ [] })
-row_added p k v is fits low_k low_v =
+pub row_added : (p : Plan) (k v : ℕ) → IsPlan p → IsTrue (row_fits p k) → k < 2 ^ 64 → v < 2 ^ 64 → IsDistinct nat_eq (keys_of (p.rows ++ (k, v) ∷ [])) → IsPlan (record p { rows = p.rows ++ (k, v) ∷ [] })
+row_added p k v is fits low_k low_v apart =
     let room = row_fits_parts p k fits in
     record {
       buckets = is.buckets;
@@ -72,7 +110,7 @@ row_added p k v is fits low_k low_v =
       txn_count = is.txn_count;
       step_count = is.step_count;
       rows = all_push IsRow p.rows (k, v) is.rows (low_k, low_v);
-      keys = subst (IsDistinct nat_eq) (sym (map_push (λ (e : ℕ × ℕ). e.0) p.rows (k, v))) (IsDistinct-push nat_eq_equiv (keys_of p.rows) k is.keys room.1);
+      keys = apart;
       names = is.names;
       forms = is.forms;
       steps = is.steps;
@@ -108,8 +146,8 @@ all_more_txns : (buckets m n : ℕ) (es : List Event) → m ≤ n → AllByRecur
 all_more_txns buckets m n [] le h = tt
 all_more_txns buckets m n (e ∷ es) le h = (more_txns buckets m n e le h.0, all_more_txns buckets m n es le h.1)
 
-pub txn_added : (p : Plan) (w : List ℕ) (l : Level) → IsPlan p → IsTrue (txn_fits p w) → IsPlan (record p { txns = p.txns ++ (w, l) ∷ [] })
-txn_added p w l is fits =
+pub txn_added : (p : Plan) (w : List ℕ) (l : Level) → IsPlan p → IsTrue (txn_fits p w) → IsDistinct bytes_eq (keys_of (p.txns ++ (w, l) ∷ [])) → IsPlan (record p { txns = p.txns ++ (w, l) ∷ [] })
+txn_added p w l is fits apart =
     let room = txn_fits_parts p w fits in
     record {
       buckets = is.buckets;
@@ -118,7 +156,7 @@ txn_added p w l is fits =
       step_count = is.step_count;
       rows = is.rows;
       keys = is.keys;
-      names = subst (IsDistinct bytes_eq) (sym (map_push (λ (e : List ℕ × Level). e.0) p.txns (w, l))) (IsDistinct-push nat_list_eq_equiv (names_of p) w is.names room.2);
+      names = apart;
       forms = subst (AllByRecursion (λ x. IsTrue (is_name x))) (sym (map_push (λ (e : List ℕ × Level). e.0) p.txns (w, l))) (all_push (λ x. IsTrue (is_name x)) (names_of p) w is.forms room.1);
       steps = all_more_txns p.buckets (length p.txns) (length (p.txns ++ (w, l) ∷ [])) p.steps (omega (arith, length_push p.txns (w, l))) is.steps;
     }

@@ -1,8 +1,7 @@
 -- Tests that decide whether two lists are equal.
-use Rattle.std.proofs.Common.{◌≡◌, ℕ, Bool, ◌&&◌, eqb, List, String, sym, ◌∙◌, rules}
+use Rattle.std.proofs.Common.{◌≡◌, ℕ, Bool, ◌&&◌, eqb, List, sym, ◌∙◌, rules}
 use Rattle.std.specs.Bool.{Decides}
 use Rattle.std.specs.Str.{bytes_eq}
-use Rattle.std.specs.String.{string_bytes}
 use Rattle.std.specs.Cmp.Derive.Mapped.{pointwise-map}
 use Rattle.std.proofs.lemmas.Slice.Eq.{slice_eq-Decides, bytes_eq-Decides}
 use Rattle.std.proofs.lemmas.Bool.{and_parts, and_from}
@@ -12,7 +11,7 @@ use Rattle.hek_rules.specs.declared.event.Level.{Level}
 use Rattle.hek_rules.specs.declared.event.Event.{Event}
 use Rattle.hek_rules.specs.contracts.event.LevelPartialEq.TheImpl as level_eq
 use Rattle.hek_rules.specs.contracts.event.EventPartialEq.TheImpl as event_eq
-use Rattle.hek_rules.specs.Indexed.{named}
+use Rattle.hek_rules.proofs.PlanLemmas.{texts}
 
 -- a test that decides equality of two lists decides that of equal lists
 pub decides_along : {A : Type 0} (r : Bool) (xs ys us vs : List A) → Decides r (xs ≡ ys) → xs ≡ us → ys ≡ vs → Decides r (us ≡ vs)
@@ -35,7 +34,7 @@ pub rows_decide : (a b : ℕ × ℕ) → Decides (eqb a.0 b.0 && eqb a.1 b.1) (a
 rows_decide = both_decide Decides-eqb Decides-eqb
 
 -- a test of names by their bytes, and of levels, decides equality of lists of both
-pub named_decide : {Y : Type 0} (es fs : List (String Y × Level)) (r : Bool) → r ≡ pointwise (λ (p q : String Y × Level). bytes_eq (string_bytes p.0) (string_bytes q.0) && (level_eq.eq-value).it p.1 q.1) es fs → Decides r (named es ≡ named fs)
-named_decide {Y} es fs r h =
-    slice_eq-Decides (both_decide bytes_eq-Decides levels_decide) (named es) (named fs) r
-    (h ∙ sym (pointwise-map (λ (p : String Y × Level). (string_bytes p.0, p.1)) (λ (p q : List ℕ × Level). bytes_eq p.0 q.0 && (level_eq.eq-value).it p.1 q.1) es fs))
+pub texts_decide : {K : Type 0} (f : K → List ℕ) (es fs : List (K × Level)) (r : Bool) → r ≡ pointwise (λ (p q : K × Level). bytes_eq (f p.0) (f q.0) && (level_eq.eq-value).it p.1 q.1) es fs → Decides r (texts f es ≡ texts f fs)
+texts_decide {K} f es fs r h =
+    slice_eq-Decides (both_decide bytes_eq-Decides levels_decide) (texts f es) (texts f fs) r
+    (h ∙ sym (pointwise-map (λ (p : K × Level). (f p.0, p.1)) (λ (p q : List ℕ × Level). bytes_eq p.0 q.0 && (level_eq.eq-value).it p.1 q.1) es fs))

@@ -1,4 +1,5 @@
 pub mod Words
+pub mod Holders
 pub mod Events
 pub mod Names
 pub mod Lines
@@ -25,7 +26,6 @@ pub mod Faults
 pub mod WorkedRuns
 pub mod Name
 pub mod Plan
-pub mod Indexed
 pub mod Scheduled
 pub mod Devices
 pub mod MemoryDevices

@@ -37,4 +37,4 @@ pub use schedule::{MAX_BUCKETS, MAX_ROWS, MAX_STEPS, MAX_TXNS, Schedule};
 pub use serial::{Verdict, Write};
 pub use text::{next_line, next_word, number, same_bytes};
 pub use transcript::Transcript;
-pub use word::{BeginRecord, Dropped, EndRecord};
+pub use word::{BeginRecord, Dropped, EndRecord, LockChange};

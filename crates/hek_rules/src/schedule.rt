@@ -2,17 +2,13 @@
 ghost use Rattle.std.specs.Prelude.{◌≡◌, ◌+◌, ◌-◌, ◌<◌, ◌≤◌, ◌↔◌, [], ◌∷◌, ◌++◌, length, slice_get, IsTrue, OnOk, OnErr, IfSome, Some};
 ghost use Rattle.hek_rules.specs.Plan.{IsPlan, IsDeclared, IsStep, row_fits, txn_fits, StepFits, has_key, has_name, id_of, names_of, levels_of, max_buckets};
 
-mod rows;
-mod txns;
-
 use crate::event::{Event, Level};
 use crate::id::TxnId;
 use crate::memory::NoMemory;
 use crate::name::{name_ok, name_text};
-use rows::Rows;
+use indexmap::IndexMap;
 use std::alloc::Global;
 use std::marker::Model;
-use txns::Txns;
 
 /// The most buckets that a schedule has. It has at least one.
 pub const MAX_BUCKETS: u64 = 1_024;
@@ -31,8 +27,8 @@ pub const MAX_STEPS: usize = 1_000_000;
 #[derive(Drop)]
 pub struct Schedule {
     buckets: u64,
-    rows: Rows,
-    txns: Txns,
+    rows: IndexMap<u64, u64>,
+    names: IndexMap<String, Level>,
     steps: Vec<Event>,
 }
 
@@ -63,8 +59,8 @@ impl Schedule {
     {
         Schedule {
             buckets,
-            rows: Rows::new(alloc),
-            txns: Txns::new(alloc),
+            rows: IndexMap::new(alloc),
+            names: IndexMap::new(alloc),
             steps: Vec::new(alloc),
         }
     }
@@ -81,7 +77,7 @@ impl Schedule {
     pub fn row_count(&self) -> usize
         ensures { result ≡ length self.now.rows }
     {
-        self.rows.as_slice().len()
+        self.rows.len()
     }
 
     /// The key and the value of the row at a place.
@@ -89,21 +85,22 @@ impl Schedule {
         requires { place < length self.now.rows }
         ensures { slice_get self.now.rows place ≡ Some result }
     {
-        self.rows.as_slice()[place]
+        let (key, value) = self.rows.get_index(place).unwrap();
+        (*key, *value)
     }
 
     /// Whether a row has this key.
     pub fn has_key(&self, key: u64) -> bool
         ensures { result ≡ has_key self.now key }
     {
-        self.rows.has_key(key)
+        self.rows.contains_key(&key)
     }
 
     /// Whether a row with this key may be added: there is room, and the key is new.
     pub fn row_fits(&self, key: u64) -> bool
         ensures { result ≡ row_fits self.now key }
     {
-        self.row_count() < MAX_ROWS && !self.has_key(key)
+        self.rows.len() < MAX_ROWS && !self.has_key(key)
     }
 
     /// Adds a row at the end. Out of memory, the schedule is unchanged.
@@ -112,14 +109,15 @@ impl Schedule {
         ensures ok { OnOk result (self.new ≡ record self.old { rows = self.old.rows ++ (key, value) ∷ [] }) }
         ensures err { OnErr result (self.new ≡ self.old) }
     {
-        self.rows.add(key, value)
+        self.rows.insert(key, value)?;
+        Ok(())
     }
 
     /// How many transactions are declared: their IDs are 1 to this number.
     pub fn txn_count(&self) -> usize
         ensures { result ≡ length self.now.txns }
     {
-        self.txns.as_slice().len()
+        self.names.len()
     }
 
     /// The transaction with this name, if there is one.
@@ -127,9 +125,9 @@ impl Schedule {
         ensures value { result ≡ id_of self.now name.now }
         ensures declared { IfSome result (λ t. IsDeclared (length self.now.txns) t) }
     {
-        let txns = &self.txns;
+        let names = &self.names;
         let text = name_text(name)?;
-        let place = txns.place_of(text)?;
+        let place = names.get_index_of(text)?;
         Some(TxnId::new(place as u64 + 1))
     }
 
@@ -137,7 +135,7 @@ impl Schedule {
     pub fn has_name(&self, name: &str) -> bool
         ensures { result ≡ has_name self.now name.now }
     {
-        self.txns.place_of(name).is_some()
+        self.names.contains_key(name)
     }
 
     /// The name of a declared transaction.
@@ -145,7 +143,7 @@ impl Schedule {
         requires { IsDeclared (length self.now.txns) txn }
         ensures { slice_get (names_of self.now) (txn - 1) ≡ Some result.now }
     {
-        let (name, _) = &self.txns.as_slice()[(txn.number() - 1) as usize];
+        let (name, _) = self.names.get_index((txn.number() - 1) as usize).unwrap();
         name.as_str()
     }
 
@@ -154,7 +152,7 @@ impl Schedule {
         requires { IsDeclared (length self.now.txns) txn }
         ensures { slice_get (levels_of self.now) (txn - 1) ≡ Some result }
     {
-        let (_, level) = &self.txns.as_slice()[(txn.number() - 1) as usize];
+        let (_, level) = self.names.get_index((txn.number() - 1) as usize).unwrap();
         *level
     }
 
@@ -162,7 +160,7 @@ impl Schedule {
     pub fn txn_fits(&self, name: &str) -> bool
         ensures { result ≡ txn_fits self.now name.now }
     {
-        self.txn_count() < MAX_TXNS && name_ok(name.as_bytes()) && !self.has_name(name)
+        self.names.len() < MAX_TXNS && name_ok(name.as_bytes()) && !self.has_name(name)
     }
 
     /// Adds a transaction at the end; the new count is its ID. Out of memory, the schedule is unchanged.
@@ -171,7 +169,9 @@ impl Schedule {
         ensures ok { OnOk result (self.new ≡ record self.old { txns = self.old.txns ++ (name.now, level) ∷ [] }) }
         ensures err { OnErr result (self.new ≡ self.old) }
     {
-        self.txns.add(name, level)
+        let name = String::from_str(*self.names.allocator(), name)?;
+        self.names.insert(name, level)?;
+        Ok(())
     }
 
     /// The steps, in order.
@@ -184,7 +184,7 @@ impl Schedule {
     fn is_declared(&self, txn: TxnId) -> bool
         ensures { IsTrue result ↔ IsDeclared (length self.now.txns) txn }
     {
-        txn.number() > 0 && txn.number() <= self.txn_count() as u64
+        txn.number() > 0 && txn.number() <= self.names.len() as u64
     }
 
     fn is_step(&self, event: Event) -> bool
@@ -234,7 +234,7 @@ impl Schedule {
     fn same_txns(&self, other: &Schedule) -> bool
         ensures { IsTrue result ↔ (self.now.txns ≡ other.now.txns) }
     {
-        self.txns.as_slice() == other.txns.as_slice()
+        self.names.as_slice() == other.names.as_slice()
     }
 
     fn same_steps(&self, other: &Schedule) -> bool

@@ -29,3 +29,12 @@ pub enum Dropped {
     Free,
     Last(TxnId),
 }
+
+/// A change of one record lock by a transaction: it comes or goes, as a reader or as the writer.
+#[derive(Clone, Copy)]
+pub enum LockChange {
+    AddReader,
+    DropReader,
+    TakeWriter(TxnId),
+    ClearWriter,
+}

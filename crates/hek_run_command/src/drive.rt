@@ -126,8 +126,13 @@ fn drive<'a, B: BufRead, W: Write, E: Write>(
     ensures written { OnOk result (driving.prompts ≡ false → HasAnswers driving.ends (W.contents out.old) (W.contents out.new)) }
 {
     let mut status = 0;
+    let mut is_ended = false;
     for number in 1..u64::MAX {
-        prompt(driving.prompts, PROMPT, out)?;
+        let asked = if is_ended { b"\n".as_slice() } else { PROMPT };
+        prompt(driving.prompts, asked, out)?;
+        if is_ended {
+            return Ok(status);
+        }
         let mut line = Vec::new(alloc);
         if let Err(error) = input.read_until(b'\n', &mut line) {
             return Err(read_fault(error.kind(), INPUT));
@@ -147,6 +152,8 @@ fn drive<'a, B: BufRead, W: Write, E: Write>(
             text,
             faults,
         );
+        // A line without an end is the last one: at a terminal another read would wait.
+        is_ended = !line.ends_with(b"\n");
     }
     Ok(status)
 }

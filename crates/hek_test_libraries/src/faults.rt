@@ -50,14 +50,6 @@ const FAULTS: &[(HekFault<'static>, u8, &str)] = &[
     (HekFault::TraceLine(2), 1, "hek: trace line 2\n"),
     (HekFault::CommandLine(2), 1, "hek: command line 2\n"),
     (
-        HekFault::Computed {
-            line: 2,
-            what: "an invariant",
-        },
-        1,
-        "hek: line 2: an invariant wants --auto\n",
-    ),
-    (
         HekFault::Wanted {
             line: 2,
             column: 9,

@@ -1,10 +1,9 @@
-//! Images whose bytes have no end, and the plain loader over the longest image.
+//! Images whose bytes have no end, and the longest image.
 ghost use Rattle.std.specs.Prelude.{◌<◌};
 
 use crate::asserts::{holds, is, is_at};
 use hek_asm::assemble_text;
 use hek_image::{LoadFault, load_image, write_image};
-use hek_plain::gathered_image;
 use hek_rules::{Ending, MemorySink, MemorySource, Schedule};
 use std::alloc::Global;
 use std::io::Write;
@@ -83,7 +82,4 @@ fn loads_the_longest_image(rt: HostRuntime) {
         let loaded = load_image(rt.alloc(), &mut source).expect(&rt, "a schedule");
         holds(&rt, loaded.same(&schedule));
     }
-    let mut source = MemorySource::new(sink.bytes(), 100_000, Ending::Ends);
-    let gathered = gathered_image(rt.alloc(), &mut source).expect(&rt, "a schedule");
-    holds(&rt, gathered.same(&schedule));
 }

@@ -1,11 +1,13 @@
-//! Tests that neither the lines of hek_gate_calls nor the cases of hek_gate_commands can say: devices and memory that fail, each call
-//! that takes memory, library calls that no line or command makes, and models beside which a layer is held.
+//! Tests that no case of tools/cases can say: devices and memory that fail, each call that takes memory, library calls that no command makes,
+//! and models beside which a layer is held.
 #![tactic(auto)]
 
 #[cfg(test)]
 mod asserts;
 #[cfg(test)]
 mod deadlock;
+#[cfg(test)]
+mod debugger;
 #[cfg(test)]
 mod device;
 #[cfg(test)]
@@ -18,6 +20,8 @@ mod histories;
 mod images;
 #[cfg(test)]
 mod lists;
+#[cfg(test)]
+mod machines;
 #[cfg(test)]
 mod orders;
 #[cfg(test)]
@@ -35,6 +39,14 @@ mod schedule;
 #[cfg(test)]
 mod sessions;
 #[cfg(test)]
-mod stored;
+mod texts;
+#[cfg(test)]
+mod traces;
+#[cfg(test)]
+mod transcripts;
+#[cfg(test)]
+mod txns;
 #[cfg(test)]
 mod weak;
+#[cfg(test)]
+mod words;

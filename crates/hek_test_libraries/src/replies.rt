@@ -1,8 +1,9 @@
-//! Replies as texts, written and read back, and traces that are read.
+//! Replies as texts, written and read back.
 use crate::asserts::{holds, is};
-use hek_asm::{assemble_text, put_reply, read_trace};
+use hek_asm::{assemble_text, put_reply, read_trace, write_reply};
 use hek_rules::{
-    Cause, Event, Members, Pairs, Refusal, Reply, Schedule, Time, Transcript, TxnId, VersionId,
+    Cause, Event, Members, MemorySink, Pairs, Refusal, Reply, Time, Transcript, TxnId, VersionId,
+    WriteFault,
 };
 use std::alloc::Global;
 use std::process::Abort;
@@ -20,11 +21,16 @@ fn told(rt: &impl Abort, alloc: Global, schedule: &str, trace: &str) -> Transcri
     read_trace(alloc, &schedule, trace).expect(rt, "a transcript")
 }
 
-/// The reply is written as the text.
+/// The reply is written as the text, to a list and to a sink, and to no sink that takes a byte too little.
 fn is_written(rt: &impl Abort, alloc: Global, reply: &Reply, text: &str) {
     let mut written = Vec::new(alloc);
     is(rt, put_reply(reply, &mut written), Ok(()));
     is(rt, written.as_slice(), text.as_bytes());
+    let mut sink = MemorySink::new(alloc, text.len(), 3);
+    is(rt, write_reply(reply, &mut sink), Ok(()));
+    is(rt, sink.bytes(), text.as_bytes());
+    let mut short = MemorySink::new(alloc, text.len().saturating_sub(1), 3);
+    is(rt, write_reply(reply, &mut short), Err(WriteFault::Write));
 }
 
 /// A trace of one line has this event and this reply.
@@ -122,44 +128,6 @@ fn writes_and_reads_the_lists_of_replies(rt: HostRuntime) {
             "1 detect -> victim 2 cycle 2 1\n",
         );
         is_told(&rt, &told, Event::Detect, &victim);
-    }
-}
-
-/// A reader, and a writer that waits for it.
-const STEPS: &str =
-    "buckets 1\nrow 10 100\ntxn a repeatable\ntxn b repeatable\na begin\nb begin\na read 10\nb update 10 200\na finish\na precommit\na release\n";
-
-const TRACE: &str =
-    "1 a begin -> began 1\n2 b begin -> began 2\n3 a read 10 -> found 100\n4 b update 10 200 -> done\n5 a finish -> ready\n6 a precommit -> precommitted 3\n7 a release -> released read 0 writer 2\n";
-
-fn step_replies() -> [Reply; 7] {
-    [
-        Reply::Began(Time::new(1)),
-        Reply::Began(Time::new(2)),
-        Reply::Found(100),
-        Reply::Done,
-        Reply::Ready,
-        Reply::Precommitted(Time::new(3)),
-        Reply::ReleasedRead(VersionId::new(0), Some(TxnId::new(2))),
-    ]
-}
-
-/// The transcript has the rows, the transactions and the steps of the schedule.
-fn is_of(rt: &impl Abort, told: &Transcript, schedule: &Schedule) {
-    is(rt, told.buckets(), 1);
-    is(rt, told.rows(), [(10, 100)].as_slice());
-    is(rt, told.txn_count(), 2);
-    is(rt, told.events(), schedule.steps());
-}
-
-#[test]
-fn reads_a_trace(rt: HostRuntime) {
-    let schedule = assemble_text(rt.alloc(), STEPS).expect(&rt, "a schedule");
-    let told = read_trace(rt.alloc(), &schedule, TRACE).expect(&rt, "a transcript");
-    is_of(&rt, &told, &schedule);
-    is(&rt, told.replies().len(), 7);
-    for (reply, want) in told.replies().iter().zip(step_replies().as_slice()) {
-        holds(&rt, reply.same(want));
     }
 }
 

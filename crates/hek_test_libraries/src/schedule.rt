@@ -1,5 +1,5 @@
-//! The largest schedule.
-use crate::asserts::{holds, is};
+//! What fits a schedule, and the largest one.
+use crate::asserts::{holds, is, is_at};
 use hek_rules::{Event, Level, MAX_ROWS, MAX_STEPS, MAX_TXNS, Schedule, TxnId};
 use std::alloc::Global;
 use std::process::Abort;
@@ -51,4 +51,53 @@ fn the_largest_schedule_takes_no_more(rt: HostRuntime) {
         !schedule.txn_fits("t1024") && !schedule.has_name("t1024"),
     );
     holds(&rt, !schedule.step_fits(Event::Detect));
+}
+
+/// Names that fit a schedule of one transaction `a`, and names that don't.
+const NAMES: [(&str, bool); 13] = [
+    ("c", true),
+    ("z9_", true),
+    ("abcdefghijklmnopqrstuvwxyz012345", true),
+    ("abcdefghijklmnopqrstuvwxyz0123456", false),
+    ("a", false),
+    ("", false),
+    ("B", false),
+    ("1a", false),
+    ("_a", false),
+    ("a-b", false),
+    ("row", false),
+    ("txn", false),
+    ("detect", false),
+];
+
+#[test]
+fn a_schedule_takes_what_fits(rt: HostRuntime) {
+    let mut schedule = Schedule::new(rt.alloc(), 4);
+    add_row(&rt, &mut schedule, 7);
+    holds(
+        &rt,
+        schedule.txn_fits("a") && schedule.add_txn("a", Level::Snapshot).is_ok(),
+    );
+    holds(
+        &rt,
+        schedule.has_key(7) && !schedule.row_fits(7) && schedule.row_fits(8),
+    );
+    is(&rt, schedule.row(0), (7, 7));
+    for (name, fits) in NAMES {
+        is_at(&rt, name, schedule.txn_fits(name), fits);
+    }
+    let a = schedule.id_of(b"a").expect(&rt, "a transaction a");
+    is(&rt, (a, schedule.id_of(b"c")), (TxnId::new(1), None));
+    is(
+        &rt,
+        (schedule.name_of(a), schedule.level_of(a)),
+        ("a", Level::Snapshot),
+    );
+    holds(
+        &rt,
+        schedule.step_fits(Event::Scan(a, 3)) && !schedule.step_fits(Event::Scan(a, 4)),
+    );
+    for number in [0, 2] {
+        holds(&rt, !schedule.step_fits(Event::Begin(TxnId::new(number))));
+    }
 }

@@ -1,5 +1,7 @@
 -- What replies say of a worker's tokens, as those of one word change.
-use Rattle.std.proofs.Common.{◌≡◌, ◌≢◌, ℕ, ◌<◌, Bool, List, Some, slice_get, slice_set, sym, ap, ◌∙◌, subst, arith, length-set, get_or-set_same, get_or-set_other}
+use Rattle.std.proofs.Common.{◌≡◌, ◌≢◌, ℕ, ◌<◌, ◌+◌, ◌-◌, Bool, true, false, List, Some, slice_get, slice_set, refl, sym, ap, ◌∙◌, subst, arith, length-set, get_or-set_same, get_or-set_other}
+use Rattle.std.specs.Prelude.{nat_lt}
+use Rattle.hek_live.specs.Rule.{bit}
 use Rattle.std.proofs.lemmas.Option.{slice_get-get_or, slice_get_within, get_or_from_slice_get}
 use mathlib.Core.Logic.{dite}
 use native.Mathlib.Decide.{ℕ_discrete}
@@ -23,3 +25,18 @@ pub told_kept : (told : List Bool) (p q : ℕ → Bool) (k : ℕ) → Tells told
 told_kept told p q k old here others i lt = dite (ℕ_discrete i k)
     (λ e. old i lt ∙ ap Some (subst (λ (j : ℕ). p j ≡ q j) (sym e) (sym here)))
     (λ ne. old i lt ∙ ap Some (sym (others i ne)))
+
+-- the read locks of one seat, as whether it holds one: one more
+pub comes : (b : Bool) → nat_lt 0 (bit b + 1) ≡ true
+comes true = refl
+comes false = refl
+
+-- one less
+pub goes : (b : Bool) → nat_lt 0 (bit b - 1) ≡ false
+goes true = refl
+goes false = refl
+
+-- as many
+pub stays : (b : Bool) → nat_lt 0 (bit b) ≡ b
+stays true = refl
+stays false = refl

@@ -23,8 +23,6 @@ impl Gate for Counts {
             count.store(nth, Ordering::SeqCst);
         }
     }
-
-    fn leave(&self, _worker: TxnId) {}
 }
 
 impl Counts {

@@ -51,8 +51,6 @@ impl Gate for Pace {
             self.wait_for(other, nth);
         }
     }
-
-    fn leave(&self, _worker: TxnId) {}
 }
 
 fn assert_both(rt: &impl Abort, entries: &[Entry]) {

@@ -68,8 +68,6 @@ pub struct Open;
 
 impl Gate for Open {
     fn before(&self, _worker: TxnId, _nth: u64) {}
-
-    fn leave(&self, _worker: TxnId) {}
 }
 
 /// The report of a run whose gate is always open.

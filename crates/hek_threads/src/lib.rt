@@ -14,6 +14,6 @@ pub use hek_worker::{
 };
 pub use lottery::Lottery;
 pub use parts::compare;
-pub use runner::{Report, run_workers};
+pub use runner::{Report, run_workers, run_workers_with_exit};
 pub use shared::Shared;
-pub use worker::Gate;
+pub use worker::{Exit, Gate};

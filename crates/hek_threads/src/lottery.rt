@@ -1,12 +1,13 @@
 //! A gate that draws whose turn it is.
-use crate::worker::Gate;
+use crate::worker::{Exit, Gate};
 use hek_rules::{NoMemory, TxnId};
 use std::alloc::Global;
 use std::sync::{Mutex, Wait};
 use std::thread;
 
-/// Lets one worker at a time make an event. Once each worker is at the gate or has left it, the next turn is drawn among
-/// those at the gate. The same seed draws the same turns from the same transactions.
+/// Lets one worker at a time make an event. Once each worker is at the gate or has left, the next turn is drawn among those
+/// at the gate. The same seed draws the same turns from the same transactions. It is the exit of its run too: without that it
+/// waits for those that have left.
 #[derive(Drop)]
 pub struct Lottery<'r, R> {
     rt: &'r R,
@@ -46,7 +47,9 @@ impl<R: Wait> Gate for Lottery<'_, R> {
             thread::yield_now();
         }
     }
+}
 
+impl<R: Wait> Exit for Lottery<'_, R> {
     fn leave(&self, worker: TxnId) {
         self.drum.lock(self.rt).put(worker, Stand::Gone);
     }

@@ -6,7 +6,7 @@ ghost use Rattle.hek_worker.specs.Grammar.{AreTranscripts, IsTranscript, work_of
 
 use crate::parts::compare;
 use crate::shared::{Shared, Steps};
-use crate::worker::{Gate, work};
+use crate::worker::{Exit, Gate, Unwatched, work};
 use hek_machine::Machine;
 use hek_rules::{Event, Schedule, TxnId};
 use hek_worker::{Book, Entry, Part, ThreadFault};
@@ -39,7 +39,7 @@ impl<'a> Promise<Result<Part, ThreadFault>> for Transcribes<'a> {
 type Handle<'s> = PromisedHandle<Result<Part, ThreadFault>, Transcribes<'s>>;
 
 // Starts a thread for each transaction. If one cannot be started, `Err` hands back those that were.
-fn start_all<'s, E, S: Steps + Sync, G: Gate + Sync, R: Threads + Wait + Sync>(
+fn start_all<'s, E, S: Steps + Sync, G: Gate + Sync, X: Exit + Sync, R: Threads + Wait + Sync>(
     scope: &Scope<'s, E>,
     rt: &'s R,
     alloc: Global,
@@ -47,6 +47,7 @@ fn start_all<'s, E, S: Steps + Sync, G: Gate + Sync, R: Threads + Wait + Sync>(
     schedule: &'s Schedule,
     turns: u64,
     gate: &'s G,
+    exit: &'s X,
     mut handles: Vec<Handle<'s>>,
 ) -> Result<Vec<Handle<'s>>, Vec<Handle<'s>>>
     requires empty { vec_len handles ≡ 0 }
@@ -65,11 +66,22 @@ fn start_all<'s, E, S: Steps + Sync, G: Gate + Sync, R: Threads + Wait + Sync>(
         };
         let run = move || -> Result<Part, ThreadFault>
             ensures { IfOk result (λ part. IsTranscript number (work_of number steps.entry.now) turns part) }
-        { work(rt, alloc, shared, TxnId::new(number), steps, turns, gate) };
+        {
+            work(
+                rt,
+                alloc,
+                shared,
+                TxnId::new(number),
+                steps,
+                turns,
+                gate,
+                exit,
+            )
+        };
         match scope.spawn_with(promise, run) {
             Ok(handle) => handles.push_reserved(handle),
             Err(_) => {
-                leave_from(gate, number, schedule.txn_count() as u64);
+                leave_from(exit, number, schedule.txn_count() as u64);
                 return Err(handles);
             }
         }
@@ -77,10 +89,10 @@ fn start_all<'s, E, S: Steps + Sync, G: Gate + Sync, R: Threads + Wait + Sync>(
     Ok(handles)
 }
 
-// The workers from a number on have no thread, so they leave the gate.
-fn leave_from<G: Gate>(gate: &G, first: u64, last: u64) {
+// The workers from a number on have no thread, so they leave at once.
+fn leave_from<X: Exit>(exit: &X, first: u64, last: u64) {
     for number in first..=last {
-        gate.leave(TxnId::new(number));
+        exit.leave(TxnId::new(number));
     }
 }
 
@@ -126,7 +138,7 @@ fn join_all<'s, R: Threads>(
 }
 
 // Runs all workers in threads of the scope, and joins each that was started.
-fn run_all<'s, E, S: Steps + Sync, G: Gate + Sync, R: Threads + Wait + Sync>(
+fn run_all<'s, E, S: Steps + Sync, G: Gate + Sync, X: Exit + Sync, R: Threads + Wait + Sync>(
     scope: &Scope<'s, E>,
     rt: &'s R,
     alloc: Global,
@@ -134,6 +146,7 @@ fn run_all<'s, E, S: Steps + Sync, G: Gate + Sync, R: Threads + Wait + Sync>(
     schedule: &'s Schedule,
     turns: u64,
     gate: &'s G,
+    exit: &'s X,
 ) -> Result<Vec<Part>, ThreadFault>
     ensures count { IfOk result (λ v. vec_len v ≡ length schedule.now.txns) }
     ensures each { IfOk result (λ v. AreTranscripts schedule.now.steps turns v.items) }
@@ -141,7 +154,9 @@ fn run_all<'s, E, S: Steps + Sync, G: Gate + Sync, R: Threads + Wait + Sync>(
     let count = schedule.txn_count();
     let parts = Vec::with_capacity(alloc, count)?;
     let handles = Vec::with_capacity(alloc, count)?;
-    match start_all(scope, rt, alloc, shared, schedule, turns, gate, handles) {
+    match start_all(
+        scope, rt, alloc, shared, schedule, turns, gate, exit, handles,
+    ) {
         Ok(handles) => join_all(rt, schedule, turns, handles, parts),
         Err(handles) => {
             for handle in handles {
@@ -153,13 +168,14 @@ fn run_all<'s, E, S: Steps + Sync, G: Gate + Sync, R: Threads + Wait + Sync>(
 }
 
 // Runs all workers in one scope.
-fn gather<S: Steps + Sync, G: Gate + Sync, R: Threads + Wait + Sync>(
+fn gather<S: Steps + Sync, G: Gate + Sync, X: Exit + Sync, R: Threads + Wait + Sync>(
     rt: &R,
     alloc: Global,
     shared: &S,
     schedule: &Schedule,
     turns: u64,
     gate: &G,
+    exit: &X,
 ) -> Result<Vec<Part>, ThreadFault>
     ensures count { IfOk result (λ v. vec_len v ≡ length schedule.now.txns) }
     ensures each { IfOk result (λ v. AreTranscripts schedule.now.steps turns v.items) }
@@ -170,7 +186,7 @@ fn gather<S: Steps + Sync, G: Gate + Sync, R: Threads + Wait + Sync>(
         |scope| -> Result<Vec<Part>, ThreadFault>
             ensures count { IfOk result (λ v. vec_len v ≡ length schedule.entry.now.txns) }
             ensures each { IfOk result (λ v. AreTranscripts schedule.entry.now.steps turns v.items) }
-        { run_all(scope, rt, alloc, shared, schedule, turns, gate) },
+        { run_all(scope, rt, alloc, shared, schedule, turns, gate, exit) },
     )
 }
 
@@ -220,8 +236,28 @@ pub fn run_workers<G: Gate + Sync, R: Threads + Wait + Sync>(
     ensures grammar { IfOk result (λ r. AreTranscripts schedule.now.steps turns r.transcripts.items) }
     ensures parts { IfOk result (λ r. (i : ℕ) (p : _) → slice_get r.transcripts.items i ≡ Some p → p ≡ part_of (i + 1) r.history.items) }
 {
+    run_workers_with_exit(rt, alloc, schedule, turns, gate, &Unwatched)
+}
+
+/// Runs as `run_workers` does, and tells `exit` who makes no more events.
+pub fn run_workers_with_exit<G: Gate + Sync, X: Exit + Sync, R: Threads + Wait + Sync>(
+    rt: &R,
+    alloc: Global,
+    schedule: &Schedule,
+    turns: u64,
+    gate: &G,
+    exit: &X,
+) -> Result<Report, ThreadFault>
+    ensures formed { IfOk result (λ r. IsHistory (length schedule.now.txns) r.history.items) }
+    ensures run { IfOk result (λ r. IsRun schedule.now 1 (history_events r.history.items) (replies_in r.history.items) r.machine) }
+    ensures serial { IfOk result (λ r. IsSerialHistory schedule.now r.history.items) }
+    ensures rows { IfOk result (λ r. RowsAreSerial schedule.now (history_events r.history.items) (replies_in r.history.items) r.machine) }
+    ensures count { IfOk result (λ r. vec_len r.transcripts ≡ length schedule.now.txns) }
+    ensures grammar { IfOk result (λ r. AreTranscripts schedule.now.steps turns r.transcripts.items) }
+    ensures parts { IfOk result (λ r. (i : ℕ) (p : _) → slice_get r.transcripts.items i ≡ Some p → p ≡ part_of (i + 1) r.history.items) }
+{
     let shared = Shared::new(Book::load(alloc, schedule)?);
-    let joined = gather(rt, alloc, &shared, schedule, turns, gate);
+    let joined = gather(rt, alloc, &shared, schedule, turns, gate, exit);
     let book = shared.into_book();
     let transcripts = of_own_book(joined, book.is_of(schedule))?;
     let (machine, history) = book.into_parts();

@@ -13,9 +13,19 @@ pub trait Gate {
     /// A worker calls this before each of its events, outside the lock. `nth` counts that worker's events from 1,
     /// `detect` too.
     fn before(&self, worker: TxnId, nth: u64);
+}
 
-    /// A worker calls this once, after its last event. For a worker without a thread `run_workers` calls it.
+/// Is told who makes no more events. No contract says when it is called, nor with whom: tests alone show it.
+pub trait Exit {
+    /// A worker calls this once, after its last event. For a worker without a thread it is called too.
     fn leave(&self, worker: TxnId);
+}
+
+/// An exit that nobody looks at.
+pub(crate) struct Unwatched;
+
+impl Exit for Unwatched {
+    fn leave(&self, _worker: TxnId) {}
 }
 
 // The reads and writes of one transaction.
@@ -31,8 +41,8 @@ fn own_work(alloc: Global, worker: TxnId, steps: &[Event]) -> Result<Vec<Event>,
     )
 }
 
-/// Runs one transaction to its end, and leaves the gate.
-pub(crate) fn work<S: Steps, G: Gate, R: Wait>(
+/// Runs one transaction to its end, and leaves.
+pub(crate) fn work<S: Steps, G: Gate, X: Exit, R: Wait>(
     rt: &R,
     alloc: Global,
     shared: &S,
@@ -40,11 +50,12 @@ pub(crate) fn work<S: Steps, G: Gate, R: Wait>(
     steps: &[Event],
     turns: u64,
     gate: &G,
+    exit: &X,
 ) -> Result<Part, ThreadFault>
     ensures { IfOk result (λ p. IsTranscript worker (work_of worker steps.now) turns p) }
 {
     let part = work_through(rt, alloc, shared, worker, steps, turns, gate);
-    gate.leave(worker);
+    exit.leave(worker);
     part
 }
 

@@ -71,7 +71,6 @@ stop_fails left said (hek.Line n k) h = absurd h
 stop_fails left said (hek.Image f) h = absurd h
 stop_fails left said (hek.TraceLine n) h = absurd h
 stop_fails left said (hek.CommandLine n) h = absurd h
-stop_fails left said (hek.Computed n what) h = absurd h
 stop_fails left said (hek.Wanted n m what) h = absurd h
 stop_fails left said hek.NotText h = absurd h
 stop_fails left said (hek.CannotRead f) h = absurd h

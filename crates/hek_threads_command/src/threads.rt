@@ -9,7 +9,7 @@ use crate::json::history_lines;
 use crate::text::trace_text;
 use hek_report::{HekFault, Printing, ScheduleFile, schedule_in, send};
 use hek_rules::{NoMemory, Schedule, TxnId};
-use hek_threads::{Entry, Gate, Lottery, Report, ThreadFault, run_workers};
+use hek_threads::{Entry, Gate, Lottery, Report, ThreadFault, run_workers, run_workers_with_exit};
 use std::alloc::Global;
 use std::io::{Read, Write};
 use std::sync::Wait;
@@ -80,8 +80,6 @@ struct Open;
 
 impl Gate for Open {
     fn before(&self, _worker: TxnId, _nth: u64) {}
-
-    fn leave(&self, _worker: TxnId) {}
 }
 
 /// The report of a run in threads.
@@ -94,29 +92,27 @@ pub fn report_of<'a, T: Threads + Wait + Sync>(
     ensures run { IfOk result (λ report. HasRun schedule.now report.history.items) }
     ensures stops { IfErr result IsRunFault }
 {
-    match pace.seed {
-        None => report_at(rt, alloc, schedule, pace.turns, &Open),
-        Some(seed) => {
-            let lottery = Lottery::new(rt, alloc, schedule.txn_count(), seed)?;
-            report_at(rt, alloc, schedule, pace.turns, &lottery)
-        }
+    match ran_at(rt, alloc, schedule, pace) {
+        Ok(report) => Ok(report),
+        Err(fault) => Err(fault_of(fault)),
     }
 }
 
-/// The report of a run in threads that a gate holds back.
-fn report_at<'a, T: Threads + Wait + Sync, G: Gate + Sync>(
+/// What comes of a run in threads at a pace.
+fn ran_at<T: Threads + Wait + Sync>(
     rt: &T,
     alloc: Global,
     schedule: &Schedule,
-    turns: u64,
-    gate: &G,
-) -> Result<Report, HekFault<'a>>
-    ensures run { IfOk result (λ report. HasRun schedule.now report.history.items) }
-    ensures stops { IfErr result IsRunFault }
+    pace: Pace,
+) -> Result<Report, ThreadFault>
+    ensures { IfOk result (λ report. HasRun schedule.now report.history.items) }
 {
-    match run_workers(rt, alloc, schedule, turns, gate) {
-        Ok(report) => Ok(report),
-        Err(fault) => Err(fault_of(fault)),
+    match pace.seed {
+        None => run_workers(rt, alloc, schedule, pace.turns, &Open),
+        Some(seed) => {
+            let lottery = Lottery::new(rt, alloc, schedule.txn_count(), seed)?;
+            run_workers_with_exit(rt, alloc, schedule, pace.turns, &lottery, &lottery)
+        }
     }
 }
 

@@ -36,9 +36,9 @@ impl Model for EndWord {
     ghost inverse_ok = { λ a h. ap (λ n. record { number = n }) (end_number_record a.number) };
 }
 
-/// The record that a number encodes, canonical or not.
+/// The record that a number encodes as an End word, canonical or not.
 #[tactic(auto, unfolding(crate::specs::Decoded::end_record))]
-fn decode(number: u64) -> EndRecord
+pub fn decode_end(number: u64) -> EndRecord
     ensures { result ≡ end_record number }
 {
     if number < TIMES {
@@ -105,7 +105,7 @@ impl EndWord {
     pub fn read(number: u64) -> Option<EndWord>
         ensures { (w : EndRecord) → (result ≡ Some w) ↔ (IsEnd w × (end_number w ≡ number)) }
     {
-        if is_canonical(decode(number)) {
+        if is_canonical(decode_end(number)) {
             Some(EndWord { number })
         } else {
             None
@@ -136,7 +136,7 @@ impl EndWord {
         ensures canonical { IsEnd result }
     {
         let EndWord { number } = self;
-        decode(number)
+        decode_end(number)
     }
 
     /// The word with this record.

@@ -8,7 +8,7 @@ mod laws;
 mod release;
 
 pub use begin::BeginWord;
-pub use end::EndWord;
+pub use end::{EndWord, decode_end};
 pub use hek_rules::{BeginRecord, Dropped, EndRecord};
 pub use laws::{canonical_numbers_have_one_record, rows_keep_canonical};
 pub use release::{ReleaseFault, release_word};

@@ -189,6 +189,7 @@ function takeMove(next) {
 function goToPlace(place, order = null) {
   tree.cursor = place;
   move(endsOfPath()[place], order);
+  if (place > 0 && tree.nodes[tree.path[place]].next.length === 0) tellLeaf();
 }
 
 /** Shows the moves from here to an outcome; if one of them joins, it is at the last that does. */

@@ -12,7 +12,7 @@ function hasRing() {
 function showGraph() {
   const together = togetherHere();
   if (together && !isGraphCovered()) { showTogether(together); return; }
-  const edges = run.edges(here);
+  const edges = run.edges(here).filter((it) => !isEnded(it.from));
   const step = here > 0 ? run.steps[here - 1] : null;
   const cycle = step?.r[0] === "victim" ? step.r.slice(3) : [];
   const live = run.txnIds.filter((id) => { const it = run.txn(id, here); return it.kind !== "not" && it.kind !== "terminated"; });
@@ -27,6 +27,9 @@ function showGraph() {
   const bare = drawGraph(nodes, edges, cycle, cycle.length ? step.r[1] : null);
   if (bare) showGraphTitle(edges, nodes, bare);
 }
+
+/** Whether a transaction has ended, so that it waits for nobody. */
+const isEnded = (id) => ["aborted", "committed", "terminated"].includes(run.txn(id, here).kind);
 
 /** Whether a transaction has asked for what it waits for. */
 const hasAsked = (edge) => run.waitings.get(edge.from).some((it) => it.kind === "waits" && it.from <= here && (it.to === null || it.to > here));
@@ -80,11 +83,9 @@ function drawGraph(nodes, edges, cycle, victim) {
   const shapes = [];
   for (const edge of edges) {
     if (!spot.has(edge.from) || !spot.has(edge.to)) continue;
-    const from = run.txn(edge.from, here);
     const isHot = edge.kind === "waits" && inCycle.has(`${edge.from} ${edge.to}`);
-    const isGone = from.kind === "aborted" || from.kind === "committed" || from.kind === "terminated";
     const both = edges.some((it) => it.from === edge.to && it.to === edge.from);
-    shapes.push(edgeShape(spot.get(edge.from), spot.get(edge.to), { ...edge, isHot, isWeak: !isHot && ((edge.kind === "waits" && !hasAsked(edge)) || isGone) }, r, u, both, isFlat ? Math.abs(nodes.indexOf(edge.from) - nodes.indexOf(edge.to)) : 0));
+    shapes.push(edgeShape(spot.get(edge.from), spot.get(edge.to), { ...edge, isHot, isWeak: !isHot && edge.kind === "waits" && !hasAsked(edge) }, r, u, both, isFlat ? Math.abs(nodes.indexOf(edge.from) - nodes.indexOf(edge.to)) : 0));
   }
   return putGraph(shapes, nodes.map((id) => graphNode(id, at, victim === id)), at);
 }

@@ -83,6 +83,7 @@ const DOES = {
   fields: () => { const step = run.steps[here - 1]; tellTxn(step?.name ? run.ids.get(step.name) : run.txnIds[0]); },
   unpin: () => { pinned = null; show(); },
   undo: () => { const place = placeHere(); if (place > 0) { tree.path = tree.path.slice(0, place); run = runOfPath(); move(run.last); } },
+  story: () => { if (storyPage) (isTree ? tellLeaf() : storyPage.close(run.done + here)); },
   graph: () => { isGraphShown = !isGraphShown; showGraph(); },
   blank: () => { $("blank").hidden = !$("blank").hidden; tellParent(); },
 };
@@ -104,7 +105,16 @@ function tellTxn(id) {
 
 let digits = "";
 const MOVES = { ArrowRight: 1, ArrowDown: 1, PageDown: 1, ArrowLeft: -1, ArrowUp: -1, PageUp: -1 };
-const LETTERS = { "?": "predict", f: "future", p: "present", l: "far", d: "theme", h: "help", w: "pin", t: "fields", g: "legend", i: "picture", ".": "blank", b: "blank" };
+const LETTERS = { "?": "predict", f: "future", p: "present", l: "far", d: "theme", h: "help", w: "pin", t: "fields", g: "legend", i: "picture", ".": "blank", b: "blank", m: "story" };
+
+/** The keys of the story, and of the page that has it. */
+function storyKey(event) {
+  const { key } = event;
+  if (key === "d") DOES.theme();
+  else if (key === "b" || key === ".") DOES.blank();
+  else if (!storyPage.player.key(event)) return;
+  event.preventDefault();
+}
 
 function onKey(event) {
   if (event.ctrlKey || event.altKey || event.metaKey) { tellPrint(event); return; }
@@ -115,6 +125,7 @@ function onKey(event) {
     return;
   }
   if (!$("blank").hidden) { DOES.blank(); event.preventDefault(); return; }
+  if (storyPage?.isOpen) { storyKey(event); return; }
   if (key === " " && event.target.tagName === "BUTTON") return;
   if (key === " ") (event.shiftKey ? back : on)();
   else if (key in MOVES) (MOVES[key] > 0 ? on : back)();
@@ -167,12 +178,12 @@ document.addEventListener("click", (event) => {
 $("skip").addEventListener("click", (event) => { event.preventDefault(); $("said").focus(); });
 $("slider").addEventListener("input", () => jump(Number($("slider").value)));
 $("blank").addEventListener("click", () => DOES.blank());
-addEventListener("hashchange", () => fromHash());
+for (const kind of ["hashchange", "popstate"]) addEventListener(kind, () => goToHash());
 
 let touch = null;
 addEventListener("touchstart", (event) => { touch = event.touches.length === 1 && !event.target.closest("#path, input") ? { x: event.touches[0].clientX, y: event.touches[0].clientY } : null; }, { passive: true });
 addEventListener("touchend", (event) => {
-  if (!touch) return;
+  if (!touch || storyPage?.isOpen) return;
   const [dx, dy] = [event.changedTouches[0].clientX - touch.x, event.changedTouches[0].clientY - touch.y];
   if (Math.abs(dx) > 50 && Math.abs(dx) > 2 * Math.abs(dy)) (dx < 0 ? on : back)();
   touch = null;
@@ -181,6 +192,8 @@ addEventListener("touchend", (event) => {
 /* ---- in a frame: the page around it learns where this one is, and sends it elsewhere */
 
 const isFramed = parent !== window;
+/** Whether the page around this one has asked where it is: nothing is told to one that hasn't. */
+let isWatched = false;
 let isGoing = false;
 
 /** What stays from one page to the next. */
@@ -191,13 +204,13 @@ function modesNow() {
 
 /** Tells the page around this one the place, the modes, and for each guess its step and whether it was right. `went`: it was sent here. */
 function tellParent(went = false) {
-  if (!isFramed || isGoing) return;
+  if (!isFramed || isGoing || !isWatched) return;
   const guesses = [...told.answers].map(([at, reply]) => [run.done + at + 1, reply === run.steps[at].reply]);
   parent.postMessage({ hek: "place", place: placeSaid(), modes: modesNow(), isBlank: !$("blank").hidden, guesses, went }, "*");
 }
 
 /** A key that means nothing here is one for the page around this one. */
-function tellKey({ key }) { if (isFramed) parent.postMessage({ hek: "key", key }, "*"); }
+function tellKey({ key }) { if (isFramed && isWatched) parent.postMessage({ hek: "key", key }, "*"); }
 
 /** The page around this one is printed in its place. */
 function tellPrint(event) {
@@ -207,18 +220,20 @@ function tellPrint(event) {
 }
 
 function takeModes(modes) {
-  if (modes.theme) document.documentElement.dataset.theme = modes.theme;
+  if (/^(light|dark)$/.test(modes.theme)) document.documentElement.dataset.theme = modes.theme;
   for (const [name, isOn] of Object.entries(modesNow())) if (name !== "theme" && name in modes && modes[name] !== isOn) DOES[name]();
 }
 
+/** Takes a message of the known form: an object of modes, a place, a key that is pressed. */
 function go({ modes, place, key, isShift }) {
-  if (modes) takeModes(modes);
-  if (place !== undefined) fromHash(place);
-  if (key) document.body.dispatchEvent(new KeyboardEvent("keydown", { key, shiftKey: isShift, bubbles: true }));
+  if (modes !== null && typeof modes === "object") takeModes(modes);
+  if (typeof place === "string") fromHash(place);
+  if (typeof key === "string") document.body.dispatchEvent(new KeyboardEvent("keydown", { key, shiftKey: isShift === true, bubbles: true }));
 }
 
 addEventListener("message", ({ source, data: sent }) => {
   if (!isFramed || source !== parent || sent?.hek !== "go") return;
+  isWatched = true;
   isGoing = true;
   go(sent);
   isGoing = false;

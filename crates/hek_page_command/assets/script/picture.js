@@ -172,6 +172,7 @@ function outcomesInPrint() {
 }
 
 function buildPrint() {
+  if (storyPage?.isOpen) return;
   const table = document.createElement("table");
   table.innerHTML = isTree ? outcomesInPrint() : tableInPrint();
   $("print").replaceChildren(...(isTree ? [] : picturesInPrint()), table);

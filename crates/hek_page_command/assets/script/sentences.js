@@ -193,7 +193,7 @@ function verdictText() {
   last.sort((a, b) => a.end - b.end);
   const order = last.map((it) => `${tag(it.id)} at ${it.end}`).join(", then ");
   const promised = data.fault ? `<b>no</b>, from step ${data.fault} on` : "<b>yes</b>";
-  return `<p class="note verdict">As promised: ${promised}. As one after another: ${togetherSaid(order)}.</p>`;
+  return `<p class="note verdict">Each level’s promise is kept: ${promised}. Serializable: ${togetherSaid(order)}.</p>`;
 }
 
 function kindOf(step) {

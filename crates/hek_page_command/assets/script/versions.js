@@ -247,7 +247,7 @@ function versionRow(it, y, h, at) {
       const from = Math.max(x0, futureX);
       out.push(`<path class="taken ${colourOf(it.writer)}" d="M${f1(from)} ${f1(barY + 2)}H${f1(endX - arrow)}L${f1(endX + 0.3 * u - 3)} ${f1(barY + barH / 2)}L${f1(endX - arrow)} ${f1(barY + barH - 2)}H${f1(from)}Z"/>`);
       const text = fitting([...namedTexts(it.writer, (name) => `until ${name} commits`), ...namedTexts(it.writer, (name) => `until ${name}`)], endX - from - 0.75 * u, 0.95 * u, 600);
-      if (text && x0 < from - 0.2 * u) out.push(`<text class="by ${colourOf(it.writer)}" x="${f1(from + 0.45 * u)}" y="${f1(y + h / 2 + 0.33 * u)}">${esc(text)}</text>`);
+      if (text && it.writer !== it.maker && x0 < from - 0.2 * u) out.push(`<text class="by ${colourOf(it.writer)}" x="${f1(from + 0.45 * u)}" y="${f1(y + h / 2 + 0.33 * u)}">${esc(text)}</text>`);
     }
     if (close === "promised") out.push(`<path class="tail ${colourOf(it.writer)}" d="M${f1(x1)} ${f1(barY)}H${f1(endX)}M${f1(x1)} ${f1(barY + barH)}H${f1(endX)}"/><line class="cut ${colourOf(it.writer)}" x1="${f1(x1)}" x2="${f1(x1)}" y1="${f1(barY - 2)}" y2="${f1(barY + barH + 2)}"/>`);
   }
@@ -259,7 +259,7 @@ function versionRow(it, y, h, at) {
   if (it.made && it.made === it.ended && !it.writer) out.push(`<text class="by" x="${f1(x1 + 0.7 * u)}" y="${f1(mid + 0.33 * u)}">at no time</text>`);
   // which transaction made it, until that is decided
   if (!isNever && it.maker) {
-    const words = open0 === "unborn" ? [`made by ${nameOf(it.maker)}, not committed`, ...namedTexts(it.maker, (name) => `valid if ${name} commits`), ...namedTexts(it.maker, (name) => `if ${name} commits`), `${shortOf(it.maker)}'s`]
+    const words = it.writer === it.maker ? [...namedTexts(it.maker, (name) => `written over by ${name} itself`), ...namedTexts(it.maker, (name) => `gone, by ${name}`), "gone"] : open0 === "unborn" ? [`made by ${nameOf(it.maker)}, not committed`, ...namedTexts(it.maker, (name) => `valid if ${name} commits`), ...namedTexts(it.maker, (name) => `if ${name} commits`), `${shortOf(it.maker)}'s`]
       : open0 === "promised" ? [...namedTexts(it.maker, (name) => `if ${name} commits`), `${shortOf(it.maker)}?`] : namedTexts(it.maker, (name) => `by ${name}, not stamped yet`).concat(namedTexts(it.maker, (name) => `by ${name}`));
     let from = x0 + 0.45 * u;
     if (lookX !== null && from < lookX + 0.4 * u && from + 4 * u > lookX) from = lookX + 0.4 * u;

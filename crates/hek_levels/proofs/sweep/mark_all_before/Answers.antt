@@ -15,7 +15,7 @@ loop-q-preserved c = record {
   there =
       below_more
       (λ (k : ℕ).
-      (x : ℕ) (read : Read) → read_at c.args.log.now c.args.t k ≡ Some read → read.operation < c.args.n → source_in c.args.certificate.now.sources.items c.args.t k ≡ writer.Transaction x →
+      (x : ℕ) (read : Read) → read_at c.args.log.now c.args.t k ≡ Some read → read.operation ≤ c.args.n → source_in c.args.certificate.now.sources.items c.args.t k ≡ writer.Transaction x →
       IsMarked (get ◌==◌ c.mark_before.new.marked) x)
       c.loop-q.q (λ k l x read a b d. c.in_ok-mark_before.ensures.kept x (c.loop-q.invariant.there k l x read a b d)) c.in_ok-mark_before.ensures.there;
 }

@@ -1,4 +1,4 @@
-use Rattle.std.proofs.Common.{◌≡◌, ℕ, ◌<◌, Some}
+use Rattle.std.proofs.Common.{◌≡◌, ℕ, ◌<◌, ◌≤◌, Some}
 use Rattle.std.specs.HashMap.{get}
 use Rattle.std.specs.Prelude.{◌==◌}
 use Rattle.hek_levels.specs.declared.log.Read.{Read}
@@ -11,6 +11,6 @@ use Rattle.hek_levels.proofs.sweep.mark_all_before.Given as goal
 abbrev pub invariant-loop-q : goal.invariant-loop-q
 invariant-loop-q l = record {
   kept : AreKept (get ◌==◌ l.initial.marked) (get ◌==◌ l.marked);
-  there : (k : ℕ) → k < l.q → (x : ℕ) (read : Read) → read_at l.log l.t k ≡ Some read → read.operation < l.n →
+  there : (k : ℕ) → k < l.q → (x : ℕ) (read : Read) → read_at l.log l.t k ≡ Some read → read.operation ≤ l.n →
       source_in l.certificate.sources.items l.t k ≡ writer.Transaction x → IsMarked (get ◌==◌ l.marked) x;
 }

@@ -1,5 +1,5 @@
 use Rattle.std.proofs.Common.{rules}
-use Rattle.hek_page_command.proofs.Stepping.{stands_more, placed_at}
+use Rattle.hek_moves.proofs.Stepping.{stands_more, placed_at}
 use Rattle.hek_page_command.proofs.story.pass_steps.Goals as goal
 
 pub loop-place-preserved : goal.loop-place-preserved

@@ -1,5 +1,6 @@
 use Rattle.std.proofs.Common.{rules}
-use Rattle.hek_page_command.proofs.Stepping.{stands_more, placed_at, told_more, count_more, told_none}
+use Rattle.hek_moves.proofs.Stepping.{stands_more, placed_at}
+use Rattle.hek_page_command.proofs.Stepping.{told_more, count_more, told_none}
 use Rattle.hek_page_command.proofs.story.show_steps.Goals as goal
 
 pub loop-place-init : goal.loop-place-init

@@ -1,6 +1,7 @@
 use Rattle.std.proofs.Common.{◌≡◌, ◌+◌, length}
 use Rattle.hek_machine.specs.Stands.{StandsFor}
-use Rattle.hek_page_command.specs.Tellings.{world_at, AreTold}
+use Rattle.hek_moves.specs.Steps.{world_at}
+use Rattle.hek_page_command.specs.Tellings.{AreTold}
 use Rattle.hek_page_command.proofs.story.show_steps.Given as goal
 
 -- the machine stands for the world after the steps so far, which the story has

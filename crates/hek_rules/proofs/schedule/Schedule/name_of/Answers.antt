@@ -1,16 +1,12 @@
-use Rattle.std.proofs.Common.{◌∙◌, ap, sym, subst, ℕ, ◌-◌, ◌≡◌, List, arith, Some, slice_get}
+use Rattle.std.proofs.Common.{◌∙◌, ap, sym, subst, ℕ, ◌-◌, ◌≡◌, Some, slice_get}
 use Rattle.std.specs.Option.{option_map}
-use Rattle.std.proofs.lemmas.Option.{slice_get-map}
-use Rattle.hek_rules.specs.declared.event.Level.{Level}
+use Rattle.std.specs.String.{string_bytes}
 use Rattle.hek_rules.specs.Plan.{Plan, names_of}
-use Rattle.hek_rules.proofs.PlanLemmas.{named_at}
+use Rattle.hek_rules.proofs.PlanLemmas.{name_at}
 use Rattle.hek_rules.proofs.schedule.Schedule.name_of.Goals as goal
 
 pub returns : goal.returns
 returns c =
-    let txns = c.args.self.now.txns in
-    let place = c.number.result - 1 in
-    let same = c.as_slice.ensures.value ∙ ap (λ (p : Plan). p.txns) c.self.view_is in
-    let entry = named_at c.as_slice.result.now txns place c.index-as_slice-number.result same (omega arith) c.index-as_slice-number.is in
-    subst (λ (n : ℕ). slice_get (names_of c.args.self.now) (n - 1) ≡ Some c.as_str.result.now) c.number.ensures
-    (slice_get-map (λ (t : List ℕ × Level). t.0) txns place ∙ ap (option_map (λ (t : List ℕ × Level). t.0)) entry ∙ ap (λ (w : List ℕ). Some w) (sym c.as_str.ensures.value))
+    let here : slice_get c.self.inside.names.entries (c.number.result - 1) ≡ Some (c.unwrap.result.0.now, c.unwrap.result.1.now) = sym c.get_index.ensures.entry ∙ ap (option_map (λ p. (p.0.now, p.1.now))) c.unwrap.ensures in
+    subst (λ (p : Plan). slice_get (names_of p) (c.args.txn - 1) ≡ Some c.as_str.result.now) c.self.view_is
+    (name_at string_bytes c.self.inside.names.entries (c.number.result - 1) (c.args.txn - 1) c.unwrap.result.0.now c.unwrap.result.1.now c.as_str.result.now here c.as_str.ensures.value (ap (λ (n : ℕ). n - 1) c.number.ensures))

@@ -6,5 +6,5 @@ use Rattle.hek_rules.proofs.schedule.Schedule.same_rows.Goals as goal
 
 pub returns : goal.returns
 returns c =
-    decides_along c.eq.result c.as_slice.result.now c.as_slice-2.result.now c.args.self.now.rows c.args.other.now.rows (slice_eq-Decides rows_decide _ _ _ c.eq.ensures)
-    (c.as_slice.ensures ∙ ap (λ (p : Plan). p.rows) c.self.view_is) (c.as_slice-2.ensures ∙ ap (λ (p : Plan). p.rows) c.other.view_is)
+    decides_along c.eq.result c.as_slice.result c.as_slice-2.result c.args.self.now.rows c.args.other.now.rows (slice_eq-Decides rows_decide _ _ _ c.eq.ensures)
+    (c.as_slice.ensures.entries ∙ ap (λ (p : Plan). p.rows) c.self.view_is) (c.as_slice-2.ensures.entries ∙ ap (λ (p : Plan). p.rows) c.other.view_is)

@@ -1,6 +1,6 @@
 use Rattle.std.proofs.Common.{ap, ◌∙◌, false, is_some}
 use Rattle.hek_live.specs.declared.replies.DropRead.TheVariants as drop
-use Rattle.hek_test_threads.proofs.Told.{told_set, told_kept}
+use Rattle.hek_test_threads.proofs.Told.{told_set, told_kept, goes}
 use Rattle.hek_test_threads.proofs.live.worker.Worker.drop_read.Goals as goal
 
 pub invariant_of-self : goal.invariant_of-self
@@ -10,7 +10,7 @@ invariant_of-self c =
       own = c.drop_read.ensures.own ∙ old.own;
       enough = old.enough;
       named = old.named;
-      reads_told = told_set old.reads _ _ c.args.word false old.reads_told c.requires moved.read moved.reads;
+      reads_told = told_set old.reads _ _ c.args.word false old.reads_told c.requires (moved.read ∙ goes _) moved.reads;
       writes_told = told_kept old.writes _ _ c.args.word old.writes_told (ap is_some moved.write) (λ j ne. ap is_some (moved.writes j ne));
     }
 
@@ -21,6 +21,6 @@ invariant_of-self-in-Last c =
       own = c.drop_read.ensures.own ∙ old.own;
       enough = old.enough;
       named = old.named;
-      reads_told = told_set old.reads _ _ c.args.word false old.reads_told c.requires moved.read moved.reads;
+      reads_told = told_set old.reads _ _ c.args.word false old.reads_told c.requires (moved.read ∙ goes _) moved.reads;
       writes_told = told_kept old.writes _ _ c.args.word old.writes_told (ap is_some moved.write) (λ j ne. ap is_some (moved.writes j ne));
     }

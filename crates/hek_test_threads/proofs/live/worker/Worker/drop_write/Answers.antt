@@ -1,6 +1,6 @@
 use Rattle.std.proofs.Common.{ap, ◌∙◌, false, is_some}
 use Rattle.hek_live.specs.declared.replies.DropWrite.TheVariants as clear
-use Rattle.hek_test_threads.proofs.Told.{told_set, told_kept}
+use Rattle.hek_test_threads.proofs.Told.{told_set, told_kept, stays}
 use Rattle.hek_test_threads.proofs.live.worker.Worker.drop_write.Goals as goal
 
 pub invariant_of-self : goal.invariant_of-self
@@ -10,6 +10,6 @@ invariant_of-self c =
       own = c.drop_write.ensures.own ∙ old.own;
       enough = old.enough;
       named = old.named;
-      reads_told = told_kept old.reads _ _ c.args.word old.reads_told moved.read moved.reads;
+      reads_told = told_kept old.reads _ _ c.args.word old.reads_told (moved.read ∙ stays _) moved.reads;
       writes_told = told_set old.writes _ _ c.args.word false old.writes_told c.requires (ap is_some moved.write) (λ j ne. ap is_some (moved.writes j ne));
     }

@@ -1,6 +1,6 @@
 use Rattle.std.proofs.Common.{ap, ◌∙◌, true, is_some}
 use Rattle.hek_live.specs.declared.replies.TryWrite.TheVariants as write
-use Rattle.hek_test_threads.proofs.Told.{told_set, told_kept}
+use Rattle.hek_test_threads.proofs.Told.{told_set, told_kept, stays}
 use Rattle.hek_test_threads.proofs.live.worker.Worker.write.Goals as goal
 
 pub invariant_of-self : goal.invariant_of-self
@@ -10,6 +10,6 @@ invariant_of-self c =
       own = c.try_write.ensures.own ∙ old.own;
       enough = old.enough;
       named = old.named;
-      reads_told = told_kept old.reads _ _ c.args.word old.reads_told moved.read moved.reads;
+      reads_told = told_kept old.reads _ _ c.args.word old.reads_told (moved.read ∙ stays _) moved.reads;
       writes_told = told_set old.writes _ _ c.args.word true old.writes_told c.requires (ap is_some moved.write) (λ j ne. ap is_some (moved.writes j ne));
     }

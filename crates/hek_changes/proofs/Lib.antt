@@ -1,0 +1,3 @@
+pub mod HolderLaws
+pub mod SlotLaws
+pub mod WordLaws

@@ -1,0 +1,45 @@
+//! Runs the command lines of the file `lines` over the files beside it, and prints what each prints, its faults and its status: one program by
+//! which the gate compares what two compilers make of most of `hek`.
+#![tactic(auto)]
+
+use hek_command_line::{Colouring, Explaining, SystemDisk, Wishes, answer_in_threads};
+use std::alloc::{AllocError, Global};
+use std::fs;
+use std::process::ExitCode;
+
+const WISHES: Wishes = Wishes {
+    explaining: Explaining::Never,
+    colouring: Colouring::Never,
+};
+
+fn main(rt: HostRuntime) -> ExitCode {
+    let Ok(text) = fs::read_to_string(&rt, "lines") else {
+        return ExitCode::FAILURE;
+    };
+    for line in text.as_str().lines() {
+        let Ok(words) = words_of(rt.alloc(), line) else {
+            return ExitCode::FAILURE;
+        };
+        let status = answer_in_threads(
+            &rt,
+            rt.alloc(),
+            words.as_slice(),
+            WISHES,
+            &SystemDisk::new(&rt),
+            rt.stdin(),
+            &mut rt.stdout(),
+            &mut rt.stdout(),
+        );
+        let _ = println!(rt; "{line}: status {status}");
+    }
+    ExitCode::SUCCESS
+}
+
+/// The words of a line, the program's name first.
+fn words_of(alloc: Global, line: &str) -> Result<Vec<&str>, AllocError> {
+    let mut words = Vec::new(alloc);
+    for word in line.split(' ') {
+        words.push(word)?;
+    }
+    Ok(words)
+}
