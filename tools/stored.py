@@ -197,7 +197,7 @@ def shown(call, words, state, names):
 
 def play_machine(schedule, calls):
     names = [it.split()[1] for it in schedule if it.startswith("txn ")]
-    number_of = lambda word: str(ord(word) - 96) if re.fullmatch("[a-z]", word) else word
+    number_of = lambda word: str(names.index(word) + 1) if word in names else str(ord(word) - 96) if re.fullmatch("[a-z]", word) else word
     text, steps, passed, failed, left, asked = schedule[:], [], 0, [], collections.Counter(), []
     for number, call, wanted in calls:
         words = [number_of(it) for it in call.split()]
