@@ -62,10 +62,11 @@ pub fn moves_of(
 fn begun(alloc: Global, schedule: &Schedule) -> Result<Folding, NoMemory>
     ensures { IfOk result (λ folding. folding.of_step.items ≡ []) }
 {
-    let committed = nobody(alloc, schedule.txn_count())?;
+    let count = schedule.txn_count();
+    let committed = nobody(alloc, count)?;
     let transcript = Transcript::new(alloc, schedule)?;
     Ok(Folding {
-        moves: Moves::new(alloc, transcript),
+        moves: Moves::new(alloc, transcript, count)?,
         of_step: Vec::new(alloc),
         committed,
         dooms: Dooms::new(alloc),
@@ -314,7 +315,7 @@ fn open_move(
 /// The move before it that a step belongs to: its transaction's last one, or the last of all; a new one where there is none.
 fn joined(alloc: Global, step: &Step<'_>, moves: &mut Moves) -> Result<usize, NoMemory> {
     let found = match mover(step) {
-        Some(txn) => moves.last_of(txn),
+        Some(txn) => moves.lanes.of(txn).last,
         None => moves.items.len().checked_sub(1),
     };
     match found {

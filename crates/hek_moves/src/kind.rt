@@ -25,7 +25,7 @@ pub(crate) fn kind_of(
     if let Reply::Refused(refusal) = step.reply {
         return Ok(Some(Kind::Refused(*refusal)));
     }
-    if moves.is_over(txn) {
+    if moves.lanes.of(txn).is_over {
         return Ok(None);
     }
     match step.reply {
@@ -49,7 +49,7 @@ fn wait_kind(
     reasons: &[Reason],
     moves: &Moves,
 ) -> Result<Option<Kind>, NoMemory> {
-    if moves.wait_of(txn).is_some() {
+    if moves.lanes.of(txn).wait.is_some() {
         return Ok(None);
     }
     let mut holders = Vec::new(alloc);

@@ -5,6 +5,7 @@ mod after;
 mod folding;
 mod json;
 mod kind;
+mod lane;
 mod moves;
 mod say;
 mod sentence;

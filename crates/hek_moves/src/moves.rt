@@ -2,6 +2,7 @@
 ghost use Rattle.std.specs.Prelude.{◌≡◌, ◌∷◌, ◌++◌, [], OnOk};
 
 use crate::after::After;
+use crate::lane::Lanes;
 use hek_program::Always;
 use hek_rules::{
     Cause, Event, NoMemory, Pairs, Refusal, Reply, Time, Transcript, TxnId, VersionId,
@@ -85,6 +86,8 @@ pub struct Moves {
     pub(crate) latest: After,
     /// All steps with their replies.
     pub(crate) transcript: Transcript,
+    /// What is known of each transaction.
+    pub(crate) lanes: Lanes,
 }
 
 impl Model for Moves {
@@ -96,16 +99,22 @@ impl Model for Moves {
 }
 
 impl Moves {
-    /// No moves, where nothing is committed, and a transcript without steps.
-    pub(crate) fn new(alloc: Global, transcript: Transcript) -> Moves {
-        Moves {
+    /// No moves of so many transactions, where nothing is committed, and a transcript without steps.
+    pub(crate) fn new(
+        alloc: Global,
+        transcript: Transcript,
+        txns: usize,
+    ) -> Result<Moves, NoMemory> {
+        let lanes = Lanes::new(alloc, txns)?;
+        Ok(Moves {
             items: Vec::new(alloc),
             of_step: Vec::new(alloc),
             ends: Vec::new(alloc),
             past: Vec::new(alloc),
             latest: After::nothing(alloc),
             transcript,
-        }
+            lanes,
+        })
     }
 
     /// The moves, where each step belongs to the one at this place.
@@ -207,59 +216,15 @@ impl Moves {
         ensures { OnOk result (self.new.moves ≡ self.old.moves ++ made ∷ []) }
     {
         let place = self.items.len();
+        self.lanes.note(made.txn, place, &made.kind);
         self.items.push(made)?;
         Ok(place)
     }
 
-    /// The place of the last move of a transaction.
-    pub(crate) fn last_of(&self, txn: TxnId) -> Option<usize> {
-        let mut found = None;
-        for (place, it) in self.items.iter().enumerate() {
-            if it.txn == txn {
-                found = Some(place);
-            }
-        }
-        found
-    }
-
-    /// Whether a transaction has committed or aborted.
-    pub(crate) fn is_over(&self, txn: TxnId) -> bool {
-        for it in &self.items {
-            if it.txn == txn && matches!(it.kind, Kind::Commits | Kind::Aborts(_)) {
-                return true;
-            }
-        }
-        false
-    }
-
-    /// Whether a transaction has committed.
-    fn has_committed(&self, txn: TxnId) -> bool {
-        for it in &self.items {
-            if it.txn == txn && matches!(it.kind, Kind::Commits) {
-                return true;
-            }
-        }
-        false
-    }
-
-    /// The place of the wait that goes on for a transaction.
-    pub(crate) fn wait_of(&self, txn: TxnId) -> Option<usize> {
-        let mut found = None;
-        for (place, it) in self.items.iter().enumerate() {
-            if it.txn == txn && matches!(it.kind, Kind::Waits(_)) && !self.has_ended(place) {
-                found = Some(place);
-            }
-        }
-        found
-    }
-
-    fn has_ended(&self, wait: usize) -> bool {
-        for end in &self.ends {
-            if end.wait == wait {
-                return true;
-            }
-        }
-        false
+    /// Notes that a transaction's wait at a place ends with a step of the move at another.
+    pub(crate) fn end_wait(&mut self, txn: TxnId, wait: usize, by: usize) -> Result<(), NoMemory> {
+        self.lanes.end_wait(txn);
+        self.ends.push(WaitEnd { wait, by })
     }
 
     /// The place of the move that made a version of this key with this value.
@@ -296,7 +261,7 @@ pub fn serial_order(alloc: Global, moves: &Moves) -> Result<Vec<TxnId>, NoMemory
     let mut drawn = Vec::new(alloc);
     for it in moves.items() {
         if let Kind::Precommits(time) = it.kind {
-            if moves.has_committed(it.txn) {
+            if moves.lanes.of(it.txn).has_committed {
                 drawn.push((time, it.txn))?;
             }
         }

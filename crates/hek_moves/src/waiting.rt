@@ -1,5 +1,5 @@
 //! Waits, and where they end.
-use crate::moves::{Kind, Moves, WaitEnd};
+use crate::moves::Moves;
 use hek_machine::Machine;
 use hek_rules::{Event, NoMemory, State, TxnId};
 
@@ -7,9 +7,9 @@ use hek_rules::{Event, NoMemory, State, TxnId};
 pub(crate) fn end_waits(machine: &Machine, by: usize, moves: &mut Moves) -> Result<(), NoMemory> {
     for place in 0..machine.txns() {
         let txn = TxnId::new(place + 1);
-        if let Some(wait) = moves.wait_of(txn) {
+        if let Some(wait) = moves.lanes.of(txn).wait {
             if !still_waits(machine, txn, moves.is_for_commits(wait)) {
-                moves.ends.push(WaitEnd { wait, by })?;
+                moves.end_wait(txn, wait, by)?;
             }
         }
     }
