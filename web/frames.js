@@ -4,6 +4,8 @@
 let panel = null, frame = null, coming = null, framePlace = "", frameTurn = 0;
 // A page of hek has at most so many steps, and a longer trace is not drawn line by line.
 const MOST_STEPS = 2000, MOST_LINES = 5000;
+// A step after the last one of any story.
+const LAST = 999999;
 // How a page is looked at, which stays from one page to the next.
 let modes = {};
 
@@ -18,10 +20,12 @@ async function eventsOf() {
   return got.status === 0 ? got.out : null;
 }
 
-// Shows the panels of the machine at the last step of the move.
-async function openMachine() {
+// The last of the machine's steps in the moves so far.
+const lastStep = () => Math.max(0, ...player.story.columns.slice(0, now.step).flatMap(it => it.steps));
+
+// Shows the panels of the machine at a step: at the last one of the move.
+async function openMachine(step = lastStep()) {
   if (!wasm || model?.isLog) return sayPanel(model?.isLog ? "A log has no machine: an engine wrote it." : "The machine isn't loaded.");
-  const step = Math.max(0, ...player.story.columns.slice(0, now.step).flatMap(it => it.steps));
   openPanel("machine");
   if (frame?.told === model.id + now.level) return send(frame, {place: `${step}`, modes});
   const mine = ++frameTurn, schedule = await eventsOf();
@@ -41,7 +45,7 @@ function partOf(schedule, step) {
 
 async function openExplorer(path = "") {
   openPanel("explorer");
-  const mine = ++frameTurn, got = await hek(["page", "--orders", "--title", title(), NAME], {[NAME]: atLevel(text.value, now.level)});
+  const mine = ++frameTurn, got = await hek(["page", "--machine", "--orders", "--title", title(), NAME], {[NAME]: atLevel(text.value, now.level)});
   if (mine !== frameTurn || panel !== "explorer" || got.isEnded) return;
   if (got.status === 0) showPage(got.out, path, "explorer");
   else sayPanel(/ nodes\n/.test(got.err) ? "There are too many orders for an explorer." : got.err);
@@ -129,8 +133,16 @@ addEventListener("message", ({source, data}) => {
   $("blank").hidden = !data.isBlank;
   framePlace = String(data.place);
   if (panel === "machine") markLineOfStep(Number(framePlace));
-  tellAddress();
+  if (panel === "explorer" && data.isOver === true && !data.went && !modes.secret) tellExplored(framePlace.split("."));
+  else tellAddress();
 });
+
+// The order at whose end the explorer is has its story, at the verdict; "back" is the explorer.
+function tellExplored(order) {
+  enter();
+  closePanel();
+  goTo({order, mode: "", step: LAST});
+}
 
 // The line of the machine's step: that of the last move before it.
 function markLineOfStep(step) {

@@ -275,11 +275,9 @@ function listen() {
 }
 
 // The machine at one of its steps, of which the prose speaks.
-async function openMachineAt(step) {
-  const index = player.story?.columns.findLastIndex(it => it.steps.some(other => other <= step)) ?? -1;
-  now.step = index + 1;
-  await openMachine();
-  if (frame || coming) send(frame ?? coming, {place: `${step}`});
+function openMachineAt(step) {
+  now.step = (player.story?.columns.findLastIndex(it => it.steps.some(other => other <= step)) ?? -1) + 1;
+  openMachine(step);
 }
 
 async function start() {

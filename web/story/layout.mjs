@@ -14,9 +14,16 @@ export function wordsOf(column) {
     case "refused": return { tops: ["refused", "ref."], value: "⊘" };
     case "commit": return { tops: ["commit", ""], value: "✓" };
     case "unknown": return { tops: ["commit", ""], value: "?" };
-    case "abort": return { tops: column.op ? [...(/read|scan/.test(column.op) ? [`${column.op} ${key}`, `r ${key}`] : [`${key} :=`]), `${key}`] : ["abort", ""], value: "✗" };
+    case "abort": return { tops: stopped(column), value: "✗" };
     default: return { tops: [""], value: "" };
   }
+}
+
+/** What an abort stopped, longest first: an end, a scan, a read or a write. */
+function stopped({ op, key, bucket }) {
+  if (!op) return ["abort", ""];
+  if (op === "scan") return [`scan ${bucket}`, "scan"];
+  return op === "read" ? [`read ${key}`, `r ${key}`, `${key}`] : [`${key} :=`, `${key}`];
 }
 
 /** The least width of a column's box with values of this size. */

@@ -53,10 +53,10 @@ export class StoryPage {
 
   has(order, level = null) { return this.plays.some((it) => same(it.order ?? [], order) && (level === null || levelOf(it) === level)); }
 
-  /** The story of an order at a level, from its start. */
+  /** The verdict of the story of an order at a level. */
   open(order, level) {
     this.order = order;
-    this.place = { ...this.place, level: level ?? this.place.level, step: 0, mode: "" };
+    this.place = { ...this.place, level: level ?? this.place.level, step: Infinity, mode: "" };
     this.show();
     this.write();
   }

@@ -168,8 +168,9 @@ const { L, M, S, XL, clamp } = Story.svg; function wordsOf(column) { const { kin
     case "miss": return { tops: [`${key} :=`, `${key}`], value: column.op === "insert" ? "exists" : "no row" };
     case "skip": return { tops: ["left out", "out"], value: `${key ?? ""}` }; case "refused": return { tops: ["refused", "ref."], value: "⊘" };
     case "commit": return { tops: ["commit", ""], value: "✓" }; case "unknown": return { tops: ["commit", ""], value: "?" };
-    case "abort": return { tops: column.op ? [...(/read|scan/.test(column.op) ? [`${column.op} ${key}`, `r ${key}`] : [`${key} :=`]), `${key}`] : ["abort", ""], value: "✗" };
-    default: return { tops: [""], value: "" }; } }
+    case "abort": return { tops: stopped(column), value: "✗" }; default: return { tops: [""], value: "" }; } }
+function stopped({ op, key, bucket }) { if (!op) return ["abort", ""]; if (op === "scan") return [`scan ${bucket}`, "scan"];
+  return op === "read" ? [`read ${key}`, `r ${key}`, `${key}`] : [`${key} :=`, `${key}`]; }
 function need(column, size, isNarrow) { const { tops, value } = wordsOf(column), most = column.kind === "scan" ? 7 : 12;
   if (column.kind === "wait") return isNarrow ? 2.2 : 3; if (column.kind === "commit" || column.kind === "unknown") return isNarrow ? 1.7 : 2.4;
   return Math.min(Math.max(wide(tops.at(-1), S), wide(value, column.kind === "scan" ? S : size, 700)) + (isNarrow ? 0.5 : 0.8), most); }
@@ -520,7 +521,7 @@ const wordsOf = (column) => { const isEnd = /wait|commit/.test(column.kind) || (
   return column.kind === "read" || column.op === "read" ? `${me} reads ${column.key}. What does it find?` : `${me} wants to write ${column.key}. What happens?`; };
 function questionAt(story, position) { const column = story.columns[position];
   if (position === story.columns.length) return { words: "And all of it together?", choices: Object.values(VERDICTS).slice(0, 3), right: VERDICTS[story.verdict.kind] };
-  if (!column || column.kind === "scan" || column.kind === "refused" || (column.isLate && column.kind === "commit")) return null;
+  if (!column || column.kind === "scan" || column.op === "scan" || column.kind === "refused" || (column.isLate && column.kind === "commit")) return null;
   if (column.kind === "abort" && column.cause === "asked") return null;
   const right = answerOf(story, column), choices = [...new Set([...choicesOf(story, column, position), right])];
   return choices.length > 2 || (choices.length === 2 && !/read/.test(column.kind)) ? { words: wordsOf(column), choices, right } : null; }
@@ -654,7 +655,8 @@ class StoryPage { constructor(sheet, objects, panels) { Object.assign(this, { sh
         order, isOwnOrder: same(order, this.own.order ?? []), asides: [], uncounted: "" }); }
     return this.models.get(id); }
   has(order, level = null) { return this.plays.some((it) => same(it.order ?? [], order) && (level === null || levelOf(it) === level)); }
-  open(order, level) { this.order = order; this.place = { ...this.place, level: level ?? this.place.level, step: 0, mode: "" }; this.show(); this.write(); }
+  open(order, level) { this.order = order; this.place = { ...this.place, level: level ?? this.place.level, step: Infinity, mode: "" }; this.show();
+    this.write(); }
   show(options) { const model = this.model(this.order); if (!model.stories[this.place.level]) this.place.level = model.levels[0];
     this.place.step = Math.max(0, Math.min(this.place.step, model.stories[this.place.level].columns.length + 1)); this.player.show(model, this.place, options);
     showText(byId("st-text"), this.text, this.player.story, this.place.step); byId("st-back").hidden = !(history.state?.depth > 0);
@@ -742,8 +744,9 @@ class Run { constructor({ opening, waits, asked }, steps, done) { this.done = do
       if (!edges.has(key)) edges.set(key, { from, to, kind, by: [] });
       edges.get(key).by.push(what === "version" ? `v${number}` : what !== "bucket" ? what : number === undefined ? "listed" : `bucket ${number}`); }
     return [...edges.values()]; } }
-const isTree = data.kind === "tree"; let tree = null; let asked = null; function treeOf(data) { const text = (at) => data.texts[at];
-  const steps = data.steps.map(([line, changed, gone, why, sees, waits, ends, rule, sentence, definition, comes]) => ({
+const isTree = data.kind === "tree"; let tree = null; let asked = null;
+const askedTo = (place) => [...(asked ?? []), ...namesOf(tree, tree.path).slice(asked?.length ?? 0)].slice(0, place); function treeOf(data) {
+  const text = (at) => data.texts[at]; const steps = data.steps.map(([line, changed, gone, why, sees, waits, ends, rule, sentence, definition, comes]) => ({
     line: text(line), changed: text(changed), gone: text(gone), why: text(why), sees: text(sees), waits: waits === null ? null : text(waits), ends: text(ends), rule: text(rule),
     sentence: text(sentence), definition: text(definition), comes: text(comes), }));
   const nodes = data.nodes.map(([parent, who, places, outcome, counts, joins = []], index) => ({ index, parent, who: who - 1, steps: places.map((at) => steps[at]), outcome, next: [], counts, joins, own: new Set() }));
@@ -958,7 +961,7 @@ function legend() {
 
 function opening() {
   if (isTree) return `<p class="soft">Choose which moves first. ${data.outcomes.length} outcomes, ${total(tree.nodes[0].counts)} orders${statesSaid()}.</p>`;
-  return `<p>${KEY}</p><p class="soft">\u2192, Space, Page Down: on. \u2190, Page Up: back. ?: guess. f: what is to come. p: larger. h: all keys.</p>`;
+  return `<p>${KEY}</p><p class="soft">\u2192 Space: on. \u2190: back. ?: guess. h: all keys.</p>`;
 }
 
 function verdictText() {
@@ -1504,11 +1507,11 @@ function laneStrip(id, y, { stripH: h, x, xEdge, first, shownLast, horizon, u, c
     out.push(`<rect class="strip ${phase.kind}${isOpen ? " open" : ""}" x="${f1(left)}" y="${f1(top)}" width="${f1(right - left)}" height="${f1(h)}"><title>${phase.kind}</title></rect>`);
     const text = tight ? "" : fitting(PHASES[phase.kind], right - left - 0.6 * u, 0.95 * u, 600);
     if (text) out.push(`<g><rect class="plate ${phase.kind}" x="${f1(left + 0.2 * u)}" y="${f1(y + 0.28 * u)}" width="${f1(widthOf(text, 0.95 * u, 600) + 0.4 * u)}" height="${f1(h - 0.16 * u)}"/><text class="phase ${phase.kind}" x="${f1(left + 0.4 * u)}" y="${f1(y + 0.2 * u + h * 0.78)}">${text}</text></g>`);
-  });
-  return out;
 "##;
 
-pub(crate) const SCRIPT_THIRD: &str = r#"}
+pub(crate) const SCRIPT_THIRD: &str = r#"  });
+  return out;
+}
 
 /* ---- the versions on an axis of time */
 
@@ -2427,9 +2430,9 @@ function ordersSaid(reach, place) {
 const MOST_MOVES = 8;
 const MOST_LETTERS_SAID = 40;
 
-/** That the page shows another order than the one that was asked for. */
+/** That the page shows another order than the one that was asked for, where it begins to. */
 function askedSaid() {
-  if (asked === null) return "";
+  if (asked === null || placeHere() !== asked.length || endsOfPath()[asked.length] !== here) return "";
   const shown = namesOf(tree, tree.path).slice(0, asked.length);
   const cut = asked.length > MOST_MOVES ? asked.findIndex((it, index) => it !== shown[index]) : 0;
   const isLong = 2 * asked.slice(cut).join(" ").length > MOST_LETTERS_SAID;
@@ -2445,10 +2448,10 @@ function showTree() {
   const isAt = ends[place] === here;
   const done = movesDone(node.index);
   // breadcrumbs
-  const crumbs = tree.path.slice(1).map((at, index) => {
-    const it = tree.nodes[at];
-    const move = tree.moves[it.who][movesDone(at)[it.who] - 1];
-    return `<button type="button" data-crumb="${index + 1}" class="${index + 1 <= place ? "" : "ahead"}"${index + 1 === place ? ' aria-current="true"' : ""}>${tagName(tree.names[it.who])} ${esc(move)}</button>`;
+  const order = askedTo(tree.path.length - 1);
+  const crumbs = order.map((name, index) => {
+    const nth = order.slice(0, index).filter((it) => it === name).length;
+    return `<button type="button" data-crumb="${index + 1}" class="${index + 1 <= place ? "" : "ahead"}"${index + 1 === place ? ' aria-current="true"' : ""}>${tagName(name)} ${esc(tree.moves[tree.names.indexOf(name)][nth])}</button>`;
   });
   $("path").hidden = false;
   $("path").innerHTML = `<button type="button" data-crumb="0"${place === 0 ? ' aria-current="true"' : ""}>start</button>${crumbs.map((it) => `<span aria-hidden="true">\u203a</span>${it}`).join("")}<span class="space"></span><button type="button" data-do="undo"${place === 0 ? " disabled" : ""} title="Backspace">\u21b6 undo</button>`;
@@ -2500,10 +2503,10 @@ const hasEnded = (name) => ["aborted", "terminated"].includes(run.txn(run.ids.ge
 /** Goes on with a move; another one than the path had takes the rest of the path away, and one that joins all of it. */
 function takeMove(next) {
   const place = placeHere();
-  let order = null;
+  let order = asked;
   if (tree.path[place + 1] !== next) {
     const who = tree.nodes[tree.path[place]].next.indexOf(next);
-    order = [...namesOf(tree, tree.path.slice(0, place + 1)), tree.names[who]];
+    order = [...askedTo(place), tree.names[who]];
     tree.path = pathTo(tree, next);
     order = askedOf(tree, tree.path, order);
     run = runOfPath();
@@ -2512,20 +2515,33 @@ function takeMove(next) {
   goToPlace(place + 1, order);
 }
 
-function goToPlace(place, order = null) {
-  tree.cursor = place;
+/** Goes to the end of the moves of an order, after which nothing has moved. */
+function goToOrder(order) {
+  tree.path = pathOf(tree, order);
+  run = runOfPath();
+  goToPlace(order.length, askedOf(tree, tree.path, order));
+}
+
+/** Goes to a place of the order that was asked for: what comes before the move that joined has steps of its own. */
+function goToAsked(place) {
+  if (asked !== null && place < asked.length) goToOrder(asked.slice(0, place));
+  else goToPlace(place);
+}
+
+function goToPlace(place, order = asked) {
   move(endsOfPath()[place], order);
   if (place > 0 && tree.nodes[tree.path[place]].next.length === 0) tellLeaf();
 }
 
 /** Shows the moves from here to an outcome; if one of them joins, it is at the last that does. */
 function findOutcome(outcome) {
-  const path = tree.path.slice(0, placeHere() + 1);
-  const { order, last, joined } = movesOn(tree, path.at(-1), outcome);
+  const place = placeHere();
+  const before = askedTo(place);
+  const { order, last, joined } = movesOn(tree, tree.path[place], outcome);
   tree.path = pathTo(tree, last);
   run = runOfPath();
   if (joined === 0) move(here);
-  else goToPlace(path.length - 1 + joined, [...namesOf(tree, path), ...order.slice(0, joined)]);
+  else goToPlace(place + joined, [...before, ...order.slice(0, joined)]);
 }
 
 /* ================================================================ the same moves at all levels */
@@ -2547,7 +2563,9 @@ function plantLevels() {
 function outcomesAtLevels() {
   const texts = [...new Set(sheet.trees.flatMap((it) => it.outcomes))];
   return texts.map((text) => ({ text, counts: sheet.trees.map((it, at) => levels.trees[at].nodes[0].counts[it.outcomes.indexOf(text)] ?? 0) }));
-}
+"#;
+
+pub(crate) const SCRIPT_FOURTH: &str = r##"}
 
 /** The first order of a tree that has an outcome: the names of those that move. */
 const orderTo = (its, outcome) => movesOn(its, 0, outcome).order;
@@ -2562,9 +2580,7 @@ function columnAt(at) {
   const text = outcome === null ? "" : sheet.trees[at].outcomes[outcome];
   const other = askedOf(its, path, levels.order) === null ? "" : `<p class="joined">${JOINS} Shown as ${esc(namesOf(its, path).join(" "))}, which ends the same.</p>`;
   return `<section><h3>${LEVELS[at]} <button type="button" data-level="${at}">story</button></h3>${other}<ol>${lines.join("")}</ol><p class="ends">${endsSaid(text)}</p></section>`;
-"#;
-
-pub(crate) const SCRIPT_FOURTH: &str = r##"}
+}
 
 /** Whether a step says what its transaction hasn't said last. */
 function isNews() {
@@ -2803,7 +2819,7 @@ addEventListener("afterprint", () => { $("print").replaceChildren(); });
 function show() {
   if (isLevels && levels.shown === null) { document.body.dataset.position = 0; showLevels(); return; }
   document.body.dataset.position = run.done + here;
-  $("position").textContent = `${run.done + here} / ${run.done + run.last}`;
+  $("position").textContent = positionSaid();
   document.querySelector('[data-do="first"]').disabled = document.querySelector('[data-do="back"]').disabled = here === 0;
   document.querySelector('[data-do="on"]').disabled = document.querySelector('[data-do="last"]').disabled = here === run.last && guess === null;
   const slider = $("slider");
@@ -2822,10 +2838,16 @@ function show() {
   tellParent();
 }
 
+/** How far the page is: in steps; in the explorer, whose step is the one of the move that tells most, in moves. */
+function positionSaid() {
+  const place = isTree ? placeHere() : 0;
+  return isTree && endsOfPath()[place] === here ? `${place} / ${total(tree.moves.map((it) => it.length))}` : `${run.done + here} / ${run.done + run.last}`;
+}
+
 /** Goes to a position; `order` is the one that was asked for, where the page shows another one. */
-function move(position, order = null) {
-  asked = order;
+function move(position, order = asked) {
   here = Math.min(Math.max(position, 0), run.last);
+  asked = order !== null && here >= endsOfPath()[order.length] ? order : null;
   show();
   clearTimeout(telling);
   telling = setTimeout(tellAddress, 120);
@@ -2836,7 +2858,7 @@ function placeSaid() {
   if (!isTree) return String(run.done + here);
   const level = !isLevels ? "" : levels.shown === null ? "" : `${LEVELS[levels.shown]}:`;
   if (isLevels && level === "") return "";
-  return level + namesOf(tree, tree.path).join(".") + (here < run.last ? "@" + here : "");
+  return level + askedTo(tree.path.length - 1).join(".") + (here < run.last ? "@" + here : "");
 }
 
 let telling = 0;
@@ -2857,10 +2879,12 @@ function on() {
 
 function back() {
   if (guess !== null) { guess = null; show(); return; }
-  move(positionBack(here));
+  const to = positionBack(here);
+  if (asked !== null && to < endsOfPath()[asked.length]) goToAsked(asked.length - 1);
+  else move(to);
 }
 
-function jump(position, order = null) { guess = null; move(position, order); }
+function jump(position, order = asked) { guess = null; move(position, order); }
 
 function press(name, isOn) { document.querySelector(`[data-do="${name}"]`).setAttribute("aria-pressed", String(isOn)); }
 
@@ -2882,7 +2906,7 @@ const DOES = {
   },
   fields: () => { const step = run.steps[here - 1]; tellTxn(step?.name ? run.ids.get(step.name) : run.txnIds[0]); },
   unpin: () => { pinned = null; show(); },
-  undo: () => { const place = placeHere(); if (place > 0) { tree.path = tree.path.slice(0, place); run = runOfPath(); move(run.last); } },
+  undo: () => { const place = placeHere(); if (place > 0) goToOrder(askedTo(place - 1)); },
   story: () => { if (storyPage) (isTree ? tellLeaf() : storyPage.close(run.done + here)); },
   graph: () => { isGraphShown = !isGraphShown; showGraph(); },
   blank: () => { $("blank").hidden = !$("blank").hidden; tellParent(); },
@@ -2971,7 +2995,7 @@ document.addEventListener("click", (event) => {
   const next = hit("data-next");
   if (next) return takeMove(Number(next.dataset.next));
   const crumb = hit("data-crumb");
-  if (crumb) return goToPlace(Number(crumb.dataset.crumb));
+  if (crumb) return goToAsked(Number(crumb.dataset.crumb));
   const find = hit("data-find");
   if (find) return findOutcome(Number(find.dataset.find));
 });
@@ -3002,11 +3026,12 @@ function modesNow() {
   return { present: all.classList.contains("present"), far: isFar(), theme: all.dataset.theme ?? "", ...(isTree ? { secret: isSecret } : { predict: isPredict, future: isFuture }) };
 }
 
-/** Tells the page around this one the place, the modes, and for each guess its step and whether it was right. `went`: it was sent here. */
+/** Tells the page around this one the place, the modes, and for each guess its step and whether it was right. `isOver`: an order has come to its end here;
+    `went`: it was sent here. */
 function tellParent(went = false) {
   if (!isFramed || isGoing || !isWatched) return;
   const guesses = [...told.answers].map(([at, reply]) => [run.done + at + 1, reply === run.steps[at].reply]);
-  parent.postMessage({ hek: "place", place: placeSaid(), modes: modesNow(), isBlank: !$("blank").hidden, guesses, went }, "*");
+  parent.postMessage({ hek: "place", place: placeSaid(), modes: modesNow(), isBlank: !$("blank").hidden, guesses, isOver: isTree && isWhole() && here === run.last, went }, "*");
 }
 
 /** A key that means nothing here is one for the page around this one. */
@@ -3082,10 +3107,10 @@ function goToHash() {
   if (!storyPage?.read(location.hash, !isTree)) fromHash();
 }
 
-/** At the end of an order the explorer shows its story. */
+/** At the end of an order the explorer shows the verdict of its story, where nobody is to guess the outcome. */
 function tellLeaf() {
-  const order = namesOf(tree, tree.path), level = isLevels ? LEVELS[levels.shown] : null;
-  if (storyPage?.has(order, level)) storyPage.open(order, level);
+  const order = askedTo(tree.path.length - 1), level = isLevels ? LEVELS[levels.shown] : null;
+  if (!isSecret && storyPage?.has(order, level)) storyPage.open(order, level);
 }
 
 function resized() {

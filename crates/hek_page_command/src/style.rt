@@ -106,7 +106,7 @@ html.present { font-size: clamp(16px, min(max(1.52vw, 0.66vw + 11px), 2.45vh), 1
 html.present main { grid-template-rows: auto minmax(0, 0.85fr) minmax(6.3rem, 1.15fr); } @media (min-width: 40.01rem) { html.present #say { height: 7.4rem !important; } } @media (min-width: 52rem) { html.present .hex { display: none; } }
 html.far { font-size: clamp(16px, min(2.1vw, 3.4vh), 140px); } html.far :is(#versions, #words, .note, .modes, #about, .legend), html.far body:not(.tree) #say:not(.asks) #because { display: none; }
 html.far main { grid-template-columns: minmax(0, 1fr); grid-template-rows: auto minmax(0, 1fr); } html.far #waits { grid-column: 1; grid-row: 2; }
-html.far body:not(.tree) #say { height: 6.4rem !important; } html.far body:not(.tree) #say:not(.asks) { grid-template-columns: minmax(0, 1fr); } html.far .tree #waits { display: none; } html.far .tree #words { display: flex; grid-column: 1; grid-row: 2; }
+html.far body:not(.tree) #say { height: 6.4rem !important; } html.far body:not(.tree) #say:not(.asks) { grid-template-columns: minmax(0, 1fr); }
 html.present .sub { display: none; } html.present .legend { margin-left: 0; }
 html, body { overscroll-behavior-x: none; touch-action: pan-y pinch-zoom; }
 * { box-sizing: border-box; }

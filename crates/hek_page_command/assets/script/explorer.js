@@ -101,9 +101,9 @@ function ordersSaid(reach, place) {
 const MOST_MOVES = 8;
 const MOST_LETTERS_SAID = 40;
 
-/** That the page shows another order than the one that was asked for. */
+/** That the page shows another order than the one that was asked for, where it begins to. */
 function askedSaid() {
-  if (asked === null) return "";
+  if (asked === null || placeHere() !== asked.length || endsOfPath()[asked.length] !== here) return "";
   const shown = namesOf(tree, tree.path).slice(0, asked.length);
   const cut = asked.length > MOST_MOVES ? asked.findIndex((it, index) => it !== shown[index]) : 0;
   const isLong = 2 * asked.slice(cut).join(" ").length > MOST_LETTERS_SAID;
@@ -119,10 +119,10 @@ function showTree() {
   const isAt = ends[place] === here;
   const done = movesDone(node.index);
   // breadcrumbs
-  const crumbs = tree.path.slice(1).map((at, index) => {
-    const it = tree.nodes[at];
-    const move = tree.moves[it.who][movesDone(at)[it.who] - 1];
-    return `<button type="button" data-crumb="${index + 1}" class="${index + 1 <= place ? "" : "ahead"}"${index + 1 === place ? ' aria-current="true"' : ""}>${tagName(tree.names[it.who])} ${esc(move)}</button>`;
+  const order = askedTo(tree.path.length - 1);
+  const crumbs = order.map((name, index) => {
+    const nth = order.slice(0, index).filter((it) => it === name).length;
+    return `<button type="button" data-crumb="${index + 1}" class="${index + 1 <= place ? "" : "ahead"}"${index + 1 === place ? ' aria-current="true"' : ""}>${tagName(name)} ${esc(tree.moves[tree.names.indexOf(name)][nth])}</button>`;
   });
   $("path").hidden = false;
   $("path").innerHTML = `<button type="button" data-crumb="0"${place === 0 ? ' aria-current="true"' : ""}>start</button>${crumbs.map((it) => `<span aria-hidden="true">\u203a</span>${it}`).join("")}<span class="space"></span><button type="button" data-do="undo"${place === 0 ? " disabled" : ""} title="Backspace">\u21b6 undo</button>`;
@@ -174,10 +174,10 @@ const hasEnded = (name) => ["aborted", "terminated"].includes(run.txn(run.ids.ge
 /** Goes on with a move; another one than the path had takes the rest of the path away, and one that joins all of it. */
 function takeMove(next) {
   const place = placeHere();
-  let order = null;
+  let order = asked;
   if (tree.path[place + 1] !== next) {
     const who = tree.nodes[tree.path[place]].next.indexOf(next);
-    order = [...namesOf(tree, tree.path.slice(0, place + 1)), tree.names[who]];
+    order = [...askedTo(place), tree.names[who]];
     tree.path = pathTo(tree, next);
     order = askedOf(tree, tree.path, order);
     run = runOfPath();
@@ -186,18 +186,31 @@ function takeMove(next) {
   goToPlace(place + 1, order);
 }
 
-function goToPlace(place, order = null) {
-  tree.cursor = place;
+/** Goes to the end of the moves of an order, after which nothing has moved. */
+function goToOrder(order) {
+  tree.path = pathOf(tree, order);
+  run = runOfPath();
+  goToPlace(order.length, askedOf(tree, tree.path, order));
+}
+
+/** Goes to a place of the order that was asked for: what comes before the move that joined has steps of its own. */
+function goToAsked(place) {
+  if (asked !== null && place < asked.length) goToOrder(asked.slice(0, place));
+  else goToPlace(place);
+}
+
+function goToPlace(place, order = asked) {
   move(endsOfPath()[place], order);
   if (place > 0 && tree.nodes[tree.path[place]].next.length === 0) tellLeaf();
 }
 
 /** Shows the moves from here to an outcome; if one of them joins, it is at the last that does. */
 function findOutcome(outcome) {
-  const path = tree.path.slice(0, placeHere() + 1);
-  const { order, last, joined } = movesOn(tree, path.at(-1), outcome);
+  const place = placeHere();
+  const before = askedTo(place);
+  const { order, last, joined } = movesOn(tree, tree.path[place], outcome);
   tree.path = pathTo(tree, last);
   run = runOfPath();
   if (joined === 0) move(here);
-  else goToPlace(path.length - 1 + joined, [...namesOf(tree, path), ...order.slice(0, joined)]);
+  else goToPlace(place + joined, [...before, ...order.slice(0, joined)]);
 }
