@@ -28,10 +28,10 @@ function stopped({ op, key, bucket }) {
 
 /** The least width of a column's box with values of this size. */
 function need(column, size, isNarrow) {
-  const { tops, value } = wordsOf(column), most = column.kind === "scan" ? 7 : 12;
-  if (column.kind === "wait") return isNarrow ? 2.2 : 3;
-  if (column.kind === "commit" || column.kind === "unknown") return isNarrow ? 1.7 : 2.4;
-  return Math.min(Math.max(wide(tops.at(-1), S), wide(value, column.kind === "scan" ? S : size, 700)) + (isNarrow ? 0.5 : 0.8), most);
+  const { tops, value } = wordsOf(column), most = column.kind === "scan" ? 7 : 12, isTight = isNarrow && size === S;
+  if (column.kind === "wait") return isTight ? 1.8 : isNarrow ? 2.2 : 3;
+  if (column.kind === "commit" || column.kind === "unknown") return isTight ? 1.4 : isNarrow ? 1.7 : 2.4;
+  return clamp(1.2, Math.max(wide(tops.at(-1), S), wide(value, column.kind === "scan" ? S : size, 700)) + (isNarrow ? 0.3 : 0.8), most);
 }
 
 /** A slot for each place of the order, and for each column there that only ends a wait: the columns of several stories of one order share them. */
@@ -78,15 +78,18 @@ function* ways(stories, slots, room, u, isNarrow) {
     for (let width = Math.max(4 * u, least); width >= least; width -= 0.1 * u) yield { size, widths: even(width), least: 1.2 * u };
   }
   for (const size of [L, M, S]) for (const least of [1, 0.6]) yield { size, widths: needs(size), least: least * u };
+  if (isNarrow) yield { size: S, widths: needs(S), least: 0.3 * u, isTight: true };
 }
 
 /** Where things stand in a room of `w` and `h`. Columns are shared by lanes and rows, and by the stories of `all`; lanes take the height that the rows leave. */
 export function layout(story, { w, h, u, all = [story], rows = true }) {
   const isNarrow = w < 34 * u, longest = Math.max(...story.names.map((name) => wide(name, 1, 700)), ...(rows ? story.tracks.map(({ key }) => wide(key, 1, 700)) : [])), nameSize = isNarrow && longest > 2.5 ? S : M;
-  const gutter = clamp(2.9 * u, longest * nameSize * u + (isNarrow ? 0.5 : 1.2) * u, w * 0.26), pad = (isNarrow ? 1.2 : 2.6) * u, tail = (isNarrow ? 0.4 : 3.2) * u, room = w - gutter - pad - tail;
+  const always = rows && story.always.length ? wide("always", S, 700) * u + 0.6 * u : 0;
+  const gutter = clamp(Math.max(2.9 * u, always), longest * nameSize * u + (isNarrow ? 0.3 : 1.2) * u, Math.max(w * 0.26, always)), tail = (isNarrow ? 0.4 : 3.2) * u;
   const slots = slotsOf(all), own = slots.of[all.indexOf(story)];
-  let way, xs, length;
+  let way, xs, length, pad = (isNarrow ? 1.2 : 2.6) * u, room = w - gutter - pad - tail;
   for (way of ways(all, slots, room, u, isNarrow)) {
+    if (way.isTight) [pad, room] = [0.4 * u, room + pad - 0.4 * u];
     xs = spread(all, slots, way.widths, way.least);
     length = end(all, slots, way.widths, xs);
     if (length <= room + 0.5) break;

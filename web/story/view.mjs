@@ -2,7 +2,7 @@
 //
 // A model is what is known of one schedule and one order of its moves: `stories` and `outcomes` by level, `levels` in the order of their cards, `text`, `about`, `question`,
 // `asides` ({at, html, level, verdict}) and `order`. A place is a level of it, `step`, and what is open.
-import { esc, plain, rich, sentences } from "./text.mjs";
+import { esc, grouped, plain, rich, sentences } from "./text.mjs";
 import { layout } from "./layout.mjs";
 import { lanes, names } from "./lanes.mjs";
 import { keys, tracks } from "./rows.mjs";
@@ -78,7 +78,7 @@ const swatch = ([kind, words]) => `<span class="kind"><svg class="pic" viewBox="
 /** What the cards show, and the marks of the bars. */
 export function legend({ outcomes, levels, uncounted }) {
   const counted = levels.map((level) => outcomes[level]).find(Boolean);
-  if (counted) return `<p class="st-legend">This order at each level, and the outcomes of all ${Number(counted.orders).toLocaleString("en")} orders: ${KINDS.map(swatch).join(" ")}. A bar plays one.</p>`;
+  if (counted) return `<p class="st-legend">This order at each level, and the outcomes of all ${grouped(counted.orders)} orders: ${KINDS.map(swatch).join(" ")}. A bar plays one.</p>`;
   return `<p class="st-legend">This order at each level.${uncounted ? ` ${esc(uncounted)}` : ""}</p>`;
 }
 

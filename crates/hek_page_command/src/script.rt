@@ -1,12 +1,13 @@
 //! The script of a page, in parts. Written by tools/assets.
 
 pub(crate) const SCRIPT_FIRST: &str = r##"// Written by tools/assets.
-const Story = {}; Story.text = (() => { const WIDTHS = "779eenh599af7977eeeeeeeeee77fffeqhhjjhgkj7dheljkhkjhgjhohhg777ce9eedee7ee66d6leeee9d7edjddd979f";
-const UNIT = 0.04, BOLD = 1.07, OTHER = 0.64, SQUARE = 1.02;
-const isSquare = (char) => /[\u1100-\u115f\u2e80-\ua4cf\uac00-\ud7a3\uf900-\ufaff\ufe30-\ufe6f\uff00-\uff60\uffe0-\uffe6]|[\u{1f000}-\u{3ffff}]/u.test(char);
-function widthOf(char) { const digit = WIDTHS[char.charCodeAt(0) - 32]; if (digit !== undefined) return UNIT * parseInt(digit, 36);
+const Story = {}; Story.text = (() => { const PLAIN = "adfqkup9ccgqacabkkkkkkkkkkbbqqqhwmmmokipoaaliropjpmkjnmvmjmcbcqggjkhkkbkk99i9vkjkkdhdkjqjjhkbkq";
+const STRONG = "bfhqmwsaffhqcdccmmmmmmmmmmddqqqiwoonqmmqqccpkvqrnronmqozonnfcfqgglnjnlennbblbxnmnngjfnltklincnq";
+const UNIT = 0.032, OTHER = 0.84, SQUARE = 1.02;
+const isSquare = (char) => /[…\u1100-\u115f\u2e80-\ua4cf\uac00-\ud7a3\uf900-\ufaff\ufe30-\ufe6f\uff00-\uff60\uffe0-\uffe6]|[\u{1f000}-\u{3ffff}]/u.test(char);
+function widthOf(char, widths) { const digit = widths[char.charCodeAt(0) - 32]; if (digit !== undefined) return UNIT * parseInt(digit, 36);
   return /\p{M}/u.test(char) ? 0 : isSquare(char) ? SQUARE : OTHER; }
-const wide = (text, size, weight = 400) => [...String(text)].reduce((sum, char) => sum + widthOf(char), 0) * size * (weight > 500 ? BOLD : 1);
+const wide = (text, size, weight = 400) => [...String(text)].reduce((sum, char) => sum + widthOf(char, weight > 500 ? STRONG : PLAIN), 0) * size;
 function cut(text, room, size, weight = 400) { const all = [...String(text)]; if (wide(text, size, weight) <= room) return String(text);
   let left = room - wide("…", size, weight), count = 0;
   while (count < all.length && left >= wide(all[count], size, weight)) left -= wide(all[count++], size, weight);
@@ -17,12 +18,13 @@ const ENTITIES = { "&": "&amp;", "<": "&lt;", ">": "&gt;", '"': "&quot;", "'": "
 const shown = (text) => String(text).replace(HIDDEN, (it) => (it < " " ? String.fromCharCode(0x2400 + it.charCodeAt(0)) : it === "\u007f" ? "\u2421" : "\ufffd"));
 const esc = (text) => shown(text).replace(/[&<>"']/g, (it) => ENTITIES[it]);
 const parse = (json) => JSON.parse(json.replace(/"(?:[^"\\]|\\.)*"|-?\d{16,}/g, (it) => (it[0] === '"' ? it : `"${it}"`)));
+const grouped = (number) => String(number).replace(/\B(?=(\d{3})+$)/g, ",");
 const list = (texts) => (texts.length < 2 ? texts.join("") : `${texts.slice(0, -1).join(", ")} and ${texts.at(-1)}`);
 const sentences = (all) => all.filter(Boolean).map((it) => it[0].toUpperCase() + it.slice(1) + (/[.!?]$/.test(it) ? "" : ".")).join(" ");
 const NAMED = /\{([^{}]*)\}/g; const plain = (sentence) => sentence.replace(NAMED, "$1"); function rich(sentence, names) {
   return sentence.split(NAMED).map((part, index) => { const t = index % 2 ? names.indexOf(part) : -1;
     return t < 0 ? esc(part.replace(/'/g, "’")) : `<b class="n${t % COLOURS_IN_USE}">${esc(part)}</b>`; }).join(""); }
-const COLOURS_IN_USE = 8; return { wide, cut, fitting, shown, esc, parse, list, sentences, plain, rich, COLOURS_IN_USE }; })(); Story.svg = (() => {
+const COLOURS_IN_USE = 8; return { wide, cut, fitting, shown, esc, parse, grouped, list, sentences, plain, rich, COLOURS_IN_USE }; })(); Story.svg = (() => {
 const { esc } = Story.text; const S = 0.75; const M = 1; const L = 1.25; const XL = 1.75; const r1 = (length) => Math.round(length * 10) / 10;
 const clamp = (low, value, high) => Math.max(low, Math.min(value, high)); const colour = (t) => t % 8;
 const text = (x, y, size, words, kind = "", anchor = "middle") => `<text x="${r1(x)}" y="${r1(y)}" font-size="${r1(size)}" text-anchor="${anchor}" class="${kind}">${esc(words)}</text>`;
@@ -171,9 +173,10 @@ const { L, M, S, XL, clamp } = Story.svg; function wordsOf(column) { const { kin
     case "abort": return { tops: stopped(column), value: "✗" }; default: return { tops: [""], value: "" }; } }
 function stopped({ op, key, bucket }) { if (!op) return ["abort", ""]; if (op === "scan") return [`scan ${bucket}`, "scan"];
   return op === "read" ? [`read ${key}`, `r ${key}`, `${key}`] : [`${key} :=`, `${key}`]; }
-function need(column, size, isNarrow) { const { tops, value } = wordsOf(column), most = column.kind === "scan" ? 7 : 12;
-  if (column.kind === "wait") return isNarrow ? 2.2 : 3; if (column.kind === "commit" || column.kind === "unknown") return isNarrow ? 1.7 : 2.4;
-  return Math.min(Math.max(wide(tops.at(-1), S), wide(value, column.kind === "scan" ? S : size, 700)) + (isNarrow ? 0.5 : 0.8), most); }
+function need(column, size, isNarrow) { const { tops, value } = wordsOf(column), most = column.kind === "scan" ? 7 : 12, isTight = isNarrow && size === S;
+  if (column.kind === "wait") return isTight ? 1.8 : isNarrow ? 2.2 : 3;
+  if (column.kind === "commit" || column.kind === "unknown") return isTight ? 1.4 : isNarrow ? 1.7 : 2.4;
+  return clamp(1.2, Math.max(wide(tops.at(-1), S), wide(value, column.kind === "scan" ? S : size, 700)) + (isNarrow ? 0.3 : 0.8), most); }
 function slotsOf(stories) { const all = stories.map(({ columns }) => { let [place, late] = [-2, 0]; return columns.map((column, index) => {
       const own = stories.length === 1 ? index : column.place; late = own === place ? late + 1 : 0; place = own; return own * 1000 + late; }); });
   const slots = [...new Set(all.flat())].sort((a, b) => a - b); return { count: slots.length, of: all.map((its) => its.map((slot) => slots.indexOf(slot))) }; }
@@ -191,11 +194,14 @@ function* ways(stories, slots, room, u, isNarrow) {
   for (const size of isNarrow ? [L] : [XL, L]) if (column >= Math.max(most(size), (isNarrow ? 2.6 : 3.4) * u)) yield { size, widths: even(column), least: column };
   for (const size of isNarrow ? [L, M] : [XL, L, M]) { const least = Math.max(most(size), 2.6 * u);
     for (let width = Math.max(4 * u, least); width >= least; width -= 0.1 * u) yield { size, widths: even(width), least: 1.2 * u }; }
-  for (const size of [L, M, S]) for (const least of [1, 0.6]) yield { size, widths: needs(size), least: least * u }; }
+  for (const size of [L, M, S]) for (const least of [1, 0.6]) yield { size, widths: needs(size), least: least * u };
+  if (isNarrow) yield { size: S, widths: needs(S), least: 0.3 * u, isTight: true }; }
 function layout(story, { w, h, u, all = [story], rows = true }) {
   const isNarrow = w < 34 * u, longest = Math.max(...story.names.map((name) => wide(name, 1, 700)), ...(rows ? story.tracks.map(({ key }) => wide(key, 1, 700)) : [])), nameSize = isNarrow && longest > 2.5 ? S : M;
-  const gutter = clamp(2.9 * u, longest * nameSize * u + (isNarrow ? 0.5 : 1.2) * u, w * 0.26), pad = (isNarrow ? 1.2 : 2.6) * u, tail = (isNarrow ? 0.4 : 3.2) * u, room = w - gutter - pad - tail;
-  const slots = slotsOf(all), own = slots.of[all.indexOf(story)]; let way, xs, length; for (way of ways(all, slots, room, u, isNarrow)) {
+  const always = rows && story.always.length ? wide("always", S, 700) * u + 0.6 * u : 0;
+  const gutter = clamp(Math.max(2.9 * u, always), longest * nameSize * u + (isNarrow ? 0.3 : 1.2) * u, Math.max(w * 0.26, always)), tail = (isNarrow ? 0.4 : 3.2) * u;
+  const slots = slotsOf(all), own = slots.of[all.indexOf(story)]; let way, xs, length, pad = (isNarrow ? 1.2 : 2.6) * u, room = w - gutter - pad - tail;
+  for (way of ways(all, slots, room, u, isNarrow)) { if (way.isTight) [pad, room] = [0.4 * u, room + pad - 0.4 * u];
     xs = spread(all, slots, way.widths, way.least); length = end(all, slots, way.widths, xs); if (length <= room + 0.5) break; }
   const first = way.widths.flat()[0] ?? 0, isEven = way.least === first, stretch = isEven || length >= room ? 1 : clamp(1, (room - first) / Math.max(length - first, 1), 2);
   const widths = way.widths[all.indexOf(story)], place = (x) => pad + first / 2 + (x - first / 2) * stretch;
@@ -218,7 +224,7 @@ const ORDINALS = ["1st", "2nd", "3rd"]; function names(story, at, step) {
     return `<g>${title(name)}${text(2, y + (isTwo ? -0.1 : 0.35) * at.u, size, cut(name, at.gutter - 4, size, 700), `b f${colour(t)}`, "start")}${under}</g>`; });
   return svg(at.gutter, at.lane * story.names.length, "transactions", parts.join("")); }
 function lines(column, at, box, tops, value, [topKind, valueKind], most = at.size) {
-  const { u } = at, room = box.w - 4, size = [XL, L, M, S].find((it) => it <= most && wide(value, it * u, 700) <= room) ?? S, isLarge = size > L;
+  const { u } = at, room = box.w - (at.isNarrow ? 2 : 4), size = [XL, L, M, S].find((it) => it <= most && wide(value, it * u, 700) <= room) ?? S, isLarge = size > L;
   const top = fitting(tops, room, S * u), middle = box.y + at.high / 2;
   if (top === "") return text(box.x + box.w / 2, middle + 0.36 * size * u, size * u, cut(value, room, size * u, 700), valueKind);
   return text(box.x + box.w / 2, middle - (isLarge ? 0.6 : 0.28) * u, S * u, top, topKind) +
@@ -230,7 +236,7 @@ function scanned(column, at, box) {
   return text(x, top + 0.3 * u, S * u, fitting(wordsOf(column).tops, box.w - 4, S * u), `f${colour(column.t)}`) +
     few.map((line, index) => text(x, top + (1.25 + index * 0.95) * u, S * u, cut(line, box.w - 4, S * u, 700), "b")).join(""); }
 function boxOf(column, at, index) {
-  const { u } = at, gap = at.width(index) < 3.2 * u ? 1.5 : 3, box = { x: at.left(index) + gap, y: at.y(column.t), w: at.width(index) - 2 * gap }, own = colour(column.t), { tops, value } = wordsOf(column);
+  const { u } = at, gap = at.isNarrow ? 1 : at.width(index) < 3.2 * u ? 1.5 : 3, box = { x: at.left(index) + gap, y: at.y(column.t), w: at.width(index) - 2 * gap }, own = colour(column.t), { tops, value } = wordsOf(column);
   const frame = (kind, round = 0.35 * u) => rect(box.x, box.y, box.w, at.high, kind, round), said = (kinds, most) => lines(column, at, box, tops, String(value), kinds, most);
   switch (column.kind) { case "read": return frame(`box s${own}`) + said([`f${own}`, column.by === null ? "b" : `b f${colour(column.by)}`]);
     case "scan": return frame(`box s${own}`) + scanned(column, at, box); case "write": { const whole = `${column.key} := ${value}`, size = at.size * u;
@@ -246,7 +252,7 @@ function waitBar(story, at, wait, step) {
   const x = at.left(wait.from) + 3, w = Math.max(to - x - 3, 0.6 * u), h = at.high * 0.78, y = at.y(wait.t) + at.high * 0.11, who = wait.for.map((t) => story.names[t]).join(", "), size = S * u;
   const all = `waits for ${who}`, long = wait.keys.length && wait.for.length === 1 ? `${all}, which read ${wait.keys.join(", ")}` : all;
   const said = [[long], [all], ["waits", `for ${who}`]].find((lines) => lines.every((it) => wide(it, size, 700) <= w - 0.8 * u)), bar = rect(x, y, w, h, "hatch", 0.3 * u);
-  if (!said) return bar + text(x, y + h + 0.85 * u, size, cut(all, at.w - x, size, 700), "b halo", "start");
+  if (!said) return bar + text(Math.max(0, Math.min(x, at.w - wide(all, size, 700) - 2)), y + h + 0.85 * u, size, cut(all, at.w, size, 700), "b halo", "start");
   const middle = x + Math.min(w / 2, Math.max(...said.map((it) => wide(it, size, 700))) / 2 + 0.3 * u);
   return bar + said.map((it, index) => text(middle, y + h / 2 + (said.length === 1 ? 0.27 : index ? 0.8 : -0.2) * u, size, it, "b halo")).join(""); }
 const isNear = (at, index, step) => index < step && (at.count <= 30 || index === step - 1);
@@ -294,12 +300,14 @@ const height = (story, at) => at.top + at.row * (story.tracks.length + story.alw
   const always = story.always.map((it, index) => text(2, at.top + at.row * (count + index) + 1.35 * u, S * u, cut("always", room, S * u, 700), "b", "start"));
   return svg(at.gutter, height(story, at), "rows", (story.views.length ? text(2, at.u, S * u, "row", "soft", "start") : "") + rows.join("") + always.join("")); }
 function track({ segments, pending }, at, y, now, till) {
-  const { u } = at, bar = at.row - 1.19 * u, parts = [path(`M0 ${r1(y + at.row - 0.03 * u)}H${r1(at.w)}`, "rule")];
+  const { u } = at, bar = at.row - 1.19 * u, parts = [path(`M0 ${r1(y + at.row - 0.03 * u)}H${r1(at.w)}`, "rule")]; let before = 0;
   for (const { from, to, value, t } of segments) { if (t !== null && from >= now) continue;
-    const x = t === null ? 0 : at.mid(from), w = till(0, to) - x || at.pad, isOpening = t === null, words = value ?? NONE;
+    const x = t === null ? 0 : at.mid(from), w = till(0, to) - x || at.pad, isOpening = t === null, words = value ?? NONE, own = wide(words, M * u, 700), base = y + at.row - 0.27 * u;
     parts.push(rect(x, y + bar, Math.max(w, isOpening ? at.pad - 4 : 2) - 1, at.row - bar - 0.05 * u, isOpening ? "seg" : `tint f${colour(t)}`, 2));
     if (!isOpening) parts.push(rect(x, y + bar, 4, at.row - bar - 0.05 * u, `f${colour(t)}`));
-    parts.push(`<g>${title(words)}${text(x + (isOpening ? 5 : 9), y + at.row - 0.27 * u, M * u, cut(words, Math.max(w - (isOpening ? 6 : 10), at.pad - 8), M * u, 700), `b ${isOpening ? "" : `f${colour(t)}`}`, "start")}</g>`); }
+    const isLeft = !isOpening && to === null && own > w - 10 && own + 8 < x - before, room = Math.max(w - (isOpening ? 6 : 10), at.pad - 8);
+    parts.push(`<g>${title(words)}${isLeft ? text(x - 4, base, M * u, words, `b f${colour(t)}`, "end") : text(x + (isOpening ? 5 : 9), base, M * u, cut(words, room, M * u, 700), `b ${isOpening ? "" : `f${colour(t)}`}`, "start")}</g>`);
+    before = x + Math.min(own, room) + 12; }
   for (const { t, from, to, value, end } of pending) { if (from >= now) continue; const x = at.mid(from), until = till(0, to), w = Math.max(until - x, 2) - 2;
     parts.push(rect(x, y + 0.06 * u, w, bar - 0.1 * u, `pend s${colour(t)}`, 2), text(x + 4, y + bar - 0.14 * u, S * u, cut(value ?? NONE, Math.max(w - 4, at.width(from) / 2), S * u), `f${colour(t)}`, "start"));
     if (end === "abort" && to < now) parts.push(text(until + 1, y + bar - 0.12 * u, S * u, "✗", "b badt", "start")); }
@@ -327,7 +335,7 @@ function tracks(story, at, step) {
   parts.push(looking(story, at, views));
   story.always.forEach((it, index) => parts.push(always(it, at, at.top + at.row * (story.tracks.length + index) + 0.35 * at.u, now, right)));
   return svg(at.w, low + 4, `Rows after ${now} moves`, parts.join("")); }
-return { keys, tracks }; })(); Story.cards = (() => { const { esc, wide } = Story.text;
+return { keys, tracks }; })(); Story.cards = (() => { const { esc, grouped, wide } = Story.text;
 const { DEFS, S, colour, path, r1, rect, svg, text, title } = Story.svg; const { VERDICTS, verdictKind } = Story.story; const NONE = "–";
 function mini(story, w, h, u, step) {
   const count = Math.max(story.columns.length, 1), column = w / count, lane = h / story.names.length, high = lane * 0.8, y = (t) => t * lane + lane * 0.1, size = Math.min(S * u, high * 0.9);
@@ -352,14 +360,14 @@ const isBroken = (outcome) => verdictKind(outcome.verdict) === "not" || outcome.
 const sorted = (outcomes) => [...outcomes].sort((one, other) => isBroken(other) - isBroken(one) || other.orders - one.orders);
 const rowsOf = ({ rows }) => rows.map(([key, value]) => `${key}=${value}`).join(" "); function saidOutcome(outcome, { orders }) {
   const ends = outcome.ends.map(({ txn, end }) => `${txn} ${end}`).join(", "), broken = outcome.breaks ? `; breaks line ${outcome.breaks}` : "";
-  return `${outcome.orders} of ${orders} orders: ${ends}; ${rowsOf(outcome)}; ${VERDICTS[verdictKind(outcome.verdict)]}${broken}`; }
-function bars(counted, names, w, u, isHere = () => false) {
-  const size = S * u, high = 1.45 * u, all = sorted(counted.outcomes), most = Math.max(...all.map((it) => it.orders)), alike = new Set(all.map((it) => it.ends.map(({ end }) => end).join())).size < all.length;
+  return `${grouped(outcome.orders)} of ${grouped(orders)} orders: ${ends}; ${rowsOf(outcome)}; ${VERDICTS[verdictKind(outcome.verdict)]}${broken}`; }
+const BAR = 1.45; function bars(counted, names, w, u, isHere = () => false) {
+  const size = S * u, high = BAR * u, all = sorted(counted.outcomes), most = Math.max(...all.map((it) => it.orders)), alike = new Set(all.map((it) => it.ends.map(({ end }) => end).join())).size < all.length;
   const short = names.join("").length > 6 ? names.map((name) => name.slice(0, 2)) : names, widths = short.map((name) => wide(`${name} ✓`, size, 700) + 0.45 * u), left = widths.reduce((sum, it) => sum + it, 0.4 * u);
-  const room = Math.max((w - left - wide(`✗ ${most}`, size, 700)) * 0.5, 2 * u);
+  const room = Math.max((w - left - wide(`✗ ${grouped(most)}`, size, 700)) * 0.5, 2 * u);
   return svg(w, high * all.length, "outcomes of all orders", DEFS + all.map((outcome, index) => {
     const y = index * high, base = y + 1.02 * u, bad = isBroken(outcome), isOther = verdictKind(outcome.verdict) === "other", length = Math.max(2, room * outcome.orders / most), words = saidOutcome(outcome, counted);
-    const after = bad || isOther ? "" : alike ? rowsOf(outcome) : outcome.ends.find(({ end }) => end !== "committed")?.end.replace("aborted ", "") ?? "", count = bad ? `✗ ${outcome.orders}` : `${outcome.orders}`;
+    const after = bad || isOther ? "" : alike ? rowsOf(outcome) : outcome.ends.find(({ end }) => end !== "committed")?.end.replace("aborted ", "") ?? "", count = `${bad ? "✗ " : ""}${grouped(outcome.orders)}`;
     const x = left + length + 0.3 * u, next = x + wide(count, size, 700) + 0.5 * u;
     const marks = outcome.ends.map(({ end }, t) => text(0.2 * u + widths.slice(0, t).reduce((sum, it) => sum + it, 0), base, size, `${short[t]} ${end === "committed" ? "✓" : "✗"}`, end === "committed" ? `b f${colour(t)}` : "badt", "start"));
     return `<g data-order="${esc(outcome.first?.join(" ") ?? "")}" role="button" tabindex="0" aria-label="${esc(words)}">${title(words)}${rect(0, y, w, high - 1, isHere(outcome) ? "band" : "chip", 3)}${marks.join("")}` +
@@ -369,7 +377,7 @@ const hasOutcome = (story) => (outcome) => verdictKind(outcome.verdict) === stor
   outcome.rows.every(([key, value]) => story.tracks.find((it) => it.key === key)?.segments.at(-1).value === value); function endOf({ ends, columns }, t) {
   if (ends[t] !== "abort") return ends[t] === "commit" ? "committed" : "unended";
   return `aborted ${columns.find((it) => it.t === t && it.kind === "abort").cause}`; }
-return { mini, sorted, saidOutcome, bars, hasOutcome, endOf }; })(); Story.figure = (() => { const { fitting, plain } = Story.text;
+return { mini, sorted, saidOutcome, BAR, bars, hasOutcome, endOf }; })(); Story.figure = (() => { const { fitting, plain } = Story.text;
 const { COLOURS, L, S, STYLE, XL, rect, r1, svg, text } = Story.svg; const { layout } = Story.layout; const { lanes, names } = Story.lanes;
 const { keys, tracks } = Story.rows; const painted = (drawing, colours) => drawing.replace(/var\(--(\w+)\)/g, (all, name) => colours[name] ?? all);
 function saying(story, step) { if (step === 0) return { say: "", isBad: false };
@@ -450,7 +458,7 @@ function found(it, moves, rows, place) {
   const own = moves.some((other) => other.txn === it.txn && other.kind === "write" && same([other.key, other.value], [it.key, it.value]));
   if (own) return { why: "It sees its own write" }; if (rows.some((row) => same(row, [it.key, it.value]))) return { why: "" };
   return { why: writersOf(moves, it).length ? "Several have written this value" : "Nobody here wrote this value" }; }
-return { isLog, playOfLog }; })(); Story.view = (() => { const { esc, plain, rich, sentences } = Story.text; const { layout } = Story.layout;
+return { isLog, playOfLog }; })(); Story.view = (() => { const { esc, grouped, plain, rich, sentences } = Story.text; const { layout } = Story.layout;
 const { lanes, names } = Story.lanes; const { keys, tracks } = Story.rows; const { bars, hasOutcome, mini } = Story.cards;
 const { samePlace, shortVerdict } = Story.story; const WRITTEN = "as written"; function positionOf(at, story) { if (at === "start") return 0;
   if (at === "end") return story.columns.length + 1; const all = story.columns.flatMap((it, index) => (fits(it, at) ? [index + 1] : []));
@@ -483,7 +491,7 @@ function compared(model, story, step, { w, h, u }) {
 const KINDS = [["slate", "serializable"], ["hatch", "only in another order"], ["bad", "✗ not serializable"]];
 const swatch = ([kind, words]) => `<span class="kind"><svg class="pic" viewBox="0 0 22 16" aria-hidden="true"><rect width="22" height="16" rx="3" class="${kind}"/></svg>${words}</span>`;
 function legend({ outcomes, levels, uncounted }) { const counted = levels.map((level) => outcomes[level]).find(Boolean);
-  if (counted) return `<p class="st-legend">This order at each level, and the outcomes of all ${Number(counted.orders).toLocaleString("en")} orders: ${KINDS.map(swatch).join(" ")}. A bar plays one.</p>`;
+  if (counted) return `<p class="st-legend">This order at each level, and the outcomes of all ${grouped(counted.orders)} orders: ${KINDS.map(swatch).join(" ")}. A bar plays one.</p>`;
   return `<p class="st-legend">This order at each level.${uncounted ? ` ${esc(uncounted)}` : ""}</p>`; }
 function cards(model, story, { level, step }, { w, u, narrow }) {
   const inner = (narrow ? w : (w - 0.8 * u * (model.levels.length - 1)) / model.levels.length) - 1.4 * u;
@@ -538,7 +546,7 @@ function worksheet(story) {
   const moves = story.columns.map((column, position) => (asked.has(position) ? item(asked.get(position)) : plainly(column, position))).join("");
   const last = asked.get(story.columns.length), rows = story.tracks.map(({ key }) => `${esc(key)} = ______`).join(" &nbsp; ");
   return `<ol class="sheet">${moves}${last ? item(last) : ""}</ol>${rows ? `<p>The rows at the end: ${rows}</p>` : ""}<p>${story.names.map((name, t) => `${rich(named(name), story.names)}: ☐ committed ☐ aborted`).join(" &nbsp; ")}</p>`; }
-return { questionAt, questions, questionHtml, result, worksheet }; })(); Story.player = (() => {
+return { questionAt, questions, questionHtml, result, worksheet }; })(); Story.player = (() => { const { BAR } = Story.cards;
 const { cards, compared, sentence, sentenceRoom, stage, told } = Story.view; const { questionAt, questionHtml, questions, result } = Story.ask;
 const { samePlace } = Story.story; const { esc, rich } = Story.text; const NARROW = "(max-width: 50rem)";
 const FORWARD = { ArrowRight: 1, ArrowDown: 1, PageDown: 1, ArrowLeft: -1, ArrowUp: -1, PageUp: -1 }; const READING = 700; class Player { constructor(host) {
@@ -564,8 +572,9 @@ pub(crate) const SCRIPT_SECOND: &str = r##"  showCards(story) {
     box.hidden = isHidden; if (isHidden) return put(box, ""); box.style.setProperty("--cards", model.levels.length);
     const scrolled = [...box.querySelectorAll(".level")].map((it) => it.scrollTop);
     put(box, cards(model, story, place, { w: box.clientWidth, u: unit, narrow })); box.querySelectorAll(".level").forEach((card, index) => {
-      card.scrollTop = scrolled[index] ?? 0; const more = Math.ceil((card.scrollHeight - card.clientHeight) / (1.45 * unit) - 0.2);
-      if (more > 0) card.insertAdjacentHTML("beforeend", `<div class="more">${more + 1} more ↓</div>`); }); return undefined; }
+      card.scrollTop = scrolled[index] ?? 0; if (card.scrollHeight <= card.clientHeight + 2) return;
+      const all = card.querySelectorAll("[data-order]").length, bar = BAR * unit, top = card.scrollTop + card.lastElementChild.getBoundingClientRect().top - card.getBoundingClientRect().top, whole = Math.floor((card.clientHeight - top - 1.2 * unit) / bar), h = card.clientHeight - top - whole * bar;
+      card.insertAdjacentHTML("beforeend", `<div class="more" style="height: ${h}px; margin-top: -${h}px">${all - whole} more ↓</div>`); }); return undefined; }
   showStage(story) {
     const { model, place, unit: u } = this, main = byId("st-main"), view = byId("st-stage"), narrow = matchMedia(NARROW).matches, style = getComputedStyle(main);
     const w = main.clientWidth - parseFloat(style.paddingLeft) - parseFloat(style.paddingRight), below = byId("st-cards").hidden ? 0 : byId("st-cards").offsetHeight + 0.5 * u;

@@ -64,7 +64,7 @@ pub(crate) const STYLE: &str = r#"/* Written by tools/assets. */
 .st-legend { grid-column: 1 / -1; margin: 0 0 -0.4rem; font-size: var(--s); color: var(--soft); }
 .kind { white-space: nowrap; margin-left: 0.5em; }
 .kind svg { width: 1.3em; height: 0.85em; vertical-align: -0.08em; margin-right: 0.35em; }
-.more { position: sticky; bottom: -0.5rem; margin: -1.45rem -0.6rem -0.5rem; padding: 0.1rem 0.8rem 0.35rem; background: var(--paper); font-size: var(--s); color: var(--soft); pointer-events: none; }
+.more { position: sticky; bottom: -0.5rem; margin: 0 -0.6rem -0.5rem; padding: 0.1rem 0.8rem 0.35rem; background: var(--paper); font-size: var(--s); color: var(--soft); pointer-events: none; }
 .level svg { display: block; }
 .level [data-order] { cursor: pointer; }
 .level [data-order]:hover .chip { fill: var(--track); }
@@ -84,18 +84,20 @@ pub(crate) const STYLE: &str = r#"/* Written by tools/assets. */
 .n0 { color: var(--c0); } .n1 { color: var(--c1); } .n2 { color: var(--c2); } .n3 { color: var(--c3); } .n4 { color: var(--c4); } .n5 { color: var(--c5); } .n6 { color: var(--c6); } .n7 { color: var(--c7); }
 @media screen and (max-width: 50rem) {
   .st-bar { position: sticky; top: 0; background: var(--paper); z-index: 3; flex-wrap: wrap; padding: 0.4rem 0.7rem; border-bottom: 1px solid var(--line); gap: 0.4rem; }
-  .st-bar select { max-width: none; flex: 1 1 auto; }
+  .st-bar select { max-width: none; flex: 1 1 8rem; }
   .st-bar nav { order: 8; flex: 1 1 auto; }
   .st-bar nav button { flex: 1 1 auto; padding: 0.35rem 0.3rem; min-width: 2.2rem; }
   .st-bar > button { order: 9; padding: 0.35rem 0.4rem; }
+  .st-bar > #more { order: 1; }
   .st-bar :is(#st-end, #st-compare, #st-machine) { font-size: var(--s); }
   #st-position { min-width: 3.4rem; }
   #st-which { flex-basis: 100%; order: 10; } #st-which:empty { display: none; }
   .story { --xl: 1.25rem; --xxl: 1.75rem; }
   .st-body { display: block; }
-  #st-main { padding: 0.3rem 0.7rem; display: block; } #st-cards { grid-template-columns: minmax(0, 1fr); max-height: none; } .level { max-height: none; } #st-say .two { columns: 1; }
+  #st-main { padding: 0.3rem 0.4rem; display: block; } #st-cards { grid-template-columns: minmax(0, 1fr); max-height: none; } .level { max-height: none; } #st-say .two { columns: 1; }
   #st-beside { border: 0; } #st-text { max-height: none; } #st-prose { overflow: visible; padding-bottom: 2rem; }
 }
+@media screen and (max-width: 32rem) { .st-bar select { flex-basis: 14rem; } }
 :root { --bg: #ffffff; --panel: #f4f6f8; --ink: #101720; --soft: #47515e; --line: #c3cad3; --strong: #101720; --here: #ffe28a; --here-ink: #101720; --c0: #0a4fb3; --c1: #a83a00; --c2: #6a22a3; --c3: #00635a; --c4: #9b1150; --c5: #4f5900; --on: #ffffff; --act: #cfe0f5; --act-line: #35598a; --com: #14532d; --com-on: #ffffff; --bad: #a3001b; --bad-bg: #fde3e3; --good: #14532d; --good-bg: #dff3e4; --warn: #8a4b00; --warn-bg: #ffe7bd; --bar: #dde3ea; --bar-line: #44505e; --moved: #ffd24d; --moved-ink: #101720; --shade: #eceff3; --o0: #0a4fb3; --o1: #c2570c; --o2: #6a22a3; --o3: #00857a; --o4: #c0246b; --o5: #7c8a00; color-scheme: light; }
 :root[data-theme="dark"] { --bg: #0e1217; --panel: #171d25; --ink: #f2f5f8; --soft: #b4bfcc; --line: #46515f; --strong: #f2f5f8; --here: #5c4a00; --here-ink: #ffffff; --c0: #8dbdff; --c1: #ffab78; --c2: #d0adff; --c3: #66dccb; --c4: #ff9ac6; --c5: #d3df74; --on: #0e1217; --act: #26405f; --act-line: #9cc3f2; --com: #8ee0a8; --com-on: #0e1217; --bad: #ff9c9c; --bad-bg: #4a1418; --good: #8ee0a8; --good-bg: #12351f; --warn: #ffc66b; --warn-bg: #4a3100; --bar: #2b3643; --bar-line: #b4bfcc; --moved: #ffd24d; --moved-ink: #101720; --shade: #1b222b; --o0: #8dbdff; --o1: #ffab78; --o2: #d0adff; --o3: #66dccb; --o4: #ff9ac6; --o5: #d3df74; color-scheme: dark; }
 @media (prefers-color-scheme: dark) {
