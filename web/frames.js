@@ -6,6 +6,7 @@ let panel = null, frame = null, coming = null, framePlace = "", frameTurn = 0;
 const MOST_STEPS = 2000, MOST_LINES = 5000;
 // A step after the last one of any story.
 const LAST = 999999;
+const NOT_LOADED = "The machine isn't loaded.";
 // How a page is looked at, which stays from one page to the next.
 let modes = {};
 
@@ -25,12 +26,12 @@ const lastStep = () => Math.max(0, ...player.story.columns.slice(0, now.step).fl
 
 // Shows the panels of the machine at a step: at the last one of the move.
 async function openMachine(step = lastStep()) {
-  if (!wasm || model?.isLog) return sayPanel(model?.isLog ? "A log has no machine: an engine wrote it." : "The machine isn't loaded.");
+  if (!wasm || model?.isLog) return sayPanel(model?.isLog ? "A log has no machine: an engine wrote it." : NOT_LOADED);
   openPanel("machine");
   if (frame?.told === model.id + now.level) return send(frame, {place: `${step}`, modes});
   const mine = ++frameTurn, schedule = await eventsOf();
   if (schedule === null || mine !== frameTurn) return undefined;
-  const got = await hek(["page", "--title", title(), ...partOf(schedule, step), NAME], {[NAME]: schedule});
+  const got = await hek(["page", "--machine", "--title", title(), ...partOf(schedule, step), NAME], {[NAME]: schedule});
   if (got.status === 0 && mine === frameTurn && panel === "machine") showPage(got.out, `${step}`, model.id + now.level);
   return undefined;
 }
@@ -44,6 +45,7 @@ function partOf(schedule, step) {
 }
 
 async function openExplorer(path = "") {
+  if (!wasm) return sayPanel(NOT_LOADED);
   openPanel("explorer");
   const mine = ++frameTurn, got = await hek(["page", "--machine", "--orders", "--title", title(), NAME], {[NAME]: atLevel(text.value, now.level)});
   if (mine !== frameTurn || panel !== "explorer" || got.isEnded) return;
@@ -54,6 +56,7 @@ async function openExplorer(path = "") {
 const atLevel = (schedule, level) => level && level !== WRITTEN ? schedule.replace(/^(\s*txn\s+\S+)(\s+\S+)?/gm, (all, front) => `${front} ${level}`) : schedule;
 
 async function openTrace() {
+  if (!wasm) return sayPanel(NOT_LOADED);
   openPanel("trace");
   const schedule = await eventsOf();
   if (schedule === null) return;

@@ -295,7 +295,7 @@ async function start() {
   listen();
   startEdge();
   const loading = isAble() ? load() : Promise.reject(new Error("This browser has no 64-bit WebAssembly: it plays what is stored here. To run texts of your own take Chrome or Edge from 133 on, or Firefox from 134 on."));
-  const isStored = !/^#(s=|own)/.test(location.hash) && !Object.keys(localStorage).some(key => key.startsWith("hek:text:"));
+  const isStored = !/^#(s=|own)|\/(explorer|trace)\b/.test(location.hash) && !Object.keys(localStorage).some(key => key.startsWith("hek:text:"));
   if (!isStored) await loading.catch(() => {});
   await goToAddress();
   await loading.then(() => { if (!model || isOld || others.length) return tell(); return undefined; }, fault => { say(fault.message ?? `The machine can’t be loaded: ${fault}`); });

@@ -106,7 +106,8 @@ export function layout(story, { w, h, u, all = [story], rows = true }) {
 /** Heights: of a lane, of its boxes, of a row. */
 function heights(story, { h, u, rows, isNarrow }) {
   const lanes = story.names.length, count = rows ? story.tracks.length + story.always.length : 0, top = (story.views.length ? 1.5 : 0.4) * u;
-  const row = (count > 6 ? 1.9 : 2.05) * u, low = rows && count ? top + row * count + u : 0;
-  const lane = clamp((lanes > 5 ? 3.3 : isNarrow ? 4.4 : rows ? 3.7 : 2.7) * u, (h - low) / lanes, 9 * u), high = clamp(2.5 * u, lane * (isNarrow ? 0.58 : 0.62), 4.6 * u);
+  const least = (lanes > 5 ? 3.3 : isNarrow ? 4.4 : rows ? 3.7 : 2.7) * u, isShort = count > 6 || top + (2.05 * count + 1) * u + lanes * least > h;
+  const row = (isShort ? 1.95 : 2.05) * u, low = rows && count ? top + row * count + u : 0;
+  const lane = clamp(least, (h - low) / lanes, 9 * u), high = clamp(2.5 * u, lane * (isNarrow ? 0.58 : 0.62), 4.6 * u);
   return { lane, high, gap: lane - high, row, top, y: (t) => t * lane + (lane - high) / 2 };
 }

@@ -212,8 +212,9 @@ function layout(story, { w, h, u, all = [story], rows = true }) {
     width: (index) => widths[index] ?? first, ...high }; }
 function heights(story, { h, u, rows, isNarrow }) {
   const lanes = story.names.length, count = rows ? story.tracks.length + story.always.length : 0, top = (story.views.length ? 1.5 : 0.4) * u;
-  const row = (count > 6 ? 1.9 : 2.05) * u, low = rows && count ? top + row * count + u : 0;
-  const lane = clamp((lanes > 5 ? 3.3 : isNarrow ? 4.4 : rows ? 3.7 : 2.7) * u, (h - low) / lanes, 9 * u), high = clamp(2.5 * u, lane * (isNarrow ? 0.58 : 0.62), 4.6 * u);
+  const least = (lanes > 5 ? 3.3 : isNarrow ? 4.4 : rows ? 3.7 : 2.7) * u, isShort = count > 6 || top + (2.05 * count + 1) * u + lanes * least > h;
+  const row = (isShort ? 1.95 : 2.05) * u, low = rows && count ? top + row * count + u : 0;
+  const lane = clamp(least, (h - low) / lanes, 9 * u), high = clamp(2.5 * u, lane * (isNarrow ? 0.58 : 0.62), 4.6 * u);
   return { lane, high, gap: lane - high, row, top, y: (t) => t * lane + (lane - high) / 2 }; }
 return { wordsOf, layout }; })(); Story.lanes = (() => { const { cut, esc, fitting, plain, wide } = Story.text;
 const { DEFS, L, M, S, XL, clamp, colour, curved, head, join, path, pointAt, r1, rect, svg, text, title } = Story.svg; const { wordsOf } = Story.layout;
@@ -364,15 +365,17 @@ const rowsOf = ({ rows }) => rows.map(([key, value]) => `${key}=${value}`).join(
 const BAR = 1.45; function bars(counted, names, w, u, isHere = () => false) {
   const size = S * u, high = BAR * u, all = sorted(counted.outcomes), most = Math.max(...all.map((it) => it.orders)), alike = new Set(all.map((it) => it.ends.map(({ end }) => end).join())).size < all.length;
   const short = names.join("").length > 6 ? names.map((name) => name.slice(0, 2)) : names, widths = short.map((name) => wide(`${name} ✓`, size, 700) + 0.45 * u), left = widths.reduce((sum, it) => sum + it, 0.4 * u);
-  const room = Math.max((w - left - wide(`✗ ${grouped(most)}`, size, 700)) * 0.5, 2 * u);
+  const isOther = (outcome) => verdictKind(outcome.verdict) === "other", countOf = (outcome) => `${isBroken(outcome) ? "✗ " : ""}${grouped(outcome.orders)}`;
+  const afterOf = (outcome) => isBroken(outcome) || isOther(outcome) ? "" : alike ? rowsOf(outcome) : outcome.ends.find(({ end }) => end !== "committed")?.end.replace("aborted ", "") ?? "";
+  const mostOf = (outcome) => (w - left - wide(countOf(outcome), size, 700) - wide(afterOf(outcome), size) - 0.9 * u) * most / outcome.orders;
+  const room = Math.max(2 * u, Math.min((w - left - wide(`✗ ${grouped(most)}`, size, 700)) * 0.5, ...all.map(mostOf).filter((it) => it >= 2 * u)));
   return svg(w, high * all.length, "outcomes of all orders", DEFS + all.map((outcome, index) => {
-    const y = index * high, base = y + 1.02 * u, bad = isBroken(outcome), isOther = verdictKind(outcome.verdict) === "other", length = Math.max(2, room * outcome.orders / most), words = saidOutcome(outcome, counted);
-    const after = bad || isOther ? "" : alike ? rowsOf(outcome) : outcome.ends.find(({ end }) => end !== "committed")?.end.replace("aborted ", "") ?? "", count = `${bad ? "✗ " : ""}${grouped(outcome.orders)}`;
+    const y = index * high, base = y + 1.02 * u, bad = isBroken(outcome), length = Math.max(2, room * outcome.orders / most), words = saidOutcome(outcome, counted), after = afterOf(outcome), count = countOf(outcome);
     const x = left + length + 0.3 * u, next = x + wide(count, size, 700) + 0.5 * u;
     const marks = outcome.ends.map(({ end }, t) => text(0.2 * u + widths.slice(0, t).reduce((sum, it) => sum + it, 0), base, size, `${short[t]} ${end === "committed" ? "✓" : "✗"}`, end === "committed" ? `b f${colour(t)}` : "badt", "start"));
     return `<g data-order="${esc(outcome.first?.join(" ") ?? "")}" role="button" tabindex="0" aria-label="${esc(words)}">${title(words)}${rect(0, y, w, high - 1, isHere(outcome) ? "band" : "chip", 3)}${marks.join("")}` +
-      rect(left, y + 0.28 * u, length, 0.85 * u, bad ? "bad" : isOther ? "hatch" : "slate", 2) + text(x, base, size, count, `b ${bad ? "badt" : ""}`, "start") +
-      (wide(after, size) < w - next + 4 ? text(next, base, size, after, "soft", "start") : "") + "</g>"; }).join(""), "group"); }
+      rect(left, y + 0.28 * u, length, 0.85 * u, bad ? "bad" : isOther(outcome) ? "hatch" : "slate", 2) + text(x, base, size, count, `b ${bad ? "badt" : ""}`, "start") +
+      (wide(after, size) <= w - next ? text(next, base, size, after, "soft", "start") : "") + "</g>"; }).join(""), "group"); }
 const hasOutcome = (story) => (outcome) => verdictKind(outcome.verdict) === story.verdict.kind && outcome.ends.every(({ end }, t) => end === endOf(story, t)) &&
   outcome.rows.every(([key, value]) => story.tracks.find((it) => it.key === key)?.segments.at(-1).value === value); function endOf({ ends, columns }, t) {
   if (ends[t] !== "abort") return ends[t] === "commit" ? "committed" : "unended";
@@ -469,7 +472,7 @@ function edgesHtml({ verdict, always, names: all }) {
   if (verdict.breaks !== null) rows.push(["always", `${esc(broken?.text ?? `line ${verdict.breaks}`)} doesn’t hold at the end.`]);
   return rows.length ? `<ul class="${rows.length > 3 ? "two" : ""}">${rows.map(([kind, said]) => `<li><span class="edge-kind">${esc(kind)}</span><span>${said}</span></li>`).join("")}</ul>` : ""; }
 function sentence(model, story, { step, mode }) { const column = story.columns[step - 1], { verdict } = story; if (step === 0 || mode === "compare") {
-    const asked = model.question || model.title, more = model.question && mode !== "compare" ? model.about : "";
+    const asked = model.question || model.title, more = model.question && mode !== "compare" && !model.intro ? model.about : "";
     return `<p>${esc(asked)}</p>${more ? `<p class="why">${esc(more)}</p>` : ""}`; }
   if (column) return `<p class="${column.breaks === null ? "" : "not"}">${rich(column.say, story.names)}</p>${column.why ? `<p class="why">${rich(column.why, story.names)}</p>` : ""}`;
   const isBad = verdict.kind === "not" || verdict.breaks !== null, tail = sentences([verdict.kind === "not" ? verdict.name : "", verdict.tail]);
@@ -488,10 +491,10 @@ function compared(model, story, step, { w, h, u }) {
     const now = samePlace(story, step, its), isEnd = now > its.columns.length, { kind, breaks } = its.verdict, said = now ? rich(isEnd ? its.verdict.say : its.columns[now - 1].say, its.names) : "";
     return `<h2 class="${isEnd && (kind === "not" || breaks !== null) ? "not" : ""}"><span>${esc(level)}</span> ${said}</h2>${cell("names", names(its, at[index], now))}<div class="lanes" data-level="${esc(level)}">${lanes(its, at[index], now, true)}</div>`; }).join("");
   return { html, at: at[stories.indexOf(story)] }; }
-const KINDS = [["slate", "serializable"], ["hatch", "only in another order"], ["bad", "✗ not serializable"]];
+const KINDS = [["slate", "serializable"], ["hatch", "in another order"], ["bad", "✗ not serializable"]];
 const swatch = ([kind, words]) => `<span class="kind"><svg class="pic" viewBox="0 0 22 16" aria-hidden="true"><rect width="22" height="16" rx="3" class="${kind}"/></svg>${words}</span>`;
 function legend({ outcomes, levels, uncounted }) { const counted = levels.map((level) => outcomes[level]).find(Boolean);
-  if (counted) return `<p class="st-legend">This order at each level, and the outcomes of all ${grouped(counted.orders)} orders: ${KINDS.map(swatch).join(" ")}. A bar plays one.</p>`;
+  if (counted) return `<p class="st-legend">This order at each level, and all ${grouped(counted.orders)} orders by outcome: ${KINDS.map(swatch).join(" ")}. A bar plays one.</p>`;
   return `<p class="st-legend">This order at each level.${uncounted ? ` ${esc(uncounted)}` : ""}</p>`; }
 function cards(model, story, { level, step }, { w, u, narrow }) {
   const inner = (narrow ? w : (w - 0.8 * u * (model.levels.length - 1)) / model.levels.length) - 1.4 * u;
@@ -1477,7 +1480,7 @@ function laneHead(id, y, { laneH: h, gutter, u, isPhone, tight }) {
   const after = 0.2 * u + widthOf(name, big, 700) + 0.5 * u;
   if (tokenW) parts.push(`<g class="token"><rect x="${f1(after - 0.1 * u)}" y="${f1(y + 0.42 * u)}" width="${f1(tokenW)}" height="${f1(1.15 * u)}" rx="${f1(0.55 * u)}"/><text x="${f1(after - 0.1 * u + tokenW / 2)}" y="${f1(y + 1.32 * u)}" text-anchor="middle" style="font-size:${f1(0.9 * u)}px">${esc(short)}</text></g>`);
   const next = after + (tokenW ? tokenW + 0.3 * u : 0);
-  const level = fitting([it.level, it.level.slice(0, 6), ""], gutter - next - 0.3 * u, 0.95 * u);
+  const level = fitting([it.level, `${it.level.slice(0, 7)}\u2026`, `${it.level.slice(0, 4)}\u2026`, ""], gutter - next - 0.3 * u, 0.95 * u);
   const state = it.kind === "not" ? "not begun" : it.kind === "active" && it.finished ? "finished" : it.kind;
   if (isPhone) {
     if (it.waits || it.commits) parts.push(`<text class="lane-facts" x="${f1(0.2 * u)}" y="${f1(y + 2.7 * u)}"><tspan class="warn">waits ${it.waits || it.commits}</tspan></text>`);
@@ -2386,6 +2389,9 @@ function outcomeParts(text) {
   return { parts, verdict, isGood: !breaks && verdict !== "not serial" };
 }
 
+/** A verdict of an outcome's text in the words of a story. */
+const verdictSaid = (verdict) => verdict.replace(/\bserial\b/, "serializable");
+
 /** An outcome in few words: of more than two transactions those that don't commit. */
 function outcomeOf(text) {
   const { parts, verdict } = outcomeParts(text);
@@ -2394,7 +2400,7 @@ function outcomeOf(text) {
   const telling = txns.length > 2 ? txns.filter(([, state]) => state !== "committed") : txns;
   const endOf = (state, cause) => (state === "committed" ? "commits" : state === "unended" ? "goes on" : `aborts (${cause})`);
   const said = telling.map(([name, state, cause]) => `${tagName(name)} ${endOf(state, cause)}`).join(", ") || "all commit";
-  return `${said}<span class="soft"> \u00b7 ${esc(rows.replace("rows ", ""))}${verdict === "serial" ? "" : ` \u00b7 <b>${esc(verdict)}</b>`}</span>`;
+  return `${said}<span class="soft"> \u00b7 ${esc(rows.replace("rows ", ""))}${verdict === "serial" ? "" : ` \u00b7 <b>${esc(verdictSaid(verdict))}</b>`}</span>`;
 }
 
 const letterOf = (outcome) => "ABCDEFGHIJKLMNOPQRSTUVWXYZ"[outcome] ?? String(outcome);
@@ -2482,7 +2488,7 @@ function showTree() {
     const idle = (joins ? hasEnded(tree.names[who]) : it.steps.length === 0) ? ' <span class="soft">(has aborted)</span>' : "";
     return `<button type="button" class="choice${isTaken ? " taken" : ""}" data-next="${next}"${joins ? ` title="${esc(joinSaid(next))}"` : ""}><kbd>${who + 1}</kbd> <span>${joins ? `${JOINS} ` : ""}${(isCrowd ? shortTag : tagName)(tree.names[who])} <b>${esc(move)}</b>${idle}</span>${outcomeBar(it.counts)}<span class="count">${isSecret ? "" : countsSaid(it.counts, room)}</span></button>`;
   }).join("");
-  const found = whole && isAt ? `<p class="whose">This order is complete.</p><p class="final">${outcomeOf(data.outcomes[node.outcome])}</p><p>The checker: <b>${esc(outcomeParts(data.outcomes[node.outcome]).verdict)}</b>. ${reachSaid(node)}</p>` : "";
+  const found = whole && isAt ? `<p class="whose">This order is complete.</p><p class="final">${outcomeOf(data.outcomes[node.outcome])}</p><p>All together: <b>${esc(verdictSaid(outcomeParts(data.outcomes[node.outcome]).verdict))}</b>. ${reachSaid(node)}</p>` : "";
   const inside = isAt ? "" : `<p class="whose">In the middle of a move</p><p>\u2192 goes on with it.</p>`;
   $("because").innerHTML = `<div class="moves">${found || inside || `<p class="whose">Who moves next?</p><div class="pick${tree.isMerged ? " merged" : ""}${isCrowd ? " crowd" : ""}" style="--n:${isCrowd ? Math.ceil(ways / 2) : Math.min(ways, 3)}">${choices}</div>`}</div>`;
   // the outcomes that can still be reached
@@ -2497,6 +2503,8 @@ function showTree() {
     const left = isSecret ? 0 : data.outcomes.length - shown.length;
     const digits = Math.max(...shown.map((at) => String(tree.nodes[0].counts[at]).length));
     put("word", `<ul class="outcomes${data.outcomes.length > 3 ? " many" : ""}"${digits > 3 ? ` style="--digits:${digits}"` : ""}>${rows.join("")}${left ? `<li class="rest soft">and ${left} more</li>` : ""}</ul>`);
+    // Lines that are broken may need more room than there is.
+    if (!isSmall() && $("word").scrollHeight > $("word").clientHeight + 2) $("word").firstElementChild.classList.add("many");
   }
 }
 
@@ -2566,15 +2574,15 @@ function plantLevels() {
   const marked = outcomesAtLevels().find(({ text, counts }) => !outcomeParts(text).isGood && counts.some(Boolean)) ?? outcomesAtLevels()[0];
   const at = marked.counts.findIndex(Boolean);
   levels.order = orderTo(levels.trees[at], sheet.trees[at].outcomes.indexOf(marked.text));
-}
+"#;
+
+pub(crate) const SCRIPT_FOURTH: &str = r##"}
 
 /** Each outcome with how many orders have it at each level. */
 function outcomesAtLevels() {
   const texts = [...new Set(sheet.trees.flatMap((it) => it.outcomes))];
   return texts.map((text) => ({ text, counts: sheet.trees.map((it, at) => levels.trees[at].nodes[0].counts[it.outcomes.indexOf(text)] ?? 0) }));
-"#;
-
-pub(crate) const SCRIPT_FOURTH: &str = r##"}
+}
 
 /** The first order of a tree that has an outcome: the names of those that move. */
 const orderTo = (its, outcome) => movesOn(its, 0, outcome).order;
@@ -2600,7 +2608,7 @@ function isNews() {
 /** An outcome in words: how each transaction ends, the rows, and the verdict. */
 function endsSaid(text) {
   const { parts, verdict, isGood } = outcomeParts(text);
-  return `${parts.map(esc).join("; ")}; <b class="${isGood ? "good" : "bad"}">${esc(verdict)}</b>`;
+  return `${parts.map(esc).join("; ")}; <b class="${isGood ? "good" : "bad"}">${esc(verdictSaid(verdict))}</b>`;
 }
 
 function showLevels() {

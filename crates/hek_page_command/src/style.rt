@@ -212,7 +212,7 @@ body[data-ring] main { grid-template-rows: auto minmax(min(10.5rem, 22vh), 1.12f
 #say { display: grid; grid-template-columns: minmax(0, 1.25fr) minmax(0, 1fr); gap: 0.2rem 1.4rem; height: 7.6rem; padding: 0.45rem 0.8rem 0.3rem; margin-top: 0.35rem; border-left: 0.5rem solid var(--bar-line); background: var(--panel); border-radius: 0 0.5rem 0.5rem 0; overflow: hidden; }
 #say.waits { border-color: var(--warn); } #say.aborts { border-color: var(--bad); } #say.commits { border-color: var(--com); } #say.asks { border-color: var(--c2); }
 #say p { margin: 0; }
-#said, #because { min-width: 0; overflow: hidden auto; }
+#said, #because { min-width: 0; overflow: hidden auto; } #said { overflow-wrap: anywhere; }
 .event { font-size: 1.2rem; line-height: 1.25; }
 .num { display: inline-block; background: var(--here); color: var(--here-ink); font-weight: 700; border-radius: 0.3rem; padding: 0 0.45rem; margin-right: 0.25rem; }
 .reply { font-family: ui-monospace, "SF Mono", Consolas, "Liberation Mono", monospace; font-weight: 700; }
@@ -238,7 +238,7 @@ html.present #said:has(.verdict) .plain { font-size: 1rem; } html.present .verdi
 #said[data-fit] :is(.plain, .plain.long) { font-size: 1.05rem !important; line-height: 1.15; margin-top: 0.1rem !important; } #said[data-fit] .event { font-size: 1rem; line-height: 1.15; }
 #said[data-fit="2"] :is(.plain, .plain.long) { font-size: 0.92rem !important; line-height: 1.1; } #said[data-fit="2"] .event { font-size: 0.92rem; } #said[data-fit="2"] .note:not(.verdict) { display: none; } #said[data-fit="2"] .verdict { font-size: 0.9rem; line-height: 1.1; }
 #because[data-fit] .why { font-size: 0.94rem; line-height: 1.15; } #because[data-fit] .chips { font-size: 0.92rem; line-height: 1.4; }
-#because[data-fit="2"] .why { font-size: 0.84rem; line-height: 1.1; margin-bottom: 0.1rem; } #because[data-fit="2"] .chips { font-size: 0.84rem; line-height: 1.3; } #because[data-fit="2"] .chip { line-height: 1.15; margin-bottom: 0; }
+#because[data-fit="2"] .why { font-size: 0.84rem; line-height: 1.1; margin-bottom: 0.1rem; } #because[data-fit="2"] .chips { font-size: 0.84rem; line-height: 1.3; } #because[data-fit="2"] .chip { line-height: 1.15; margin-bottom: 0; white-space: nowrap; overflow: hidden; text-overflow: ellipsis; }
 @media (min-width: 62rem) and (min-height: 42rem) { :root:not(.present) body:is([data-lanes="1"], [data-lanes="2"]):not(.tree) #say { height: 9.6rem; } :root:not(.present) body:is([data-lanes="1"], [data-lanes="2"]):not(.tree) .plain { font-size: 1.65rem; } :root:not(.present) body:is([data-lanes="1"], [data-lanes="2"]):not(.tree) .why { font-size: 1.12rem; } :root:not(.present) body:is([data-lanes="1"], [data-lanes="2"]):not(.tree) .plain.long { font-size: 1.4rem !important; } }
 .key .ph { display: inline-block; width: 1.9rem; height: 0.85rem; margin: 0 0.25rem 0 0.7rem; border: 1px solid var(--bar-line); vertical-align: -0.05rem; }
 .key .ph:first-child { margin-left: 0; }

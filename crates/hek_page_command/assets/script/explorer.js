@@ -48,6 +48,9 @@ function outcomeParts(text) {
   return { parts, verdict, isGood: !breaks && verdict !== "not serial" };
 }
 
+/** A verdict of an outcome's text in the words of a story. */
+const verdictSaid = (verdict) => verdict.replace(/\bserial\b/, "serializable");
+
 /** An outcome in few words: of more than two transactions those that don't commit. */
 function outcomeOf(text) {
   const { parts, verdict } = outcomeParts(text);
@@ -56,7 +59,7 @@ function outcomeOf(text) {
   const telling = txns.length > 2 ? txns.filter(([, state]) => state !== "committed") : txns;
   const endOf = (state, cause) => (state === "committed" ? "commits" : state === "unended" ? "goes on" : `aborts (${cause})`);
   const said = telling.map(([name, state, cause]) => `${tagName(name)} ${endOf(state, cause)}`).join(", ") || "all commit";
-  return `${said}<span class="soft"> \u00b7 ${esc(rows.replace("rows ", ""))}${verdict === "serial" ? "" : ` \u00b7 <b>${esc(verdict)}</b>`}</span>`;
+  return `${said}<span class="soft"> \u00b7 ${esc(rows.replace("rows ", ""))}${verdict === "serial" ? "" : ` \u00b7 <b>${esc(verdictSaid(verdict))}</b>`}</span>`;
 }
 
 const letterOf = (outcome) => "ABCDEFGHIJKLMNOPQRSTUVWXYZ"[outcome] ?? String(outcome);
@@ -144,7 +147,7 @@ function showTree() {
     const idle = (joins ? hasEnded(tree.names[who]) : it.steps.length === 0) ? ' <span class="soft">(has aborted)</span>' : "";
     return `<button type="button" class="choice${isTaken ? " taken" : ""}" data-next="${next}"${joins ? ` title="${esc(joinSaid(next))}"` : ""}><kbd>${who + 1}</kbd> <span>${joins ? `${JOINS} ` : ""}${(isCrowd ? shortTag : tagName)(tree.names[who])} <b>${esc(move)}</b>${idle}</span>${outcomeBar(it.counts)}<span class="count">${isSecret ? "" : countsSaid(it.counts, room)}</span></button>`;
   }).join("");
-  const found = whole && isAt ? `<p class="whose">This order is complete.</p><p class="final">${outcomeOf(data.outcomes[node.outcome])}</p><p>The checker: <b>${esc(outcomeParts(data.outcomes[node.outcome]).verdict)}</b>. ${reachSaid(node)}</p>` : "";
+  const found = whole && isAt ? `<p class="whose">This order is complete.</p><p class="final">${outcomeOf(data.outcomes[node.outcome])}</p><p>All together: <b>${esc(verdictSaid(outcomeParts(data.outcomes[node.outcome]).verdict))}</b>. ${reachSaid(node)}</p>` : "";
   const inside = isAt ? "" : `<p class="whose">In the middle of a move</p><p>\u2192 goes on with it.</p>`;
   $("because").innerHTML = `<div class="moves">${found || inside || `<p class="whose">Who moves next?</p><div class="pick${tree.isMerged ? " merged" : ""}${isCrowd ? " crowd" : ""}" style="--n:${isCrowd ? Math.ceil(ways / 2) : Math.min(ways, 3)}">${choices}</div>`}</div>`;
   // the outcomes that can still be reached
@@ -159,6 +162,8 @@ function showTree() {
     const left = isSecret ? 0 : data.outcomes.length - shown.length;
     const digits = Math.max(...shown.map((at) => String(tree.nodes[0].counts[at]).length));
     put("word", `<ul class="outcomes${data.outcomes.length > 3 ? " many" : ""}"${digits > 3 ? ` style="--digits:${digits}"` : ""}>${rows.join("")}${left ? `<li class="rest soft">and ${left} more</li>` : ""}</ul>`);
+    // Lines that are broken may need more room than there is.
+    if (!isSmall() && $("word").scrollHeight > $("word").clientHeight + 2) $("word").firstElementChild.classList.add("many");
   }
 }
 
