@@ -576,7 +576,7 @@ pub(crate) const SCRIPT_SECOND: &str = r##"  showCards(story) {
     const scrolled = [...box.querySelectorAll(".level")].map((it) => it.scrollTop);
     put(box, cards(model, story, place, { w: box.clientWidth, u: unit, narrow })); box.querySelectorAll(".level").forEach((card, index) => {
       card.scrollTop = scrolled[index] ?? 0; if (card.scrollHeight <= card.clientHeight + 2) return;
-      const all = card.querySelectorAll("[data-order]").length, bar = BAR * unit, top = card.scrollTop + card.lastElementChild.getBoundingClientRect().top - card.getBoundingClientRect().top, whole = Math.floor((card.clientHeight - top - 1.2 * unit) / bar), h = card.clientHeight - top - whole * bar;
+      const all = card.querySelectorAll("[data-order]").length, bar = BAR * unit, top = card.scrollTop + card.lastElementChild.getBoundingClientRect().top - card.getBoundingClientRect().top, whole = Math.floor((card.clientHeight - top - 1.2 * unit) / bar), h = card.clientHeight - top - whole * bar + 1;
       card.insertAdjacentHTML("beforeend", `<div class="more" style="height: ${h}px; margin-top: -${h}px">${all - whole} more ↓</div>`); }); return undefined; }
   showStage(story) {
     const { model, place, unit: u } = this, main = byId("st-main"), view = byId("st-stage"), narrow = matchMedia(NARROW).matches, style = getComputedStyle(main);
@@ -659,7 +659,8 @@ class StoryPage { constructor(sheet, objects, panels) { Object.assign(this, { sh
     this.outcomes = outcomesOf(objects.filter((it) => it.kind === undefined && it.levels !== undefined)); this.isLog = Boolean(log); [this.own] = this.plays;
     this.place = { level: log ? "serializable" : levelOf(this.own), step: 0, mode: "", asks: false }; this.order = this.own.order ?? [];
     this.player = new Player({ go: (change, isEntry, options) => this.go(change, isEntry, options) });
-    byId("st-back").addEventListener("click", () => history.back()); byId("st-machine").hidden = this.isLog || !panels; }
+    byId("st-back").addEventListener("click", () => history.back()); addEventListener("resize", () => { if (this.isOpen) this.show(); });
+    byId("st-machine").hidden = this.isLog || !panels; }
   model(order) { const id = order.join(" "); if (!this.models.has(id)) { const stories = {};
       for (const play of this.plays) if (same(play.order ?? [], order)) stories[this.isLog ? "serializable" : levelOf(play)] ??= storyOf(play, this.text);
       const { title, about, question } = this.sheet;
@@ -670,9 +671,9 @@ class StoryPage { constructor(sheet, objects, panels) { Object.assign(this, { sh
   open(order, level) { this.order = order; this.place = { ...this.place, level: level ?? this.place.level, step: Infinity, mode: "" }; this.show();
     this.write(); }
   show(options) { const model = this.model(this.order); if (!model.stories[this.place.level]) this.place.level = model.levels[0];
-    this.place.step = Math.max(0, Math.min(this.place.step, model.stories[this.place.level].columns.length + 1)); this.player.show(model, this.place, options);
-    showText(byId("st-text"), this.text, this.player.story, this.place.step); byId("st-back").hidden = !(history.state?.depth > 0);
-    document.documentElement.classList.add("told"); }
+    this.place.step = Math.max(0, Math.min(this.place.step, model.stories[this.place.level].columns.length + 1));
+    document.documentElement.classList.add("told"); this.player.show(model, this.place, options);
+    showText(byId("st-text"), this.text, this.player.story, this.place.step); byId("st-back").hidden = !(history.state?.depth > 0); }
   get isOpen() { return document.documentElement.classList.contains("told"); }
   go(change, isEntry = false, options = {}) { if (change.mode === "machine") return this.openMachine(); const { order, ...rest } = change;
     if (isEntry) try { history.pushState({ depth: (history.state?.depth ?? 0) + 1 }, "", this.address()); } catch {}

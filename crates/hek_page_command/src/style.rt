@@ -73,7 +73,8 @@ pub(crate) const STYLE: &str = r#"/* Written by tools/assets. */
 #st-text span { display: block; padding: 0 1.1rem 0 2.2rem; text-indent: -1.1rem; white-space: pre-wrap; overflow-wrap: anywhere; }
 #st-text .here { background: var(--band); font-weight: 700; }
 #st-text .broken { background: var(--bad); color: var(--on); font-weight: 700; }
-#st-prose { flex: 1; min-height: 0; overflow-y: auto; padding: 0.5rem 1.1rem 45vh; position: relative; outline-offset: -3px; }
+#st-prose { flex: 1; min-height: 0; overflow-y: auto; padding: 0.5rem 1.1rem 0; position: relative; outline-offset: -3px; }
+#st-prose::after { content: ""; display: block; height: 45vh; }
 #st-prose p { margin: 0 0 0.6rem; }
 #st-prose .ask { font-weight: 700; }
 #st-prose .tell { border-left: 4px solid transparent; margin: 0 -1.1rem 0.35rem; padding: 0.1rem 1.1rem 0.1rem calc(1.1rem - 4px); color: var(--soft); cursor: pointer; }
@@ -94,8 +95,9 @@ pub(crate) const STYLE: &str = r#"/* Written by tools/assets. */
   #st-which { flex-basis: 100%; order: 10; } #st-which:empty { display: none; }
   .story { --xl: 1.25rem; --xxl: 1.75rem; }
   .st-body { display: block; }
+  #st-grid h2 { max-width: calc(100vw - 0.8rem); }
   #st-main { padding: 0.3rem 0.4rem; display: block; } #st-cards { grid-template-columns: minmax(0, 1fr); max-height: none; } .level { max-height: none; } #st-say .two { columns: 1; }
-  #st-beside { border: 0; } #st-text { max-height: none; } #st-prose { overflow: visible; padding-bottom: 2rem; }
+  #st-beside { border: 0; } #st-text { max-height: none; } #st-prose { overflow: visible; } #st-prose::after { height: 2rem; }
 }
 @media screen and (max-width: 32rem) { .st-bar select { flex-basis: 14rem; } }
 :root { --bg: #ffffff; --panel: #f4f6f8; --ink: #101720; --soft: #47515e; --line: #c3cad3; --strong: #101720; --here: #ffe28a; --here-ink: #101720; --c0: #0a4fb3; --c1: #a83a00; --c2: #6a22a3; --c3: #00635a; --c4: #9b1150; --c5: #4f5900; --on: #ffffff; --act: #cfe0f5; --act-line: #35598a; --com: #14532d; --com-on: #ffffff; --bad: #a3001b; --bad-bg: #fde3e3; --good: #14532d; --good-bg: #dff3e4; --warn: #8a4b00; --warn-bg: #ffe7bd; --bar: #dde3ea; --bar-line: #44505e; --moved: #ffd24d; --moved-ink: #101720; --shade: #eceff3; --o0: #0a4fb3; --o1: #c2570c; --o2: #6a22a3; --o3: #00857a; --o4: #c0246b; --o5: #7c8a00; color-scheme: light; }
@@ -251,7 +253,7 @@ html.present #said:has(.verdict) .plain { font-size: 1rem; } html.present .verdi
 .cover { display: inline-block; background: var(--ink); color: var(--bg); border-radius: 0.3rem; padding: 0 2.2rem; font-weight: 700; }
 .choices { display: grid; grid-template-columns: 1fr 1fr; gap: 0.45rem; }
 .choices button { font-size: 1.12rem; padding: 0.45rem 0.6rem; text-align: left; border-width: 2px; }
-.told { font-weight: 700; font-size: 1.1rem; margin-bottom: 0.15rem !important; }
+p.told { font-weight: 700; font-size: 1.1rem; margin-bottom: 0.15rem !important; }
 .told.right { color: var(--good); } .told.wrong { color: var(--bad); }
 kbd { display: inline-block; min-width: 1.5em; text-align: center; border: 1px solid var(--bar-line); border-radius: 0.25rem; padding: 0 0.3em; font-size: 0.88em; background: var(--bg); color: var(--ink); }
 :where(#chains text, #graph text) { font-size: 1em; }
