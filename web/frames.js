@@ -142,9 +142,7 @@ addEventListener("message", ({source, data}) => {
 
 // The order at whose end the explorer is has its story, at the verdict; "back" is the explorer.
 function tellExplored(order) {
-  enter();
-  closePanel();
-  goTo({order, mode: "", step: LAST});
+  goTo({order, mode: "", step: LAST}, true);
 }
 
 // The line of the machine's step: that of the last move before it.

@@ -264,7 +264,7 @@ function listen() {
   });
   // After a click the keys go to the story again, as those of a presenter's remote should.
   document.addEventListener("click", event => {
-    if (event.detail > 0 && !event.target.closest("dialog, #menu")) event.target.closest("button, [role=button]")?.blur();
+    if (event.detail > 0 && event.target.closest("button, [role=button]") && !event.target.closest("dialog, #menu, #more, #problems, #skip")) document.activeElement?.blur();
   });
   document.addEventListener("keydown", pageKey);
   addEventListener("resize", () => draw());

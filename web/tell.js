@@ -203,6 +203,7 @@ function markLine() {
 // Goes to another place of the story, with an entry of the browser's history for another level or order.
 function goTo(change, isEntry = false, options = {}) {
   if (isEntry) enter();
+  if (change.mode === "" && panel) closePanel();
   const {order, ...rest} = change;
   now = {...now, ...rest};
   if (change.mode === "machine" || panel === "machine") return openMachine();
