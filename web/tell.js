@@ -206,7 +206,10 @@ function goTo(change, isEntry = false, options = {}) {
   if (change.mode === "" && panel) closePanel();
   const {order, ...rest} = change;
   now = {...now, ...rest};
-  if (change.mode === "machine" || panel === "machine") return openMachine();
+  if (change.mode === "machine" || panel === "machine") {
+    player.place = now;
+    return openMachine();
+  }
   if (order) wantedOrder = order;
   if (order && !isSame(order, model?.order)) return tell(options);
   return draw(options);
