@@ -82,13 +82,12 @@ class References(Tree):
 
     def test_a_definition_that_moved_is_found(self):
         self.write("crates/hek_low/specs/Words.antt", "-- words\n\nabbrev pub lock : N\nlock = 1\n")
-        text = "A [`Words.lock`], and `Words.key`.\n\n<!-- lines of definitions, written by tools/references --write -->\n"
-        label = "[`Words.lock`]: ../crates/hek_low/specs/Words.antt#L3\n"
-        self.assertEqual(self.references.line_labels(text), label)
-        self.assertEqual([*self.references.wrong_lines(text + label)], [])
-        wrong = ["the label [`Words.lock`] isn't what the sources give: tools/references --write"]
-        self.assertEqual([*self.references.wrong_lines(text + label.replace("L3", "L2"))], wrong)
-        self.assertEqual([*self.references.wrong_lines("")], ["no labels below <!-- lines of definitions, written by tools/references --write -->"])
+        link = "[`Words.lock`](../crates/hek_low/specs/Words.antt#L3)"
+        self.assertEqual(self.references.with_lines("A [`Words.lock`](), and `Words.key`."), f"A {link}, and `Words.key`.")
+        self.assertEqual([*self.references.wrong_lines(link)], [])
+        wrong = ["the link of `Words.lock` isn't what the sources give: tools/references --write"]
+        self.assertEqual([*self.references.wrong_lines(link.replace("L3", "L2"))], wrong)
+        self.assertEqual([*self.references.wrong_lines("[`Words.lock`]()")], wrong)
 
     def test_a_task_that_the_list_lacks_is_found(self):
         text = "# Commands\n\n[run it](#run-it) (`run`)\n\n## Run it\n\n## Judge it\n"
