@@ -23,10 +23,6 @@ ARCHITECTURE = """Hek is 3 small crates.
 |---|---|
 | hek_low: one, two; hek_top: three | steps |
 
-<!-- written by tools/references --write -->
-| Crate | old |
-| hek_top | row |
-
 After.
 """
 
@@ -70,7 +66,7 @@ class References(Tree):
         made = self.references.purposes()
         self.assertEqual(made.splitlines()[2:], rows)
         text = self.references.written(ARCHITECTURE)
-        wrong = lambda text: [*self.references.wrong_rows("the crates", self.references.PURPOSES, text, made)]
+        wrong = lambda text: [*self.references.wrong_purposes(text)]
         self.assertEqual(wrong(text), [])
         self.assertEqual(wrong(text.replace("The machine |", "Old |")), ["the crates: the row of hek_top isn't what the sources give: tools/references --write"])
         self.assertEqual(wrong("none"), ["no table of the crates below its comment"])
@@ -100,20 +96,12 @@ class References(Tree):
         self.assertEqual([*self.references.wrong_count(ARCHITECTURE)], ["3 crates, where crates.txt has 2: tools/references --write"])
         self.assertEqual([*self.references.wrong_count("Hek has crates.")], ["no sentence `Hek is N small crates`"])
 
-    def test_a_crate_that_the_table_of_what_to_touch_lacks_is_found(self):
+    def test_files_that_name_a_case_are_listed(self):
         self.write("crates/hek_top/src/level.rt", "Level::Snapshot => 1\n")
         self.write("crates/hek_top/specs/Levels.antt", "f Snapshot = 1\n")
         self.write("crates/hek_low/src/cause.rt", "Cause::Cascade => Snapshots\n")
-        for crate in ("hek_low", "hek_top", "hek"):
-            self.write(f"crates/{crate}/README.md", f"# {crate}\n\nIts purpose.\n")
         rows = ["| hek_low | | | | src: cause |", "| hek_top | | src: level; specs: Levels | | |"]
         self.assertEqual(self.references.touched().splitlines()[2:], rows)
-        wrong_table = lambda text: [*self.references.wrong_rows("what to touch", self.references.TABLE, text, self.references.touched())]
-        wrong = wrong_table(ARCHITECTURE)
-        self.assertIn("what to touch: the row of hek_low isn't what the sources give: tools/references --write", wrong)
-        made = self.references.written(ARCHITECTURE)
-        self.assertEqual(wrong_table(made), [])
-        self.assertTrue(made.endswith(rows[1] + "\n\nAfter.\n"))
 
     def test_a_module_that_a_readme_lacks_is_found(self):
         for path in ("src/one.rt", "src/two/three.rt"):
