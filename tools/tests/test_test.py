@@ -92,10 +92,8 @@ class Runs(Tree):
         def build(*_, **__):
             raise kit.NotBuilt("big doesn't compile:\nwhy")
 
-        was = kit.build
-        self.addCleanup(setattr, kit, "build", was)
-        kit.build = build
+        self.test.build = build
         whole = self.test.Whole()
-        _, said = self.said(self.test.try_built, whole, "big", kit.PROGRAM, [("big", None), ("examples", None)])
+        _, said = self.said(self.test.try_built, whole, "big", kit.PROGRAM, [("big", None), ("examples", None)], [])
         self.assertEqual((whole.passed, whole.failed), (0, 2))
         self.assertIn("    big isn't built: big doesn't compile:\n    why\n", said)

@@ -224,7 +224,8 @@ impl Moves {
     /// Notes that a transaction's wait at a place ends with a step of the move at another.
     pub(crate) fn end_wait(&mut self, txn: TxnId, wait: usize, by: usize) -> Result<(), NoMemory> {
         self.lanes.end_wait(txn);
-        self.ends.push(WaitEnd { wait, by })
+        self.ends.push(WaitEnd { wait, by })?;
+        Ok(())
     }
 
     /// The place of the move that made a version of this key with this value.

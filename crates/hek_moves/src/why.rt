@@ -59,7 +59,7 @@ fn why_found(
     if other == txn {
         return out.put("It sees its own write");
     }
-    if !moves.is_over(other) {
+    if !moves.lanes.of(other).is_over {
         let pattern = "@ wrote it and is about to commit: @ may commit only if @ does";
         return out.form(
             pattern,
@@ -123,7 +123,7 @@ impl Moves {
     fn pending(&self, key: u64, txn: TxnId) -> Option<TxnId> {
         for it in &self.items {
             let is_write = matches!(it.kind, Kind::Writes(_)) && key_of(it.event) == key;
-            if is_write && it.txn != txn && !self.is_over(it.txn) {
+            if is_write && it.txn != txn && !self.lanes.of(it.txn).is_over {
                 return Some(it.txn);
             }
         }
