@@ -1,8 +1,8 @@
 """Browsers without a window, for tools/page_test and tools/play_test: Chromium by the pipe of its DevTools, Firefox by Marionette.
 
 Both have the same methods: `open` a page from disk, `visit` an address without waiting, `press` a key that a script takes, `tap` one that the
-browser takes too, `type` a text, `eval` an expression of the page, `size` the window, `scheme` light or dark, `shoot` a picture, `close`.
-Both want Debian's package on the path, and install nothing.
+browser takes too, `type` a text, `eval` an expression of the page, `inside` one of the page in its last frame, `size` the window, `scheme` light or
+dark, `shoot` a picture, `close`. Both want Debian's package on the path, and install nothing.
 """
 import base64
 import json
@@ -22,6 +22,18 @@ COMMANDS = {"z": ["undo"], "a": ["selectAll"]}
 DRIVER_KEYS = {"ArrowLeft": "\ue012", "ArrowUp": "\ue013", "ArrowRight": "\ue014", "ArrowDown": "\ue015", "PageUp": "\ue00e", "PageDown": "\ue00f",
                "Home": "\ue011", "End": "\ue010", "Enter": "\ue007", "Escape": "\ue00c", "Backspace": "\ue003", "Tab": "\ue004", "F8": "\ue038",
                "Control": "\ue009"}
+# What Firefox does at an expression of a page: as its developer tools, since the page's policy lets no text be run.
+EVALUATE = r"""
+globalThis.Debugger ?? ChromeUtils.importESModule("resource://gre/modules/jsdebugger.sys.mjs").addDebuggerToGlobal(globalThis);
+const [expression, where] = arguments, debug = new Debugger(), page = debug.addDebuggee(window.wrappedJSObject ?? window);
+const done = ({throw: fault, return: got}) => {
+  if (fault !== undefined) throw new Error(String(fault?.unsafeDereference?.() ?? fault));
+  return got;
+};
+const place = where === "window" ? page : debug.addDebuggee(done(page.executeInGlobal(where)).unsafeDereference());
+const said = done(place.executeInGlobal("(it => Promise.resolve(it).then(it => JSON.stringify(it === undefined ? null : it)))"));
+return Promise.resolve(done(said.call(null, done(place.executeInGlobal(expression)))).unsafeDereference()).finally(() => debug.removeAllDebuggees());
+"""
 READY = "document.readyState === 'complete' && !!document.body && document.body.dataset.position !== undefined"
 
 
@@ -50,6 +62,8 @@ class Chromium:
         os.close(to_child)
         os.close(from_child)
         self.left, self.last, self.session, self.errors = b"", 0, None, []
+        # The number of the place in which the scripts of a frame run, by the frame.
+        self.places = {}
         target = self.call("Target.createTarget", url="about:blank")["targetId"]
         self.session = self.call("Target.attachToTarget", targetId=target, flatten=True)["sessionId"]
         self.call("Page.enable")
@@ -72,6 +86,10 @@ class Chromium:
         os.write(self.out, json.dumps(said).encode() + b"\0")
         while True:
             got = self.message()
+            if got.get("method") == "Runtime.executionContextCreated":
+                made = got["params"]["context"]
+                if made["auxData"]["isDefault"]:
+                    self.places[made["auxData"]["frameId"]] = made["id"]
             if got.get("method") == "Runtime.exceptionThrown":
                 details = got["params"]["exceptionDetails"]
                 self.errors.append(details.get("exception", {}).get("description", details["text"]))
@@ -109,8 +127,12 @@ class Chromium:
             text = {"text": key} if len(key) == 1 and kind == "keyDown" else {}
             self.call("Input.dispatchKeyEvent", type=kind, key=key, code=CODES.get(key, key), **text)
 
-    def eval(self, expression):
-        got = self.call("Runtime.evaluate", expression=expression, returnByValue=True, awaitPromise=True)
+    def inside(self, expression):
+        frame = self.call("Page.getFrameTree")["frameTree"]["childFrames"][-1]["frame"]["id"]
+        return self.eval(expression, contextId=self.places[frame])
+
+    def eval(self, expression, **where):
+        got = self.call("Runtime.evaluate", expression=expression, returnByValue=True, awaitPromise=True, **where)
         if "exceptionDetails" in got:
             stop(got["exceptionDetails"].get("exception", {}).get("description", "an exception"))
         return got["result"].get("value")
@@ -147,7 +169,7 @@ class Firefox:
             port = free.getsockname()[1]
         with open(f"{profile}/user.js", "w", encoding="utf-8") as it:
             it.write(f'user_pref("marionette.port", {port});\nuser_pref("ui.prefersReducedMotion", 1);\n')
-        words = ["firefox-esr", "--headless", "--marionette", "--no-remote", "--profile", profile]
+        words = ["firefox-esr", "--headless", "--marionette", "--remote-allow-system-access", "--no-remote", "--profile", profile]
         self.child = subprocess.Popen(words, stdout=subprocess.DEVNULL, stderr=subprocess.DEVNULL)
         self.left, self.last, self.errors, self.theme = b"", 0, [], "light"
         self.socket = self.connect(port)
@@ -158,7 +180,7 @@ class Firefox:
     def connect(self, port):
         for _ in range(600):
             try:
-                return socket.create_connection(("127.0.0.1", port), timeout=120)
+                return socket.create_connection(("127.0.0.1", port), timeout=600)
             except OSError:
                 time.sleep(0.1)
         return stop("firefox doesn't listen")
@@ -212,9 +234,11 @@ class Firefox:
         for char in said:
             self.tap("Enter" if char == "\n" else char)
 
-    def eval(self, expression):
-        script = "return Promise.resolve(window.wrappedJSObject.eval(arguments[0])).then((it) => JSON.stringify(it === undefined ? null : it));"
-        got = self.call("WebDriver:ExecuteScript", script=script, args=[expression], sandbox="default", newSandbox=True)["value"]
+    def inside(self, expression):
+        return self.eval(expression, "window.frames[window.frames.length - 1]")
+
+    def eval(self, expression, where="window"):
+        got = self.call("WebDriver:ExecuteScript", script=EVALUATE, args=[expression, where], sandbox="system", newSandbox=False)["value"]
         return json.loads(got)
 
     def size(self, width, height):

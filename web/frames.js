@@ -4,6 +4,9 @@
 let panel = null, frame = null, coming = null, framePlace = "", frameTurn = 0;
 // A page of hek has at most so many steps, and a longer trace is not drawn line by line.
 const MOST_STEPS = 2000, MOST_LINES = 5000;
+// A step after the last one of any story.
+const LAST = 999999;
+const NOT_LOADED = "The machine isn't loaded.";
 // How a page is looked at, which stays from one page to the next.
 let modes = {};
 
@@ -18,15 +21,17 @@ async function eventsOf() {
   return got.status === 0 ? got.out : null;
 }
 
-// Shows the panels of the machine at the last step of the move.
-async function openMachine() {
-  if (!wasm || model?.isLog) return sayPanel(model?.isLog ? "A log has no machine: an engine wrote it." : "The machine isn't loaded.");
-  const step = Math.max(0, ...player.story.columns.slice(0, now.step).flatMap(it => it.steps));
+// The last of the machine's steps in the moves so far.
+const lastStep = () => Math.max(0, ...player.story.columns.slice(0, now.step).flatMap(it => it.steps));
+
+// Shows the panels of the machine at a step: at the last one of the move.
+async function openMachine(step = lastStep()) {
+  if (!wasm || model?.isLog) return sayPanel(model?.isLog ? "A log has no machine: an engine wrote it." : NOT_LOADED);
   openPanel("machine");
   if (frame?.told === model.id + now.level) return send(frame, {place: `${step}`, modes});
   const mine = ++frameTurn, schedule = await eventsOf();
   if (schedule === null || mine !== frameTurn) return undefined;
-  const got = await hek(["page", "--title", title(), ...partOf(schedule, step), NAME], {[NAME]: schedule});
+  const got = await hek(["page", "--machine", "--title", title(), ...partOf(schedule, step), NAME], {[NAME]: schedule});
   if (got.status === 0 && mine === frameTurn && panel === "machine") showPage(got.out, `${step}`, model.id + now.level);
   return undefined;
 }
@@ -40,8 +45,9 @@ function partOf(schedule, step) {
 }
 
 async function openExplorer(path = "") {
+  if (!wasm) return sayPanel(NOT_LOADED);
   openPanel("explorer");
-  const mine = ++frameTurn, got = await hek(["page", "--orders", "--title", title(), NAME], {[NAME]: atLevel(text.value, now.level)});
+  const mine = ++frameTurn, got = await hek(["page", "--machine", "--orders", "--title", title(), NAME], {[NAME]: atLevel(text.value, now.level)});
   if (mine !== frameTurn || panel !== "explorer" || got.isEnded) return;
   if (got.status === 0) showPage(got.out, path, "explorer");
   else sayPanel(/ nodes\n/.test(got.err) ? "There are too many orders for an explorer." : got.err);
@@ -50,6 +56,7 @@ async function openExplorer(path = "") {
 const atLevel = (schedule, level) => level && level !== WRITTEN ? schedule.replace(/^(\s*txn\s+\S+)(\s+\S+)?/gm, (all, front) => `${front} ${level}`) : schedule;
 
 async function openTrace() {
+  if (!wasm) return sayPanel(NOT_LOADED);
   openPanel("trace");
   const schedule = await eventsOf();
   if (schedule === null) return;
@@ -129,8 +136,14 @@ addEventListener("message", ({source, data}) => {
   $("blank").hidden = !data.isBlank;
   framePlace = String(data.place);
   if (panel === "machine") markLineOfStep(Number(framePlace));
-  tellAddress();
+  if (panel === "explorer" && data.isOver === true && !data.went && !modes.secret) tellExplored(framePlace.split("."));
+  else tellAddress();
 });
+
+// The order at whose end the explorer is has its story, at the verdict; "back" is the explorer.
+function tellExplored(order) {
+  goTo({order, mode: "", step: LAST}, true);
+}
 
 // The line of the machine's step: that of the last move before it.
 function markLineOfStep(step) {

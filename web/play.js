@@ -264,7 +264,7 @@ function listen() {
   });
   // After a click the keys go to the story again, as those of a presenter's remote should.
   document.addEventListener("click", event => {
-    if (event.detail > 0 && !event.target.closest("dialog, #menu")) event.target.closest("button, [role=button]")?.blur();
+    if (event.detail > 0 && event.target.closest("button, [role=button]") && !event.target.closest("dialog, #menu, #more, #problems, #skip")) document.activeElement?.blur();
   });
   document.addEventListener("keydown", pageKey);
   addEventListener("resize", () => draw());
@@ -275,11 +275,9 @@ function listen() {
 }
 
 // The machine at one of its steps, of which the prose speaks.
-async function openMachineAt(step) {
-  const index = player.story?.columns.findLastIndex(it => it.steps.some(other => other <= step)) ?? -1;
-  now.step = index + 1;
-  await openMachine();
-  if (frame || coming) send(frame ?? coming, {place: `${step}`});
+function openMachineAt(step) {
+  now.step = (player.story?.columns.findLastIndex(it => it.steps.some(other => other <= step)) ?? -1) + 1;
+  openMachine(step);
 }
 
 async function start() {
@@ -297,7 +295,7 @@ async function start() {
   listen();
   startEdge();
   const loading = isAble() ? load() : Promise.reject(new Error("This browser has no 64-bit WebAssembly: it plays what is stored here. To run texts of your own take Chrome or Edge from 133 on, or Firefox from 134 on."));
-  const isStored = !/^#(s=|own)/.test(location.hash) && !Object.keys(localStorage).some(key => key.startsWith("hek:text:"));
+  const isStored = !/^#(s=|own)|\/(explorer|trace)\b/.test(location.hash) && !Object.keys(localStorage).some(key => key.startsWith("hek:text:"));
   if (!isStored) await loading.catch(() => {});
   await goToAddress();
   await loading.then(() => { if (!model || isOld || others.length) return tell(); return undefined; }, fault => { say(fault.message ?? `The machine can’t be loaded: ${fault}`); });

@@ -203,9 +203,13 @@ function markLine() {
 // Goes to another place of the story, with an entry of the browser's history for another level or order.
 function goTo(change, isEntry = false, options = {}) {
   if (isEntry) enter();
+  if (change.mode === "" && panel) closePanel();
   const {order, ...rest} = change;
   now = {...now, ...rest};
-  if (change.mode === "machine" || panel === "machine") return openMachine();
+  if (change.mode === "machine" || panel === "machine") {
+    player.place = now;
+    return openMachine();
+  }
   if (order) wantedOrder = order;
   if (order && !isSame(order, model?.order)) return tell(options);
   return draw(options);

@@ -16,16 +16,12 @@ fn gone()
 """
 ARCHITECTURE = """Hek is 3 small crates.
 
-<!-- the crates that hek runs -->
-```
-program   hek
-machine   hek_top
-words     hek_low
-```
-
-<!-- written by tools/references --write -->
+<!-- first sentences of the crates' READMEs, written by tools/references --write -->
 | Crate | old |
-| hek_top | row |
+
+| Crate: module | What happens |
+|---|---|
+| hek_low: one, two; hek_top: three | steps |
 
 After.
 """
@@ -62,20 +58,32 @@ class References(Tree):
     def test_headings_that_are_equal_have_anchors_of_their_own(self):
         self.assertEqual(self.references.anchors("# A b\n## A b\n```\n# no\n```\n"), {"a-b", "a-b-1"})
 
-    def test_the_tables_of_crates_follow_crates_txt(self):
-        text = "| **Words** | |\n| hek_low | words |\n| hek_old | none |\n## Machine\n| **Program** | |\n| hek | main |\n"
-        wrong = ["a row for hek_old below words, where crates.txt has none", "no row for hek_top below machine"]
-        self.assertEqual([*self.references.missing_rows(text)], wrong)
+    def test_the_table_of_crates_is_made_from_their_readmes(self):
+        for crate, said in (("hek_low", "Words, as\n[pages](../A.md) have them. More."), ("hek_top", "The machine."), ("hek", "The program: `main`")):
+            self.write(f"crates/{crate}/README.md", f"# {crate}\n\n{said}\n\nEnd.\n")
+        rows = ["| **Words** | |", "| [hek_low](../crates/hek_low/README.md) | Words, as pages have them |", "| **Machine** | |"]
+        rows += ["| [hek_top](../crates/hek_top/README.md) | The machine |", "| **Program** | |", "| [hek](../crates/hek/README.md) | The program: `main` |"]
+        made = self.references.purposes()
+        self.assertEqual(made.splitlines()[2:], rows)
+        text = self.references.written(ARCHITECTURE)
+        wrong = lambda text: [*self.references.wrong_purposes(text)]
+        self.assertEqual(wrong(text), [])
+        self.assertEqual(wrong(text.replace("The machine |", "Old |")), ["the crates: the row of hek_top isn't what the sources give: tools/references --write"])
+        self.assertEqual(wrong("none"), ["no table of the crates below its comment"])
+
+    def test_a_module_that_a_walk_names_is_looked_for(self):
+        for path in ("hek_low/src/one.rt", "hek_top/src/in/three.rt"):
+            self.write(f"crates/{path}", "")
+        self.assertEqual([*self.references.missing_walks(ARCHITECTURE)], ["no module two of hek_low"])
 
     def test_a_definition_that_moved_is_found(self):
         self.write("crates/hek_low/specs/Words.antt", "-- words\n\nabbrev pub lock : N\nlock = 1\n")
-        text = "A [`Words.lock`], and `Words.key`.\n\n<!-- lines of definitions, written by tools/references --write -->\n"
-        label = "[`Words.lock`]: ../crates/hek_low/specs/Words.antt#L3\n"
-        self.assertEqual(self.references.line_labels(text), label)
-        self.assertEqual([*self.references.wrong_lines(text + label)], [])
-        wrong = ["the label [`Words.lock`] isn't what the sources give: tools/references --write"]
-        self.assertEqual([*self.references.wrong_lines(text + label.replace("L3", "L2"))], wrong)
-        self.assertEqual([*self.references.wrong_lines("")], ["no labels below <!-- lines of definitions, written by tools/references --write -->"])
+        link = "[`Words.lock`](../crates/hek_low/specs/Words.antt#L3)"
+        self.assertEqual(self.references.with_lines("A [`Words.lock`](), and `Words.key`."), f"A {link}, and `Words.key`.")
+        self.assertEqual([*self.references.wrong_lines(link)], [])
+        wrong = ["the link of `Words.lock` isn't what the sources give: tools/references --write"]
+        self.assertEqual([*self.references.wrong_lines(link.replace("L3", "L2"))], wrong)
+        self.assertEqual([*self.references.wrong_lines("[`Words.lock`]()")], wrong)
 
     def test_a_task_that_the_list_lacks_is_found(self):
         text = "# Commands\n\n[run it](#run-it) (`run`)\n\n## Run it\n\n## Judge it\n"
@@ -88,28 +96,12 @@ class References(Tree):
         self.assertEqual([*self.references.wrong_count(ARCHITECTURE)], ["3 crates, where crates.txt has 2: tools/references --write"])
         self.assertEqual([*self.references.wrong_count("Hek has crates.")], ["no sentence `Hek is N small crates`"])
 
-    def test_a_crate_that_the_diagram_lacks_is_found(self):
-        self.assertEqual([*self.references.wrong_diagram(ARCHITECTURE)], [])
-        lacking = ARCHITECTURE.replace("hek_top\nwords", "\nwords")
-        self.assertEqual([*self.references.wrong_diagram(lacking)], ["the diagram lacks hek_top, which hek runs"])
-        more = ARCHITECTURE.replace("words     hek_low", "words     hek_low hek_old")
-        self.assertEqual([*self.references.wrong_diagram(more)], ["the diagram has hek_old, which hek doesn't run"])
-
-    def test_a_crate_above_one_that_uses_it_is_found(self):
-        turned = ARCHITECTURE.replace("hek_top", "hek_mid").replace("hek_low", "hek_top").replace("hek_mid", "hek_low")
-        self.assertEqual([*self.references.wrong_diagram(turned)], ["the diagram has hek_low above hek_top, which uses it"])
-
-    def test_a_crate_that_the_table_of_what_to_touch_lacks_is_found(self):
+    def test_files_that_name_a_case_are_listed(self):
         self.write("crates/hek_top/src/level.rt", "Level::Snapshot => 1\n")
         self.write("crates/hek_top/specs/Levels.antt", "f Snapshot = 1\n")
         self.write("crates/hek_low/src/cause.rt", "Cause::Cascade => Snapshots\n")
         rows = ["| hek_low | | | | src: cause |", "| hek_top | | src: level; specs: Levels | | |"]
         self.assertEqual(self.references.touched().splitlines()[2:], rows)
-        wrong = [*self.references.wrong_table(ARCHITECTURE)]
-        self.assertIn("what to touch: the row of hek_low isn't what the sources give: tools/references --write", wrong)
-        made = self.references.written(ARCHITECTURE)
-        self.assertEqual([*self.references.wrong_table(made)], [])
-        self.assertTrue(made.endswith(rows[1] + "\n\nAfter.\n"))
 
     def test_a_module_that_a_readme_lacks_is_found(self):
         for path in ("src/one.rt", "src/two/three.rt"):

@@ -41,7 +41,7 @@ const wordsOf = (column) => {
 export function questionAt(story, position) {
   const column = story.columns[position];
   if (position === story.columns.length) return { words: "And all of it together?", choices: Object.values(VERDICTS).slice(0, 3), right: VERDICTS[story.verdict.kind] };
-  if (!column || column.kind === "scan" || column.kind === "refused" || (column.isLate && column.kind === "commit")) return null;
+  if (!column || column.kind === "scan" || column.op === "scan" || column.kind === "refused" || (column.isLate && column.kind === "commit")) return null;
   if (column.kind === "abort" && column.cause === "asked") return null;
   const right = answerOf(story, column), choices = [...new Set([...choicesOf(story, column, position), right])];
   return choices.length > 2 || (choices.length === 2 && !/read/.test(column.kind)) ? { words: wordsOf(column), choices, right } : null;

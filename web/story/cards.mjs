@@ -1,5 +1,5 @@
 // A story in a thumbnail, and the outcomes of all orders as bars. Pure.
-import { esc, wide } from "./text.mjs";
+import { esc, grouped, wide } from "./text.mjs";
 import { DEFS, S, colour, path, r1, rect, svg, text, title } from "./svg.mjs";
 import { VERDICTS, verdictKind } from "./story.mjs";
 
@@ -49,22 +49,28 @@ const rowsOf = ({ rows }) => rows.map(([key, value]) => `${key}=${value}`).join(
 /** An outcome in words. */
 export function saidOutcome(outcome, { orders }) {
   const ends = outcome.ends.map(({ txn, end }) => `${txn} ${end}`).join(", "), broken = outcome.breaks ? `; breaks line ${outcome.breaks}` : "";
-  return `${outcome.orders} of ${orders} orders: ${ends}; ${rowsOf(outcome)}; ${VERDICTS[verdictKind(outcome.verdict)]}${broken}`;
+  return `${grouped(outcome.orders)} of ${grouped(orders)} orders: ${ends}; ${rowsOf(outcome)}; ${VERDICTS[verdictKind(outcome.verdict)]}${broken}`;
 }
+
+/** The height of a bar with its words, in the size of ordinary text. */
+export const BAR = 1.45;
 
 /** A bar for each outcome, as long as its share of the orders; each names an order that has it. */
 export function bars(counted, names, w, u, isHere = () => false) {
-  const size = S * u, high = 1.45 * u, all = sorted(counted.outcomes), most = Math.max(...all.map((it) => it.orders)), alike = new Set(all.map((it) => it.ends.map(({ end }) => end).join())).size < all.length;
+  const size = S * u, high = BAR * u, all = sorted(counted.outcomes), most = Math.max(...all.map((it) => it.orders)), alike = new Set(all.map((it) => it.ends.map(({ end }) => end).join())).size < all.length;
   const short = names.join("").length > 6 ? names.map((name) => name.slice(0, 2)) : names, widths = short.map((name) => wide(`${name} ✓`, size, 700) + 0.45 * u), left = widths.reduce((sum, it) => sum + it, 0.4 * u);
-  const room = Math.max((w - left - wide(`✗ ${most}`, size, 700)) * 0.5, 2 * u);
+  const isOther = (outcome) => verdictKind(outcome.verdict) === "other", countOf = (outcome) => `${isBroken(outcome) ? "✗ " : ""}${grouped(outcome.orders)}`;
+  const afterOf = (outcome) => isBroken(outcome) || isOther(outcome) ? "" : alike ? rowsOf(outcome) : outcome.ends.find(({ end }) => end !== "committed")?.end.replace("aborted ", "") ?? "";
+  // A bar leaves room for the words after it, where a short one does.
+  const mostOf = (outcome) => (w - left - wide(countOf(outcome), size, 700) - wide(afterOf(outcome), size) - 0.9 * u) * most / outcome.orders;
+  const room = Math.max(2 * u, Math.min((w - left - wide(`✗ ${grouped(most)}`, size, 700)) * 0.5, ...all.map(mostOf).filter((it) => it >= 2 * u)));
   return svg(w, high * all.length, "outcomes of all orders", DEFS + all.map((outcome, index) => {
-    const y = index * high, base = y + 1.02 * u, bad = isBroken(outcome), isOther = verdictKind(outcome.verdict) === "other", length = Math.max(2, room * outcome.orders / most), words = saidOutcome(outcome, counted);
-    const after = bad || isOther ? "" : alike ? rowsOf(outcome) : outcome.ends.find(({ end }) => end !== "committed")?.end.replace("aborted ", "") ?? "", count = bad ? `✗ ${outcome.orders}` : `${outcome.orders}`;
+    const y = index * high, base = y + 1.02 * u, bad = isBroken(outcome), length = Math.max(2, room * outcome.orders / most), words = saidOutcome(outcome, counted), after = afterOf(outcome), count = countOf(outcome);
     const x = left + length + 0.3 * u, next = x + wide(count, size, 700) + 0.5 * u;
     const marks = outcome.ends.map(({ end }, t) => text(0.2 * u + widths.slice(0, t).reduce((sum, it) => sum + it, 0), base, size, `${short[t]} ${end === "committed" ? "✓" : "✗"}`, end === "committed" ? `b f${colour(t)}` : "badt", "start"));
     return `<g data-order="${esc(outcome.first?.join(" ") ?? "")}" role="button" tabindex="0" aria-label="${esc(words)}">${title(words)}${rect(0, y, w, high - 1, isHere(outcome) ? "band" : "chip", 3)}${marks.join("")}` +
-      rect(left, y + 0.28 * u, length, 0.85 * u, bad ? "bad" : isOther ? "hatch" : "slate", 2) + text(x, base, size, count, `b ${bad ? "badt" : ""}`, "start") +
-      (wide(after, size) < w - next + 4 ? text(next, base, size, after, "soft", "start") : "") + "</g>";
+      rect(left, y + 0.28 * u, length, 0.85 * u, bad ? "bad" : isOther(outcome) ? "hatch" : "slate", 2) + text(x, base, size, count, `b ${bad ? "badt" : ""}`, "start") +
+      (wide(after, size) <= w - next ? text(next, base, size, after, "soft", "start") : "") + "</g>";
   }).join(""), "group");
 }
 

@@ -21,7 +21,7 @@ export function names(story, at, step) {
 
 /** Two lines in a box: a small one, and a large one in the largest size that has room. */
 function lines(column, at, box, tops, value, [topKind, valueKind], most = at.size) {
-  const { u } = at, room = box.w - 4, size = [XL, L, M, S].find((it) => it <= most && wide(value, it * u, 700) <= room) ?? S, isLarge = size > L;
+  const { u } = at, room = box.w - (at.isNarrow ? 2 : 4), size = [XL, L, M, S].find((it) => it <= most && wide(value, it * u, 700) <= room) ?? S, isLarge = size > L;
   const top = fitting(tops, room, S * u), middle = box.y + at.high / 2;
   if (top === "") return text(box.x + box.w / 2, middle + 0.36 * size * u, size * u, cut(value, room, size * u, 700), valueKind);
   return text(box.x + box.w / 2, middle - (isLarge ? 0.6 : 0.28) * u, S * u, top, topKind) +
@@ -38,7 +38,7 @@ function scanned(column, at, box) {
 }
 
 function boxOf(column, at, index) {
-  const { u } = at, gap = at.width(index) < 3.2 * u ? 1.5 : 3, box = { x: at.left(index) + gap, y: at.y(column.t), w: at.width(index) - 2 * gap }, own = colour(column.t), { tops, value } = wordsOf(column);
+  const { u } = at, gap = at.isNarrow ? 1 : at.width(index) < 3.2 * u ? 1.5 : 3, box = { x: at.left(index) + gap, y: at.y(column.t), w: at.width(index) - 2 * gap }, own = colour(column.t), { tops, value } = wordsOf(column);
   const frame = (kind, round = 0.35 * u) => rect(box.x, box.y, box.w, at.high, kind, round), said = (kinds, most) => lines(column, at, box, tops, String(value), kinds, most);
   switch (column.kind) {
     case "read": return frame(`box s${own}`) + said([`f${own}`, column.by === null ? "b" : `b f${colour(column.by)}`]);
@@ -67,7 +67,7 @@ function waitBar(story, at, wait, step) {
   const all = `waits for ${who}`, long = wait.keys.length && wait.for.length === 1 ? `${all}, which read ${wait.keys.join(", ")}` : all;
   const said = [[long], [all], ["waits", `for ${who}`]].find((lines) => lines.every((it) => wide(it, size, 700) <= w - 0.8 * u)), bar = rect(x, y, w, h, "hatch", 0.3 * u);
   // What has no room in the bar stands under it.
-  if (!said) return bar + text(x, y + h + 0.85 * u, size, cut(all, at.w - x, size, 700), "b halo", "start");
+  if (!said) return bar + text(Math.max(0, Math.min(x, at.w - wide(all, size, 700) - 2)), y + h + 0.85 * u, size, cut(all, at.w, size, 700), "b halo", "start");
   const middle = x + Math.min(w / 2, Math.max(...said.map((it) => wide(it, size, 700))) / 2 + 0.3 * u);
   return bar + said.map((it, index) => text(middle, y + h / 2 + (said.length === 1 ? 0.27 : index ? 0.8 : -0.2) * u, size, it, "b halo")).join("");
 }

@@ -14,17 +14,24 @@ export function wordsOf(column) {
     case "refused": return { tops: ["refused", "ref."], value: "⊘" };
     case "commit": return { tops: ["commit", ""], value: "✓" };
     case "unknown": return { tops: ["commit", ""], value: "?" };
-    case "abort": return { tops: column.op ? [...(/read|scan/.test(column.op) ? [`${column.op} ${key}`, `r ${key}`] : [`${key} :=`]), `${key}`] : ["abort", ""], value: "✗" };
+    case "abort": return { tops: stopped(column), value: "✗" };
     default: return { tops: [""], value: "" };
   }
 }
 
+/** What an abort stopped, longest first: an end, a scan, a read or a write. */
+function stopped({ op, key, bucket }) {
+  if (!op) return ["abort", ""];
+  if (op === "scan") return [`scan ${bucket}`, "scan"];
+  return op === "read" ? [`read ${key}`, `r ${key}`, `${key}`] : [`${key} :=`, `${key}`];
+}
+
 /** The least width of a column's box with values of this size. */
 function need(column, size, isNarrow) {
-  const { tops, value } = wordsOf(column), most = column.kind === "scan" ? 7 : 12;
-  if (column.kind === "wait") return isNarrow ? 2.2 : 3;
-  if (column.kind === "commit" || column.kind === "unknown") return isNarrow ? 1.7 : 2.4;
-  return Math.min(Math.max(wide(tops.at(-1), S), wide(value, column.kind === "scan" ? S : size, 700)) + (isNarrow ? 0.5 : 0.8), most);
+  const { tops, value } = wordsOf(column), most = column.kind === "scan" ? 7 : 12, isTight = isNarrow && size === S;
+  if (column.kind === "wait") return isTight ? 1.8 : isNarrow ? 2.2 : 3;
+  if (column.kind === "commit" || column.kind === "unknown") return isTight ? 1.4 : isNarrow ? 1.7 : 2.4;
+  return clamp(1.2, Math.max(wide(tops.at(-1), S), wide(value, column.kind === "scan" ? S : size, 700)) + (isNarrow ? 0.3 : 0.8), most);
 }
 
 /** A slot for each place of the order, and for each column there that only ends a wait: the columns of several stories of one order share them. */
@@ -71,15 +78,18 @@ function* ways(stories, slots, room, u, isNarrow) {
     for (let width = Math.max(4 * u, least); width >= least; width -= 0.1 * u) yield { size, widths: even(width), least: 1.2 * u };
   }
   for (const size of [L, M, S]) for (const least of [1, 0.6]) yield { size, widths: needs(size), least: least * u };
+  if (isNarrow) yield { size: S, widths: needs(S), least: 0.3 * u, isTight: true };
 }
 
 /** Where things stand in a room of `w` and `h`. Columns are shared by lanes and rows, and by the stories of `all`; lanes take the height that the rows leave. */
 export function layout(story, { w, h, u, all = [story], rows = true }) {
   const isNarrow = w < 34 * u, longest = Math.max(...story.names.map((name) => wide(name, 1, 700)), ...(rows ? story.tracks.map(({ key }) => wide(key, 1, 700)) : [])), nameSize = isNarrow && longest > 2.5 ? S : M;
-  const gutter = clamp(2.9 * u, longest * nameSize * u + (isNarrow ? 0.5 : 1.2) * u, w * 0.26), pad = (isNarrow ? 1.2 : 2.6) * u, tail = (isNarrow ? 0.4 : 3.2) * u, room = w - gutter - pad - tail;
+  const always = rows && story.always.length ? wide("always", S, 700) * u + 0.6 * u : 0;
+  const gutter = clamp(Math.max(2.9 * u, always), longest * nameSize * u + (isNarrow ? 0.3 : 1.2) * u, Math.max(w * 0.26, always)), tail = (isNarrow ? 0.4 : 3.2) * u;
   const slots = slotsOf(all), own = slots.of[all.indexOf(story)];
-  let way, xs, length;
+  let way, xs, length, pad = (isNarrow ? 1.2 : 2.6) * u, room = w - gutter - pad - tail;
   for (way of ways(all, slots, room, u, isNarrow)) {
+    if (way.isTight) [pad, room] = [0.4 * u, room + pad - 0.4 * u];
     xs = spread(all, slots, way.widths, way.least);
     length = end(all, slots, way.widths, xs);
     if (length <= room + 0.5) break;
@@ -96,7 +106,8 @@ export function layout(story, { w, h, u, all = [story], rows = true }) {
 /** Heights: of a lane, of its boxes, of a row. */
 function heights(story, { h, u, rows, isNarrow }) {
   const lanes = story.names.length, count = rows ? story.tracks.length + story.always.length : 0, top = (story.views.length ? 1.5 : 0.4) * u;
-  const row = (count > 6 ? 1.9 : 2.05) * u, low = rows && count ? top + row * count + u : 0;
-  const lane = clamp((lanes > 5 ? 3.3 : isNarrow ? 4.4 : rows ? 3.7 : 2.7) * u, (h - low) / lanes, 9 * u), high = clamp(2.5 * u, lane * (isNarrow ? 0.58 : 0.62), 4.6 * u);
+  const least = (lanes > 5 ? 3.3 : isNarrow ? 4.4 : rows ? 3.7 : 2.7) * u, isShort = count > 6 || top + (2.05 * count + 1) * u + lanes * least > h;
+  const row = (isShort ? 1.95 : 2.05) * u, low = rows && count ? top + row * count + u : 0;
+  const lane = clamp(least, (h - low) / lanes, 9 * u), high = clamp(2.5 * u, lane * (isNarrow ? 0.58 : 0.62), 4.6 * u);
   return { lane, high, gap: lane - high, row, top, y: (t) => t * lane + (lane - high) / 2 };
 }

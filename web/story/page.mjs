@@ -35,6 +35,7 @@ export class StoryPage {
     this.order = this.own.order ?? [];
     this.player = new Player({ go: (change, isEntry, options) => this.go(change, isEntry, options) });
     byId("st-back").addEventListener("click", () => history.back());
+    addEventListener("resize", () => { if (this.isOpen) this.show(); });
     byId("st-machine").hidden = this.isLog || !panels;
   }
 
@@ -53,10 +54,10 @@ export class StoryPage {
 
   has(order, level = null) { return this.plays.some((it) => same(it.order ?? [], order) && (level === null || levelOf(it) === level)); }
 
-  /** The story of an order at a level, from its start. */
+  /** The verdict of the story of an order at a level. */
   open(order, level) {
     this.order = order;
-    this.place = { ...this.place, level: level ?? this.place.level, step: 0, mode: "" };
+    this.place = { ...this.place, level: level ?? this.place.level, step: Infinity, mode: "" };
     this.show();
     this.write();
   }
@@ -65,10 +66,11 @@ export class StoryPage {
     const model = this.model(this.order);
     if (!model.stories[this.place.level]) this.place.level = model.levels[0];
     this.place.step = Math.max(0, Math.min(this.place.step, model.stories[this.place.level].columns.length + 1));
+    // What isn't shown has no width: the story is drawn when it is.
+    document.documentElement.classList.add("told");
     this.player.show(model, this.place, options);
     showText(byId("st-text"), this.text, this.player.story, this.place.step);
     byId("st-back").hidden = !(history.state?.depth > 0);
-    document.documentElement.classList.add("told");
   }
 
   get isOpen() { return document.documentElement.classList.contains("told"); }

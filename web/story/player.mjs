@@ -1,4 +1,5 @@
 // The story on the page: what is shown of a model at a place, and what keys and clicks do there. Its elements have the ids of story.html.
+import { BAR } from "./cards.mjs";
 import { cards, compared, sentence, sentenceRoom, stage, told } from "./view.mjs";
 import { questionAt, questionHtml, questions, result } from "./ask.mjs";
 import { samePlace } from "./story.mjs";
@@ -69,8 +70,10 @@ export class Player {
     put(box, cards(model, story, place, { w: box.clientWidth, u: unit, narrow }));
     box.querySelectorAll(".level").forEach((card, index) => {
       card.scrollTop = scrolled[index] ?? 0;
-      const more = Math.ceil((card.scrollHeight - card.clientHeight) / (1.45 * unit) - 0.2);
-      if (more > 0) card.insertAdjacentHTML("beforeend", `<div class="more">${more + 1} more ↓</div>`);
+      if (card.scrollHeight <= card.clientHeight + 2) return;
+      // A line over the bars that have no room says how many they are.
+      const all = card.querySelectorAll("[data-order]").length, bar = BAR * unit, top = card.scrollTop + card.lastElementChild.getBoundingClientRect().top - card.getBoundingClientRect().top, whole = Math.floor((card.clientHeight - top - 1.2 * unit) / bar), h = card.clientHeight - top - whole * bar + 1;
+      card.insertAdjacentHTML("beforeend", `<div class="more" style="height: ${h}px; margin-top: -${h}px">${all - whole} more ↓</div>`);
     });
     return undefined;
   }

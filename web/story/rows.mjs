@@ -16,12 +16,16 @@ export function keys(story, at) {
 /** A key's track: a bar of committed values, and above it, dashed, what is written and not yet committed. */
 function track({ segments, pending }, at, y, now, till) {
   const { u } = at, bar = at.row - 1.19 * u, parts = [path(`M0 ${r1(y + at.row - 0.03 * u)}H${r1(at.w)}`, "rule")];
+  let before = 0;
   for (const { from, to, value, t } of segments) {
     if (t !== null && from >= now) continue;
-    const x = t === null ? 0 : at.mid(from), w = till(0, to) - x || at.pad, isOpening = t === null, words = value ?? NONE;
+    const x = t === null ? 0 : at.mid(from), w = till(0, to) - x || at.pad, isOpening = t === null, words = value ?? NONE, own = wide(words, M * u, 700), base = y + at.row - 0.27 * u;
     parts.push(rect(x, y + bar, Math.max(w, isOpening ? at.pad - 4 : 2) - 1, at.row - bar - 0.05 * u, isOpening ? "seg" : `tint f${colour(t)}`, 2));
     if (!isOpening) parts.push(rect(x, y + bar, 4, at.row - bar - 0.05 * u, `f${colour(t)}`));
-    parts.push(`<g>${title(words)}${text(x + (isOpening ? 5 : 9), y + at.row - 0.27 * u, M * u, cut(words, Math.max(w - (isOpening ? 6 : 10), at.pad - 8), M * u, 700), `b ${isOpening ? "" : `f${colour(t)}`}`, "start")}</g>`);
+    // At the end of the picture a value stands left of its mark, where it has room.
+    const isLeft = !isOpening && to === null && own > w - 10 && own + 8 < x - before, room = Math.max(w - (isOpening ? 6 : 10), at.pad - 8);
+    parts.push(`<g>${title(words)}${isLeft ? text(x - 4, base, M * u, words, `b f${colour(t)}`, "end") : text(x + (isOpening ? 5 : 9), base, M * u, cut(words, room, M * u, 700), `b ${isOpening ? "" : `f${colour(t)}`}`, "start")}</g>`);
+    before = x + Math.min(own, room) + 12;
   }
   for (const { t, from, to, value, end } of pending) {
     if (from >= now) continue;

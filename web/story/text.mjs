@@ -1,19 +1,21 @@
 // Texts: how wide they are, how they are cut, and how they stand in HTML and SVG. Pure.
 
-// The widths of the characters from U+0020 to U+007E in Helvetica, each a digit of base 36 in units of 0.04 em.
-const WIDTHS = "779eenh599af7977eeeeeeeeee77fffeqhhjjhgkj7dheljkhkjhgjhohhg777ce9eedee7ee66d6leeee9d7edjddd979f";
-const UNIT = 0.04, BOLD = 1.07, OTHER = 0.64, SQUARE = 1.02;
-// Characters as wide as they are high: those of Chinese, Japanese and Korean, and pictures.
-const isSquare = (char) => /[\u1100-\u115f\u2e80-\ua4cf\uac00-\ud7a3\uf900-\ufaff\ufe30-\ufe6f\uff00-\uff60\uffe0-\uffe6]|[\u{1f000}-\u{3ffff}]/u.test(char);
+// The widths of the characters from U+0020 to U+007E in DejaVu Sans, the widest font that a system has for a page, each a digit of base 36 in units of
+// 0.032 em: as they are, and in bold.
+const PLAIN = "adfqkup9ccgqacabkkkkkkkkkkbbqqqhwmmmokipoaaliropjpmkjnmvmjmcbcqggjkhkkbkk99i9vkjkkdhdkjqjjhkbkq";
+const STRONG = "bfhqmwsaffhqcdccmmmmmmmmmmddqqqiwoonqmmqqccpkvqrnronmqozonnfcfqgglnjnlennbblbxnmnngjfnltklincnq";
+const UNIT = 0.032, OTHER = 0.84, SQUARE = 1.02;
+// Characters as wide as they are high: those of Chinese, Japanese and Korean, pictures, and the sign of what is cut.
+const isSquare = (char) => /[…\u1100-\u115f\u2e80-\ua4cf\uac00-\ud7a3\uf900-\ufaff\ufe30-\ufe6f\uff00-\uff60\uffe0-\uffe6]|[\u{1f000}-\u{3ffff}]/u.test(char);
 
-function widthOf(char) {
-  const digit = WIDTHS[char.charCodeAt(0) - 32];
+function widthOf(char, widths) {
+  const digit = widths[char.charCodeAt(0) - 32];
   if (digit !== undefined) return UNIT * parseInt(digit, 36);
   return /\p{M}/u.test(char) ? 0 : isSquare(char) ? SQUARE : OTHER;
 }
 
 /** How wide a text is at a size of type, in the unit of that size; rather more than less, for each font that may be there. */
-export const wide = (text, size, weight = 400) => [...String(text)].reduce((sum, char) => sum + widthOf(char), 0) * size * (weight > 500 ? BOLD : 1);
+export const wide = (text, size, weight = 400) => [...String(text)].reduce((sum, char) => sum + widthOf(char, weight > 500 ? STRONG : PLAIN), 0) * size;
 
 /** The text in so much room: whole, or its beginning and `…`. */
 export function cut(text, room, size, weight = 400) {
@@ -39,6 +41,9 @@ export const esc = (text) => shown(text).replace(/[&<>"']/g, (it) => ENTITIES[it
 
 /** What JSON says; a number of more digits than JavaScript keeps is a text. */
 export const parse = (json) => JSON.parse(json.replace(/"(?:[^"\\]|\\.)*"|-?\d{16,}/g, (it) => (it[0] === '"' ? it : `"${it}"`)));
+
+/** A whole number, its digits in groups of three. */
+export const grouped = (number) => String(number).replace(/\B(?=(\d{3})+$)/g, ",");
 
 /** Names in a row: `a, b and c`. */
 export const list = (texts) => (texts.length < 2 ? texts.join("") : `${texts.slice(0, -1).join(", ")} and ${texts.at(-1)}`);

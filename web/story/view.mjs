@@ -2,7 +2,7 @@
 //
 // A model is what is known of one schedule and one order of its moves: `stories` and `outcomes` by level, `levels` in the order of their cards, `text`, `about`, `question`,
 // `asides` ({at, html, level, verdict}) and `order`. A place is a level of it, `step`, and what is open.
-import { esc, plain, rich, sentences } from "./text.mjs";
+import { esc, grouped, plain, rich, sentences } from "./text.mjs";
 import { layout } from "./layout.mjs";
 import { lanes, names } from "./lanes.mjs";
 import { keys, tracks } from "./rows.mjs";
@@ -33,7 +33,7 @@ function edgesHtml({ verdict, always, names: all }) {
 export function sentence(model, story, { step, mode }) {
   const column = story.columns[step - 1], { verdict } = story;
   if (step === 0 || mode === "compare") {
-    const asked = model.question || model.title, more = model.question && mode !== "compare" ? model.about : "";
+    const asked = model.question || model.title, more = model.question && mode !== "compare" && !model.intro ? model.about : "";
     return `<p>${esc(asked)}</p>${more ? `<p class="why">${esc(more)}</p>` : ""}`;
   }
   if (column) return `<p class="${column.breaks === null ? "" : "not"}">${rich(column.say, story.names)}</p>${column.why ? `<p class="why">${rich(column.why, story.names)}</p>` : ""}`;
@@ -72,13 +72,13 @@ export function compared(model, story, step, { w, h, u }) {
 
 // ---- the cards
 
-const KINDS = [["slate", "serializable"], ["hatch", "only in another order"], ["bad", "✗ not serializable"]];
+const KINDS = [["slate", "serializable"], ["hatch", "in another order"], ["bad", "✗ not serializable"]];
 const swatch = ([kind, words]) => `<span class="kind"><svg class="pic" viewBox="0 0 22 16" aria-hidden="true"><rect width="22" height="16" rx="3" class="${kind}"/></svg>${words}</span>`;
 
 /** What the cards show, and the marks of the bars. */
 export function legend({ outcomes, levels, uncounted }) {
   const counted = levels.map((level) => outcomes[level]).find(Boolean);
-  if (counted) return `<p class="st-legend">This order at each level, and the outcomes of all ${Number(counted.orders).toLocaleString("en")} orders: ${KINDS.map(swatch).join(" ")}. A bar plays one.</p>`;
+  if (counted) return `<p class="st-legend">This order at each level, and all ${grouped(counted.orders)} orders by outcome: ${KINDS.map(swatch).join(" ")}. A bar plays one.</p>`;
   return `<p class="st-legend">This order at each level.${uncounted ? ` ${esc(uncounted)}` : ""}</p>`;
 }
 

@@ -1,12 +1,13 @@
 //! The script of a page, in parts. Written by tools/assets.
 
 pub(crate) const SCRIPT_FIRST: &str = r##"// Written by tools/assets.
-const Story = {}; Story.text = (() => { const WIDTHS = "779eenh599af7977eeeeeeeeee77fffeqhhjjhgkj7dheljkhkjhgjhohhg777ce9eedee7ee66d6leeee9d7edjddd979f";
-const UNIT = 0.04, BOLD = 1.07, OTHER = 0.64, SQUARE = 1.02;
-const isSquare = (char) => /[\u1100-\u115f\u2e80-\ua4cf\uac00-\ud7a3\uf900-\ufaff\ufe30-\ufe6f\uff00-\uff60\uffe0-\uffe6]|[\u{1f000}-\u{3ffff}]/u.test(char);
-function widthOf(char) { const digit = WIDTHS[char.charCodeAt(0) - 32]; if (digit !== undefined) return UNIT * parseInt(digit, 36);
+const Story = {}; Story.text = (() => { const PLAIN = "adfqkup9ccgqacabkkkkkkkkkkbbqqqhwmmmokipoaaliropjpmkjnmvmjmcbcqggjkhkkbkk99i9vkjkkdhdkjqjjhkbkq";
+const STRONG = "bfhqmwsaffhqcdccmmmmmmmmmmddqqqiwoonqmmqqccpkvqrnronmqozonnfcfqgglnjnlennbblbxnmnngjfnltklincnq";
+const UNIT = 0.032, OTHER = 0.84, SQUARE = 1.02;
+const isSquare = (char) => /[…\u1100-\u115f\u2e80-\ua4cf\uac00-\ud7a3\uf900-\ufaff\ufe30-\ufe6f\uff00-\uff60\uffe0-\uffe6]|[\u{1f000}-\u{3ffff}]/u.test(char);
+function widthOf(char, widths) { const digit = widths[char.charCodeAt(0) - 32]; if (digit !== undefined) return UNIT * parseInt(digit, 36);
   return /\p{M}/u.test(char) ? 0 : isSquare(char) ? SQUARE : OTHER; }
-const wide = (text, size, weight = 400) => [...String(text)].reduce((sum, char) => sum + widthOf(char), 0) * size * (weight > 500 ? BOLD : 1);
+const wide = (text, size, weight = 400) => [...String(text)].reduce((sum, char) => sum + widthOf(char, weight > 500 ? STRONG : PLAIN), 0) * size;
 function cut(text, room, size, weight = 400) { const all = [...String(text)]; if (wide(text, size, weight) <= room) return String(text);
   let left = room - wide("…", size, weight), count = 0;
   while (count < all.length && left >= wide(all[count], size, weight)) left -= wide(all[count++], size, weight);
@@ -17,12 +18,13 @@ const ENTITIES = { "&": "&amp;", "<": "&lt;", ">": "&gt;", '"': "&quot;", "'": "
 const shown = (text) => String(text).replace(HIDDEN, (it) => (it < " " ? String.fromCharCode(0x2400 + it.charCodeAt(0)) : it === "\u007f" ? "\u2421" : "\ufffd"));
 const esc = (text) => shown(text).replace(/[&<>"']/g, (it) => ENTITIES[it]);
 const parse = (json) => JSON.parse(json.replace(/"(?:[^"\\]|\\.)*"|-?\d{16,}/g, (it) => (it[0] === '"' ? it : `"${it}"`)));
+const grouped = (number) => String(number).replace(/\B(?=(\d{3})+$)/g, ",");
 const list = (texts) => (texts.length < 2 ? texts.join("") : `${texts.slice(0, -1).join(", ")} and ${texts.at(-1)}`);
 const sentences = (all) => all.filter(Boolean).map((it) => it[0].toUpperCase() + it.slice(1) + (/[.!?]$/.test(it) ? "" : ".")).join(" ");
 const NAMED = /\{([^{}]*)\}/g; const plain = (sentence) => sentence.replace(NAMED, "$1"); function rich(sentence, names) {
   return sentence.split(NAMED).map((part, index) => { const t = index % 2 ? names.indexOf(part) : -1;
     return t < 0 ? esc(part.replace(/'/g, "’")) : `<b class="n${t % COLOURS_IN_USE}">${esc(part)}</b>`; }).join(""); }
-const COLOURS_IN_USE = 8; return { wide, cut, fitting, shown, esc, parse, list, sentences, plain, rich, COLOURS_IN_USE }; })(); Story.svg = (() => {
+const COLOURS_IN_USE = 8; return { wide, cut, fitting, shown, esc, parse, grouped, list, sentences, plain, rich, COLOURS_IN_USE }; })(); Story.svg = (() => {
 const { esc } = Story.text; const S = 0.75; const M = 1; const L = 1.25; const XL = 1.75; const r1 = (length) => Math.round(length * 10) / 10;
 const clamp = (low, value, high) => Math.max(low, Math.min(value, high)); const colour = (t) => t % 8;
 const text = (x, y, size, words, kind = "", anchor = "middle") => `<text x="${r1(x)}" y="${r1(y)}" font-size="${r1(size)}" text-anchor="${anchor}" class="${kind}">${esc(words)}</text>`;
@@ -168,11 +170,13 @@ const { L, M, S, XL, clamp } = Story.svg; function wordsOf(column) { const { kin
     case "miss": return { tops: [`${key} :=`, `${key}`], value: column.op === "insert" ? "exists" : "no row" };
     case "skip": return { tops: ["left out", "out"], value: `${key ?? ""}` }; case "refused": return { tops: ["refused", "ref."], value: "⊘" };
     case "commit": return { tops: ["commit", ""], value: "✓" }; case "unknown": return { tops: ["commit", ""], value: "?" };
-    case "abort": return { tops: column.op ? [...(/read|scan/.test(column.op) ? [`${column.op} ${key}`, `r ${key}`] : [`${key} :=`]), `${key}`] : ["abort", ""], value: "✗" };
-    default: return { tops: [""], value: "" }; } }
-function need(column, size, isNarrow) { const { tops, value } = wordsOf(column), most = column.kind === "scan" ? 7 : 12;
-  if (column.kind === "wait") return isNarrow ? 2.2 : 3; if (column.kind === "commit" || column.kind === "unknown") return isNarrow ? 1.7 : 2.4;
-  return Math.min(Math.max(wide(tops.at(-1), S), wide(value, column.kind === "scan" ? S : size, 700)) + (isNarrow ? 0.5 : 0.8), most); }
+    case "abort": return { tops: stopped(column), value: "✗" }; default: return { tops: [""], value: "" }; } }
+function stopped({ op, key, bucket }) { if (!op) return ["abort", ""]; if (op === "scan") return [`scan ${bucket}`, "scan"];
+  return op === "read" ? [`read ${key}`, `r ${key}`, `${key}`] : [`${key} :=`, `${key}`]; }
+function need(column, size, isNarrow) { const { tops, value } = wordsOf(column), most = column.kind === "scan" ? 7 : 12, isTight = isNarrow && size === S;
+  if (column.kind === "wait") return isTight ? 1.8 : isNarrow ? 2.2 : 3;
+  if (column.kind === "commit" || column.kind === "unknown") return isTight ? 1.4 : isNarrow ? 1.7 : 2.4;
+  return clamp(1.2, Math.max(wide(tops.at(-1), S), wide(value, column.kind === "scan" ? S : size, 700)) + (isNarrow ? 0.3 : 0.8), most); }
 function slotsOf(stories) { const all = stories.map(({ columns }) => { let [place, late] = [-2, 0]; return columns.map((column, index) => {
       const own = stories.length === 1 ? index : column.place; late = own === place ? late + 1 : 0; place = own; return own * 1000 + late; }); });
   const slots = [...new Set(all.flat())].sort((a, b) => a - b); return { count: slots.length, of: all.map((its) => its.map((slot) => slots.indexOf(slot))) }; }
@@ -190,11 +194,14 @@ function* ways(stories, slots, room, u, isNarrow) {
   for (const size of isNarrow ? [L] : [XL, L]) if (column >= Math.max(most(size), (isNarrow ? 2.6 : 3.4) * u)) yield { size, widths: even(column), least: column };
   for (const size of isNarrow ? [L, M] : [XL, L, M]) { const least = Math.max(most(size), 2.6 * u);
     for (let width = Math.max(4 * u, least); width >= least; width -= 0.1 * u) yield { size, widths: even(width), least: 1.2 * u }; }
-  for (const size of [L, M, S]) for (const least of [1, 0.6]) yield { size, widths: needs(size), least: least * u }; }
+  for (const size of [L, M, S]) for (const least of [1, 0.6]) yield { size, widths: needs(size), least: least * u };
+  if (isNarrow) yield { size: S, widths: needs(S), least: 0.3 * u, isTight: true }; }
 function layout(story, { w, h, u, all = [story], rows = true }) {
   const isNarrow = w < 34 * u, longest = Math.max(...story.names.map((name) => wide(name, 1, 700)), ...(rows ? story.tracks.map(({ key }) => wide(key, 1, 700)) : [])), nameSize = isNarrow && longest > 2.5 ? S : M;
-  const gutter = clamp(2.9 * u, longest * nameSize * u + (isNarrow ? 0.5 : 1.2) * u, w * 0.26), pad = (isNarrow ? 1.2 : 2.6) * u, tail = (isNarrow ? 0.4 : 3.2) * u, room = w - gutter - pad - tail;
-  const slots = slotsOf(all), own = slots.of[all.indexOf(story)]; let way, xs, length; for (way of ways(all, slots, room, u, isNarrow)) {
+  const always = rows && story.always.length ? wide("always", S, 700) * u + 0.6 * u : 0;
+  const gutter = clamp(Math.max(2.9 * u, always), longest * nameSize * u + (isNarrow ? 0.3 : 1.2) * u, Math.max(w * 0.26, always)), tail = (isNarrow ? 0.4 : 3.2) * u;
+  const slots = slotsOf(all), own = slots.of[all.indexOf(story)]; let way, xs, length, pad = (isNarrow ? 1.2 : 2.6) * u, room = w - gutter - pad - tail;
+  for (way of ways(all, slots, room, u, isNarrow)) { if (way.isTight) [pad, room] = [0.4 * u, room + pad - 0.4 * u];
     xs = spread(all, slots, way.widths, way.least); length = end(all, slots, way.widths, xs); if (length <= room + 0.5) break; }
   const first = way.widths.flat()[0] ?? 0, isEven = way.least === first, stretch = isEven || length >= room ? 1 : clamp(1, (room - first) / Math.max(length - first, 1), 2);
   const widths = way.widths[all.indexOf(story)], place = (x) => pad + first / 2 + (x - first / 2) * stretch;
@@ -205,8 +212,9 @@ function layout(story, { w, h, u, all = [story], rows = true }) {
     width: (index) => widths[index] ?? first, ...high }; }
 function heights(story, { h, u, rows, isNarrow }) {
   const lanes = story.names.length, count = rows ? story.tracks.length + story.always.length : 0, top = (story.views.length ? 1.5 : 0.4) * u;
-  const row = (count > 6 ? 1.9 : 2.05) * u, low = rows && count ? top + row * count + u : 0;
-  const lane = clamp((lanes > 5 ? 3.3 : isNarrow ? 4.4 : rows ? 3.7 : 2.7) * u, (h - low) / lanes, 9 * u), high = clamp(2.5 * u, lane * (isNarrow ? 0.58 : 0.62), 4.6 * u);
+  const least = (lanes > 5 ? 3.3 : isNarrow ? 4.4 : rows ? 3.7 : 2.7) * u, isShort = count > 6 || top + (2.05 * count + 1) * u + lanes * least > h;
+  const row = (isShort ? 1.95 : 2.05) * u, low = rows && count ? top + row * count + u : 0;
+  const lane = clamp(least, (h - low) / lanes, 9 * u), high = clamp(2.5 * u, lane * (isNarrow ? 0.58 : 0.62), 4.6 * u);
   return { lane, high, gap: lane - high, row, top, y: (t) => t * lane + (lane - high) / 2 }; }
 return { wordsOf, layout }; })(); Story.lanes = (() => { const { cut, esc, fitting, plain, wide } = Story.text;
 const { DEFS, L, M, S, XL, clamp, colour, curved, head, join, path, pointAt, r1, rect, svg, text, title } = Story.svg; const { wordsOf } = Story.layout;
@@ -217,7 +225,7 @@ const ORDINALS = ["1st", "2nd", "3rd"]; function names(story, at, step) {
     return `<g>${title(name)}${text(2, y + (isTwo ? -0.1 : 0.35) * at.u, size, cut(name, at.gutter - 4, size, 700), `b f${colour(t)}`, "start")}${under}</g>`; });
   return svg(at.gutter, at.lane * story.names.length, "transactions", parts.join("")); }
 function lines(column, at, box, tops, value, [topKind, valueKind], most = at.size) {
-  const { u } = at, room = box.w - 4, size = [XL, L, M, S].find((it) => it <= most && wide(value, it * u, 700) <= room) ?? S, isLarge = size > L;
+  const { u } = at, room = box.w - (at.isNarrow ? 2 : 4), size = [XL, L, M, S].find((it) => it <= most && wide(value, it * u, 700) <= room) ?? S, isLarge = size > L;
   const top = fitting(tops, room, S * u), middle = box.y + at.high / 2;
   if (top === "") return text(box.x + box.w / 2, middle + 0.36 * size * u, size * u, cut(value, room, size * u, 700), valueKind);
   return text(box.x + box.w / 2, middle - (isLarge ? 0.6 : 0.28) * u, S * u, top, topKind) +
@@ -229,7 +237,7 @@ function scanned(column, at, box) {
   return text(x, top + 0.3 * u, S * u, fitting(wordsOf(column).tops, box.w - 4, S * u), `f${colour(column.t)}`) +
     few.map((line, index) => text(x, top + (1.25 + index * 0.95) * u, S * u, cut(line, box.w - 4, S * u, 700), "b")).join(""); }
 function boxOf(column, at, index) {
-  const { u } = at, gap = at.width(index) < 3.2 * u ? 1.5 : 3, box = { x: at.left(index) + gap, y: at.y(column.t), w: at.width(index) - 2 * gap }, own = colour(column.t), { tops, value } = wordsOf(column);
+  const { u } = at, gap = at.isNarrow ? 1 : at.width(index) < 3.2 * u ? 1.5 : 3, box = { x: at.left(index) + gap, y: at.y(column.t), w: at.width(index) - 2 * gap }, own = colour(column.t), { tops, value } = wordsOf(column);
   const frame = (kind, round = 0.35 * u) => rect(box.x, box.y, box.w, at.high, kind, round), said = (kinds, most) => lines(column, at, box, tops, String(value), kinds, most);
   switch (column.kind) { case "read": return frame(`box s${own}`) + said([`f${own}`, column.by === null ? "b" : `b f${colour(column.by)}`]);
     case "scan": return frame(`box s${own}`) + scanned(column, at, box); case "write": { const whole = `${column.key} := ${value}`, size = at.size * u;
@@ -245,7 +253,7 @@ function waitBar(story, at, wait, step) {
   const x = at.left(wait.from) + 3, w = Math.max(to - x - 3, 0.6 * u), h = at.high * 0.78, y = at.y(wait.t) + at.high * 0.11, who = wait.for.map((t) => story.names[t]).join(", "), size = S * u;
   const all = `waits for ${who}`, long = wait.keys.length && wait.for.length === 1 ? `${all}, which read ${wait.keys.join(", ")}` : all;
   const said = [[long], [all], ["waits", `for ${who}`]].find((lines) => lines.every((it) => wide(it, size, 700) <= w - 0.8 * u)), bar = rect(x, y, w, h, "hatch", 0.3 * u);
-  if (!said) return bar + text(x, y + h + 0.85 * u, size, cut(all, at.w - x, size, 700), "b halo", "start");
+  if (!said) return bar + text(Math.max(0, Math.min(x, at.w - wide(all, size, 700) - 2)), y + h + 0.85 * u, size, cut(all, at.w, size, 700), "b halo", "start");
   const middle = x + Math.min(w / 2, Math.max(...said.map((it) => wide(it, size, 700))) / 2 + 0.3 * u);
   return bar + said.map((it, index) => text(middle, y + h / 2 + (said.length === 1 ? 0.27 : index ? 0.8 : -0.2) * u, size, it, "b halo")).join(""); }
 const isNear = (at, index, step) => index < step && (at.count <= 30 || index === step - 1);
@@ -293,12 +301,14 @@ const height = (story, at) => at.top + at.row * (story.tracks.length + story.alw
   const always = story.always.map((it, index) => text(2, at.top + at.row * (count + index) + 1.35 * u, S * u, cut("always", room, S * u, 700), "b", "start"));
   return svg(at.gutter, height(story, at), "rows", (story.views.length ? text(2, at.u, S * u, "row", "soft", "start") : "") + rows.join("") + always.join("")); }
 function track({ segments, pending }, at, y, now, till) {
-  const { u } = at, bar = at.row - 1.19 * u, parts = [path(`M0 ${r1(y + at.row - 0.03 * u)}H${r1(at.w)}`, "rule")];
+  const { u } = at, bar = at.row - 1.19 * u, parts = [path(`M0 ${r1(y + at.row - 0.03 * u)}H${r1(at.w)}`, "rule")]; let before = 0;
   for (const { from, to, value, t } of segments) { if (t !== null && from >= now) continue;
-    const x = t === null ? 0 : at.mid(from), w = till(0, to) - x || at.pad, isOpening = t === null, words = value ?? NONE;
+    const x = t === null ? 0 : at.mid(from), w = till(0, to) - x || at.pad, isOpening = t === null, words = value ?? NONE, own = wide(words, M * u, 700), base = y + at.row - 0.27 * u;
     parts.push(rect(x, y + bar, Math.max(w, isOpening ? at.pad - 4 : 2) - 1, at.row - bar - 0.05 * u, isOpening ? "seg" : `tint f${colour(t)}`, 2));
     if (!isOpening) parts.push(rect(x, y + bar, 4, at.row - bar - 0.05 * u, `f${colour(t)}`));
-    parts.push(`<g>${title(words)}${text(x + (isOpening ? 5 : 9), y + at.row - 0.27 * u, M * u, cut(words, Math.max(w - (isOpening ? 6 : 10), at.pad - 8), M * u, 700), `b ${isOpening ? "" : `f${colour(t)}`}`, "start")}</g>`); }
+    const isLeft = !isOpening && to === null && own > w - 10 && own + 8 < x - before, room = Math.max(w - (isOpening ? 6 : 10), at.pad - 8);
+    parts.push(`<g>${title(words)}${isLeft ? text(x - 4, base, M * u, words, `b f${colour(t)}`, "end") : text(x + (isOpening ? 5 : 9), base, M * u, cut(words, room, M * u, 700), `b ${isOpening ? "" : `f${colour(t)}`}`, "start")}</g>`);
+    before = x + Math.min(own, room) + 12; }
   for (const { t, from, to, value, end } of pending) { if (from >= now) continue; const x = at.mid(from), until = till(0, to), w = Math.max(until - x, 2) - 2;
     parts.push(rect(x, y + 0.06 * u, w, bar - 0.1 * u, `pend s${colour(t)}`, 2), text(x + 4, y + bar - 0.14 * u, S * u, cut(value ?? NONE, Math.max(w - 4, at.width(from) / 2), S * u), `f${colour(t)}`, "start"));
     if (end === "abort" && to < now) parts.push(text(until + 1, y + bar - 0.12 * u, S * u, "✗", "b badt", "start")); }
@@ -326,7 +336,7 @@ function tracks(story, at, step) {
   parts.push(looking(story, at, views));
   story.always.forEach((it, index) => parts.push(always(it, at, at.top + at.row * (story.tracks.length + index) + 0.35 * at.u, now, right)));
   return svg(at.w, low + 4, `Rows after ${now} moves`, parts.join("")); }
-return { keys, tracks }; })(); Story.cards = (() => { const { esc, wide } = Story.text;
+return { keys, tracks }; })(); Story.cards = (() => { const { esc, grouped, wide } = Story.text;
 const { DEFS, S, colour, path, r1, rect, svg, text, title } = Story.svg; const { VERDICTS, verdictKind } = Story.story; const NONE = "–";
 function mini(story, w, h, u, step) {
   const count = Math.max(story.columns.length, 1), column = w / count, lane = h / story.names.length, high = lane * 0.8, y = (t) => t * lane + lane * 0.1, size = Math.min(S * u, high * 0.9);
@@ -351,24 +361,26 @@ const isBroken = (outcome) => verdictKind(outcome.verdict) === "not" || outcome.
 const sorted = (outcomes) => [...outcomes].sort((one, other) => isBroken(other) - isBroken(one) || other.orders - one.orders);
 const rowsOf = ({ rows }) => rows.map(([key, value]) => `${key}=${value}`).join(" "); function saidOutcome(outcome, { orders }) {
   const ends = outcome.ends.map(({ txn, end }) => `${txn} ${end}`).join(", "), broken = outcome.breaks ? `; breaks line ${outcome.breaks}` : "";
-  return `${outcome.orders} of ${orders} orders: ${ends}; ${rowsOf(outcome)}; ${VERDICTS[verdictKind(outcome.verdict)]}${broken}`; }
-function bars(counted, names, w, u, isHere = () => false) {
-  const size = S * u, high = 1.45 * u, all = sorted(counted.outcomes), most = Math.max(...all.map((it) => it.orders)), alike = new Set(all.map((it) => it.ends.map(({ end }) => end).join())).size < all.length;
+  return `${grouped(outcome.orders)} of ${grouped(orders)} orders: ${ends}; ${rowsOf(outcome)}; ${VERDICTS[verdictKind(outcome.verdict)]}${broken}`; }
+const BAR = 1.45; function bars(counted, names, w, u, isHere = () => false) {
+  const size = S * u, high = BAR * u, all = sorted(counted.outcomes), most = Math.max(...all.map((it) => it.orders)), alike = new Set(all.map((it) => it.ends.map(({ end }) => end).join())).size < all.length;
   const short = names.join("").length > 6 ? names.map((name) => name.slice(0, 2)) : names, widths = short.map((name) => wide(`${name} ✓`, size, 700) + 0.45 * u), left = widths.reduce((sum, it) => sum + it, 0.4 * u);
-  const room = Math.max((w - left - wide(`✗ ${most}`, size, 700)) * 0.5, 2 * u);
+  const isOther = (outcome) => verdictKind(outcome.verdict) === "other", countOf = (outcome) => `${isBroken(outcome) ? "✗ " : ""}${grouped(outcome.orders)}`;
+  const afterOf = (outcome) => isBroken(outcome) || isOther(outcome) ? "" : alike ? rowsOf(outcome) : outcome.ends.find(({ end }) => end !== "committed")?.end.replace("aborted ", "") ?? "";
+  const mostOf = (outcome) => (w - left - wide(countOf(outcome), size, 700) - wide(afterOf(outcome), size) - 0.9 * u) * most / outcome.orders;
+  const room = Math.max(2 * u, Math.min((w - left - wide(`✗ ${grouped(most)}`, size, 700)) * 0.5, ...all.map(mostOf).filter((it) => it >= 2 * u)));
   return svg(w, high * all.length, "outcomes of all orders", DEFS + all.map((outcome, index) => {
-    const y = index * high, base = y + 1.02 * u, bad = isBroken(outcome), isOther = verdictKind(outcome.verdict) === "other", length = Math.max(2, room * outcome.orders / most), words = saidOutcome(outcome, counted);
-    const after = bad || isOther ? "" : alike ? rowsOf(outcome) : outcome.ends.find(({ end }) => end !== "committed")?.end.replace("aborted ", "") ?? "", count = bad ? `✗ ${outcome.orders}` : `${outcome.orders}`;
+    const y = index * high, base = y + 1.02 * u, bad = isBroken(outcome), length = Math.max(2, room * outcome.orders / most), words = saidOutcome(outcome, counted), after = afterOf(outcome), count = countOf(outcome);
     const x = left + length + 0.3 * u, next = x + wide(count, size, 700) + 0.5 * u;
     const marks = outcome.ends.map(({ end }, t) => text(0.2 * u + widths.slice(0, t).reduce((sum, it) => sum + it, 0), base, size, `${short[t]} ${end === "committed" ? "✓" : "✗"}`, end === "committed" ? `b f${colour(t)}` : "badt", "start"));
     return `<g data-order="${esc(outcome.first?.join(" ") ?? "")}" role="button" tabindex="0" aria-label="${esc(words)}">${title(words)}${rect(0, y, w, high - 1, isHere(outcome) ? "band" : "chip", 3)}${marks.join("")}` +
-      rect(left, y + 0.28 * u, length, 0.85 * u, bad ? "bad" : isOther ? "hatch" : "slate", 2) + text(x, base, size, count, `b ${bad ? "badt" : ""}`, "start") +
-      (wide(after, size) < w - next + 4 ? text(next, base, size, after, "soft", "start") : "") + "</g>"; }).join(""), "group"); }
+      rect(left, y + 0.28 * u, length, 0.85 * u, bad ? "bad" : isOther(outcome) ? "hatch" : "slate", 2) + text(x, base, size, count, `b ${bad ? "badt" : ""}`, "start") +
+      (wide(after, size) <= w - next ? text(next, base, size, after, "soft", "start") : "") + "</g>"; }).join(""), "group"); }
 const hasOutcome = (story) => (outcome) => verdictKind(outcome.verdict) === story.verdict.kind && outcome.ends.every(({ end }, t) => end === endOf(story, t)) &&
   outcome.rows.every(([key, value]) => story.tracks.find((it) => it.key === key)?.segments.at(-1).value === value); function endOf({ ends, columns }, t) {
   if (ends[t] !== "abort") return ends[t] === "commit" ? "committed" : "unended";
   return `aborted ${columns.find((it) => it.t === t && it.kind === "abort").cause}`; }
-return { mini, sorted, saidOutcome, bars, hasOutcome, endOf }; })(); Story.figure = (() => { const { fitting, plain } = Story.text;
+return { mini, sorted, saidOutcome, BAR, bars, hasOutcome, endOf }; })(); Story.figure = (() => { const { fitting, plain } = Story.text;
 const { COLOURS, L, S, STYLE, XL, rect, r1, svg, text } = Story.svg; const { layout } = Story.layout; const { lanes, names } = Story.lanes;
 const { keys, tracks } = Story.rows; const painted = (drawing, colours) => drawing.replace(/var\(--(\w+)\)/g, (all, name) => colours[name] ?? all);
 function saying(story, step) { if (step === 0) return { say: "", isBad: false };
@@ -449,7 +461,7 @@ function found(it, moves, rows, place) {
   const own = moves.some((other) => other.txn === it.txn && other.kind === "write" && same([other.key, other.value], [it.key, it.value]));
   if (own) return { why: "It sees its own write" }; if (rows.some((row) => same(row, [it.key, it.value]))) return { why: "" };
   return { why: writersOf(moves, it).length ? "Several have written this value" : "Nobody here wrote this value" }; }
-return { isLog, playOfLog }; })(); Story.view = (() => { const { esc, plain, rich, sentences } = Story.text; const { layout } = Story.layout;
+return { isLog, playOfLog }; })(); Story.view = (() => { const { esc, grouped, plain, rich, sentences } = Story.text; const { layout } = Story.layout;
 const { lanes, names } = Story.lanes; const { keys, tracks } = Story.rows; const { bars, hasOutcome, mini } = Story.cards;
 const { samePlace, shortVerdict } = Story.story; const WRITTEN = "as written"; function positionOf(at, story) { if (at === "start") return 0;
   if (at === "end") return story.columns.length + 1; const all = story.columns.flatMap((it, index) => (fits(it, at) ? [index + 1] : []));
@@ -460,7 +472,7 @@ function edgesHtml({ verdict, always, names: all }) {
   if (verdict.breaks !== null) rows.push(["always", `${esc(broken?.text ?? `line ${verdict.breaks}`)} doesn’t hold at the end.`]);
   return rows.length ? `<ul class="${rows.length > 3 ? "two" : ""}">${rows.map(([kind, said]) => `<li><span class="edge-kind">${esc(kind)}</span><span>${said}</span></li>`).join("")}</ul>` : ""; }
 function sentence(model, story, { step, mode }) { const column = story.columns[step - 1], { verdict } = story; if (step === 0 || mode === "compare") {
-    const asked = model.question || model.title, more = model.question && mode !== "compare" ? model.about : "";
+    const asked = model.question || model.title, more = model.question && mode !== "compare" && !model.intro ? model.about : "";
     return `<p>${esc(asked)}</p>${more ? `<p class="why">${esc(more)}</p>` : ""}`; }
   if (column) return `<p class="${column.breaks === null ? "" : "not"}">${rich(column.say, story.names)}</p>${column.why ? `<p class="why">${rich(column.why, story.names)}</p>` : ""}`;
   const isBad = verdict.kind === "not" || verdict.breaks !== null, tail = sentences([verdict.kind === "not" ? verdict.name : "", verdict.tail]);
@@ -479,10 +491,10 @@ function compared(model, story, step, { w, h, u }) {
     const now = samePlace(story, step, its), isEnd = now > its.columns.length, { kind, breaks } = its.verdict, said = now ? rich(isEnd ? its.verdict.say : its.columns[now - 1].say, its.names) : "";
     return `<h2 class="${isEnd && (kind === "not" || breaks !== null) ? "not" : ""}"><span>${esc(level)}</span> ${said}</h2>${cell("names", names(its, at[index], now))}<div class="lanes" data-level="${esc(level)}">${lanes(its, at[index], now, true)}</div>`; }).join("");
   return { html, at: at[stories.indexOf(story)] }; }
-const KINDS = [["slate", "serializable"], ["hatch", "only in another order"], ["bad", "✗ not serializable"]];
+const KINDS = [["slate", "serializable"], ["hatch", "in another order"], ["bad", "✗ not serializable"]];
 const swatch = ([kind, words]) => `<span class="kind"><svg class="pic" viewBox="0 0 22 16" aria-hidden="true"><rect width="22" height="16" rx="3" class="${kind}"/></svg>${words}</span>`;
 function legend({ outcomes, levels, uncounted }) { const counted = levels.map((level) => outcomes[level]).find(Boolean);
-  if (counted) return `<p class="st-legend">This order at each level, and the outcomes of all ${Number(counted.orders).toLocaleString("en")} orders: ${KINDS.map(swatch).join(" ")}. A bar plays one.</p>`;
+  if (counted) return `<p class="st-legend">This order at each level, and all ${grouped(counted.orders)} orders by outcome: ${KINDS.map(swatch).join(" ")}. A bar plays one.</p>`;
   return `<p class="st-legend">This order at each level.${uncounted ? ` ${esc(uncounted)}` : ""}</p>`; }
 function cards(model, story, { level, step }, { w, u, narrow }) {
   const inner = (narrow ? w : (w - 0.8 * u * (model.levels.length - 1)) / model.levels.length) - 1.4 * u;
@@ -520,7 +532,7 @@ const wordsOf = (column) => { const isEnd = /wait|commit/.test(column.kind) || (
   return column.kind === "read" || column.op === "read" ? `${me} reads ${column.key}. What does it find?` : `${me} wants to write ${column.key}. What happens?`; };
 function questionAt(story, position) { const column = story.columns[position];
   if (position === story.columns.length) return { words: "And all of it together?", choices: Object.values(VERDICTS).slice(0, 3), right: VERDICTS[story.verdict.kind] };
-  if (!column || column.kind === "scan" || column.kind === "refused" || (column.isLate && column.kind === "commit")) return null;
+  if (!column || column.kind === "scan" || column.op === "scan" || column.kind === "refused" || (column.isLate && column.kind === "commit")) return null;
   if (column.kind === "abort" && column.cause === "asked") return null;
   const right = answerOf(story, column), choices = [...new Set([...choicesOf(story, column, position), right])];
   return choices.length > 2 || (choices.length === 2 && !/read/.test(column.kind)) ? { words: wordsOf(column), choices, right } : null; }
@@ -537,7 +549,7 @@ function worksheet(story) {
   const moves = story.columns.map((column, position) => (asked.has(position) ? item(asked.get(position)) : plainly(column, position))).join("");
   const last = asked.get(story.columns.length), rows = story.tracks.map(({ key }) => `${esc(key)} = ______`).join(" &nbsp; ");
   return `<ol class="sheet">${moves}${last ? item(last) : ""}</ol>${rows ? `<p>The rows at the end: ${rows}</p>` : ""}<p>${story.names.map((name, t) => `${rich(named(name), story.names)}: ☐ committed ☐ aborted`).join(" &nbsp; ")}</p>`; }
-return { questionAt, questions, questionHtml, result, worksheet }; })(); Story.player = (() => {
+return { questionAt, questions, questionHtml, result, worksheet }; })(); Story.player = (() => { const { BAR } = Story.cards;
 const { cards, compared, sentence, sentenceRoom, stage, told } = Story.view; const { questionAt, questionHtml, questions, result } = Story.ask;
 const { samePlace } = Story.story; const { esc, rich } = Story.text; const NARROW = "(max-width: 50rem)";
 const FORWARD = { ArrowRight: 1, ArrowDown: 1, PageDown: 1, ArrowLeft: -1, ArrowUp: -1, PageUp: -1 }; const READING = 700; class Player { constructor(host) {
@@ -563,8 +575,9 @@ pub(crate) const SCRIPT_SECOND: &str = r##"  showCards(story) {
     box.hidden = isHidden; if (isHidden) return put(box, ""); box.style.setProperty("--cards", model.levels.length);
     const scrolled = [...box.querySelectorAll(".level")].map((it) => it.scrollTop);
     put(box, cards(model, story, place, { w: box.clientWidth, u: unit, narrow })); box.querySelectorAll(".level").forEach((card, index) => {
-      card.scrollTop = scrolled[index] ?? 0; const more = Math.ceil((card.scrollHeight - card.clientHeight) / (1.45 * unit) - 0.2);
-      if (more > 0) card.insertAdjacentHTML("beforeend", `<div class="more">${more + 1} more ↓</div>`); }); return undefined; }
+      card.scrollTop = scrolled[index] ?? 0; if (card.scrollHeight <= card.clientHeight + 2) return;
+      const all = card.querySelectorAll("[data-order]").length, bar = BAR * unit, top = card.scrollTop + card.lastElementChild.getBoundingClientRect().top - card.getBoundingClientRect().top, whole = Math.floor((card.clientHeight - top - 1.2 * unit) / bar), h = card.clientHeight - top - whole * bar + 1;
+      card.insertAdjacentHTML("beforeend", `<div class="more" style="height: ${h}px; margin-top: -${h}px">${all - whole} more ↓</div>`); }); return undefined; }
   showStage(story) {
     const { model, place, unit: u } = this, main = byId("st-main"), view = byId("st-stage"), narrow = matchMedia(NARROW).matches, style = getComputedStyle(main);
     const w = main.clientWidth - parseFloat(style.paddingLeft) - parseFloat(style.paddingRight), below = byId("st-cards").hidden ? 0 : byId("st-cards").offsetHeight + 0.5 * u;
@@ -646,7 +659,8 @@ class StoryPage { constructor(sheet, objects, panels) { Object.assign(this, { sh
     this.outcomes = outcomesOf(objects.filter((it) => it.kind === undefined && it.levels !== undefined)); this.isLog = Boolean(log); [this.own] = this.plays;
     this.place = { level: log ? "serializable" : levelOf(this.own), step: 0, mode: "", asks: false }; this.order = this.own.order ?? [];
     this.player = new Player({ go: (change, isEntry, options) => this.go(change, isEntry, options) });
-    byId("st-back").addEventListener("click", () => history.back()); byId("st-machine").hidden = this.isLog || !panels; }
+    byId("st-back").addEventListener("click", () => history.back()); addEventListener("resize", () => { if (this.isOpen) this.show(); });
+    byId("st-machine").hidden = this.isLog || !panels; }
   model(order) { const id = order.join(" "); if (!this.models.has(id)) { const stories = {};
       for (const play of this.plays) if (same(play.order ?? [], order)) stories[this.isLog ? "serializable" : levelOf(play)] ??= storyOf(play, this.text);
       const { title, about, question } = this.sheet;
@@ -654,11 +668,12 @@ class StoryPage { constructor(sheet, objects, panels) { Object.assign(this, { sh
         order, isOwnOrder: same(order, this.own.order ?? []), asides: [], uncounted: "" }); }
     return this.models.get(id); }
   has(order, level = null) { return this.plays.some((it) => same(it.order ?? [], order) && (level === null || levelOf(it) === level)); }
-  open(order, level) { this.order = order; this.place = { ...this.place, level: level ?? this.place.level, step: 0, mode: "" }; this.show(); this.write(); }
+  open(order, level) { this.order = order; this.place = { ...this.place, level: level ?? this.place.level, step: Infinity, mode: "" }; this.show();
+    this.write(); }
   show(options) { const model = this.model(this.order); if (!model.stories[this.place.level]) this.place.level = model.levels[0];
-    this.place.step = Math.max(0, Math.min(this.place.step, model.stories[this.place.level].columns.length + 1)); this.player.show(model, this.place, options);
-    showText(byId("st-text"), this.text, this.player.story, this.place.step); byId("st-back").hidden = !(history.state?.depth > 0);
-    document.documentElement.classList.add("told"); }
+    this.place.step = Math.max(0, Math.min(this.place.step, model.stories[this.place.level].columns.length + 1));
+    document.documentElement.classList.add("told"); this.player.show(model, this.place, options);
+    showText(byId("st-text"), this.text, this.player.story, this.place.step); byId("st-back").hidden = !(history.state?.depth > 0); }
   get isOpen() { return document.documentElement.classList.contains("told"); }
   go(change, isEntry = false, options = {}) { if (change.mode === "machine") return this.openMachine(); const { order, ...rest } = change;
     if (isEntry) try { history.pushState({ depth: (history.state?.depth ?? 0) + 1 }, "", this.address()); } catch {}
@@ -742,8 +757,9 @@ class Run { constructor({ opening, waits, asked }, steps, done) { this.done = do
       if (!edges.has(key)) edges.set(key, { from, to, kind, by: [] });
       edges.get(key).by.push(what === "version" ? `v${number}` : what !== "bucket" ? what : number === undefined ? "listed" : `bucket ${number}`); }
     return [...edges.values()]; } }
-const isTree = data.kind === "tree"; let tree = null; let asked = null; function treeOf(data) { const text = (at) => data.texts[at];
-  const steps = data.steps.map(([line, changed, gone, why, sees, waits, ends, rule, sentence, definition, comes]) => ({
+const isTree = data.kind === "tree"; let tree = null; let asked = null;
+const askedTo = (place) => [...(asked ?? []), ...namesOf(tree, tree.path).slice(asked?.length ?? 0)].slice(0, place); function treeOf(data) {
+  const text = (at) => data.texts[at]; const steps = data.steps.map(([line, changed, gone, why, sees, waits, ends, rule, sentence, definition, comes]) => ({
     line: text(line), changed: text(changed), gone: text(gone), why: text(why), sees: text(sees), waits: waits === null ? null : text(waits), ends: text(ends), rule: text(rule),
     sentence: text(sentence), definition: text(definition), comes: text(comes), }));
   const nodes = data.nodes.map(([parent, who, places, outcome, counts, joins = []], index) => ({ index, parent, who: who - 1, steps: places.map((at) => steps[at]), outcome, next: [], counts, joins, own: new Set() }));
@@ -958,7 +974,7 @@ function legend() {
 
 function opening() {
   if (isTree) return `<p class="soft">Choose which moves first. ${data.outcomes.length} outcomes, ${total(tree.nodes[0].counts)} orders${statesSaid()}.</p>`;
-  return `<p>${KEY}</p><p class="soft">\u2192, Space, Page Down: on. \u2190, Page Up: back. ?: guess. f: what is to come. p: larger. h: all keys.</p>`;
+  return `<p>${KEY}</p><p class="soft">\u2192 Space: on. \u2190: back. ?: guess. h: all keys.</p>`;
 }
 
 function verdictText() {
@@ -1465,7 +1481,7 @@ function laneHead(id, y, { laneH: h, gutter, u, isPhone, tight }) {
   const after = 0.2 * u + widthOf(name, big, 700) + 0.5 * u;
   if (tokenW) parts.push(`<g class="token"><rect x="${f1(after - 0.1 * u)}" y="${f1(y + 0.42 * u)}" width="${f1(tokenW)}" height="${f1(1.15 * u)}" rx="${f1(0.55 * u)}"/><text x="${f1(after - 0.1 * u + tokenW / 2)}" y="${f1(y + 1.32 * u)}" text-anchor="middle" style="font-size:${f1(0.9 * u)}px">${esc(short)}</text></g>`);
   const next = after + (tokenW ? tokenW + 0.3 * u : 0);
-  const level = fitting([it.level, it.level.slice(0, 6), ""], gutter - next - 0.3 * u, 0.95 * u);
+  const level = fitting([it.level, `${it.level.slice(0, 7)}\u2026`, `${it.level.slice(0, 4)}\u2026`, ""], gutter - next - 0.3 * u, 0.95 * u);
   const state = it.kind === "not" ? "not begun" : it.kind === "active" && it.finished ? "finished" : it.kind;
   if (isPhone) {
     if (it.waits || it.commits) parts.push(`<text class="lane-facts" x="${f1(0.2 * u)}" y="${f1(y + 2.7 * u)}"><tspan class="warn">waits ${it.waits || it.commits}</tspan></text>`);
@@ -1504,11 +1520,11 @@ function laneStrip(id, y, { stripH: h, x, xEdge, first, shownLast, horizon, u, c
     out.push(`<rect class="strip ${phase.kind}${isOpen ? " open" : ""}" x="${f1(left)}" y="${f1(top)}" width="${f1(right - left)}" height="${f1(h)}"><title>${phase.kind}</title></rect>`);
     const text = tight ? "" : fitting(PHASES[phase.kind], right - left - 0.6 * u, 0.95 * u, 600);
     if (text) out.push(`<g><rect class="plate ${phase.kind}" x="${f1(left + 0.2 * u)}" y="${f1(y + 0.28 * u)}" width="${f1(widthOf(text, 0.95 * u, 600) + 0.4 * u)}" height="${f1(h - 0.16 * u)}"/><text class="phase ${phase.kind}" x="${f1(left + 0.4 * u)}" y="${f1(y + 0.2 * u + h * 0.78)}">${text}</text></g>`);
-  });
-  return out;
 "##;
 
-pub(crate) const SCRIPT_THIRD: &str = r#"}
+pub(crate) const SCRIPT_THIRD: &str = r#"  });
+  return out;
+}
 
 /* ---- the versions on an axis of time */
 
@@ -2374,6 +2390,9 @@ function outcomeParts(text) {
   return { parts, verdict, isGood: !breaks && verdict !== "not serial" };
 }
 
+/** A verdict of an outcome's text in the words of a story. */
+const verdictSaid = (verdict) => verdict.replace(/\bserial\b/, "serializable");
+
 /** An outcome in few words: of more than two transactions those that don't commit. */
 function outcomeOf(text) {
   const { parts, verdict } = outcomeParts(text);
@@ -2382,7 +2401,7 @@ function outcomeOf(text) {
   const telling = txns.length > 2 ? txns.filter(([, state]) => state !== "committed") : txns;
   const endOf = (state, cause) => (state === "committed" ? "commits" : state === "unended" ? "goes on" : `aborts (${cause})`);
   const said = telling.map(([name, state, cause]) => `${tagName(name)} ${endOf(state, cause)}`).join(", ") || "all commit";
-  return `${said}<span class="soft"> \u00b7 ${esc(rows.replace("rows ", ""))}${verdict === "serial" ? "" : ` \u00b7 <b>${esc(verdict)}</b>`}</span>`;
+  return `${said}<span class="soft"> \u00b7 ${esc(rows.replace("rows ", ""))}${verdict === "serial" ? "" : ` \u00b7 <b>${esc(verdictSaid(verdict))}</b>`}</span>`;
 }
 
 const letterOf = (outcome) => "ABCDEFGHIJKLMNOPQRSTUVWXYZ"[outcome] ?? String(outcome);
@@ -2427,9 +2446,9 @@ function ordersSaid(reach, place) {
 const MOST_MOVES = 8;
 const MOST_LETTERS_SAID = 40;
 
-/** That the page shows another order than the one that was asked for. */
+/** That the page shows another order than the one that was asked for, where it begins to. */
 function askedSaid() {
-  if (asked === null) return "";
+  if (asked === null || placeHere() !== asked.length || endsOfPath()[asked.length] !== here) return "";
   const shown = namesOf(tree, tree.path).slice(0, asked.length);
   const cut = asked.length > MOST_MOVES ? asked.findIndex((it, index) => it !== shown[index]) : 0;
   const isLong = 2 * asked.slice(cut).join(" ").length > MOST_LETTERS_SAID;
@@ -2445,10 +2464,10 @@ function showTree() {
   const isAt = ends[place] === here;
   const done = movesDone(node.index);
   // breadcrumbs
-  const crumbs = tree.path.slice(1).map((at, index) => {
-    const it = tree.nodes[at];
-    const move = tree.moves[it.who][movesDone(at)[it.who] - 1];
-    return `<button type="button" data-crumb="${index + 1}" class="${index + 1 <= place ? "" : "ahead"}"${index + 1 === place ? ' aria-current="true"' : ""}>${tagName(tree.names[it.who])} ${esc(move)}</button>`;
+  const order = askedTo(tree.path.length - 1);
+  const crumbs = order.map((name, index) => {
+    const nth = order.slice(0, index).filter((it) => it === name).length;
+    return `<button type="button" data-crumb="${index + 1}" class="${index + 1 <= place ? "" : "ahead"}"${index + 1 === place ? ' aria-current="true"' : ""}>${tagName(name)} ${esc(tree.moves[tree.names.indexOf(name)][nth])}</button>`;
   });
   $("path").hidden = false;
   $("path").innerHTML = `<button type="button" data-crumb="0"${place === 0 ? ' aria-current="true"' : ""}>start</button>${crumbs.map((it) => `<span aria-hidden="true">\u203a</span>${it}`).join("")}<span class="space"></span><button type="button" data-do="undo"${place === 0 ? " disabled" : ""} title="Backspace">\u21b6 undo</button>`;
@@ -2470,7 +2489,7 @@ function showTree() {
     const idle = (joins ? hasEnded(tree.names[who]) : it.steps.length === 0) ? ' <span class="soft">(has aborted)</span>' : "";
     return `<button type="button" class="choice${isTaken ? " taken" : ""}" data-next="${next}"${joins ? ` title="${esc(joinSaid(next))}"` : ""}><kbd>${who + 1}</kbd> <span>${joins ? `${JOINS} ` : ""}${(isCrowd ? shortTag : tagName)(tree.names[who])} <b>${esc(move)}</b>${idle}</span>${outcomeBar(it.counts)}<span class="count">${isSecret ? "" : countsSaid(it.counts, room)}</span></button>`;
   }).join("");
-  const found = whole && isAt ? `<p class="whose">This order is complete.</p><p class="final">${outcomeOf(data.outcomes[node.outcome])}</p><p>The checker: <b>${esc(outcomeParts(data.outcomes[node.outcome]).verdict)}</b>. ${reachSaid(node)}</p>` : "";
+  const found = whole && isAt ? `<p class="whose">This order is complete.</p><p class="final">${outcomeOf(data.outcomes[node.outcome])}</p><p>All together: <b>${esc(verdictSaid(outcomeParts(data.outcomes[node.outcome]).verdict))}</b>. ${reachSaid(node)}</p>` : "";
   const inside = isAt ? "" : `<p class="whose">In the middle of a move</p><p>\u2192 goes on with it.</p>`;
   $("because").innerHTML = `<div class="moves">${found || inside || `<p class="whose">Who moves next?</p><div class="pick${tree.isMerged ? " merged" : ""}${isCrowd ? " crowd" : ""}" style="--n:${isCrowd ? Math.ceil(ways / 2) : Math.min(ways, 3)}">${choices}</div>`}</div>`;
   // the outcomes that can still be reached
@@ -2485,6 +2504,8 @@ function showTree() {
     const left = isSecret ? 0 : data.outcomes.length - shown.length;
     const digits = Math.max(...shown.map((at) => String(tree.nodes[0].counts[at]).length));
     put("word", `<ul class="outcomes${data.outcomes.length > 3 ? " many" : ""}"${digits > 3 ? ` style="--digits:${digits}"` : ""}>${rows.join("")}${left ? `<li class="rest soft">and ${left} more</li>` : ""}</ul>`);
+    // Lines that are broken may need more room than there is.
+    if (!isSmall() && $("word").scrollHeight > $("word").clientHeight + 2) $("word").firstElementChild.classList.add("many");
   }
 }
 
@@ -2500,10 +2521,10 @@ const hasEnded = (name) => ["aborted", "terminated"].includes(run.txn(run.ids.ge
 /** Goes on with a move; another one than the path had takes the rest of the path away, and one that joins all of it. */
 function takeMove(next) {
   const place = placeHere();
-  let order = null;
+  let order = asked;
   if (tree.path[place + 1] !== next) {
     const who = tree.nodes[tree.path[place]].next.indexOf(next);
-    order = [...namesOf(tree, tree.path.slice(0, place + 1)), tree.names[who]];
+    order = [...askedTo(place), tree.names[who]];
     tree.path = pathTo(tree, next);
     order = askedOf(tree, tree.path, order);
     run = runOfPath();
@@ -2512,20 +2533,33 @@ function takeMove(next) {
   goToPlace(place + 1, order);
 }
 
-function goToPlace(place, order = null) {
-  tree.cursor = place;
+/** Goes to the end of the moves of an order, after which nothing has moved. */
+function goToOrder(order) {
+  tree.path = pathOf(tree, order);
+  run = runOfPath();
+  goToPlace(order.length, askedOf(tree, tree.path, order));
+}
+
+/** Goes to a place of the order that was asked for: what comes before the move that joined has steps of its own. */
+function goToAsked(place) {
+  if (asked !== null && place < asked.length) goToOrder(asked.slice(0, place));
+  else goToPlace(place);
+}
+
+function goToPlace(place, order = asked) {
   move(endsOfPath()[place], order);
   if (place > 0 && tree.nodes[tree.path[place]].next.length === 0) tellLeaf();
 }
 
 /** Shows the moves from here to an outcome; if one of them joins, it is at the last that does. */
 function findOutcome(outcome) {
-  const path = tree.path.slice(0, placeHere() + 1);
-  const { order, last, joined } = movesOn(tree, path.at(-1), outcome);
+  const place = placeHere();
+  const before = askedTo(place);
+  const { order, last, joined } = movesOn(tree, tree.path[place], outcome);
   tree.path = pathTo(tree, last);
   run = runOfPath();
   if (joined === 0) move(here);
-  else goToPlace(path.length - 1 + joined, [...namesOf(tree, path), ...order.slice(0, joined)]);
+  else goToPlace(place + joined, [...before, ...order.slice(0, joined)]);
 }
 
 /* ================================================================ the same moves at all levels */
@@ -2541,7 +2575,9 @@ function plantLevels() {
   const marked = outcomesAtLevels().find(({ text, counts }) => !outcomeParts(text).isGood && counts.some(Boolean)) ?? outcomesAtLevels()[0];
   const at = marked.counts.findIndex(Boolean);
   levels.order = orderTo(levels.trees[at], sheet.trees[at].outcomes.indexOf(marked.text));
-}
+"#;
+
+pub(crate) const SCRIPT_FOURTH: &str = r##"}
 
 /** Each outcome with how many orders have it at each level. */
 function outcomesAtLevels() {
@@ -2562,9 +2598,7 @@ function columnAt(at) {
   const text = outcome === null ? "" : sheet.trees[at].outcomes[outcome];
   const other = askedOf(its, path, levels.order) === null ? "" : `<p class="joined">${JOINS} Shown as ${esc(namesOf(its, path).join(" "))}, which ends the same.</p>`;
   return `<section><h3>${LEVELS[at]} <button type="button" data-level="${at}">story</button></h3>${other}<ol>${lines.join("")}</ol><p class="ends">${endsSaid(text)}</p></section>`;
-"#;
-
-pub(crate) const SCRIPT_FOURTH: &str = r##"}
+}
 
 /** Whether a step says what its transaction hasn't said last. */
 function isNews() {
@@ -2575,7 +2609,7 @@ function isNews() {
 /** An outcome in words: how each transaction ends, the rows, and the verdict. */
 function endsSaid(text) {
   const { parts, verdict, isGood } = outcomeParts(text);
-  return `${parts.map(esc).join("; ")}; <b class="${isGood ? "good" : "bad"}">${esc(verdict)}</b>`;
+  return `${parts.map(esc).join("; ")}; <b class="${isGood ? "good" : "bad"}">${esc(verdictSaid(verdict))}</b>`;
 }
 
 function showLevels() {
@@ -2803,7 +2837,7 @@ addEventListener("afterprint", () => { $("print").replaceChildren(); });
 function show() {
   if (isLevels && levels.shown === null) { document.body.dataset.position = 0; showLevels(); return; }
   document.body.dataset.position = run.done + here;
-  $("position").textContent = `${run.done + here} / ${run.done + run.last}`;
+  $("position").textContent = positionSaid();
   document.querySelector('[data-do="first"]').disabled = document.querySelector('[data-do="back"]').disabled = here === 0;
   document.querySelector('[data-do="on"]').disabled = document.querySelector('[data-do="last"]').disabled = here === run.last && guess === null;
   const slider = $("slider");
@@ -2822,10 +2856,16 @@ function show() {
   tellParent();
 }
 
+/** How far the page is: in steps; in the explorer, whose step is the one of the move that tells most, in moves. */
+function positionSaid() {
+  const place = isTree ? placeHere() : 0;
+  return isTree && endsOfPath()[place] === here ? `${place} / ${total(tree.moves.map((it) => it.length))}` : `${run.done + here} / ${run.done + run.last}`;
+}
+
 /** Goes to a position; `order` is the one that was asked for, where the page shows another one. */
-function move(position, order = null) {
-  asked = order;
+function move(position, order = asked) {
   here = Math.min(Math.max(position, 0), run.last);
+  asked = order !== null && here >= endsOfPath()[order.length] ? order : null;
   show();
   clearTimeout(telling);
   telling = setTimeout(tellAddress, 120);
@@ -2836,7 +2876,7 @@ function placeSaid() {
   if (!isTree) return String(run.done + here);
   const level = !isLevels ? "" : levels.shown === null ? "" : `${LEVELS[levels.shown]}:`;
   if (isLevels && level === "") return "";
-  return level + namesOf(tree, tree.path).join(".") + (here < run.last ? "@" + here : "");
+  return level + askedTo(tree.path.length - 1).join(".") + (here < run.last ? "@" + here : "");
 }
 
 let telling = 0;
@@ -2857,10 +2897,12 @@ function on() {
 
 function back() {
   if (guess !== null) { guess = null; show(); return; }
-  move(positionBack(here));
+  const to = positionBack(here);
+  if (asked !== null && to < endsOfPath()[asked.length]) goToAsked(asked.length - 1);
+  else move(to);
 }
 
-function jump(position, order = null) { guess = null; move(position, order); }
+function jump(position, order = asked) { guess = null; move(position, order); }
 
 function press(name, isOn) { document.querySelector(`[data-do="${name}"]`).setAttribute("aria-pressed", String(isOn)); }
 
@@ -2882,7 +2924,7 @@ const DOES = {
   },
   fields: () => { const step = run.steps[here - 1]; tellTxn(step?.name ? run.ids.get(step.name) : run.txnIds[0]); },
   unpin: () => { pinned = null; show(); },
-  undo: () => { const place = placeHere(); if (place > 0) { tree.path = tree.path.slice(0, place); run = runOfPath(); move(run.last); } },
+  undo: () => { const place = placeHere(); if (place > 0) goToOrder(askedTo(place - 1)); },
   story: () => { if (storyPage) (isTree ? tellLeaf() : storyPage.close(run.done + here)); },
   graph: () => { isGraphShown = !isGraphShown; showGraph(); },
   blank: () => { $("blank").hidden = !$("blank").hidden; tellParent(); },
@@ -2971,7 +3013,7 @@ document.addEventListener("click", (event) => {
   const next = hit("data-next");
   if (next) return takeMove(Number(next.dataset.next));
   const crumb = hit("data-crumb");
-  if (crumb) return goToPlace(Number(crumb.dataset.crumb));
+  if (crumb) return goToAsked(Number(crumb.dataset.crumb));
   const find = hit("data-find");
   if (find) return findOutcome(Number(find.dataset.find));
 });
@@ -3002,11 +3044,12 @@ function modesNow() {
   return { present: all.classList.contains("present"), far: isFar(), theme: all.dataset.theme ?? "", ...(isTree ? { secret: isSecret } : { predict: isPredict, future: isFuture }) };
 }
 
-/** Tells the page around this one the place, the modes, and for each guess its step and whether it was right. `went`: it was sent here. */
+/** Tells the page around this one the place, the modes, and for each guess its step and whether it was right. `isOver`: an order has come to its end here;
+    `went`: it was sent here. */
 function tellParent(went = false) {
   if (!isFramed || isGoing || !isWatched) return;
   const guesses = [...told.answers].map(([at, reply]) => [run.done + at + 1, reply === run.steps[at].reply]);
-  parent.postMessage({ hek: "place", place: placeSaid(), modes: modesNow(), isBlank: !$("blank").hidden, guesses, went }, "*");
+  parent.postMessage({ hek: "place", place: placeSaid(), modes: modesNow(), isBlank: !$("blank").hidden, guesses, isOver: isTree && isWhole() && here === run.last, went }, "*");
 }
 
 /** A key that means nothing here is one for the page around this one. */
@@ -3082,10 +3125,10 @@ function goToHash() {
   if (!storyPage?.read(location.hash, !isTree)) fromHash();
 }
 
-/** At the end of an order the explorer shows its story. */
+/** At the end of an order the explorer shows the verdict of its story, where nobody is to guess the outcome. */
 function tellLeaf() {
-  const order = namesOf(tree, tree.path), level = isLevels ? LEVELS[levels.shown] : null;
-  if (storyPage?.has(order, level)) storyPage.open(order, level);
+  const order = askedTo(tree.path.length - 1), level = isLevels ? LEVELS[levels.shown] : null;
+  if (!isSecret && storyPage?.has(order, level)) storyPage.open(order, level);
 }
 
 function resized() {

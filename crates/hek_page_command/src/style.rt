@@ -64,7 +64,7 @@ pub(crate) const STYLE: &str = r#"/* Written by tools/assets. */
 .st-legend { grid-column: 1 / -1; margin: 0 0 -0.4rem; font-size: var(--s); color: var(--soft); }
 .kind { white-space: nowrap; margin-left: 0.5em; }
 .kind svg { width: 1.3em; height: 0.85em; vertical-align: -0.08em; margin-right: 0.35em; }
-.more { position: sticky; bottom: -0.5rem; margin: -1.45rem -0.6rem -0.5rem; padding: 0.1rem 0.8rem 0.35rem; background: var(--paper); font-size: var(--s); color: var(--soft); pointer-events: none; }
+.more { position: sticky; bottom: -0.5rem; margin: 0 -0.6rem -0.5rem; padding: 0.1rem 0.8rem 0.35rem; background: var(--paper); font-size: var(--s); color: var(--soft); pointer-events: none; }
 .level svg { display: block; }
 .level [data-order] { cursor: pointer; }
 .level [data-order]:hover .chip { fill: var(--track); }
@@ -73,7 +73,8 @@ pub(crate) const STYLE: &str = r#"/* Written by tools/assets. */
 #st-text span { display: block; padding: 0 1.1rem 0 2.2rem; text-indent: -1.1rem; white-space: pre-wrap; overflow-wrap: anywhere; }
 #st-text .here { background: var(--band); font-weight: 700; }
 #st-text .broken { background: var(--bad); color: var(--on); font-weight: 700; }
-#st-prose { flex: 1; min-height: 0; overflow-y: auto; padding: 0.5rem 1.1rem 45vh; position: relative; outline-offset: -3px; }
+#st-prose { flex: 1; min-height: 0; overflow-y: auto; padding: 0.5rem 1.1rem 0; position: relative; outline-offset: -3px; }
+#st-prose::after { content: ""; display: block; height: 45vh; }
 #st-prose p { margin: 0 0 0.6rem; }
 #st-prose .ask { font-weight: 700; }
 #st-prose .tell { border-left: 4px solid transparent; margin: 0 -1.1rem 0.35rem; padding: 0.1rem 1.1rem 0.1rem calc(1.1rem - 4px); color: var(--soft); cursor: pointer; }
@@ -84,18 +85,21 @@ pub(crate) const STYLE: &str = r#"/* Written by tools/assets. */
 .n0 { color: var(--c0); } .n1 { color: var(--c1); } .n2 { color: var(--c2); } .n3 { color: var(--c3); } .n4 { color: var(--c4); } .n5 { color: var(--c5); } .n6 { color: var(--c6); } .n7 { color: var(--c7); }
 @media screen and (max-width: 50rem) {
   .st-bar { position: sticky; top: 0; background: var(--paper); z-index: 3; flex-wrap: wrap; padding: 0.4rem 0.7rem; border-bottom: 1px solid var(--line); gap: 0.4rem; }
-  .st-bar select { max-width: none; flex: 1 1 auto; }
+  .st-bar select { max-width: none; flex: 1 1 8rem; }
   .st-bar nav { order: 8; flex: 1 1 auto; }
   .st-bar nav button { flex: 1 1 auto; padding: 0.35rem 0.3rem; min-width: 2.2rem; }
   .st-bar > button { order: 9; padding: 0.35rem 0.4rem; }
+  .st-bar > #more { order: 1; }
   .st-bar :is(#st-end, #st-compare, #st-machine) { font-size: var(--s); }
   #st-position { min-width: 3.4rem; }
   #st-which { flex-basis: 100%; order: 10; } #st-which:empty { display: none; }
   .story { --xl: 1.25rem; --xxl: 1.75rem; }
   .st-body { display: block; }
-  #st-main { padding: 0.3rem 0.7rem; display: block; } #st-cards { grid-template-columns: minmax(0, 1fr); max-height: none; } .level { max-height: none; } #st-say .two { columns: 1; }
-  #st-beside { border: 0; } #st-text { max-height: none; } #st-prose { overflow: visible; padding-bottom: 2rem; }
+  #st-grid h2 { max-width: calc(100vw - 0.8rem); }
+  #st-main { padding: 0.3rem 0.4rem; display: block; } #st-cards { grid-template-columns: minmax(0, 1fr); max-height: none; } .level { max-height: none; } #st-say .two { columns: 1; }
+  #st-beside { border: 0; } #st-text { max-height: none; } #st-prose { overflow: visible; } #st-prose::after { height: 2rem; }
 }
+@media screen and (max-width: 32rem) { .st-bar select { flex-basis: 14rem; } }
 :root { --bg: #ffffff; --panel: #f4f6f8; --ink: #101720; --soft: #47515e; --line: #c3cad3; --strong: #101720; --here: #ffe28a; --here-ink: #101720; --c0: #0a4fb3; --c1: #a83a00; --c2: #6a22a3; --c3: #00635a; --c4: #9b1150; --c5: #4f5900; --on: #ffffff; --act: #cfe0f5; --act-line: #35598a; --com: #14532d; --com-on: #ffffff; --bad: #a3001b; --bad-bg: #fde3e3; --good: #14532d; --good-bg: #dff3e4; --warn: #8a4b00; --warn-bg: #ffe7bd; --bar: #dde3ea; --bar-line: #44505e; --moved: #ffd24d; --moved-ink: #101720; --shade: #eceff3; --o0: #0a4fb3; --o1: #c2570c; --o2: #6a22a3; --o3: #00857a; --o4: #c0246b; --o5: #7c8a00; color-scheme: light; }
 :root[data-theme="dark"] { --bg: #0e1217; --panel: #171d25; --ink: #f2f5f8; --soft: #b4bfcc; --line: #46515f; --strong: #f2f5f8; --here: #5c4a00; --here-ink: #ffffff; --c0: #8dbdff; --c1: #ffab78; --c2: #d0adff; --c3: #66dccb; --c4: #ff9ac6; --c5: #d3df74; --on: #0e1217; --act: #26405f; --act-line: #9cc3f2; --com: #8ee0a8; --com-on: #0e1217; --bad: #ff9c9c; --bad-bg: #4a1418; --good: #8ee0a8; --good-bg: #12351f; --warn: #ffc66b; --warn-bg: #4a3100; --bar: #2b3643; --bar-line: #b4bfcc; --moved: #ffd24d; --moved-ink: #101720; --shade: #1b222b; --o0: #8dbdff; --o1: #ffab78; --o2: #d0adff; --o3: #66dccb; --o4: #ff9ac6; --o5: #d3df74; color-scheme: dark; }
 @media (prefers-color-scheme: dark) {
@@ -106,7 +110,7 @@ html.present { font-size: clamp(16px, min(max(1.52vw, 0.66vw + 11px), 2.45vh), 1
 html.present main { grid-template-rows: auto minmax(0, 0.85fr) minmax(6.3rem, 1.15fr); } @media (min-width: 40.01rem) { html.present #say { height: 7.4rem !important; } } @media (min-width: 52rem) { html.present .hex { display: none; } }
 html.far { font-size: clamp(16px, min(2.1vw, 3.4vh), 140px); } html.far :is(#versions, #words, .note, .modes, #about, .legend), html.far body:not(.tree) #say:not(.asks) #because { display: none; }
 html.far main { grid-template-columns: minmax(0, 1fr); grid-template-rows: auto minmax(0, 1fr); } html.far #waits { grid-column: 1; grid-row: 2; }
-html.far body:not(.tree) #say { height: 6.4rem !important; } html.far body:not(.tree) #say:not(.asks) { grid-template-columns: minmax(0, 1fr); } html.far .tree #waits { display: none; } html.far .tree #words { display: flex; grid-column: 1; grid-row: 2; }
+html.far body:not(.tree) #say { height: 6.4rem !important; } html.far body:not(.tree) #say:not(.asks) { grid-template-columns: minmax(0, 1fr); }
 html.present .sub { display: none; } html.present .legend { margin-left: 0; }
 html, body { overscroll-behavior-x: none; touch-action: pan-y pinch-zoom; }
 * { box-sizing: border-box; }
@@ -137,7 +141,8 @@ button[aria-pressed="true"] { background: var(--ink); color: var(--bg); }
 #score { font-weight: 700; color: var(--good); white-space: nowrap; flex: none; }
 main { flex: 1; min-height: 0; display: grid; grid-template-columns: minmax(0, 1.32fr) minmax(0, 1fr); grid-template-rows: auto minmax(8.4rem, 0.82fr) minmax(0, 1.18fr); gap: 0.6rem; padding: 0.4rem 0.8rem 0.7rem; }
 body[data-ring] main { grid-template-rows: auto minmax(min(10.5rem, 22vh), 1.12fr) minmax(6.7rem, 0.88fr); } html.present body[data-ring] main { grid-template-rows: auto minmax(0, 0.95fr) minmax(6.5rem, 1fr); }
-@media (max-width: 62rem) { [data-do="legend"], [data-do="picture"] { display: none; } html.present :is(.why, .note) { font-size: 0.96rem; line-height: 1.15; } html.present .event { font-size: 1.05rem; } html.present .chips { line-height: 1.45; font-size: 0.94rem; } html.present .plain { line-height: 1.15; } html.present .plain { font-size: 1.14rem; } html.present .plain.long { font-size: 1.02rem; } html.present .plain.long ~ .note:not(.verdict) { display: none; } }
+@media (max-width: 56rem) { [data-do="legend"], [data-do="picture"] { display: none; } }
+@media (max-width: 62rem) { html.present :is(.why, .note) { font-size: 0.96rem; line-height: 1.15; } html.present .event { font-size: 1.05rem; } html.present .chips { line-height: 1.45; font-size: 0.94rem; } html.present .plain { line-height: 1.15; } html.present .plain { font-size: 1.14rem; } html.present .plain.long { font-size: 1.02rem; } html.present .plain.long ~ .note:not(.verdict) { display: none; } }
 #top { grid-column: 1 / -1; min-width: 0; }
 #versions { grid-column: 1; grid-row: 2 / 4; }
 #waits { grid-column: 2; grid-row: 2; }
@@ -210,7 +215,7 @@ body[data-ring] main { grid-template-rows: auto minmax(min(10.5rem, 22vh), 1.12f
 #say { display: grid; grid-template-columns: minmax(0, 1.25fr) minmax(0, 1fr); gap: 0.2rem 1.4rem; height: 7.6rem; padding: 0.45rem 0.8rem 0.3rem; margin-top: 0.35rem; border-left: 0.5rem solid var(--bar-line); background: var(--panel); border-radius: 0 0.5rem 0.5rem 0; overflow: hidden; }
 #say.waits { border-color: var(--warn); } #say.aborts { border-color: var(--bad); } #say.commits { border-color: var(--com); } #say.asks { border-color: var(--c2); }
 #say p { margin: 0; }
-#said, #because { min-width: 0; overflow: hidden auto; }
+#said, #because { min-width: 0; overflow: hidden auto; } #said { overflow-wrap: anywhere; }
 .event { font-size: 1.2rem; line-height: 1.25; }
 .num { display: inline-block; background: var(--here); color: var(--here-ink); font-weight: 700; border-radius: 0.3rem; padding: 0 0.45rem; margin-right: 0.25rem; }
 .reply { font-family: ui-monospace, "SF Mono", Consolas, "Liberation Mono", monospace; font-weight: 700; }
@@ -236,7 +241,7 @@ html.present #said:has(.verdict) .plain { font-size: 1rem; } html.present .verdi
 #said[data-fit] :is(.plain, .plain.long) { font-size: 1.05rem !important; line-height: 1.15; margin-top: 0.1rem !important; } #said[data-fit] .event { font-size: 1rem; line-height: 1.15; }
 #said[data-fit="2"] :is(.plain, .plain.long) { font-size: 0.92rem !important; line-height: 1.1; } #said[data-fit="2"] .event { font-size: 0.92rem; } #said[data-fit="2"] .note:not(.verdict) { display: none; } #said[data-fit="2"] .verdict { font-size: 0.9rem; line-height: 1.1; }
 #because[data-fit] .why { font-size: 0.94rem; line-height: 1.15; } #because[data-fit] .chips { font-size: 0.92rem; line-height: 1.4; }
-#because[data-fit="2"] .why { font-size: 0.84rem; line-height: 1.1; margin-bottom: 0.1rem; } #because[data-fit="2"] .chips { font-size: 0.84rem; line-height: 1.3; } #because[data-fit="2"] .chip { line-height: 1.15; margin-bottom: 0; }
+#because[data-fit="2"] .why { font-size: 0.84rem; line-height: 1.1; margin-bottom: 0.1rem; } #because[data-fit="2"] .chips { font-size: 0.84rem; line-height: 1.3; } #because[data-fit="2"] .chip { line-height: 1.15; margin-bottom: 0; white-space: nowrap; overflow: hidden; text-overflow: ellipsis; }
 @media (min-width: 62rem) and (min-height: 42rem) { :root:not(.present) body:is([data-lanes="1"], [data-lanes="2"]):not(.tree) #say { height: 9.6rem; } :root:not(.present) body:is([data-lanes="1"], [data-lanes="2"]):not(.tree) .plain { font-size: 1.65rem; } :root:not(.present) body:is([data-lanes="1"], [data-lanes="2"]):not(.tree) .why { font-size: 1.12rem; } :root:not(.present) body:is([data-lanes="1"], [data-lanes="2"]):not(.tree) .plain.long { font-size: 1.4rem !important; } }
 .key .ph { display: inline-block; width: 1.9rem; height: 0.85rem; margin: 0 0.25rem 0 0.7rem; border: 1px solid var(--bar-line); vertical-align: -0.05rem; }
 .key .ph:first-child { margin-left: 0; }
@@ -248,7 +253,7 @@ html.present #said:has(.verdict) .plain { font-size: 1rem; } html.present .verdi
 .cover { display: inline-block; background: var(--ink); color: var(--bg); border-radius: 0.3rem; padding: 0 2.2rem; font-weight: 700; }
 .choices { display: grid; grid-template-columns: 1fr 1fr; gap: 0.45rem; }
 .choices button { font-size: 1.12rem; padding: 0.45rem 0.6rem; text-align: left; border-width: 2px; }
-.told { font-weight: 700; font-size: 1.1rem; margin-bottom: 0.15rem !important; }
+p.told { font-weight: 700; font-size: 1.1rem; margin-bottom: 0.15rem !important; }
 .told.right { color: var(--good); } .told.wrong { color: var(--bad); }
 kbd { display: inline-block; min-width: 1.5em; text-align: center; border: 1px solid var(--bar-line); border-radius: 0.25rem; padding: 0 0.3em; font-size: 0.88em; background: var(--bg); color: var(--ink); }
 :where(#chains text, #graph text) { font-size: 1em; }

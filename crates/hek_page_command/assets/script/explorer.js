@@ -48,6 +48,9 @@ function outcomeParts(text) {
   return { parts, verdict, isGood: !breaks && verdict !== "not serial" };
 }
 
+/** A verdict of an outcome's text in the words of a story. */
+const verdictSaid = (verdict) => verdict.replace(/\bserial\b/, "serializable");
+
 /** An outcome in few words: of more than two transactions those that don't commit. */
 function outcomeOf(text) {
   const { parts, verdict } = outcomeParts(text);
@@ -56,7 +59,7 @@ function outcomeOf(text) {
   const telling = txns.length > 2 ? txns.filter(([, state]) => state !== "committed") : txns;
   const endOf = (state, cause) => (state === "committed" ? "commits" : state === "unended" ? "goes on" : `aborts (${cause})`);
   const said = telling.map(([name, state, cause]) => `${tagName(name)} ${endOf(state, cause)}`).join(", ") || "all commit";
-  return `${said}<span class="soft"> \u00b7 ${esc(rows.replace("rows ", ""))}${verdict === "serial" ? "" : ` \u00b7 <b>${esc(verdict)}</b>`}</span>`;
+  return `${said}<span class="soft"> \u00b7 ${esc(rows.replace("rows ", ""))}${verdict === "serial" ? "" : ` \u00b7 <b>${esc(verdictSaid(verdict))}</b>`}</span>`;
 }
 
 const letterOf = (outcome) => "ABCDEFGHIJKLMNOPQRSTUVWXYZ"[outcome] ?? String(outcome);
@@ -101,9 +104,9 @@ function ordersSaid(reach, place) {
 const MOST_MOVES = 8;
 const MOST_LETTERS_SAID = 40;
 
-/** That the page shows another order than the one that was asked for. */
+/** That the page shows another order than the one that was asked for, where it begins to. */
 function askedSaid() {
-  if (asked === null) return "";
+  if (asked === null || placeHere() !== asked.length || endsOfPath()[asked.length] !== here) return "";
   const shown = namesOf(tree, tree.path).slice(0, asked.length);
   const cut = asked.length > MOST_MOVES ? asked.findIndex((it, index) => it !== shown[index]) : 0;
   const isLong = 2 * asked.slice(cut).join(" ").length > MOST_LETTERS_SAID;
@@ -119,10 +122,10 @@ function showTree() {
   const isAt = ends[place] === here;
   const done = movesDone(node.index);
   // breadcrumbs
-  const crumbs = tree.path.slice(1).map((at, index) => {
-    const it = tree.nodes[at];
-    const move = tree.moves[it.who][movesDone(at)[it.who] - 1];
-    return `<button type="button" data-crumb="${index + 1}" class="${index + 1 <= place ? "" : "ahead"}"${index + 1 === place ? ' aria-current="true"' : ""}>${tagName(tree.names[it.who])} ${esc(move)}</button>`;
+  const order = askedTo(tree.path.length - 1);
+  const crumbs = order.map((name, index) => {
+    const nth = order.slice(0, index).filter((it) => it === name).length;
+    return `<button type="button" data-crumb="${index + 1}" class="${index + 1 <= place ? "" : "ahead"}"${index + 1 === place ? ' aria-current="true"' : ""}>${tagName(name)} ${esc(tree.moves[tree.names.indexOf(name)][nth])}</button>`;
   });
   $("path").hidden = false;
   $("path").innerHTML = `<button type="button" data-crumb="0"${place === 0 ? ' aria-current="true"' : ""}>start</button>${crumbs.map((it) => `<span aria-hidden="true">\u203a</span>${it}`).join("")}<span class="space"></span><button type="button" data-do="undo"${place === 0 ? " disabled" : ""} title="Backspace">\u21b6 undo</button>`;
@@ -144,7 +147,7 @@ function showTree() {
     const idle = (joins ? hasEnded(tree.names[who]) : it.steps.length === 0) ? ' <span class="soft">(has aborted)</span>' : "";
     return `<button type="button" class="choice${isTaken ? " taken" : ""}" data-next="${next}"${joins ? ` title="${esc(joinSaid(next))}"` : ""}><kbd>${who + 1}</kbd> <span>${joins ? `${JOINS} ` : ""}${(isCrowd ? shortTag : tagName)(tree.names[who])} <b>${esc(move)}</b>${idle}</span>${outcomeBar(it.counts)}<span class="count">${isSecret ? "" : countsSaid(it.counts, room)}</span></button>`;
   }).join("");
-  const found = whole && isAt ? `<p class="whose">This order is complete.</p><p class="final">${outcomeOf(data.outcomes[node.outcome])}</p><p>The checker: <b>${esc(outcomeParts(data.outcomes[node.outcome]).verdict)}</b>. ${reachSaid(node)}</p>` : "";
+  const found = whole && isAt ? `<p class="whose">This order is complete.</p><p class="final">${outcomeOf(data.outcomes[node.outcome])}</p><p>All together: <b>${esc(verdictSaid(outcomeParts(data.outcomes[node.outcome]).verdict))}</b>. ${reachSaid(node)}</p>` : "";
   const inside = isAt ? "" : `<p class="whose">In the middle of a move</p><p>\u2192 goes on with it.</p>`;
   $("because").innerHTML = `<div class="moves">${found || inside || `<p class="whose">Who moves next?</p><div class="pick${tree.isMerged ? " merged" : ""}${isCrowd ? " crowd" : ""}" style="--n:${isCrowd ? Math.ceil(ways / 2) : Math.min(ways, 3)}">${choices}</div>`}</div>`;
   // the outcomes that can still be reached
@@ -159,6 +162,8 @@ function showTree() {
     const left = isSecret ? 0 : data.outcomes.length - shown.length;
     const digits = Math.max(...shown.map((at) => String(tree.nodes[0].counts[at]).length));
     put("word", `<ul class="outcomes${data.outcomes.length > 3 ? " many" : ""}"${digits > 3 ? ` style="--digits:${digits}"` : ""}>${rows.join("")}${left ? `<li class="rest soft">and ${left} more</li>` : ""}</ul>`);
+    // Lines that are broken may need more room than there is.
+    if (!isSmall() && $("word").scrollHeight > $("word").clientHeight + 2) $("word").firstElementChild.classList.add("many");
   }
 }
 
@@ -174,10 +179,10 @@ const hasEnded = (name) => ["aborted", "terminated"].includes(run.txn(run.ids.ge
 /** Goes on with a move; another one than the path had takes the rest of the path away, and one that joins all of it. */
 function takeMove(next) {
   const place = placeHere();
-  let order = null;
+  let order = asked;
   if (tree.path[place + 1] !== next) {
     const who = tree.nodes[tree.path[place]].next.indexOf(next);
-    order = [...namesOf(tree, tree.path.slice(0, place + 1)), tree.names[who]];
+    order = [...askedTo(place), tree.names[who]];
     tree.path = pathTo(tree, next);
     order = askedOf(tree, tree.path, order);
     run = runOfPath();
@@ -186,18 +191,31 @@ function takeMove(next) {
   goToPlace(place + 1, order);
 }
 
-function goToPlace(place, order = null) {
-  tree.cursor = place;
+/** Goes to the end of the moves of an order, after which nothing has moved. */
+function goToOrder(order) {
+  tree.path = pathOf(tree, order);
+  run = runOfPath();
+  goToPlace(order.length, askedOf(tree, tree.path, order));
+}
+
+/** Goes to a place of the order that was asked for: what comes before the move that joined has steps of its own. */
+function goToAsked(place) {
+  if (asked !== null && place < asked.length) goToOrder(asked.slice(0, place));
+  else goToPlace(place);
+}
+
+function goToPlace(place, order = asked) {
   move(endsOfPath()[place], order);
   if (place > 0 && tree.nodes[tree.path[place]].next.length === 0) tellLeaf();
 }
 
 /** Shows the moves from here to an outcome; if one of them joins, it is at the last that does. */
 function findOutcome(outcome) {
-  const path = tree.path.slice(0, placeHere() + 1);
-  const { order, last, joined } = movesOn(tree, path.at(-1), outcome);
+  const place = placeHere();
+  const before = askedTo(place);
+  const { order, last, joined } = movesOn(tree, tree.path[place], outcome);
   tree.path = pathTo(tree, last);
   run = runOfPath();
   if (joined === 0) move(here);
-  else goToPlace(path.length - 1 + joined, [...namesOf(tree, path), ...order.slice(0, joined)]);
+  else goToPlace(place + joined, [...before, ...order.slice(0, joined)]);
 }

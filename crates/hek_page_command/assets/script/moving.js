@@ -3,7 +3,7 @@
 function show() {
   if (isLevels && levels.shown === null) { document.body.dataset.position = 0; showLevels(); return; }
   document.body.dataset.position = run.done + here;
-  $("position").textContent = `${run.done + here} / ${run.done + run.last}`;
+  $("position").textContent = positionSaid();
   document.querySelector('[data-do="first"]').disabled = document.querySelector('[data-do="back"]').disabled = here === 0;
   document.querySelector('[data-do="on"]').disabled = document.querySelector('[data-do="last"]').disabled = here === run.last && guess === null;
   const slider = $("slider");
@@ -22,10 +22,16 @@ function show() {
   tellParent();
 }
 
+/** How far the page is: in steps; in the explorer, whose step is the one of the move that tells most, in moves. */
+function positionSaid() {
+  const place = isTree ? placeHere() : 0;
+  return isTree && endsOfPath()[place] === here ? `${place} / ${total(tree.moves.map((it) => it.length))}` : `${run.done + here} / ${run.done + run.last}`;
+}
+
 /** Goes to a position; `order` is the one that was asked for, where the page shows another one. */
-function move(position, order = null) {
-  asked = order;
+function move(position, order = asked) {
   here = Math.min(Math.max(position, 0), run.last);
+  asked = order !== null && here >= endsOfPath()[order.length] ? order : null;
   show();
   clearTimeout(telling);
   telling = setTimeout(tellAddress, 120);
@@ -36,7 +42,7 @@ function placeSaid() {
   if (!isTree) return String(run.done + here);
   const level = !isLevels ? "" : levels.shown === null ? "" : `${LEVELS[levels.shown]}:`;
   if (isLevels && level === "") return "";
-  return level + namesOf(tree, tree.path).join(".") + (here < run.last ? "@" + here : "");
+  return level + askedTo(tree.path.length - 1).join(".") + (here < run.last ? "@" + here : "");
 }
 
 let telling = 0;
@@ -57,10 +63,12 @@ function on() {
 
 function back() {
   if (guess !== null) { guess = null; show(); return; }
-  move(positionBack(here));
+  const to = positionBack(here);
+  if (asked !== null && to < endsOfPath()[asked.length]) goToAsked(asked.length - 1);
+  else move(to);
 }
 
-function jump(position, order = null) { guess = null; move(position, order); }
+function jump(position, order = asked) { guess = null; move(position, order); }
 
 function press(name, isOn) { document.querySelector(`[data-do="${name}"]`).setAttribute("aria-pressed", String(isOn)); }
 
@@ -82,7 +90,7 @@ const DOES = {
   },
   fields: () => { const step = run.steps[here - 1]; tellTxn(step?.name ? run.ids.get(step.name) : run.txnIds[0]); },
   unpin: () => { pinned = null; show(); },
-  undo: () => { const place = placeHere(); if (place > 0) { tree.path = tree.path.slice(0, place); run = runOfPath(); move(run.last); } },
+  undo: () => { const place = placeHere(); if (place > 0) goToOrder(askedTo(place - 1)); },
   story: () => { if (storyPage) (isTree ? tellLeaf() : storyPage.close(run.done + here)); },
   graph: () => { isGraphShown = !isGraphShown; showGraph(); },
   blank: () => { $("blank").hidden = !$("blank").hidden; tellParent(); },
@@ -171,7 +179,7 @@ document.addEventListener("click", (event) => {
   const next = hit("data-next");
   if (next) return takeMove(Number(next.dataset.next));
   const crumb = hit("data-crumb");
-  if (crumb) return goToPlace(Number(crumb.dataset.crumb));
+  if (crumb) return goToAsked(Number(crumb.dataset.crumb));
   const find = hit("data-find");
   if (find) return findOutcome(Number(find.dataset.find));
 });
@@ -202,11 +210,12 @@ function modesNow() {
   return { present: all.classList.contains("present"), far: isFar(), theme: all.dataset.theme ?? "", ...(isTree ? { secret: isSecret } : { predict: isPredict, future: isFuture }) };
 }
 
-/** Tells the page around this one the place, the modes, and for each guess its step and whether it was right. `went`: it was sent here. */
+/** Tells the page around this one the place, the modes, and for each guess its step and whether it was right. `isOver`: an order has come to its end here;
+    `went`: it was sent here. */
 function tellParent(went = false) {
   if (!isFramed || isGoing || !isWatched) return;
   const guesses = [...told.answers].map(([at, reply]) => [run.done + at + 1, reply === run.steps[at].reply]);
-  parent.postMessage({ hek: "place", place: placeSaid(), modes: modesNow(), isBlank: !$("blank").hidden, guesses, went }, "*");
+  parent.postMessage({ hek: "place", place: placeSaid(), modes: modesNow(), isBlank: !$("blank").hidden, guesses, isOver: isTree && isWhole() && here === run.last, went }, "*");
 }
 
 /** A key that means nothing here is one for the page around this one. */

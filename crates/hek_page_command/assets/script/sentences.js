@@ -185,7 +185,7 @@ function legend() {
 
 function opening() {
   if (isTree) return `<p class="soft">Choose which moves first. ${data.outcomes.length} outcomes, ${total(tree.nodes[0].counts)} orders${statesSaid()}.</p>`;
-  return `<p>${KEY}</p><p class="soft">\u2192, Space, Page Down: on. \u2190, Page Up: back. ?: guess. f: what is to come. p: larger. h: all keys.</p>`;
+  return `<p>${KEY}</p><p class="soft">\u2192 Space: on. \u2190: back. ?: guess. h: all keys.</p>`;
 }
 
 function verdictText() {

@@ -40,10 +40,10 @@ function goToHash() {
   if (!storyPage?.read(location.hash, !isTree)) fromHash();
 }
 
-/** At the end of an order the explorer shows its story. */
+/** At the end of an order the explorer shows the verdict of its story, where nobody is to guess the outcome. */
 function tellLeaf() {
-  const order = namesOf(tree, tree.path), level = isLevels ? LEVELS[levels.shown] : null;
-  if (storyPage?.has(order, level)) storyPage.open(order, level);
+  const order = askedTo(tree.path.length - 1), level = isLevels ? LEVELS[levels.shown] : null;
+  if (!isSecret && storyPage?.has(order, level)) storyPage.open(order, level);
 }
 
 function resized() {

@@ -262,7 +262,7 @@ function laneHead(id, y, { laneH: h, gutter, u, isPhone, tight }) {
   const after = 0.2 * u + widthOf(name, big, 700) + 0.5 * u;
   if (tokenW) parts.push(`<g class="token"><rect x="${f1(after - 0.1 * u)}" y="${f1(y + 0.42 * u)}" width="${f1(tokenW)}" height="${f1(1.15 * u)}" rx="${f1(0.55 * u)}"/><text x="${f1(after - 0.1 * u + tokenW / 2)}" y="${f1(y + 1.32 * u)}" text-anchor="middle" style="font-size:${f1(0.9 * u)}px">${esc(short)}</text></g>`);
   const next = after + (tokenW ? tokenW + 0.3 * u : 0);
-  const level = fitting([it.level, it.level.slice(0, 6), ""], gutter - next - 0.3 * u, 0.95 * u);
+  const level = fitting([it.level, `${it.level.slice(0, 7)}\u2026`, `${it.level.slice(0, 4)}\u2026`, ""], gutter - next - 0.3 * u, 0.95 * u);
   const state = it.kind === "not" ? "not begun" : it.kind === "active" && it.finished ? "finished" : it.kind;
   if (isPhone) {
     if (it.waits || it.commits) parts.push(`<text class="lane-facts" x="${f1(0.2 * u)}" y="${f1(y + 2.7 * u)}"><tspan class="warn">waits ${it.waits || it.commits}</tspan></text>`);

@@ -5,6 +5,9 @@ let tree = null;
 /** The names of those that move in the order that was asked for, where the page shows another one after which the same can happen; else null. */
 let asked = null;
 
+/** The names of those that move up to a place, as they were asked for. */
+const askedTo = (place) => [...(asked ?? []), ...namesOf(tree, tree.path).slice(asked?.length ?? 0)].slice(0, place);
+
 /** The tree in some data. Where it has a node for each state, a move may join the state of a node whose parent is another: the path to a node
     is the first order that comes to it, and its steps are those of that order. */
 function treeOf(data) {
