@@ -24,15 +24,14 @@ fn goes(rt: &impl Abort, debugger: &mut Debugger, command: Command, to: u64) {
 #[test]
 fn marks_have_their_indexes(rt: HostRuntime) {
     let mut debugger = debugger(&rt, rt.alloc(), 2);
-    let (at, on) = (Mark::At(1), Mark::OnEvent(EventKind::Detect));
     is(&rt, debugger.mark(1), None);
-    for mark in [at, on] {
+    for mark in [Mark::At(1), Mark::OnEvent(EventKind::Detect)] {
         goes(&rt, &mut debugger, Command::Set(mark), 0);
     }
     for (index, mark) in [
         (0, None),
-        (1, Some(at)),
-        (2, Some(on)),
+        (1, Some(Mark::At(1))),
+        (2, Some(Mark::OnEvent(EventKind::Detect))),
         (3, None),
         (u64::MAX, None),
     ] {

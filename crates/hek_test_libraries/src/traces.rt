@@ -51,9 +51,8 @@ fn sent(
     alloc: Global,
     room: usize,
     piece: usize,
-) -> (Result<(), WriteFault>, MemorySink)
-    requires { 0 < piece }
-{
+) -> (Result<(), WriteFault>, MemorySink) {
+    holds(rt, piece > 0);
     let (schedule, replies) = (
         assemble_text(alloc, STEPS).expect(rt, "a schedule"),
         step_replies(),
