@@ -1,21 +1,25 @@
 //! The command line: its words, and what the program does for them.
-use crate::arguments::{meant_command, read_words};
+use crate::arguments::read_words;
 use crate::colour::{Paint, Painted};
+use crate::commands::meant_command;
 use crate::convert::{asm, dis, release, word};
 use crate::disk::{Disk, open};
 use crate::explain::finish;
 use crate::explaining::{Colouring, CommandWords, Explaining, Wishes};
+use crate::help::{width_of, wrapped};
 use crate::kept::{Kept, KeptDisk, KeptReader, asks_question, status_at_fault};
 use crate::log::history;
+use crate::manual::manual_page;
 use crate::opening::without_mark;
 use crate::options::{count_from, level_of, number_of, printing_of, text};
 use crate::output::NotedOutput;
 use crate::pages::page;
 use crate::permute::{permute_alone, permute_jobs};
 use crate::programs::plain_file;
+use crate::rows::RULES;
 use crate::schedule::{plain_to_run, schedule_file, schedule_to_run};
+use crate::shells::completions;
 use crate::sources::SourceFiles;
-use crate::texts::RULES;
 use crate::told;
 use crate::words::advise_sign;
 use clap::error::ErrorKind as ClapKind;
@@ -25,7 +29,6 @@ use hek_debug_command::{
     CommandFile, Manner, debug_command, debug_session, explained_command, put_words,
 };
 use hek_history_command::run_log_command;
-use hek_manual::{Shell, manual_page};
 use hek_permute_command::{MovesChoice, moves_command};
 use hek_report::{HekFault, INPUT, Printing, ScheduleFile, read_text, report, send};
 use hek_rules::Level;
@@ -54,6 +57,7 @@ pub fn program<
     let wishes = Wishes {
         explaining: Explaining::by_environment(rt),
         colouring: Colouring::by_environment(rt),
+        width: width_of(rt),
     };
     match words_of(rt) {
         Ok(words) => answer_in_threads(
@@ -161,7 +165,15 @@ fn answer_words<
         }
         Err(error) => {
             let mut out = NotedOutput::new(out);
-            let ran = refused(alloc, &error, words, explains, &mut out, &mut faults);
+            let ran = refused(
+                alloc,
+                &error,
+                words,
+                explains,
+                wishes.width,
+                &mut out,
+                &mut faults,
+            );
             status_at_fault(status_of(ran, &out, &mut faults), asks_question(words))
         }
     };
@@ -297,10 +309,11 @@ fn refused<'a, W: Write, E: Write>(
     error: &Error,
     words: &[&str],
     explains: bool,
+    width: usize,
     out: &mut W,
     faults: &mut E,
 ) -> Result<u8, HekFault<'a>> {
-    let refused = refuse(error, out, faults);
+    let refused = refuse(alloc, error, width, out, faults);
     if explains {
         suggest(alloc, error, words, faults);
     }
@@ -309,7 +322,9 @@ fn refused<'a, W: Write, E: Write>(
 
 /// Writes what the parser of the command line says: help on standard output, otherwise why it refuses the words.
 fn refuse<'a, W: Write, E: Write>(
+    alloc: Global,
     error: &Error,
+    width: usize,
     out: &mut W,
     faults: &mut E,
 ) -> Result<u8, HekFault<'a>> {
@@ -320,10 +335,12 @@ fn refuse<'a, W: Write, E: Write>(
         let _ = write!(faults, "{error}");
         return Ok(2);
     }
-    match write!(out, "{error}") {
-        Ok(()) => Ok(0),
-        Err(_) => Err(HekFault::CannotWrite),
-    }
+    let Ok(text) = format!(in alloc; "{error}") else {
+        return Err(HekFault::NoMemory);
+    };
+    let mut help = wrapped(alloc, text.as_str(), width)?;
+    send(&mut help, out)?;
+    Ok(0)
 }
 
 /// Names the command that a mistyped one means, or says that a number has a sign.
@@ -359,43 +376,32 @@ fn run<'a, D: Disk, I: Read + IsTerminal + Drop, W: Write + IsTerminal, E: Write
         Some(("run", found)) => run_schedule(alloc, found, disk, input, out),
         Some(("debug", found)) => debug(alloc, found, explains, disk, input, out, faults),
         Some(("history", found)) => history(alloc, found, explains, disk, input, out, faults),
-        Some(("completions", found)) => completions(alloc, found, out),
-        Some(("man", _)) => print(manual_page(), out),
+        Some(("completions", found)) => complete(alloc, found, out),
+        Some(("man", _)) => {
+            send(&mut manual_page(alloc)?, out)?;
+            Ok(0)
+        }
         Some((name, found)) => run_noting(alloc, name, found, explains, disk, input, out, faults),
         None => Err(HekFault::BadArgument),
     }
 }
 
-/// Prints the completions for the shell that the words name, or the words of a session.
-fn completions<'a, W: Write>(
+/// Prints the completions for the shell that the words name, or the words of a session of `debug`, one on each line.
+fn complete<'a, W: Write>(
     alloc: Global,
     found: &ArgMatches<'_>,
     out: &mut W,
 ) -> Result<u8, HekFault<'a>> {
-    match found.get_str("SHELL") {
-        Some("words") => session_words(alloc, out),
-        Some(name) => match Shell::named(name) {
-            Some(shell) => print(shell.completions(), out),
-            None => Err(HekFault::BadArgument),
-        },
-        None => Err(HekFault::BadArgument),
-    }
-}
-
-/// Prints the words of a session of `debug`, one on each line.
-fn session_words<'a, W: Write>(alloc: Global, out: &mut W) -> Result<u8, HekFault<'a>> {
-    let mut words = Vec::new(alloc);
-    put_words(alloc, &mut words)?;
-    send(&mut words, out)?;
+    let mut text = match completions(alloc, found.get_str("SHELL").unwrap_or("")) {
+        Some(made) => made?,
+        None => {
+            let mut words = Vec::new(alloc);
+            put_words(alloc, &mut words)?;
+            words
+        }
+    };
+    send(&mut text, out)?;
     Ok(0)
-}
-
-/// Prints a text that the program has.
-fn print<'a, W: Write>(text: &str, out: &mut W) -> Result<u8, HekFault<'a>> {
-    match out.write_all(text.as_bytes()) {
-        Ok(()) => Ok(0),
-        Err(_) => Err(HekFault::CannotWrite),
-    }
 }
 
 /// Answers a command that writes to `faults` too.

@@ -74,6 +74,8 @@ impl Colouring {
 pub struct Wishes {
     pub explaining: Explaining,
     pub colouring: Colouring,
+    /// How many characters a line of help has.
+    pub width: usize,
 }
 
 /// The words that say when faults are explained.

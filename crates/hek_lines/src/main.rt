@@ -10,6 +10,7 @@ use std::process::ExitCode;
 const WISHES: Wishes = Wishes {
     explaining: Explaining::Never,
     colouring: Colouring::Never,
+    width: 100,
 };
 
 fn main(rt: HostRuntime) -> ExitCode {
