@@ -1,7 +1,7 @@
 //! The words of the command line, read by clap as the rows of the commands say.
 use crate::build::VERSION;
 use crate::commands::Command;
-use crate::rows::{Argument, Form, Others, Row};
+use crate::rows::{Argument, Form, Others, Row, Times, Value};
 use clap::{Arg, ArgAction, ArgMatches, Command as Parser, Error};
 use std::alloc::{AllocError, Global};
 use std::convert::AsStr;
@@ -75,25 +75,23 @@ fn others_of(list: &'static [Others], name: &str) -> &'static [&'static str] {
 /// An argument that is given in this form.
 fn given<'a>(argument: Arg<'a>, name: &'static str, form: Form) -> Arg<'a> {
     match form {
-        Form::Word(_) => argument.required(true),
-        Form::MaybeWord(_) => argument,
-        Form::Words(_) => argument.required(true).num_args(1..),
-        Form::MaybeWords(_) => argument.num_args(1..),
-        Form::OneOf(words) => argument.required(true).value_parser(words),
+        Form::Placed(Times::One, Value::OneOf(words)) => {
+            argument.required(true).value_parser(words)
+        }
+        Form::Placed(Times::One, _) => argument.required(true),
+        Form::Placed(Times::Maybe, _) => argument,
+        Form::Placed(Times::Several, _) => argument.required(true).num_args(1..),
+        Form::Placed(Times::Any, _) => argument.num_args(1..),
         Form::Flag => argument.long(name).action(ArgAction::SetTrue),
         Form::Valued(value, _) => argument.long(name).value_name(value),
         Form::Needed(value, _) => argument.long(name).value_name(value).required(true),
-        Form::Choice(words) => chosen(argument.long(name), words),
+        Form::Choice(words) => argument
+            .long(name)
+            .value_name("HOW")
+            .num_args(0..=1)
+            .require_equals(true)
+            .default_missing_value(words.first().copied().unwrap_or(""))
+            .value_parser(words),
         Form::Output => argument.short('o').long(name).value_name("OUT"),
     }
-}
-
-/// An option that means the first of some words where it has none.
-fn chosen<'a>(argument: Arg<'a>, words: &'static [&'static str]) -> Arg<'a> {
-    argument
-        .value_name("HOW")
-        .num_args(0..=1)
-        .require_equals(true)
-        .default_missing_value(words.first().copied().unwrap_or(""))
-        .value_parser(words)
 }

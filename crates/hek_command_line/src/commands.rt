@@ -80,6 +80,20 @@ impl Command {
         None
     }
 
+    /// The option with which it answers yes or no; none at all if it always does.
+    pub fn asking_option(self) -> Option<&'static str> {
+        match self.row().asks {
+            Asks::Never => None,
+            Asks::Always => Some(""),
+            Asks::WithFlag(name) | Asks::WithValue(name) => Some(name),
+        }
+    }
+
+    /// Whether its text has the replies of steps.
+    pub fn has_replies(self) -> bool {
+        matches!(self, Command::Run | Command::Drive | Command::Debug)
+    }
+
     /// Whether a fault has the status 4, with these words: the statuses 0 and 1 are answers. The statuses of other commands
     /// are those of the formats that are fixed.
     pub fn asks(self, found: &ArgMatches<'_>) -> bool {
@@ -90,6 +104,23 @@ impl Command {
             Asks::WithValue(name) => found.get_str(name).is_some(),
         }
     }
+}
+
+/// How the names of files end, and the command that reads such a file.
+const READERS: [(&str, Command); 3] = [
+    (".hek", Command::Run),
+    (".img", Command::Run),
+    (".jsonl", Command::History),
+];
+
+/// The command that reads a file of this name, if the name says so.
+pub fn reader_of(name: &str) -> Option<Command> {
+    for (end, command) in READERS {
+        if name.ends_with(end) {
+            return Some(command);
+        }
+    }
+    None
 }
 
 /// The least front of a name that stands for it.

@@ -1,5 +1,7 @@
 //! The words of the commands for words and files, and of those for a shell.
-use crate::rows::{ANY, Asks, EXPLAIN, FILE, Form, IMAGE, JSON, Others, Row, TEXT, Value, given};
+use crate::rows::{
+    ANY, Asks, EXPLAIN, FILE, Form, IMAGE, JSON, Others, Row, TEXT, Times, Value, given,
+};
 
 const RELEASE: &Row = &Row {
     name: "release",
@@ -9,8 +11,8 @@ const RELEASE: &Row = &Row {
 The word is write-locked by transaction 2 and has one reader, for which 2 waits. It prints
   C000000000000002 0",
     arguments: &[
-        given!("WORD" => Form::Word(Value::Text), "an End word, as 16 hexadecimal digits"),
-        given!("WAITS" => Form::Word(Value::Text), "how many things the word's writer waits for"),
+        given!("WORD" => Form::Placed(Times::One, Value::Text), "an End word, as 16 hexadecimal digits"),
+        given!("WAITS" => Form::Placed(Times::One, Value::Text), "how many things the word's writer waits for"),
     ],
     rivals: &[],
     needs: &[],
@@ -30,7 +32,7 @@ prints
   end lock readers 1 writer 2 no-more-reads clear
   begin time 7; end time 7",
     arguments: &[
-        given!("WORD" => Form::Words(Value::Text), "a word, as 16 hexadecimal digits, or - for standard input, one word a line"),
+        given!("WORD" => Form::Placed(Times::Several, Value::Text), "a word, as 16 hexadecimal digits, or - for standard input, one word a line"),
         given!("changes" => Form::Flag, "reads exchanges, lines OLD NEW TXN or WORD OLD NEW TXN, and names the change that leads from OLD to NEW, or what is wrong with it; lines over TXN say which transactions have ended"),
         given!("clock" => Form::Valued("N", Value::Number("a time", 0, ANY)), "refuses times from N on"),
         given!("txns" => Form::Valued("N", Value::Number("a number of transactions", 0, ANY)), "refuses transactions past N"),
@@ -57,8 +59,8 @@ const ASM: &Row = &Row {
   hek asm first.hek first.img
 Where first.hek has the line `buckets 1`, first.img gets the 22 bytes of its image.",
     arguments: &[
-        given!("FILE" => Form::Word(Value::File), "a schedule text, or - for standard input"),
-        given!("OUT" => Form::Word(Value::File), "the image that is written, or - for standard output"),
+        given!("FILE" => Form::Placed(Times::One, Value::File), "a schedule text, or - for standard input"),
+        given!("OUT" => Form::Placed(Times::One, Value::File), "the image that is written, or - for standard output"),
         EXPLAIN,
     ],
     rivals: &[],
@@ -94,7 +96,7 @@ const COMPLETIONS: &Row = &Row {
   source <(hek completions bash)
 completes the commands, options and files of hek in this shell; zsh too, or `hek completions zsh` goes into a file _hek in a folder of $fpath. For fish, `hek completions fish` into ~/.config/fish/completions/hek.fish. `hek completions words` prints the words of a session of hek debug, a line each, for rlwrap -f.",
     arguments: &[
-        given!("SHELL" => Form::OneOf(COMPLETED), "the shell; words for the words of a session of hek debug"),
+        given!("SHELL" => Form::Placed(Times::One, Value::OneOf(COMPLETED)), "the shell; words for the words of a session of hek debug"),
     ],
     rivals: &[],
     needs: &[],

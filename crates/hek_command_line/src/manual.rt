@@ -2,7 +2,7 @@
 use crate::arguments::{ABOUT, EXAMPLES};
 use crate::build::VERSION;
 use crate::commands::Command;
-use crate::rows::{Argument, Form, Row};
+use crate::rows::{Argument, Form, Row, Times};
 use crate::texts::Text;
 use hek_rules::NoMemory;
 use std::alloc::Global;
@@ -57,7 +57,7 @@ Print version
 pub fn manual_page(alloc: Global) -> Result<Vec<u8>, NoMemory> {
     let mut out = Text::new(alloc);
     let version = VERSION.split('\n').next().unwrap_or("");
-    out.parts(&[FRONT, version, SYNOPSIS]);
+    out.fill("@@@", &[FRONT, version, SYNOPSIS]);
     out.escaped(ABOUT, ROFF);
     out.put(OPTIONS);
     for command in Command::ALL {
@@ -65,7 +65,7 @@ pub fn manual_page(alloc: Global) -> Result<Vec<u8>, NoMemory> {
     }
     out.put(".SH EXIT STATUS\n");
     for (status, meaning) in STATUSES {
-        out.parts(&[".TP\n", status, "\n"]);
+        out.fill(".TP\n@\n", &[status]);
         out.escaped(meaning, ROFF);
         out.put("\n");
     }
@@ -77,9 +77,9 @@ pub fn manual_page(alloc: Global) -> Result<Vec<u8>, NoMemory> {
 
 /// The part of a command.
 fn put_command(out: &mut Text, row: &Row) {
-    out.parts(&[".SS ", row.name, "\n"]);
+    out.fill(".SS @\n", &[row.name]);
     out.escaped(row.about, ROFF);
-    out.parts(&[".\n.PP\n\\fBhek ", row.name]);
+    out.fill(".\n.PP\n\\fBhek @", &[row.name]);
     put_usage(out, row);
     out.put("\\fR\n");
     for argument in row.arguments {
@@ -107,15 +107,15 @@ fn put_usage(out: &mut Text, row: &Row) {
     out.put(may);
     for Argument(name, form, _) in row.arguments {
         if let Form::Needed(value, _) = form {
-            out.parts(&[" \\-\\-", name, " <", value, ">"]);
+            out.fill(" \\-\\-@ <@>", &[name, value]);
         }
     }
     for Argument(name, form, _) in row.arguments {
         match form {
-            Form::Word(_) | Form::OneOf(_) => out.parts(&[" <", name, ">"]),
-            Form::MaybeWord(_) => out.parts(&[" [", name, "]"]),
-            Form::Words(_) => out.parts(&[" <", name, ">..."]),
-            Form::MaybeWords(_) => out.parts(&[" [", name, "]..."]),
+            Form::Placed(Times::One, _) => out.fill(" <@>", &[name]),
+            Form::Placed(Times::Maybe, _) => out.fill(" [@]", &[name]),
+            Form::Placed(Times::Several, _) => out.fill(" <@>...", &[name]),
+            Form::Placed(Times::Any, _) => out.fill(" [@]...", &[name]),
             Form::Flag | Form::Valued(_, _) | Form::Needed(_, _) | Form::Choice(_) | Form::Output =>
                 {}
         }
@@ -126,15 +126,15 @@ fn put_usage(out: &mut Text, row: &Row) {
 fn put_argument(out: &mut Text, argument: &Argument) {
     let Argument(name, form, help) = argument;
     if form.is_placed() {
-        out.parts(&[".TP\n\\fI", name, "\\fR\n"]);
+        out.fill(".TP\n\\fI@\\fR\n", &[name]);
     } else {
         put_option(out, name, *form);
     }
     out.escaped(help, ROFF);
     if let Form::Choice([first, rest @ ..]) = form {
-        out.parts(&[" (", first]);
+        out.fill(" (@", &[first]);
         for word in rest.iter() {
-            out.parts(&[", ", word]);
+            out.fill(", @", &[word]);
         }
         out.put(")");
     }
@@ -151,9 +151,9 @@ fn put_option(out: &mut Text, name: &str, form: Form) {
     out.escaped(name, ROFF);
     let value = form.value_name();
     match form {
-        Form::Choice(_) => out.parts(&["\\fR[=\\fI", value, "\\fR]\n"]),
+        Form::Choice(_) => out.fill("\\fR[=\\fI@\\fR]\n", &[value]),
         _ if value.is_empty() => out.put("\\fR\n"),
-        _ => out.parts(&["\\fR \\fI", value, "\\fR\n"]),
+        _ => out.fill("\\fR \\fI@\\fR\n", &[value]),
     }
 }
 

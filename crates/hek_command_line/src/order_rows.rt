@@ -1,7 +1,7 @@
 //! The words of the commands that play orders, and of those that judge.
 use crate::rows::{
     ALWAYS_AUTO, ANY, Asks, EXPLAIN, FILE, Form, GRAIN, IMAGE, JSON, LEVEL, Others, Row, TEXT,
-    THOUSAND, Value, given,
+    THOUSAND, Times, Value, given,
 };
 use hek_history_command::Extent;
 use hek_levels_command::Promise;
@@ -45,7 +45,7 @@ The verdict takes all transactions as serializable: `serial` by end time, `seria
         given!("find" => Form::Valued("TEXT", Value::Text), "prints the shortest beginning of an order in which this comes: `a aborted deadlock`, `aborted`, `waiting`, `not serial`, `another order`, `breaks`"),
         given!("stats" => Form::Flag, "says on standard error how many states the orders lead to"),
         given!("add" => Form::Flag, "prints the sum of the tables FILE and TABLE.., which --part printed, as text or as JSON"),
-        given!("TABLE" => Form::MaybeWords(Value::File), "with --add: more tables"),
+        given!("TABLE" => Form::Placed(Times::Any, Value::File), "with --add: more tables"),
         JSON,
     ],
     rivals: &[
@@ -81,7 +81,7 @@ It prints `serial` if each committed transaction got what its own level promises
 with the number of the first event at fault, and status 1. A serializable transaction is judged by all its replies; a repeatable one by the values and pairs that it found, so phantoms pass; a snapshot one by its reads as of its begin, so write skew passes. `--level serializable` judges all as serializable, by end time; `--summary` says whether they can follow one another, in whatever order.",
     arguments: &[
         FILE,
-        given!("TRACE" => Form::Word(Value::File), "a trace over its transactions, or - for standard input"),
+        given!("TRACE" => Form::Placed(Times::One, Value::File), "a trace over its transactions, or - for standard input"),
         TEXT,
         IMAGE,
         EXPLAIN,
@@ -120,7 +120,7 @@ With --levels it says of each level whether the log satisfies it: the last line 
   fails at serializable; holds at snapshot, parallel-snapshot, causal, read-atomic, monotonic-view, read-committed, read-uncommitted
 The status is 0 if there is an order, or all that is asked for holds, 1 if not, 3 if that is not known or there is nothing to judge, and 4 after a fault of the log."#,
     arguments: &[
-        given!("FILE" => Form::Word(Value::File), "a log, or - for standard input"),
+        given!("FILE" => Form::Placed(Times::One, Value::File), "a log, or - for standard input"),
         EXPLAIN,
         given!("level" => Form::Valued("L", Value::Words("level", Promise::WORDS, &["repeatable"])), "judges all transactions at a level: serializable, repeatable, snapshot, parallel-snapshot, causal, read-atomic, monotonic-view, read-committed or read-uncommitted; or asks for a guarantee of sessions: monotonic-reads, read-your-writes, monotonic-writes, writes-follow-reads, or guarantees for all four"),
         given!("levels" => Form::Flag, "says of each level whether the log satisfies it, from read-uncommitted to serializable"),

@@ -38,19 +38,20 @@ pub enum Asks {
     WithValue(&'static str),
 }
 
+/// How many words an argument has at its place.
+#[derive(Clone, Copy)]
+pub enum Times {
+    One,
+    Maybe,
+    Several,
+    Any,
+}
+
 /// How an argument is given.
 #[derive(Clone, Copy)]
 pub enum Form {
-    /// A word at its place.
-    Word(Value),
-    /// A word at its place, or none.
-    MaybeWord(Value),
-    /// Words at their place, at least one.
-    Words(Value),
-    /// Words at their place, or none.
-    MaybeWords(Value),
-    /// One of these words at its place.
-    OneOf(&'static [&'static str]),
+    /// Words at their place.
+    Placed(Times, Value),
     /// `--name`.
     Flag,
     /// `--name VALUE`, with the word that the help prints for the value.
@@ -74,57 +75,43 @@ pub enum Value {
     Number(&'static str, u64, u64),
     /// One of the words of two tables: what they name, and the tables.
     Words(&'static str, &'static [&'static str], &'static [&'static str]),
+    /// One of these words: clap refuses another.
+    OneOf(&'static [&'static str]),
     /// `K/N`.
     Part,
 }
 
 impl Form {
-    /// What its value may be, unless its words are those of the form itself.
+    /// What its value may be; none of a flag.
     pub fn value(self) -> Option<Value> {
         match self {
-            Form::Word(value)
-            | Form::MaybeWord(value)
-            | Form::Words(value)
-            | Form::MaybeWords(value)
-            | Form::Valued(_, value)
-            | Form::Needed(_, value) => Some(value),
+            Form::Placed(_, value) | Form::Valued(_, value) | Form::Needed(_, value) => Some(value),
+            Form::Choice(words) => Some(Value::OneOf(words)),
             Form::Output => Some(Value::File),
-            Form::OneOf(_) | Form::Flag | Form::Choice(_) => None,
+            Form::Flag => None,
         }
     }
 
-    /// Whether it has a place, and no name with `--`.
-    pub fn is_placed(self) -> bool {
-        matches!(
-            self,
-            Form::Word(_)
-                | Form::MaybeWord(_)
-                | Form::Words(_)
-                | Form::MaybeWords(_)
-                | Form::OneOf(_)
-        )
-    }
-
-    /// The word that the help prints for the value of an option; none of a flag.
+    /// The word that the help prints for the value of an option; none of a flag, and at a place.
     pub fn value_name(self) -> &'static str {
         match self {
             Form::Valued(name, _) | Form::Needed(name, _) => name,
             Form::Choice(_) => "HOW",
             Form::Output => "OUT",
-            Form::Word(_)
-            | Form::MaybeWord(_)
-            | Form::Words(_)
-            | Form::MaybeWords(_)
-            | Form::OneOf(_)
-            | Form::Flag => "",
+            Form::Placed(_, _) | Form::Flag => "",
         }
+    }
+
+    /// Whether it has a place, and no name with `--`.
+    pub fn is_placed(self) -> bool {
+        matches!(self, Form::Placed(_, _))
     }
 
     /// The words of which the value is one, in two tables; none of another value.
     pub fn words(self) -> (&'static [&'static str], &'static [&'static str]) {
-        match (self, self.value()) {
-            (Form::OneOf(words) | Form::Choice(words), _) => (words, &[]),
-            (_, Some(Value::Words(_, words, more))) => (words, more),
+        match self.value() {
+            Some(Value::OneOf(words)) => (words, &[]),
+            Some(Value::Words(_, words, more)) => (words, more),
             _ => (&[], &[]),
         }
     }
@@ -143,7 +130,7 @@ pub const MILLION: u64 = 1_000_000;
 pub const THOUSAND: u64 = 1_000;
 
 pub const FILE: Argument =
-    given!("FILE" => Form::Word(Value::File), "a schedule: a text by its name (.hek) or its first word, otherwise an image; - is standard input");
+    given!("FILE" => Form::Placed(Times::One, Value::File), "a schedule: a text by its name (.hek) or its first word, otherwise an image; - is standard input");
 
 pub const TEXT: Argument =
     given!("text" => Form::Flag, "FILE is a schedule text, whatever it holds");

@@ -1,7 +1,7 @@
 //! The words of the commands that run a schedule.
 use crate::rows::{
     ALWAYS_AUTO, ANY, AUTO, Asks, CHANGES, COLOR, EXPLAIN, FILE, Form, IMAGE, JSON, LEVEL, MILLION,
-    Others, Row, TEXT, Value, WHY, given,
+    Others, Row, TEXT, Times, Value, WHY, given,
 };
 
 const RUN: &Row = &Row {
@@ -81,7 +81,7 @@ are answered with
   1 end 0 807FFFFFFFFFFFFF",
     arguments: &[
         FILE,
-        given!("COMMANDS" => Form::MaybeWord(Value::File), "a text of these commands; - is standard input, where they are those of a session"),
+        given!("COMMANDS" => Form::Placed(Times::Maybe, Value::File), "a text of these commands; - is standard input, where they are those of a session"),
         TEXT,
         IMAGE,
         EXPLAIN,

@@ -1,6 +1,6 @@
 //! What shells read to complete the words of a command line, made from the rows of the commands.
 use crate::commands::Command;
-use crate::rows::{Argument, Form, Row};
+use crate::rows::{Argument, Form, Row, Times, Value};
 use crate::texts::Text;
 use hek_rules::NoMemory;
 use std::alloc::Global;
@@ -20,7 +20,7 @@ pub fn completions(alloc: Global, shell: &str) -> Option<Result<Vec<u8>, NoMemor
 /// The names of all commands, with a blank after each.
 fn put_names(out: &mut Text) {
     for command in Command::ALL {
-        out.parts(&[command.name(), " "]);
+        out.fill("@ ", &[command.name()]);
     }
 }
 
@@ -102,19 +102,13 @@ fn put_bash_values(out: &mut Text, row: &Row) {
     let command = row.name;
     for Argument(name, form, _) in row.arguments {
         match form {
-            Form::OneOf(_) => out.parts(&["    \"", command, " ", command]),
-            Form::Choice(_) => out.parts(&["    \"", command, " --", name, "="]),
+            Form::Placed(_, Value::OneOf(_)) => out.fill("    \"@ @", &[command, command]),
+            Form::Choice(_) => out.fill("    \"@ --@=", &[command, name]),
             Form::Valued(_, _) | Form::Needed(_, _) => {
-                out.parts(&[
-                    "    \"", command, " --", name, "\" | \"", command, " --", name, "=",
-                ]);
+                out.fill("    \"@ --@\" | \"@ --@=", &[command, name, command, name]);
             }
-            Form::Output => out.parts(&["    \"", command, " --", name, "\" | \"", command, " -o"]),
-            Form::Flag
-            | Form::Word(_)
-            | Form::MaybeWord(_)
-            | Form::Words(_)
-            | Form::MaybeWords(_) => continue,
+            Form::Output => out.fill("    \"@ --@\" | \"@ -o", &[command, name, command]),
+            Form::Placed(_, _) | Form::Flag => continue,
         }
         put_bash_value(out, *form);
     }
@@ -135,10 +129,10 @@ fn put_bash_value(out: &mut Text, form: Form) {
 
 /// The line of a command: its options, and whether it takes files.
 fn put_bash_options(out: &mut Text, row: &Row) {
-    out.parts(&["    ", row.name, ") words=\""]);
+    out.fill("    @) words=\"", &[row.name]);
     for Argument(name, form, _) in row.arguments {
         if !form.is_placed() {
-            out.parts(&["--", name, " "]);
+            out.fill("--@ ", &[name]);
         }
     }
     out.put("--help\"");
@@ -198,14 +192,14 @@ fn put_zsh(out: &mut Text) {
     out.put(ZSH_FRONT);
     for command in Command::ALL {
         let row = command.row();
-        out.parts(&["        '", row.name, ":"]);
+        out.fill("        '@:", &[row.name]);
         out.escaped(row.about, QUOTED);
         out.put("'\n");
     }
     out.put(ZSH_MIDDLE);
     for command in Command::ALL {
         let row = command.row();
-        out.parts(&["        ", row.name, ")\n            _arguments \\\n"]);
+        out.fill("        @)\n            _arguments \\\n", &[row.name]);
         for argument in row.arguments {
             put_zsh_argument(out, argument);
         }
@@ -219,13 +213,13 @@ fn put_zsh_argument(out: &mut Text, argument: &Argument) {
     let Argument(name, form, help) = argument;
     out.put("                ");
     match form {
-        Form::Word(_) | Form::OneOf(_) => out.parts(&["':", name]),
-        Form::MaybeWord(_) => out.parts(&["'::", name]),
-        Form::Words(_) | Form::MaybeWords(_) => out.parts(&["'*:", name]),
-        Form::Flag => out.parts(&["'--", name, "["]),
-        Form::Valued(_, _) | Form::Needed(_, _) => out.parts(&["'--", name, "=["]),
-        Form::Choice(_) => out.parts(&["'--", name, "=-["]),
-        Form::Output => out.parts(&["{-o,--", name, "=}'["]),
+        Form::Placed(Times::One, _) => out.fill("':@", &[name]),
+        Form::Placed(Times::Maybe, _) => out.fill("'::@", &[name]),
+        Form::Placed(Times::Several | Times::Any, _) => out.fill("'*:@", &[name]),
+        Form::Flag => out.fill("'--@[", &[name]),
+        Form::Valued(_, _) | Form::Needed(_, _) => out.fill("'--@=[", &[name]),
+        Form::Choice(_) => out.fill("'--@=-[", &[name]),
+        Form::Output => out.fill("{-o,--@=}'[", &[name]),
     }
     if !form.is_placed() {
         out.escaped(help, ZSH_TEXT);
@@ -240,13 +234,9 @@ fn put_zsh_value(out: &mut Text, form: Form) {
     match form {
         Form::Flag => return,
         Form::Choice(_) => out.put("::HOW:"),
-        Form::Valued(name, _) | Form::Needed(name, _) => out.parts(&[":", name, ":"]),
+        Form::Valued(name, _) | Form::Needed(name, _) => out.fill(":@:", &[name]),
         Form::Output => out.put(":OUT:"),
-        Form::Word(_)
-        | Form::MaybeWord(_)
-        | Form::Words(_)
-        | Form::MaybeWords(_)
-        | Form::OneOf(_) => out.put(":"),
+        Form::Placed(_, _) => out.put(":"),
     }
     if has_words(form) {
         out.put("(");
@@ -274,11 +264,10 @@ fn put_fish(out: &mut Text) {
     out.put("'\n");
     for command in Command::ALL {
         let row = command.row();
-        out.parts(&[
-            "complete -c hek -n __fish_use_subcommand -a ",
-            row.name,
-            " -d '",
-        ]);
+        out.fill(
+            "complete -c hek -n __fish_use_subcommand -a @ -d '",
+            &[row.name],
+        );
         out.escaped(row.about, FISH_TEXT);
         out.put("'\n");
     }
@@ -302,11 +291,10 @@ fn put_fish_command(out: &mut Text, row: &Row) {
 
 /// What begins a line of a command.
 fn put_fish_start(out: &mut Text, row: &Row) {
-    out.parts(&[
-        "complete -c hek -n '__fish_seen_subcommand_from ",
-        row.name,
-        "'",
-    ]);
+    out.fill(
+        "complete -c hek -n '__fish_seen_subcommand_from @'",
+        &[row.name],
+    );
 }
 
 /// The line of an option, or of an argument that is one of some words.
@@ -317,17 +305,13 @@ fn put_fish_argument(out: &mut Text, row: &Row, argument: &Argument) {
     }
     put_fish_start(out, row);
     match form {
-        Form::Output => out.parts(&[" -s o -l ", name, " -r -F"]),
+        Form::Output => out.fill(" -s o -l @ -r -F", &[name]),
         Form::Valued(_, _) | Form::Needed(_, _) if form.is_file() => {
-            out.parts(&[" -l ", name, " -r -F"]);
+            out.fill(" -l @ -r -F", &[name]);
         }
-        Form::Valued(_, _) | Form::Needed(_, _) => out.parts(&[" -l ", name, " -x"]),
-        Form::Choice(_) | Form::Flag => out.parts(&[" -l ", name]),
-        Form::Word(_)
-        | Form::MaybeWord(_)
-        | Form::Words(_)
-        | Form::MaybeWords(_)
-        | Form::OneOf(_) => {}
+        Form::Valued(_, _) | Form::Needed(_, _) => out.fill(" -l @ -x", &[name]),
+        Form::Choice(_) | Form::Flag => out.fill(" -l @", &[name]),
+        Form::Placed(_, _) => {}
     }
     if has_words(*form) {
         out.put(" -a '");

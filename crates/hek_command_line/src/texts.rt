@@ -1,10 +1,12 @@
 //! A text that is made part by part, and remembers that memory ran out.
 use hek_rules::NoMemory;
 use std::alloc::Global;
+use std::mem;
 
 /// A text as far as it is made. Once memory runs out it takes no more.
 #[derive(Drop)]
 pub struct Text {
+    alloc: Global,
     bytes: Vec<u8>,
     is_short: bool,
 }
@@ -13,6 +15,7 @@ impl Text {
     /// A text without a part.
     pub fn new(alloc: Global) -> Text {
         Text {
+            alloc,
             bytes: Vec::new(alloc),
             is_short: false,
         }
@@ -25,9 +28,12 @@ impl Text {
         }
     }
 
-    /// Adds parts.
-    pub fn parts(&mut self, parts: &[&str]) {
-        for part in parts {
+    /// Adds a pattern, with a value in place of each `@`.
+    pub fn fill(&mut self, pattern: &str, values: &[&str]) {
+        for (place, part) in pattern.split('@').enumerate() {
+            if let Some(before) = place.checked_sub(1) {
+                self.put(values.get(before).copied().unwrap_or(""));
+            }
             self.put(part);
         }
     }
@@ -63,10 +69,17 @@ impl Text {
         }
     }
 
-    /// The bytes of the text, if memory sufficed.
-    pub fn take(self) -> Result<Vec<u8>, NoMemory> {
-        let Text { bytes, is_short } = self;
-        if is_short { Err(NoMemory) } else { Ok(bytes) }
+    /// Keeps that memory ran out.
+    pub fn lack_memory(&mut self) {
+        self.is_short = true;
+    }
+
+    /// Takes the bytes out, if memory sufficed.
+    pub fn take(&mut self) -> Result<Vec<u8>, NoMemory> {
+        if self.is_short {
+            return Err(NoMemory);
+        }
+        Ok(mem::replace(&mut self.bytes, Vec::new(self.alloc)))
     }
 }
 
