@@ -2,7 +2,7 @@
 use crate::arguments::{ABOUT, EXAMPLES};
 use crate::build::VERSION;
 use crate::commands::Command;
-use crate::rows::{Argument, Form, Row, Times};
+use crate::rows::{Argument, Form, Row, Times, Value};
 use crate::texts::Text;
 use hek_rules::NoMemory;
 use std::alloc::Global;
@@ -99,18 +99,18 @@ fn put_command(out: &mut Text, row: &Row) {
 /// How a command is called: what it may have, the options that it needs, and its words.
 fn put_usage(out: &mut Text, row: &Row) {
     let mut may = "";
-    for Argument(_, form, _) in row.arguments {
+    for &Argument(_, form, _) in row.arguments {
         if !form.is_placed() && !matches!(form, Form::Needed(_, _)) {
             may = " [OPTIONS]";
         }
     }
     out.put(may);
-    for Argument(name, form, _) in row.arguments {
+    for &Argument(name, form, _) in row.arguments {
         if let Form::Needed(value, _) = form {
             out.fill(" \\-\\-@ <@>", &[name, value]);
         }
     }
-    for Argument(name, form, _) in row.arguments {
+    for &Argument(name, form, _) in row.arguments {
         match form {
             Form::Placed(Times::One, _) => out.fill(" <@>", &[name]),
             Form::Placed(Times::Maybe, _) => out.fill(" [@]", &[name]),
@@ -124,17 +124,16 @@ fn put_usage(out: &mut Text, row: &Row) {
 
 /// An argument, and what it means.
 fn put_argument(out: &mut Text, argument: &Argument) {
-    let Argument(name, form, help) = argument;
+    let &Argument(name, form, help) = argument;
     if form.is_placed() {
         out.fill(".TP\n\\fI@\\fR\n", &[name]);
     } else {
-        put_option(out, name, *form);
+        put_option(out, name, form);
     }
     out.escaped(help, ROFF);
-    if let Form::Choice([first, rest @ ..]) = form {
-        out.fill(" (@", &[first]);
-        for word in rest.iter() {
-            out.fill(", @", &[word]);
+    if let Some(Value::OneOf(words)) = form.value() {
+        for (place, word) in words.iter().enumerate() {
+            out.fill(if place == 0 { " (@" } else { ", @" }, &[*word]);
         }
         out.put(")");
     }

@@ -82,13 +82,7 @@ pub fn explain_line(
 }
 
 /// Explains the fault of a line that computes nothing.
-fn explain_bare<'t>(
-    name: &'t str,
-    text: &'t [u8],
-    line: u64,
-    kind: AsmKind,
-    said: &mut Said,
-) {
+fn explain_bare<'t>(name: &'t str, text: &'t [u8], line: u64, kind: AsmKind, said: &mut Said) {
     let alloc = said.alloc;
     if let Ok(Some(found)) = explain_text(alloc, name, text, line, kind) {
         said.shown(format!(in alloc; "{found}"));

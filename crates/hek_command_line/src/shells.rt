@@ -39,7 +39,7 @@ fn has_words(form: Form) -> bool {
 
 /// Whether a command takes a file at a place.
 fn takes_file(row: &Row) -> bool {
-    for Argument(_, form, _) in row.arguments {
+    for &Argument(_, form, _) in row.arguments {
         if form.is_placed() && form.is_file() {
             return true;
         }
@@ -100,7 +100,7 @@ fn put_bash(out: &mut Text) {
 /// A line for each argument of a command that has a value.
 fn put_bash_values(out: &mut Text, row: &Row) {
     let command = row.name;
-    for Argument(name, form, _) in row.arguments {
+    for &Argument(name, form, _) in row.arguments {
         match form {
             Form::Placed(_, Value::OneOf(_)) => out.fill("    \"@ @", &[command, command]),
             Form::Choice(_) => out.fill("    \"@ --@=", &[command, name]),
@@ -110,7 +110,7 @@ fn put_bash_values(out: &mut Text, row: &Row) {
             Form::Output => out.fill("    \"@ --@\" | \"@ -o", &[command, name, command]),
             Form::Placed(_, _) | Form::Flag => continue,
         }
-        put_bash_value(out, *form);
+        put_bash_value(out, form);
     }
 }
 
@@ -130,7 +130,7 @@ fn put_bash_value(out: &mut Text, form: Form) {
 /// The line of a command: its options, and whether it takes files.
 fn put_bash_options(out: &mut Text, row: &Row) {
     out.fill("    @) words=\"", &[row.name]);
-    for Argument(name, form, _) in row.arguments {
+    for &Argument(name, form, _) in row.arguments {
         if !form.is_placed() {
             out.fill("--@ ", &[name]);
         }
@@ -210,7 +210,7 @@ fn put_zsh(out: &mut Text) {
 
 /// An argument as `_arguments` takes it.
 fn put_zsh_argument(out: &mut Text, argument: &Argument) {
-    let Argument(name, form, help) = argument;
+    let &Argument(name, form, help) = argument;
     out.put("                ");
     match form {
         Form::Placed(Times::One, _) => out.fill("':@", &[name]),
@@ -225,7 +225,7 @@ fn put_zsh_argument(out: &mut Text, argument: &Argument) {
         out.escaped(help, ZSH_TEXT);
         out.put("]");
     }
-    put_zsh_value(out, *form);
+    put_zsh_value(out, form);
     out.put("' \\\n");
 }
 
@@ -299,8 +299,8 @@ fn put_fish_start(out: &mut Text, row: &Row) {
 
 /// The line of an option, or of an argument that is one of some words.
 fn put_fish_argument(out: &mut Text, row: &Row, argument: &Argument) {
-    let Argument(name, form, help) = argument;
-    if form.is_placed() && !has_words(*form) {
+    let &Argument(name, form, help) = argument;
+    if form.is_placed() && !has_words(form) {
         return;
     }
     put_fish_start(out, row);
@@ -313,9 +313,9 @@ fn put_fish_argument(out: &mut Text, row: &Row, argument: &Argument) {
         Form::Choice(_) | Form::Flag => out.fill(" -l @", &[name]),
         Form::Placed(_, _) => {}
     }
-    if has_words(*form) {
+    if has_words(form) {
         out.put(" -a '");
-        put_words(out, *form);
+        put_words(out, form);
         out.put("'");
     }
     out.put(" -d '");
