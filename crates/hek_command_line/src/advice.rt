@@ -208,7 +208,7 @@ impl<'a> Advice<'a> {
                 say_range(said, what, least, most);
             }
             Wrong::TooSmall(what, least, most) => {
-                said.message("`@` is too small for `--@`@", &[value, option, below(what)]);
+                said.message(too_small(what), &[value, option]);
                 say_range(said, what, least, most);
             }
             Wrong::TooLarge(what, least, most) => {
@@ -216,7 +216,7 @@ impl<'a> Advice<'a> {
                 say_range(said, what, least, most);
             }
             Wrong::NoWord(noun, words, more) => {
-                said.message("no @ is called `@`", &[noun, value]);
+                said.message("no @ is called `@`", &[&*noun, &*value]);
                 say_words(said, value, words, more);
             }
             Wrong::NoPart => {
@@ -240,18 +240,18 @@ impl<'a> Advice<'a> {
 }
 
 /// What is said of a number below the least one.
-fn below(what: &str) -> &'static str {
+fn too_small(what: &str) -> &'static str {
     if what.starts_with("a step") {
-        ": steps are counted from 1"
+        "`@` is too small for `--@`: steps are counted from 1"
     } else {
-        ""
+        "`@` is too small for `--@`"
     }
 }
 
 fn say_range(said: &mut Said, what: &str, least: u64, most: u64) {
     let least = digits(said.alloc, least);
     let most = digits(said.alloc, most);
-    said.wanted("@, @ to @", &[what, least.as_str(), most.as_str()]);
+    said.wanted("@, @ to @", &[&*what, least.as_str(), most.as_str()]);
 }
 
 /// Says which words are wanted, and which one may be meant.

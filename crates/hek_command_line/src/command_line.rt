@@ -282,7 +282,7 @@ fn suggested(alloc: Global, error: &Error, words: &[&str]) -> Text {
     }
     if error.kind() == ClapKind::InvalidSubcommand {
         if let Some(command) = reader_of(word) {
-            lines.fill("  | did you mean `@ @`?\n", &[command.name(), word]);
+            lines.fill("  | did you mean `@ @`?\n", &[command.name(), *word]);
         } else if let Some(name) = meant_command(alloc, word) {
             lines.fill("  | did you mean `@`?\n", &[name]);
         }

@@ -40,7 +40,7 @@ fn advise_word(word: &str, said: &mut Said) {
         let unit = if count == 1 { "digit" } else { "digits" };
         said.message(
             "`@` has @ @, and a word has 16",
-            &[word, shown.as_str(), unit],
+            &[&*word, shown.as_str(), &*unit],
         );
     } else {
         said.message(
@@ -57,7 +57,7 @@ fn advise_turned(word: &str, found: &ArgMatches<'_>, said: &mut Said) {
         return;
     };
     if number(word.as_bytes()).is_some() && hex_number(waits).is_some() {
-        said.meant("hek release @ @", &[waits, word]);
+        said.meant("hek release @ @", &[&*waits, &*word]);
     }
 }
 
@@ -73,7 +73,7 @@ pub fn advise_sign(command: Command, words: &[&str], out: &mut Text) {
         if is_count(command, name) && has_sign(value) {
             out.fill(
                 "  | `--@` wants a number without a sign, and `@` has one\n",
-                &[name, value],
+                &[&*name, *value],
             );
         }
     }

@@ -57,14 +57,14 @@ fn put_reason(name: &str, kind: ErrorKind, said: &mut Said) {
         ErrorKind::ReadOnlyFilesystem => "the disk can't be written",
         _ => return put_kind(name, kind, said),
     };
-    said.line("  ", "@: @", &[name, reason]);
+    said.line("  ", "@: @", &[&*name, &*reason]);
 }
 
 /// A reason in the words of the system.
 fn put_kind(name: &str, kind: ErrorKind, said: &mut Said) {
     let alloc = said.alloc;
     match format!(in alloc; "{kind}") {
-        Ok(reason) => said.line("  ", "@: @", &[name, reason.as_str()]),
+        Ok(reason) => said.line("  ", "@: @", &[&*name, reason.as_str()]),
         Err(_) => said.lines.lack_memory(),
     }
 }
