@@ -197,14 +197,15 @@ impl<'a, D: Disk, I: Read + Drop, W: Write, E: Write> Call<'_, 'a, D, I, W, E> {
     /// Says what the file looks like that is not a text.
     fn explain_bytes(&self, said: &mut Said) {
         let other = self.kept.other_bytes(self.alloc);
-        match self.kept.other {
-            Some(name) if str::from_utf8(other.as_slice()).is_err() => {
+        match (self.kept.other, self.kept.file) {
+            (Some(name), _) if str::from_utf8(other.as_slice()).is_err() => {
                 put_looks(name, other.as_slice(), false, said);
             }
-            _ => {
+            (_, Some(name)) => {
                 let bytes = self.kept.file_bytes(self.alloc);
-                put_looks(self.kept.name(), bytes.as_slice(), true, said);
+                put_looks(name, bytes.as_slice(), true, said);
             }
+            (_, None) => {}
         }
     }
 }
