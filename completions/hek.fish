@@ -1,6 +1,10 @@
-# Completions of hek for fish.
-# tools/completions writes this file. Put it into ~/.config/fish/completions.
+# Completions of hek for fish, as `hek completions fish` prints them. Put them into ~/.config/fish/completions under the
+# name hek.fish.
 complete -c hek -f
+complete -c hek -n __fish_use_subcommand -a help -d 'Print this message or the help of the given subcommand(s)'
+complete -c hek -n __fish_use_subcommand -s h -l help -d 'Print help'
+complete -c hek -n __fish_use_subcommand -s V -l version -d 'Print version'
+complete -c hek -n '__fish_seen_subcommand_from help' -a 'run debug page permute check history drive threads word release asm dis completions man '
 complete -c hek -n __fish_use_subcommand -a run -d 'Runs the steps of a schedule, and prints each with its reply'
 complete -c hek -n __fish_use_subcommand -a debug -d 'Runs a schedule step by step, to breakpoints and watches, and back'
 complete -c hek -n __fish_use_subcommand -a page -d 'Writes a schedule\'s run, or a log, as a page for a browser'
@@ -15,10 +19,6 @@ complete -c hek -n __fish_use_subcommand -a asm -d 'Makes the image of a schedul
 complete -c hek -n __fish_use_subcommand -a dis -d 'Prints the canonical text of a schedule'
 complete -c hek -n __fish_use_subcommand -a completions -d 'Prints what a shell reads to complete the words of a command line'
 complete -c hek -n __fish_use_subcommand -a man -d 'Prints the manual page'
-complete -c hek -n __fish_use_subcommand -a help -d 'Print this message or the help of the given subcommand(s)'
-complete -c hek -n __fish_use_subcommand -s h -l help -d 'Print help'
-complete -c hek -n __fish_use_subcommand -s V -l version -d 'Print version'
-complete -c hek -n '__fish_seen_subcommand_from help' -a 'run debug page permute check history drive threads word release asm dis completions man'
 complete -c hek -n '__fish_seen_subcommand_from run' -l text -d 'FILE is a schedule text, whatever it holds'
 complete -c hek -n '__fish_seen_subcommand_from run' -l image -d 'FILE is a schedule image, whatever it holds'
 complete -c hek -n '__fish_seen_subcommand_from run' -l explain -a 'always never' -d 'says of each fault what is wrong, what is wanted and what is meant, as at a terminal; =never only names it'
@@ -94,7 +94,7 @@ complete -c hek -n '__fish_seen_subcommand_from check' -l json -d 'prints JSON, 
 complete -c hek -n '__fish_seen_subcommand_from check' -s h -l help -d 'Print help'
 complete -c hek -n '__fish_seen_subcommand_from check' -F
 complete -c hek -n '__fish_seen_subcommand_from history' -l explain -a 'always never' -d 'says of each fault what is wrong, what is wanted and what is meant, as at a terminal; =never only names it'
-complete -c hek -n '__fish_seen_subcommand_from history' -l level -x -a 'serializable repeatable snapshot' -d 'judges all transactions at a level: serializable, repeatable, snapshot, parallel-snapshot, causal, read-atomic, monotonic-view, read-committed or read-uncommitted; or asks for a guarantee of sessions: monotonic-reads, read-your-writes, monotonic-writes, writes-follow-reads, or guarantees for all four'
+complete -c hek -n '__fish_seen_subcommand_from history' -l level -x -a 'serializable snapshot parallel-snapshot causal read-atomic monotonic-view read-committed read-uncommitted monotonic-reads read-your-writes monotonic-writes writes-follow-reads guarantees repeatable' -d 'judges all transactions at a level: serializable, repeatable, snapshot, parallel-snapshot, causal, read-atomic, monotonic-view, read-committed or read-uncommitted; or asks for a guarantee of sessions: monotonic-reads, read-your-writes, monotonic-writes, writes-follow-reads, or guarantees for all four'
 complete -c hek -n '__fish_seen_subcommand_from history' -l levels -d 'says of each level whether the log satisfies it, from read-uncommitted to serializable'
 complete -c hek -n '__fish_seen_subcommand_from history' -l sessions -d 'has sessions bind at the level, or at each with --levels: a transaction comes after those before it in its session, and sees them'
 complete -c hek -n '__fish_seen_subcommand_from history' -l guarantees -d 'says of each guarantee of sessions whether the log satisfies it; after the levels, if they are asked for too'
@@ -144,6 +144,6 @@ complete -c hek -n '__fish_seen_subcommand_from dis' -l image -d 'FILE is a sche
 complete -c hek -n '__fish_seen_subcommand_from dis' -l explain -a 'always never' -d 'says of each fault what is wrong, what is wanted and what is meant, as at a terminal; =never only names it'
 complete -c hek -n '__fish_seen_subcommand_from dis' -s h -l help -d 'Print help'
 complete -c hek -n '__fish_seen_subcommand_from dis' -F
+complete -c hek -n '__fish_seen_subcommand_from completions' -a 'bash zsh fish words' -d 'the shell; words for the words of a session of hek debug'
 complete -c hek -n '__fish_seen_subcommand_from completions' -s h -l help -d 'Print help'
-complete -c hek -n '__fish_seen_subcommand_from completions' -a 'bash zsh fish words'
 complete -c hek -n '__fish_seen_subcommand_from man' -s h -l help -d 'Print help'

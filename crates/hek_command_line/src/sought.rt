@@ -1,9 +1,9 @@
 //! Which word is wrong in what `permute --find` is to look for.
+use crate::said::Said;
 use hek_diagnostics::nearest_word;
 use hek_report::is_named;
 use hek_rules::{Cause, NoMemory, ReplyForm, ReplyOperands, Schedule, TxnId};
 use std::alloc::Global;
-use std::io::Write;
 
 /// What is wrong with a word.
 #[derive(Clone, Copy)]
@@ -28,33 +28,28 @@ struct Fault {
 }
 
 /// Says which word of a text is wrong that is neither a reply nor the beginning of one.
-pub fn advise_sought<E: Write>(
-    alloc: Global,
-    text: &str,
-    schedule: Option<&Schedule>,
-    faults: &mut E,
-) {
+pub fn advise_sought(text: &str, schedule: Option<&Schedule>, said: &mut Said) {
     let fault = fault_of(text, schedule);
-    put_line(text, fault.place, faults);
+    put_place(text, fault.place, said);
     let word = text.split(' ').nth(fault.place).unwrap_or("");
-    let _ = match fault.wrong {
+    match fault.wrong {
         Wrong::NoBeginning => {
-            writeln!(
-                faults,
-                " `{word}` is no transaction, and no reply begins with it"
-            )
+            said.message(
+                "`@` is no transaction, and no reply begins with it",
+                &[word],
+            );
         }
-        Wrong::NoReply => writeln!(faults, " no reply begins with `{word}`"),
-        Wrong::NoCause => writeln!(faults, " no cause is called `{word}`"),
-        Wrong::NoOther => writeln!(faults, " no reply goes on with `{word}` here"),
-        Wrong::NoMore => writeln!(faults, " a reply is wanted after the name"),
-    };
-    let _ = writeln!(
-        faults,
-        "  | wanted: a reply as a trace has it, or its first words, maybe after the name of a transaction; or a verdict: `serial`, `another order`, `not serial`"
+        Wrong::NoReply => said.message("no reply begins with `@`", &[word]),
+        Wrong::NoCause => said.message("no cause is called `@`", &[word]),
+        Wrong::NoOther => said.message("no reply goes on with `@` here", &[word]),
+        Wrong::NoMore => said.message("a reply is wanted after the name", &[]),
+    }
+    said.wanted(
+        "a reply as a trace has it, or its first words, maybe after the name of a transaction; or a verdict: `serial`, `another order`, `not serial`",
+        &[],
     );
-    if let Ok(Some(meant)) = meant_instead(alloc, text, word, fault.wrong, schedule) {
-        let _ = writeln!(faults, "  | did you mean `{meant}`?");
+    if let Ok(Some(meant)) = meant_instead(said.alloc, text, word, fault.wrong, schedule) {
+        said.meant("@", &[meant]);
     }
 }
 
@@ -128,20 +123,19 @@ fn is_name(schedule: Option<&Schedule>, word: &str) -> bool {
     }
 }
 
-/// Writes the option with its value, and carets under a word of it.
-fn put_line<E: Write>(text: &str, place: usize, faults: &mut E) {
-    let _ = write!(faults, "  | --find {text}\n  |        ");
+/// The option with its value, and carets under a word of it, or after the last one.
+fn put_place(text: &str, place: usize, said: &mut Said) {
+    let mut before = "--find ".len();
+    let mut count = 1;
     for (index, word) in text.split(' ').enumerate() {
-        let mark = if index == place { '^' } else { ' ' };
-        for _ in word.chars() {
-            let _ = write!(faults, "{mark}");
+        let length = word.chars().count();
+        if index < place {
+            before = before.saturating_add(length).saturating_add(1);
+        } else if index == place {
+            count = length;
         }
-        if index == place {
-            return;
-        }
-        let _ = write!(faults, " ");
     }
-    let _ = write!(faults, "^");
+    said.carets("--find @", &[text], before, count);
 }
 
 /// The word that is meant by one that is wrong, if one is near.

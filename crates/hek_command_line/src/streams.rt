@@ -1,0 +1,145 @@
+//! The standard streams of a call: what goes out, in colours where that is wished, and why it took no more.
+use crate::colour::{PLAIN, Paint, end_of};
+use std::alloc::Global;
+use std::io::{ErrorKind, IsTerminal, Write};
+use std::{io, str};
+
+/// The most bytes of a line that are kept.
+const MOST: usize = 4_096;
+
+/// What begins the line of a fault, and that of a note.
+const FAULT: &str = "hek: ";
+
+const NOTE: &str = "hek: note: ";
+
+/// A standard stream, whose reader may leave before its end, as the reader of a pipe does that has seen enough. Where it has
+/// colours, a line goes out once it ends, or when the stream is flushed.
+#[derive(Drop)]
+pub struct Stream<'o, W: Write> {
+    out: &'o mut W,
+    paint: Paint,
+    /// The line that has not ended, if the stream has colours.
+    line: Vec<u8>,
+    /// The first line, as far as it is kept, and whether it is over.
+    first: Vec<u8>,
+    is_over: bool,
+    failure: Option<ErrorKind>,
+}
+
+impl<'o, W: Write> Stream<'o, W> {
+    /// A stream over an output, which has not failed yet.
+    pub fn new(alloc: Global, out: &'o mut W, paint: Paint) -> Stream<'o, W> {
+        Stream {
+            out,
+            paint,
+            line: Vec::new(alloc),
+            first: Vec::new(alloc),
+            is_over: false,
+            failure: None,
+        }
+    }
+
+    /// Whether the reader has left, so that what was written last went nowhere.
+    pub fn has_lost_reader(&self) -> bool {
+        self.failure == Some(ErrorKind::BrokenPipe)
+    }
+
+    /// Why it took no more, if it failed.
+    pub fn failure(&self) -> Option<ErrorKind> {
+        self.failure
+    }
+
+    /// What the first line says, if it is that of a fault.
+    pub fn fault(&self) -> Option<&str> {
+        let line = str::from_utf8(self.first.as_slice()).ok()?;
+        if line.starts_with(NOTE) {
+            return None;
+        }
+        line.strip_prefix(FAULT)
+    }
+
+    /// Keeps the bytes of the first line.
+    fn keep(&mut self, bytes: &[u8]) {
+        for byte in bytes {
+            if self.is_over {
+                return;
+            }
+            self.is_over = *byte == b'\n' || self.first.len() >= MOST;
+            if !self.is_over && self.first.push(*byte).is_err() {
+                self.is_over = true;
+            }
+        }
+    }
+
+    /// Notes an error, the first one.
+    fn noted(&mut self, error: io::Error) -> io::Error {
+        if self.failure.is_none() {
+            self.failure = Some(error.kind());
+        }
+        error
+    }
+
+    /// Writes bytes, each line that ends in colours.
+    fn put(&mut self, bytes: &[u8]) -> io::Result<usize> {
+        if matches!(self.paint, Paint::None) {
+            return self.out.write(bytes);
+        }
+        for byte in bytes {
+            self.line.extend_from_slice(&[*byte])?;
+            if *byte == b'\n' {
+                self.send()?;
+            }
+        }
+        Ok(bytes.len())
+    }
+
+    /// Writes the line that is there, in colours.
+    fn send(&mut self) -> io::Result<()> {
+        let line = self.line.as_slice();
+        match self.paint.part_of(line) {
+            None => self.out.write_all(line)?,
+            Some((start, colour)) => {
+                let (front, rest) = line.split_at(start.min(line.len()));
+                let (part, end) = rest.split_at(end_of(rest).min(rest.len()));
+                self.out.write_all(front)?;
+                self.out.write_all(colour.front())?;
+                self.out.write_all(part)?;
+                self.out.write_all(PLAIN)?;
+                self.out.write_all(end)?;
+            }
+        }
+        self.line.clear();
+        Ok(())
+    }
+}
+
+impl<W: Write> Write for Stream<'_, W> {
+    fn write(&mut self, buf: &[u8]) -> io::Result<usize> {
+        self.keep(buf);
+        match self.put(buf) {
+            Ok(count) => Ok(count),
+            Err(error) => Err(self.noted(error)),
+        }
+    }
+
+    fn flush(&mut self) -> io::Result<()> {
+        let is_sent = if self.line.is_empty() {
+            Ok(())
+        } else {
+            self.send()
+        };
+        if let Err(error) = is_sent {
+            return Err(self.noted(error));
+        }
+        match self.out.flush() {
+            Ok(()) => Ok(()),
+            Err(error) => Err(self.noted(error)),
+        }
+    }
+}
+
+impl<W: Write + IsTerminal> IsTerminal for Stream<'_, W> {
+    fn is_terminal(&self) -> bool {
+        self.out.is_terminal()
+    }
+}
