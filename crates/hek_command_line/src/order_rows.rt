@@ -22,11 +22,11 @@ Where two.hek has the lines
   b update 10 2
 it prints
   orders 6 outcomes 4
-  2 a committed; b aborted conflict; rows 10=1; serial; waited 0; first a b a b
-  2 a aborted conflict; b committed; rows 10=2; serial; waited 0; first b a a b
-  1 a committed; b committed; rows 10=2; serial; waited 0; first a a b b
-  1 a committed; b committed; rows 10=1; serial; waited 0; first b b a a
-The verdict takes all transactions as serializable: `serial` by end time, `serial in another order`, or `not serial`. `hek permute two.hek --order "a b a b"` prints the events of that order as a schedule."#,
+  2 a committed; b aborted conflict; rows 10=1; serializable; waited 0; first a b a b
+  2 a aborted conflict; b committed; rows 10=2; serializable; waited 0; first b a a b
+  1 a committed; b committed; rows 10=2; serializable; waited 0; first a a b b
+  1 a committed; b committed; rows 10=1; serializable; waited 0; first b b a a
+The verdict takes all transactions as serializable: `serializable` by end time, `serializable in another order`, or `not serializable`. `hek permute two.hek --order "a b a b"` prints the events of that order as a schedule."#,
     arguments: &[
         FILE,
         TEXT,
@@ -42,7 +42,7 @@ The verdict takes all transactions as serializable: `serial` by end time, `seria
         given!("each" => Form::Flag, "prints a line for each order"),
         given!("order" => Form::Valued("NAMES", Value::Text), "prints the events of one order as a schedule: a name for each move"),
         given!("levels" => Form::Flag, "prints the outcomes at each level, side by side"),
-        given!("find" => Form::Valued("TEXT", Value::Text), "prints the shortest beginning of an order in which this comes: `a aborted deadlock`, `aborted`, `waiting`, `not serial`, `another order`, `breaks`"),
+        given!("find" => Form::Valued("TEXT", Value::Text), "prints the shortest beginning of an order in which this comes: `a aborted deadlock`, `aborted`, `waiting`, `not serializable`, `serializable in another order`, `breaks`"),
         given!("stats" => Form::Flag, "says on standard error how many states the orders lead to"),
         given!("add" => Form::Flag, "prints the sum of the tables FILE and TABLE.., which --part printed, as text or as JSON"),
         given!("TABLE" => Form::Placed(Times::Any, Value::File), "with --add: more tables"),

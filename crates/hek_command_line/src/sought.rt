@@ -45,7 +45,7 @@ pub fn advise_sought(text: &str, schedule: Option<&Schedule>, said: &mut Said) {
         Wrong::NoMore => said.message("a reply is wanted after the name", &[]),
     }
     said.wanted(
-        "a reply as a trace has it, or its first words, maybe after the name of a transaction; or a verdict: `serial`, `another order`, `not serial`",
+        "a reply as a trace has it, or its first words, maybe after the name of a transaction; or a verdict: `serializable`, `serializable in another order`, `not serializable`",
         &[],
     );
     if let Ok(Some(meant)) = meant_instead(said.alloc, text, word, fault.wrong, schedule) {
@@ -61,12 +61,27 @@ fn meant_instead<'s>(
     wrong: Wrong,
     schedule: Option<&'s Schedule>,
 ) -> Result<Option<&'s str>, NoMemory> {
-    let mut verdicts: Vec<&'s str> = Vec::new(alloc);
-    push_verdicts(&mut verdicts)?;
-    match nearest_word(alloc, text, verdicts.as_slice()) {
+    match meant_verdict(alloc, text) {
         Some(verdict) => Ok(Some(verdict)),
         None => meant_by(alloc, word, wrong, schedule),
     }
+}
+
+/// The verdicts that can be looked for.
+const VERDICTS: [&str; 3] = [
+    "serializable",
+    "serializable in another order",
+    "not serializable",
+];
+
+/// The verdict of which a text is the front or the end, or which is near.
+fn meant_verdict(alloc: Global, text: &str) -> Option<&'static str> {
+    for verdict in VERDICTS {
+        if text.len() > 5 && (verdict.starts_with(text) || verdict.ends_with(text)) {
+            return Some(verdict);
+        }
+    }
+    nearest_word(alloc, text, VERDICTS.as_slice())
 }
 
 /// The first word that is wrong.
@@ -163,14 +178,6 @@ fn meant_by<'s>(
 fn push_causes(words: &mut Vec<&str>) -> Result<(), NoMemory> {
     for cause in Cause::ALL {
         words.push(cause.word())?;
-    }
-    Ok(())
-}
-
-/// Adds the verdicts that can be looked for.
-fn push_verdicts(words: &mut Vec<&str>) -> Result<(), NoMemory> {
-    for word in ["serial", "another order", "not serial"] {
-        words.push(word)?;
     }
     Ok(())
 }

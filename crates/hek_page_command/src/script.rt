@@ -2141,20 +2141,20 @@ function edgeLabel({ kind, label, wide, spot }, u) {
 
 /* ---- who comes before whom */
 
-/** What is said of the committed transactions together, at the end of a run that isn't serial by end time. */
+/** What is said of the committed transactions together, at the end of a run that isn't serializable by end time. */
 function togetherHere() {
   const told = isTree || here !== run.last ? null : data.together;
-  return told && told.verdict !== "serial" ? told : null;
+  return told && told.verdict !== "serializable" ? told : null;
 }
 
 /** Whether the committed transactions can follow one another, with the order or with who comes before whom. */
 function togetherSaid(byEnd) {
   const told = data.together;
   switch (told.verdict) {
-    case "serial": return `<b>yes</b>${byEnd ? `, by end time: ${byEnd}` : ""}`;
-    case "another order": return `<b>yes</b>, in another order: ${told.order.map(tagName).join(", then ")}${byEnd ? ` (by end time: ${byEnd})` : ""}`;
-    case "not serial": return `<b>no</b>: ${told.cycle.length > 1 ? told.cycle.map(beforeSaid).join(", ") : esc(told.cycle[0]?.words ?? "no order")}`;
-    default: return "not by end time; whether in another order is unknown";
+    case "serializable": return `<b>yes</b>${byEnd ? `, by end time: ${byEnd}` : ""}`;
+    case "serializable in another order": return `<b>yes</b>, in another order: ${told.order.map(tagName).join(", then ")}${byEnd ? ` (by end time: ${byEnd})` : ""}`;
+    case "not serializable": return `<b>no</b>: ${told.cycle.length > 1 ? told.cycle.map(beforeSaid).join(", ") : esc(told.cycle[0]?.words ?? "no order")}`;
+    default: return "not serializable by end time; whether in another order is unknown";
   }
 }
 
@@ -2387,11 +2387,8 @@ function outcomeParts(text) {
   const parts = text.split("; ");
   const breaks = /^breaks /.test(parts.at(-1)) ? `; ${parts.pop()}` : "";
   const verdict = parts.pop() + breaks;
-  return { parts, verdict, isGood: !breaks && verdict !== "not serial" };
+  return { parts, verdict, isGood: !breaks && verdict !== "not serializable" };
 }
-
-/** A verdict of an outcome's text in the words of a story. */
-const verdictSaid = (verdict) => verdict.replace(/\bserial\b/, "serializable");
 
 /** An outcome in few words: of more than two transactions those that don't commit. */
 function outcomeOf(text) {
@@ -2401,7 +2398,7 @@ function outcomeOf(text) {
   const telling = txns.length > 2 ? txns.filter(([, state]) => state !== "committed") : txns;
   const endOf = (state, cause) => (state === "committed" ? "commits" : state === "unended" ? "goes on" : `aborts (${cause})`);
   const said = telling.map(([name, state, cause]) => `${tagName(name)} ${endOf(state, cause)}`).join(", ") || "all commit";
-  return `${said}<span class="soft"> \u00b7 ${esc(rows.replace("rows ", ""))}${verdict === "serial" ? "" : ` \u00b7 <b>${esc(verdictSaid(verdict))}</b>`}</span>`;
+  return `${said}<span class="soft"> \u00b7 ${esc(rows.replace("rows ", ""))}${verdict === "serializable" ? "" : ` \u00b7 <b>${esc(verdict)}</b>`}</span>`;
 }
 
 const letterOf = (outcome) => "ABCDEFGHIJKLMNOPQRSTUVWXYZ"[outcome] ?? String(outcome);
@@ -2489,7 +2486,7 @@ function showTree() {
     const idle = (joins ? hasEnded(tree.names[who]) : it.steps.length === 0) ? ' <span class="soft">(has aborted)</span>' : "";
     return `<button type="button" class="choice${isTaken ? " taken" : ""}" data-next="${next}"${joins ? ` title="${esc(joinSaid(next))}"` : ""}><kbd>${who + 1}</kbd> <span>${joins ? `${JOINS} ` : ""}${(isCrowd ? shortTag : tagName)(tree.names[who])} <b>${esc(move)}</b>${idle}</span>${outcomeBar(it.counts)}<span class="count">${isSecret ? "" : countsSaid(it.counts, room)}</span></button>`;
   }).join("");
-  const found = whole && isAt ? `<p class="whose">This order is complete.</p><p class="final">${outcomeOf(data.outcomes[node.outcome])}</p><p>All together: <b>${esc(verdictSaid(outcomeParts(data.outcomes[node.outcome]).verdict))}</b>. ${reachSaid(node)}</p>` : "";
+  const found = whole && isAt ? `<p class="whose">This order is complete.</p><p class="final">${outcomeOf(data.outcomes[node.outcome])}</p><p>All together: <b>${esc(outcomeParts(data.outcomes[node.outcome]).verdict)}</b>. ${reachSaid(node)}</p>` : "";
   const inside = isAt ? "" : `<p class="whose">In the middle of a move</p><p>\u2192 goes on with it.</p>`;
   $("because").innerHTML = `<div class="moves">${found || inside || `<p class="whose">Who moves next?</p><div class="pick${tree.isMerged ? " merged" : ""}${isCrowd ? " crowd" : ""}" style="--n:${isCrowd ? Math.ceil(ways / 2) : Math.min(ways, 3)}">${choices}</div>`}</div>`;
   // the outcomes that can still be reached
@@ -2609,7 +2606,7 @@ function isNews() {
 /** An outcome in words: how each transaction ends, the rows, and the verdict. */
 function endsSaid(text) {
   const { parts, verdict, isGood } = outcomeParts(text);
-  return `${parts.map(esc).join("; ")}; <b class="${isGood ? "good" : "bad"}">${esc(verdictSaid(verdict))}</b>`;
+  return `${parts.map(esc).join("; ")}; <b class="${isGood ? "good" : "bad"}">${esc(verdict)}</b>`;
 }
 
 function showLevels() {

@@ -14,14 +14,19 @@ pub(crate) fn together_value(
 ) -> Result<Value, NoMemory> {
     let mut members = Map::new(alloc);
     match together {
-        Together::ByEndTime => put_text(alloc, "verdict", "serial", &mut members)?,
+        Together::ByEndTime => put_text(alloc, "verdict", "serializable", &mut members)?,
         Together::InAnotherOrder(order) => {
-            put_text(alloc, "verdict", "another order", &mut members)?;
+            put_text(
+                alloc,
+                "verdict",
+                "serializable in another order",
+                &mut members,
+            )?;
             let names = name_values(alloc, schedule, order.as_slice())?;
             put_value(alloc, "order", names, &mut members)?;
         }
         Together::NotSerial(_, befores) => {
-            put_text(alloc, "verdict", "not serial", &mut members)?;
+            put_text(alloc, "verdict", "not serializable", &mut members)?;
             let cycle = before_values(alloc, schedule, befores.as_slice())?;
             put_value(alloc, "cycle", cycle, &mut members)?;
         }

@@ -45,11 +45,8 @@ function outcomeParts(text) {
   const parts = text.split("; ");
   const breaks = /^breaks /.test(parts.at(-1)) ? `; ${parts.pop()}` : "";
   const verdict = parts.pop() + breaks;
-  return { parts, verdict, isGood: !breaks && verdict !== "not serial" };
+  return { parts, verdict, isGood: !breaks && verdict !== "not serializable" };
 }
-
-/** A verdict of an outcome's text in the words of a story. */
-const verdictSaid = (verdict) => verdict.replace(/\bserial\b/, "serializable");
 
 /** An outcome in few words: of more than two transactions those that don't commit. */
 function outcomeOf(text) {
@@ -59,7 +56,7 @@ function outcomeOf(text) {
   const telling = txns.length > 2 ? txns.filter(([, state]) => state !== "committed") : txns;
   const endOf = (state, cause) => (state === "committed" ? "commits" : state === "unended" ? "goes on" : `aborts (${cause})`);
   const said = telling.map(([name, state, cause]) => `${tagName(name)} ${endOf(state, cause)}`).join(", ") || "all commit";
-  return `${said}<span class="soft"> \u00b7 ${esc(rows.replace("rows ", ""))}${verdict === "serial" ? "" : ` \u00b7 <b>${esc(verdictSaid(verdict))}</b>`}</span>`;
+  return `${said}<span class="soft"> \u00b7 ${esc(rows.replace("rows ", ""))}${verdict === "serializable" ? "" : ` \u00b7 <b>${esc(verdict)}</b>`}</span>`;
 }
 
 const letterOf = (outcome) => "ABCDEFGHIJKLMNOPQRSTUVWXYZ"[outcome] ?? String(outcome);
@@ -147,7 +144,7 @@ function showTree() {
     const idle = (joins ? hasEnded(tree.names[who]) : it.steps.length === 0) ? ' <span class="soft">(has aborted)</span>' : "";
     return `<button type="button" class="choice${isTaken ? " taken" : ""}" data-next="${next}"${joins ? ` title="${esc(joinSaid(next))}"` : ""}><kbd>${who + 1}</kbd> <span>${joins ? `${JOINS} ` : ""}${(isCrowd ? shortTag : tagName)(tree.names[who])} <b>${esc(move)}</b>${idle}</span>${outcomeBar(it.counts)}<span class="count">${isSecret ? "" : countsSaid(it.counts, room)}</span></button>`;
   }).join("");
-  const found = whole && isAt ? `<p class="whose">This order is complete.</p><p class="final">${outcomeOf(data.outcomes[node.outcome])}</p><p>All together: <b>${esc(verdictSaid(outcomeParts(data.outcomes[node.outcome]).verdict))}</b>. ${reachSaid(node)}</p>` : "";
+  const found = whole && isAt ? `<p class="whose">This order is complete.</p><p class="final">${outcomeOf(data.outcomes[node.outcome])}</p><p>All together: <b>${esc(outcomeParts(data.outcomes[node.outcome]).verdict)}</b>. ${reachSaid(node)}</p>` : "";
   const inside = isAt ? "" : `<p class="whose">In the middle of a move</p><p>\u2192 goes on with it.</p>`;
   $("because").innerHTML = `<div class="moves">${found || inside || `<p class="whose">Who moves next?</p><div class="pick${tree.isMerged ? " merged" : ""}${isCrowd ? " crowd" : ""}" style="--n:${isCrowd ? Math.ceil(ways / 2) : Math.min(ways, 3)}">${choices}</div>`}</div>`;
   // the outcomes that can still be reached

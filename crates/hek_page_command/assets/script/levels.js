@@ -43,7 +43,7 @@ function isNews() {
 /** An outcome in words: how each transaction ends, the rows, and the verdict. */
 function endsSaid(text) {
   const { parts, verdict, isGood } = outcomeParts(text);
-  return `${parts.map(esc).join("; ")}; <b class="${isGood ? "good" : "bad"}">${esc(verdictSaid(verdict))}</b>`;
+  return `${parts.map(esc).join("; ")}; <b class="${isGood ? "good" : "bad"}">${esc(verdict)}</b>`;
 }
 
 function showLevels() {
