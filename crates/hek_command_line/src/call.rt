@@ -19,6 +19,9 @@ pub type Answer<'a> = Result<u8, HekFault<'a>>;
 /// A file that is open, or standard input.
 pub type Opened<'c, 'a, I, F> = KeptReader<'c, 'a, InputFile<I, F>>;
 
+/// The name by which a system has the file that is standard input.
+const INPUT_FILE: &str = "/dev/stdin";
+
 /// The name of standard output, where a file is written.
 pub const OUTPUT: &str = "-";
 
@@ -122,10 +125,14 @@ impl<'c, 'a, D: Disk, I: Read + Drop, W: Write, E: Write> Call<'c, 'a, D, I, W, 
         self.out.file = Some(LateFile::new(self.disk, name, self.kept));
     }
 
-    /// Says that the file to write is the one to read, which would be lost, if it is.
+    /// Says that the file to write is the one to read, which would be lost, if it is: under its name, another one, or as standard
+    /// input.
     pub fn refuses_same(&mut self, out: &str) -> bool {
-        let name = self.word("FILE");
-        if name == INPUT || out == OUTPUT || !self.disk.is_same(name, out) {
+        let name = match self.word("FILE") {
+            INPUT => INPUT_FILE,
+            name => name,
+        };
+        if out == OUTPUT || !self.disk.is_same(name, out) {
             return false;
         }
         let _ = writeln!(

@@ -4,6 +4,8 @@
 #[derive(Clone, Copy)]
 pub enum Paint {
     None,
+    /// None, and they are no text, but an image.
+    Image,
     /// Lines with a reply: the reply, by its kind.
     Replies,
     /// Lines of a fault: its first line, and the carets with what they say.
@@ -58,7 +60,7 @@ impl Paint {
     /// Where the part of a line begins that is in a colour, and which.
     pub fn part_of(self, line: &[u8]) -> Option<(usize, Colour)> {
         match self {
-            Paint::None => None,
+            Paint::None | Paint::Image => None,
             Paint::Replies => reply_in(line),
             Paint::Faults => fault_in(line),
         }

@@ -231,13 +231,16 @@ fn fault_paint<E: IsTerminal>(settings: Settings, faults: &E) -> Paint {
     }
 }
 
-/// What of standard output is in colours: the replies of a command that runs steps, in its text.
+/// What of standard output is in colours: the replies of a command that runs steps, in its text. An image is no text.
 fn reply_paint<W: IsTerminal>(
     settings: Settings,
     command: Command,
     found: &ArgMatches<'_>,
     out: &W,
 ) -> Paint {
+    if command == Command::Asm {
+        return Paint::Image;
+    }
     let has_replies = command.has_replies() && !found.get_flag("json");
     if has_replies && settings.colouring.is_wanted(out.is_terminal()) {
         Paint::Replies

@@ -165,7 +165,7 @@ impl<D: Disk, W: Write> Write for Output<'_, '_, D, W> {
             return memory.write(buf);
         }
         match &mut self.file {
-            Some(file) => file.write(buf),
+            Some(file) => self.stream.write_to(buf, file),
             None => self.stream.write(buf),
         }
     }

@@ -48,14 +48,18 @@ impl<'a, D: Disk, I: Read + Drop, W: Write, E: Write> Call<'_, 'a, D, I, W, E> {
         let status = match ran {
             Ok(status) => self.end_well(status),
             Err(HekFault::CannotWrite) if self.out.stream.has_lost_reader() => 0,
-            Err(HekFault::CannotWrite) if self.kept.failure() == Some(ErrorKind::OutOfMemory) => {
-                self.report(HekFault::NoMemory)
-            }
+            Err(HekFault::CannotWrite) if self.lacks_memory() => self.report(HekFault::NoMemory),
             Err(fault) => self.report(fault),
         };
         let _ = self.out.flush();
         let _ = self.faults.flush();
         status
+    }
+
+    /// Whether memory ran out where something was written.
+    fn lacks_memory(&self) -> bool {
+        let short = Some(ErrorKind::OutOfMemory);
+        self.kept.failure() == short || self.out.stream.failure() == short
     }
 
     /// Notes what comes to nothing; of a fault that the command itself told has the object written.

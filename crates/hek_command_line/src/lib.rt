@@ -33,6 +33,7 @@ mod said;
 mod schedule;
 mod settings;
 mod shells;
+mod shown;
 mod sought;
 mod sources;
 mod streams;

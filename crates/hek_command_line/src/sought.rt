@@ -67,21 +67,27 @@ fn meant_instead<'s>(
     }
 }
 
-/// The verdicts that can be looked for.
-const VERDICTS: [&str; 3] = [
-    "serializable",
-    "serializable in another order",
-    "not serializable",
+/// Words for a verdict, and the verdict that can be looked for.
+const VERDICTS: [(&str, &str); 6] = [
+    ("serializable", "serializable"),
+    ("serial", "serializable"),
+    ("not serializable", "not serializable"),
+    ("not serial", "not serializable"),
+    (
+        "serializable in another order",
+        "serializable in another order",
+    ),
+    ("another order", "serializable in another order"),
 ];
 
-/// The verdict of which a text is the front or the end, or which is near.
+/// The verdict for which a text has words, or nearly so.
 fn meant_verdict(alloc: Global, text: &str) -> Option<&'static str> {
-    for verdict in VERDICTS {
-        if text.len() > 5 && (verdict.starts_with(text) || verdict.ends_with(text)) {
+    for (words, verdict) in VERDICTS {
+        if nearest_word(alloc, text, &[words]).is_some() {
             return Some(verdict);
         }
     }
-    nearest_word(alloc, text, VERDICTS.as_slice())
+    None
 }
 
 /// The first word that is wrong.

@@ -1,8 +1,9 @@
 //! The standard streams of a call: what goes out, in colours where that is wished, and why it took no more.
 use crate::colour::{PLAIN, Paint, end_of};
+use crate::shown::show;
 use std::alloc::Global;
 use std::io::{ErrorKind, IsTerminal, Write};
-use std::{io, str};
+use std::{io, mem, str};
 
 /// The most bytes of a line that are kept.
 const MOST: usize = 4_096;
@@ -16,6 +17,7 @@ const NOTE: &str = "hek: note: ";
 /// colours, a line goes out once it ends, or when the stream is flushed.
 #[derive(Drop)]
 pub struct Stream<'o, W: Write> {
+    alloc: Global,
     out: &'o mut W,
     paint: Paint,
     /// The line that has not ended, if the stream has colours.
@@ -30,6 +32,7 @@ impl<'o, W: Write> Stream<'o, W> {
     /// A stream over an output, which has not failed yet.
     pub fn new(alloc: Global, out: &'o mut W, paint: Paint) -> Stream<'o, W> {
         Stream {
+            alloc,
             out,
             paint,
             line: Vec::new(alloc),
@@ -37,6 +40,15 @@ impl<'o, W: Write> Stream<'o, W> {
             is_over: false,
             failure: None,
         }
+    }
+
+    /// Writes to a file in its place: text with pictures, or an image.
+    pub fn write_to<F: Write>(&self, bytes: &[u8], file: &mut F) -> io::Result<usize> {
+        match self.paint {
+            Paint::Image => file.write_all(bytes)?,
+            Paint::None | Paint::Replies | Paint::Faults => show(self.alloc, bytes, file)?,
+        }
+        Ok(bytes.len())
     }
 
     /// Whether the reader has left, so that what was written last went nowhere.
@@ -79,37 +91,41 @@ impl<'o, W: Write> Stream<'o, W> {
         error
     }
 
-    /// Writes bytes, each line that ends in colours.
+    /// Writes bytes: text with pictures, and where there are colours each line once it ends.
     fn put(&mut self, bytes: &[u8]) -> io::Result<usize> {
-        if matches!(self.paint, Paint::None) {
-            return self.out.write(bytes);
+        match self.paint {
+            Paint::Image => self.out.write_all(bytes)?,
+            Paint::None => show(self.alloc, bytes, self.out)?,
+            Paint::Replies | Paint::Faults => self.put_lines(bytes)?,
         }
+        Ok(bytes.len())
+    }
+
+    /// Writes the lines that end with these bytes.
+    fn put_lines(&mut self, bytes: &[u8]) -> io::Result<()> {
         for byte in bytes {
             self.line.extend_from_slice(&[*byte])?;
             if *byte == b'\n' {
                 self.send()?;
             }
         }
-        Ok(bytes.len())
+        Ok(())
     }
 
     /// Writes the line that is there, in colours.
     fn send(&mut self) -> io::Result<()> {
-        let line = self.line.as_slice();
-        match self.paint.part_of(line) {
-            None => self.out.write_all(line)?,
-            Some((start, colour)) => {
-                let (front, rest) = line.split_at(start.min(line.len()));
-                let (part, end) = rest.split_at(end_of(rest).min(rest.len()));
-                self.out.write_all(front)?;
-                self.out.write_all(colour.front())?;
-                self.out.write_all(part)?;
-                self.out.write_all(PLAIN)?;
-                self.out.write_all(end)?;
-            }
-        }
-        self.line.clear();
-        Ok(())
+        let line = mem::replace(&mut self.line, Vec::new(self.alloc));
+        let line = line.as_slice();
+        let Some((start, colour)) = self.paint.part_of(line) else {
+            return show(self.alloc, line, self.out);
+        };
+        let (front, rest) = line.split_at(start.min(line.len()));
+        let (part, end) = rest.split_at(end_of(rest).min(rest.len()));
+        show(self.alloc, front, self.out)?;
+        self.out.write_all(colour.front())?;
+        show(self.alloc, part, self.out)?;
+        self.out.write_all(PLAIN)?;
+        show(self.alloc, end, self.out)
     }
 }
 
