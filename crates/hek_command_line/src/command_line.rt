@@ -156,7 +156,7 @@ impl<
                 file: None,
                 memory: None,
             },
-            faults: Stream::new(alloc, faults, paint),
+            faults: Stream::of_faults(alloc, faults, paint),
         };
         let ran = call.follow(system);
         call.finish(ran)
@@ -174,7 +174,7 @@ impl<
         let explains = settings.explaining.is_wanted(faults.is_terminal());
         let mut out = Stream::new(alloc, out, Paint::None);
         let paint = fault_paint(settings, faults);
-        let mut faults = Stream::new(alloc, faults, paint);
+        let mut faults = Stream::of_faults(alloc, faults, paint);
         let status = match say_refused(alloc, error, settings.width, &mut out, &mut faults) {
             Ok(status) => status,
             Err(HekFault::CannotWrite) if out.has_lost_reader() => 0,

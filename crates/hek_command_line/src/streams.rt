@@ -13,8 +13,12 @@ const FAULT: &str = "hek: ";
 
 const NOTE: &str = "hek: note: ";
 
+/// What clears the line of a terminal.
+const CLEAR: &[u8] = b"\r\x1b[K";
+
 /// A standard stream, whose reader may leave before its end, as the reader of a pipe does that has seen enough. Where it has
-/// colours, a line goes out once it ends, or when the stream is flushed.
+/// colours, a line goes out once it ends, or when the stream is flushed. A line of a stream of faults that is flushed before its
+/// end tells how far something is: what is written next, or a second flush, takes it away.
 #[derive(Drop)]
 pub struct Stream<'o, W: Write> {
     alloc: Global,
@@ -25,7 +29,19 @@ pub struct Stream<'o, W: Write> {
     /// The first line, as far as it is kept, and whether it is over.
     first: Vec<u8>,
     is_over: bool,
+    /// Where the line is that was written last, and whether one that is flushed goes away.
+    last: Last,
+    passes: bool,
     failure: Option<ErrorKind>,
+}
+
+/// Where a line is.
+#[derive(Clone, Copy, PartialEq)]
+enum Last {
+    Ended,
+    Begun,
+    /// Begun and flushed, so that it goes away.
+    Passing,
 }
 
 impl<'o, W: Write> Stream<'o, W> {
@@ -38,8 +54,17 @@ impl<'o, W: Write> Stream<'o, W> {
             line: Vec::new(alloc),
             first: Vec::new(alloc),
             is_over: false,
+            last: Last::Ended,
+            passes: false,
             failure: None,
         }
+    }
+
+    /// A stream of faults.
+    pub fn of_faults(alloc: Global, out: &'o mut W, paint: Paint) -> Stream<'o, W> {
+        let mut stream = Stream::new(alloc, out, paint);
+        stream.passes = true;
+        stream
     }
 
     /// Writes to a file in its place: text with pictures, or an image.
@@ -127,27 +152,53 @@ impl<'o, W: Write> Stream<'o, W> {
         self.out.write_all(PLAIN)?;
         show(self.alloc, end, self.out)
     }
+
+    /// Takes away a line that tells how far something is.
+    fn clear(&mut self) -> io::Result<()> {
+        if self.last == Last::Passing {
+            self.last = Last::Ended;
+            self.out.write_all(CLEAR)?;
+        }
+        Ok(())
+    }
+
+    /// Writes bytes in place of a line that goes away.
+    fn put_next(&mut self, bytes: &[u8]) -> io::Result<usize> {
+        self.clear()?;
+        match bytes.last() {
+            Some(b'\n') => self.last = Last::Ended,
+            Some(_) => self.last = Last::Begun,
+            None => {}
+        }
+        self.put(bytes)
+    }
+
+    /// Writes what is kept of a line.
+    fn put_rest(&mut self) -> io::Result<()> {
+        self.clear()?;
+        let line = mem::replace(&mut self.line, Vec::new(self.alloc));
+        show(self.alloc, line.as_slice(), self.out)?;
+        if self.last == Last::Begun && self.passes {
+            self.last = Last::Passing;
+            if !self.is_over {
+                self.first.clear();
+            }
+        }
+        self.out.flush()
+    }
 }
 
 impl<W: Write> Write for Stream<'_, W> {
     fn write(&mut self, buf: &[u8]) -> io::Result<usize> {
         self.keep(buf);
-        match self.put(buf) {
+        match self.put_next(buf) {
             Ok(count) => Ok(count),
             Err(error) => Err(self.noted(error)),
         }
     }
 
     fn flush(&mut self) -> io::Result<()> {
-        let is_sent = if self.line.is_empty() {
-            Ok(())
-        } else {
-            self.send()
-        };
-        if let Err(error) = is_sent {
-            return Err(self.noted(error));
-        }
-        match self.out.flush() {
+        match self.put_rest() {
             Ok(()) => Ok(()),
             Err(error) => Err(self.noted(error)),
         }
