@@ -76,9 +76,9 @@ complete -c hek -n '__fish_seen_subcommand_from permute' -l jobs -x -d 'counts o
 complete -c hek -n '__fish_seen_subcommand_from permute' -l each -d 'prints a line for each order'
 complete -c hek -n '__fish_seen_subcommand_from permute' -l order -x -d 'prints the events of one order as a schedule: a name for each move'
 complete -c hek -n '__fish_seen_subcommand_from permute' -l levels -d 'prints the outcomes at each level, side by side'
-complete -c hek -n '__fish_seen_subcommand_from permute' -l find -x -d 'prints the shortest beginning of an order in which this comes: `a aborted deadlock`, `aborted`, `waiting`, `not serial`, `another order`, `breaks`'
+complete -c hek -n '__fish_seen_subcommand_from permute' -l find -x -d 'prints the shortest beginning of an order in which this comes: `a aborted deadlock`, `aborted`, `waiting`, `not serializable`, `serializable in another order`, `breaks`'
 complete -c hek -n '__fish_seen_subcommand_from permute' -l stats -d 'says on standard error how many states the orders lead to'
-complete -c hek -n '__fish_seen_subcommand_from permute' -l add -d 'prints the sum of the tables FILE and TABLE.., which --part printed, as text or as JSON'
+complete -c hek -n '__fish_seen_subcommand_from permute' -l add -d 'prints the sum of the tables FILE and TABLE.., which --part printed with --json'
 complete -c hek -n '__fish_seen_subcommand_from permute' -l json -d 'prints JSON, one object on each line'
 complete -c hek -n '__fish_seen_subcommand_from permute' -s h -l help -d 'Print help'
 complete -c hek -n '__fish_seen_subcommand_from permute' -F
