@@ -101,19 +101,29 @@ function clearance([x, y], [w, h], story, at, used, curves) {
 
 const SHIFTS = [0, 0.9, -0.9, 1.8];
 
+/** A point of a curve, moved up or down as far as its label, of this height, stays on the curve: into the gap between two lanes, off their boxes. */
+function inGap([x, y], h, at, count) {
+  const gap = Math.round(y / at.lane), middle = gap * at.lane, slack = Math.max(0, at.gap / 2 - h / 2 - 1), most = 0.45 * h;
+  return gap < 1 || gap >= count ? [x, y] : [x, y + clamp(-most, clamp(middle - slack, y, middle + slack) - y, most)];
+}
+
 /** The edges of the cycle: arrows between the boxes that make them, each with its kind and its key. */
 function edges(story, at) {
   const ends = new Map(), used = [], all = story.verdict.edges.filter((it) => it.a !== null && it.b !== null && it.a !== undefined && it.b !== undefined);
   const shift = (key) => { const count = ends.get(key) ?? 0; ends.set(key, count + 1); return SHIFTS[count % 4] * Math.min(at.u, at.width(0) / 4); };
   const curves = all.map(({ a, b, from, to }) => join(story, at, a, b, [shift(`${a} ${to > from}`), shift(`${b} ${to < from}`)]));
-  const drawn = all.map(({ kind, key }, index) => {
-    const { curve, tip, isDown, size } = curves[index], words = `${kind} ${key ?? ""}`.trim(), type = (at.width(0) < 3 * at.u ? S : M) * at.u, w = wide(words, type, 700) + 0.9 * type, h = 1.45 * type;
-    const points = Array.from({ length: 41 }, (_, part) => pointAt(curve, 0.1 + part * 0.02)), score = (point) => clearance(point, [w, h], story, at, used, curves);
-    const [x, y] = points.map((point) => [score(point), point]).sort(([one], [other]) => other - one)[0][1], top = Math.max(y, h / 2 + 1), left = clamp(w / 2 + 1, x, at.w - w / 2 - 1);
-    used.push({ x: left, y: top, w });
-    return [path(curved(curve), "edge") + head(...tip, isDown, size * 1.5, "bad"), rect(left - w / 2, top - h / 2, w, h, "bad", 0.3 * at.u) + text(left, top + 0.35 * type, type, words, "b on")];
-  });
-  return drawn.map(([line]) => line).join("") + drawn.map(([, label]) => label).join("");
+  const type = (at.width(0) < 3 * at.u ? S : M) * at.u, h = 1.45 * type, words = all.map(({ kind, key }) => `${kind} ${key ?? ""}`.trim()), widths = words.map((it) => wide(it, type, 700) + 0.9 * type);
+  const place = (index) => {
+    const w = widths[index], others = used.filter((_, other) => other !== index), score = (point) => clearance(point, [w, h], story, at, others, curves);
+    const points = Array.from({ length: 41 }, (_, part) => inGap(pointAt(curves[index].curve, 0.1 + part * 0.02), h, at, story.names.length));
+    const [x, y] = points.map((point) => [score(point), point]).sort(([one], [other]) => other - one)[0][1];
+    used[index] = { x: clamp(w / 2 + 1, x, at.w - w / 2 - 1), y: Math.max(y, h / 2 + 1), w };
+  };
+  // Each label once more where the others are known.
+  for (let round = 0; round < 3; round++) all.forEach((_, index) => place(index));
+  const line = ({ curve, tip, isDown, size }) => path(curved(curve), "edge") + head(...tip, isDown, size * 1.5, "bad");
+  const label = ({ x, y, w }, index) => rect(x - w / 2, y - h / 2, w, h, "bad", 0.3 * at.u) + text(x, y + 0.35 * type, type, words[index], "b on");
+  return curves.map(line).join("") + used.map(label).join("");
 }
 
 // ---- all of it

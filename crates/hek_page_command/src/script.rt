@@ -127,7 +127,8 @@ function placeInOrder({ columns, names, order }) {
   let last = -1; for (const column of columns) { column.isLate = waited.has(column.t) && ENDS.test(column.kind);
     if (!column.isLate) last = Math.max(last, places[column.t][count[column.t]++] ?? last); if (column.kind === "wait") waited.add(column.t);
     column.place = last; } }
-const verdictKind = (word = "") => (/^not ser/.test(word) ? "not" : /another/.test(word) ? "other" : /^serial/.test(word) ? "serial" : "unknown");
+const KINDS = [[/unknown/, "unknown"], [/^(not ser|fails)/, "not"], [/another order/, "other"], [/^(serial|holds)/, "serial"]];
+const verdictKind = (words = "") => KINDS.find(([form]) => form.test(words))?.[1] ?? "unknown";
 const VERDICTS = { not: "not serializable", other: "serializable in another order", serial: "serializable", unknown: "not judged" };
 function verdictOf({ together = {}, breaks = null, names, kind: what, level }, story, at) {
   const kind = verdictKind(together.verdict), order = (together.order ?? []).map((name) => names.indexOf(name)), out = names.filter((name, t) => story.ends[t] === "abort");
@@ -269,13 +270,16 @@ function clearance([x, y], [w, h], story, at, used, curves) {
   const labels = used.map((it) => Math.max(Math.abs(it.x - x) - (it.w + w) / 2 - 4, Math.abs(it.y - y) - h - 3));
   const tips = curves.map(({ tip }) => Math.max(Math.abs(tip[0] - x) - w / 2 - 0.7 * at.u, Math.abs(tip[1] - y) - h / 2 - 0.9 * at.u));
   return Math.min(...boxes, ...labels, ...tips, x - w / 2, at.w - x - w / 2); }
-const SHIFTS = [0, 0.9, -0.9, 1.8]; function edges(story, at) {
+const SHIFTS = [0, 0.9, -0.9, 1.8]; function inGap([x, y], h, at, count) {
+  const gap = Math.round(y / at.lane), middle = gap * at.lane, slack = Math.max(0, at.gap / 2 - h / 2 - 1), most = 0.45 * h;
+  return gap < 1 || gap >= count ? [x, y] : [x, y + clamp(-most, clamp(middle - slack, y, middle + slack) - y, most)]; }
+function edges(story, at) {
   const ends = new Map(), used = [], all = story.verdict.edges.filter((it) => it.a !== null && it.b !== null && it.a !== undefined && it.b !== undefined);
   const shift = (key) => { const count = ends.get(key) ?? 0; ends.set(key, count + 1); return SHIFTS[count % 4] * Math.min(at.u, at.width(0) / 4); };
   const curves = all.map(({ a, b, from, to }) => join(story, at, a, b, [shift(`${a} ${to > from}`), shift(`${b} ${to < from}`)]));
   const drawn = all.map(({ kind, key }, index) => {
     const { curve, tip, isDown, size } = curves[index], words = `${kind} ${key ?? ""}`.trim(), type = (at.width(0) < 3 * at.u ? S : M) * at.u, w = wide(words, type, 700) + 0.9 * type, h = 1.45 * type;
-    const points = Array.from({ length: 41 }, (_, part) => pointAt(curve, 0.1 + part * 0.02)), score = (point) => clearance(point, [w, h], story, at, used, curves);
+    const points = Array.from({ length: 41 }, (_, part) => inGap(pointAt(curve, 0.1 + part * 0.02), h, at, story.names.length)), score = (point) => clearance(point, [w, h], story, at, used, curves);
     const [x, y] = points.map((point) => [score(point), point]).sort(([one], [other]) => other - one)[0][1], top = Math.max(y, h / 2 + 1), left = clamp(w / 2 + 1, x, at.w - w / 2 - 1);
     used.push({ x: left, y: top, w });
     return [path(curved(curve), "edge") + head(...tip, isDown, size * 1.5, "bad"), rect(left - w / 2, top - h / 2, w, h, "bad", 0.3 * at.u) + text(left, top + 0.35 * type, type, words, "b on")]; });
@@ -446,14 +450,13 @@ function edgeEnds({ kind, key, read: seen, written, from, to, operations, words 
   const isAt = (it) => same(it.key, key), reads = (name, value) => own(name).findLast((it) => foundBy(moves[it]).some((pair) => same(pair, [key, value]))) ?? own(name).findLast((it) => (moves[it].kind === "read" || moves[it].kind === "miss") && isAt(moves[it])) ?? own(name).findLast((it) => moves[it].kind === "scan");
   const writes = (name, value) => own(name).findLast((it) => moves[it].kind === "write" && isAt(moves[it]) && (value === null || value === undefined || same(moves[it].value, value))) ?? own(name).findLast((it) => moves[it].kind === "write" && isAt(moves[it]));
   return [kind === "rw" ? reads(from, seen) : writes(from, kind === "wr" ? seen ?? written : null), kind === "wr" ? reads(to, seen ?? written) : writes(to, kind === "rw" ? written : null)] .map((it, index) => it ?? own(index ? to : from).at(-1)); }
-const VERDICT = { serial: "serializable", holds: "serializable", serializable: "serializable", "not serial": "not serializable", fails: "not serializable", "not serializable": "not serializable" };
 function playOfLog(text, answer) { const { rows, txns: all } = read(text), edges = answer.cycle ?? [], txns = chosen(all, edges);
   const moves = txns.flatMap((txn) => [...txn.ops.map((op) => moveOf(op, txn.name, txn.line)), endOf(txn)]);
   const cycle = edges.map((edge) => ({ ...edge, from: edge.from === null ? null : String(edge.from), to: edge.to === null ? null : String(edge.to), ends: edgeEnds(edge, moves) }));
   const order = constraints(txns, moves, cycle).order(moves), place = (index) => order.indexOf(index) + 1;
   const told = order.map((index) => ({ ...moves[index], ...found(moves[index], moves, rows, place) })); return {
     kind: "log", level: answer.level ?? "serializable", names: txns.map(({ name }) => name), levels: txns.map(({ level }) => level ?? "serializable"), order: null, moves: told, breaks: null,
-    together: { verdict: VERDICT[answer.verdict] ?? "unknown", anomaly: answer.anomaly ?? "", order: answer.serial_order?.map(String) ?? [], cycle: cycle.map((edge) => ({ ...edge, moves: edge.ends.map((it) => (it === undefined ? null : place(it))) })) },
+    together: { verdict: answer.verdict, anomaly: answer.anomaly ?? "", order: answer.serial_order?.map(String) ?? [], cycle: cycle.map((edge) => ({ ...edge, moves: edge.ends.map((it) => (it === undefined ? null : place(it))) })) },
     about: txns.length < all.length ? `The log has ${all.length} transactions; these are ${edges.length ? "those of the cycle" : "the first ones"}.` : "", }; }
 function found(it, moves, rows, place) {
   if (it.found !== undefined) return { writer: { txn: moves[it.found].txn, move: place(it.found) }, why: `${named(moves[it.found].txn)} wrote it` };
@@ -2141,19 +2144,21 @@ function edgeLabel({ kind, label, wide, spot }, u) {
 
 /* ---- who comes before whom */
 
+const { verdictKind } = Story.story;
+
 /** What is said of the committed transactions together, at the end of a run that isn't serial by end time. */
 function togetherHere() {
   const told = isTree || here !== run.last ? null : data.together;
-  return told && told.verdict !== "serial" ? told : null;
+  return told && verdictKind(told.verdict) !== "serial" ? told : null;
 }
 
 /** Whether the committed transactions can follow one another, with the order or with who comes before whom. */
 function togetherSaid(byEnd) {
   const told = data.together;
-  switch (told.verdict) {
+  switch (verdictKind(told.verdict)) {
     case "serial": return `<b>yes</b>${byEnd ? `, by end time: ${byEnd}` : ""}`;
-    case "another order": return `<b>yes</b>, in another order: ${told.order.map(tagName).join(", then ")}${byEnd ? ` (by end time: ${byEnd})` : ""}`;
-    case "not serial": return `<b>no</b>: ${told.cycle.length > 1 ? told.cycle.map(beforeSaid).join(", ") : esc(told.cycle[0]?.words ?? "no order")}`;
+    case "other": return `<b>yes</b>, in another order: ${told.order.map(tagName).join(", then ")}${byEnd ? ` (by end time: ${byEnd})` : ""}`;
+    case "not": return `<b>no</b>: ${told.cycle.length > 1 ? told.cycle.map(beforeSaid).join(", ") : esc(told.cycle[0]?.words ?? "no order")}`;
     default: return "not by end time; whether in another order is unknown";
   }
 }
@@ -2382,12 +2387,13 @@ function eventsOfMove(shown) {
 const total = (counts) => counts.reduce((sum, it) => sum + it, 0);
 const isWhole = () => tree.nodes[tree.path.at(-1)].next.length === 0;
 
-/** The parts of an outcome: its ends and rows, and the verdict, to which the line of an invariant belongs that it breaks. */
+/** The parts of an outcome: its ends and rows, and the verdict, to which the line of an invariant belongs that it breaks; `isPlain` where it is serializable by end time. */
 function outcomeParts(text) {
   const parts = text.split("; ");
   const breaks = /^breaks /.test(parts.at(-1)) ? `; ${parts.pop()}` : "";
   const verdict = parts.pop() + breaks;
-  return { parts, verdict, isGood: !breaks && verdict !== "not serial" };
+  const kind = verdictKind(verdict);
+  return { parts, verdict, isGood: !breaks && kind !== "not", isPlain: !breaks && kind === "serial" };
 }
 
 /** A verdict of an outcome's text in the words of a story. */
@@ -2395,13 +2401,13 @@ const verdictSaid = (verdict) => verdict.replace(/\bserial\b/, "serializable");
 
 /** An outcome in few words: of more than two transactions those that don't commit. */
 function outcomeOf(text) {
-  const { parts, verdict } = outcomeParts(text);
+  const { parts, verdict, isPlain } = outcomeParts(text);
   const txns = parts.filter((it) => /(committed|aborted|unended)/.test(it) && !/^rows/.test(it)).map((it) => it.split(" "));
   const rows = parts.find((it) => it.startsWith("rows")) ?? "";
   const telling = txns.length > 2 ? txns.filter(([, state]) => state !== "committed") : txns;
   const endOf = (state, cause) => (state === "committed" ? "commits" : state === "unended" ? "goes on" : `aborts (${cause})`);
   const said = telling.map(([name, state, cause]) => `${tagName(name)} ${endOf(state, cause)}`).join(", ") || "all commit";
-  return `${said}<span class="soft"> \u00b7 ${esc(rows.replace("rows ", ""))}${verdict === "serial" ? "" : ` \u00b7 <b>${esc(verdictSaid(verdict))}</b>`}</span>`;
+  return `${said}<span class="soft"> \u00b7 ${esc(rows.replace("rows ", ""))}${isPlain ? "" : ` \u00b7 <b>${esc(verdictSaid(verdict))}</b>`}</span>`;
 }
 
 const letterOf = (outcome) => "ABCDEFGHIJKLMNOPQRSTUVWXYZ"[outcome] ?? String(outcome);
@@ -2569,15 +2575,15 @@ const isLevels = sheet.kind === "levels";
 const LEVELS = ["serializable", "repeatable", "snapshot"];
 /** The trees at the levels, which level's explorer is shown (null: the table of all), and the order that stands in three columns. */
 const levels = { trees: [], shown: null, order: [] };
+"#;
 
+pub(crate) const SCRIPT_FOURTH: &str = r##"
 function plantLevels() {
   levels.trees = sheet.trees.map(treeOf);
   const marked = outcomesAtLevels().find(({ text, counts }) => !outcomeParts(text).isGood && counts.some(Boolean)) ?? outcomesAtLevels()[0];
   const at = marked.counts.findIndex(Boolean);
   levels.order = orderTo(levels.trees[at], sheet.trees[at].outcomes.indexOf(marked.text));
-"#;
-
-pub(crate) const SCRIPT_FOURTH: &str = r##"}
+}
 
 /** Each outcome with how many orders have it at each level. */
 function outcomesAtLevels() {
@@ -2818,7 +2824,7 @@ function outcomesInPrint() {
   const counts = tree.nodes[0].counts;
   const rows = data.outcomes.map((text, at) => {
     const { parts, verdict } = outcomeParts(text);
-    return `<tr><td>${letterOf(at)}</td><td>${counts[at]}</td><td>${parts.map(esc).join("; ")}</td><td><b>${esc(verdict)}</b></td><td>${esc(firstOrder(at))}</td></tr>`;
+    return `<tr><td>${letterOf(at)}</td><td>${counts[at]}</td><td>${parts.map(esc).join("; ")}</td><td><b>${esc(verdictSaid(verdict))}</b></td><td>${esc(firstOrder(at))}</td></tr>`;
   });
   return `<caption>${esc(data.title)}. ${esc(data.about ?? "")} ${total(counts)} orders of the moves.</caption><thead><tr><th></th><th>orders</th><th>ends and rows</th><th>verdict</th><th>the first of these orders</th></tr></thead><tbody>${rows.join("")}</tbody>`;
 }

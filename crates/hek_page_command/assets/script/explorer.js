@@ -40,12 +40,13 @@ function eventsOfMove(shown) {
 const total = (counts) => counts.reduce((sum, it) => sum + it, 0);
 const isWhole = () => tree.nodes[tree.path.at(-1)].next.length === 0;
 
-/** The parts of an outcome: its ends and rows, and the verdict, to which the line of an invariant belongs that it breaks. */
+/** The parts of an outcome: its ends and rows, and the verdict, to which the line of an invariant belongs that it breaks; `isPlain` where it is serializable by end time. */
 function outcomeParts(text) {
   const parts = text.split("; ");
   const breaks = /^breaks /.test(parts.at(-1)) ? `; ${parts.pop()}` : "";
   const verdict = parts.pop() + breaks;
-  return { parts, verdict, isGood: !breaks && verdict !== "not serial" };
+  const kind = verdictKind(verdict);
+  return { parts, verdict, isGood: !breaks && kind !== "not", isPlain: !breaks && kind === "serial" };
 }
 
 /** A verdict of an outcome's text in the words of a story. */
@@ -53,13 +54,13 @@ const verdictSaid = (verdict) => verdict.replace(/\bserial\b/, "serializable");
 
 /** An outcome in few words: of more than two transactions those that don't commit. */
 function outcomeOf(text) {
-  const { parts, verdict } = outcomeParts(text);
+  const { parts, verdict, isPlain } = outcomeParts(text);
   const txns = parts.filter((it) => /(committed|aborted|unended)/.test(it) && !/^rows/.test(it)).map((it) => it.split(" "));
   const rows = parts.find((it) => it.startsWith("rows")) ?? "";
   const telling = txns.length > 2 ? txns.filter(([, state]) => state !== "committed") : txns;
   const endOf = (state, cause) => (state === "committed" ? "commits" : state === "unended" ? "goes on" : `aborts (${cause})`);
   const said = telling.map(([name, state, cause]) => `${tagName(name)} ${endOf(state, cause)}`).join(", ") || "all commit";
-  return `${said}<span class="soft"> \u00b7 ${esc(rows.replace("rows ", ""))}${verdict === "serial" ? "" : ` \u00b7 <b>${esc(verdictSaid(verdict))}</b>`}</span>`;
+  return `${said}<span class="soft"> \u00b7 ${esc(rows.replace("rows ", ""))}${isPlain ? "" : ` \u00b7 <b>${esc(verdictSaid(verdict))}</b>`}</span>`;
 }
 
 const letterOf = (outcome) => "ABCDEFGHIJKLMNOPQRSTUVWXYZ"[outcome] ?? String(outcome);
