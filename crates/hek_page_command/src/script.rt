@@ -277,13 +277,16 @@ function edges(story, at) {
   const ends = new Map(), used = [], all = story.verdict.edges.filter((it) => it.a !== null && it.b !== null && it.a !== undefined && it.b !== undefined);
   const shift = (key) => { const count = ends.get(key) ?? 0; ends.set(key, count + 1); return SHIFTS[count % 4] * Math.min(at.u, at.width(0) / 4); };
   const curves = all.map(({ a, b, from, to }) => join(story, at, a, b, [shift(`${a} ${to > from}`), shift(`${b} ${to < from}`)]));
-  const drawn = all.map(({ kind, key }, index) => {
-    const { curve, tip, isDown, size } = curves[index], words = `${kind} ${key ?? ""}`.trim(), type = (at.width(0) < 3 * at.u ? S : M) * at.u, w = wide(words, type, 700) + 0.9 * type, h = 1.45 * type;
-    const points = Array.from({ length: 41 }, (_, part) => inGap(pointAt(curve, 0.1 + part * 0.02), h, at, story.names.length)), score = (point) => clearance(point, [w, h], story, at, used, curves);
-    const [x, y] = points.map((point) => [score(point), point]).sort(([one], [other]) => other - one)[0][1], top = Math.max(y, h / 2 + 1), left = clamp(w / 2 + 1, x, at.w - w / 2 - 1);
-    used.push({ x: left, y: top, w });
-    return [path(curved(curve), "edge") + head(...tip, isDown, size * 1.5, "bad"), rect(left - w / 2, top - h / 2, w, h, "bad", 0.3 * at.u) + text(left, top + 0.35 * type, type, words, "b on")]; });
-  return drawn.map(([line]) => line).join("") + drawn.map(([, label]) => label).join(""); }
+  const type = (at.width(0) < 3 * at.u ? S : M) * at.u, h = 1.45 * type, words = all.map(({ kind, key }) => `${kind} ${key ?? ""}`.trim()), widths = words.map((it) => wide(it, type, 700) + 0.9 * type);
+  const place = (index) => {
+    const w = widths[index], others = used.filter((_, other) => other !== index), score = (point) => clearance(point, [w, h], story, at, others, curves);
+    const points = Array.from({ length: 41 }, (_, part) => inGap(pointAt(curves[index].curve, 0.1 + part * 0.02), h, at, story.names.length));
+    const [x, y] = points.map((point) => [score(point), point]).sort(([one], [other]) => other - one)[0][1];
+    used[index] = { x: clamp(w / 2 + 1, x, at.w - w / 2 - 1), y: Math.max(y, h / 2 + 1), w }; };
+  for (let round = 0; round < 3; round++) all.forEach((_, index) => place(index));
+  const line = ({ curve, tip, isDown, size }) => path(curved(curve), "edge") + head(...tip, isDown, size * 1.5, "bad");
+  const label = ({ x, y, w }, index) => rect(x - w / 2, y - h / 2, w, h, "bad", 0.3 * at.u) + text(x, y + 0.35 * type, type, words[index], "b on");
+  return curves.map(line).join("") + used.map(label).join(""); }
 function life(story, at, t, step) { const own = story.columns.flatMap((column, index) => (column.t === t && index < step ? [index] : []));
   if (!own.length) return ""; const last = own.at(-1), isOver = /commit|abort|unknown/.test(story.columns[last].kind), y = r1(at.y(t) + at.high / 2);
   return path(`M${r1(at.left(own[0]) + 3)} ${y}H${r1(isOver ? at.mid(last) : at.right(step))}`, `life s${colour(t)}`); }
@@ -304,15 +307,18 @@ const height = (story, at) => at.top + at.row * (story.tracks.length + story.alw
   const rows = story.tracks.map(({ key }, index) => `<g>${title(key)}${text(2, at.top + at.row * index + at.row - 0.27 * u, M * u, cut(key, room, M * u, 700), "b", "start")}</g>`);
   const always = story.always.map((it, index) => text(2, at.top + at.row * (count + index) + 1.35 * u, S * u, cut("always", room, S * u, 700), "b", "start"));
   return svg(at.gutter, height(story, at), "rows", (story.views.length ? text(2, at.u, S * u, "row", "soft", "start") : "") + rows.join("") + always.join("")); }
-function track({ segments, pending }, at, y, now, till) {
-  const { u } = at, bar = at.row - 1.19 * u, parts = [path(`M0 ${r1(y + at.row - 0.03 * u)}H${r1(at.w)}`, "rule")]; let before = 0;
-  for (const { from, to, value, t } of segments) { if (t !== null && from >= now) continue;
-    const x = t === null ? 0 : at.mid(from), w = till(0, to) - x || at.pad, isOpening = t === null, words = value ?? NONE, own = wide(words, M * u, 700), base = y + at.row - 0.27 * u;
+function valuesOf({ segments }, at, now, till) { const size = M * at.u; let before = 0;
+  return segments.filter(({ t, from }) => t === null || from < now).map(({ from, to, value, t }) => {
+    const isOpening = t === null, x = isOpening ? 0 : at.mid(from), w = till(0, to) - x || at.pad, words = value ?? NONE, own = wide(words, size, 700), room = Math.max(w - (isOpening ? 6 : 10), at.pad - 8);
+    const isLeft = !isOpening && to === null && own > w - 10 && own + 8 < x - before, low = isLeft ? x - 4 - own : x + (isOpening ? 5 : 9);
+    before = x + Math.min(own, room) + 12;
+    return { x, w, t, isLeft, words, said: isLeft ? words : cut(words, room, size, 700), low, high: low + (isLeft ? own : Math.min(own, room)) }; }); }
+const overBar = (at) => at.row - 1.19 * at.u; function track(it, at, y, now, till) {
+  const { u } = at, { pending } = it, bar = overBar(at), parts = [path(`M0 ${r1(y + at.row - 0.03 * u)}H${r1(at.w)}`, "rule")], base = y + at.row - 0.27 * u;
+  for (const { x, w, t, isLeft, words, said, low, high } of valuesOf(it, at, now, till)) { const isOpening = t === null;
     parts.push(rect(x, y + bar, Math.max(w, isOpening ? at.pad - 4 : 2) - 1, at.row - bar - 0.05 * u, isOpening ? "seg" : `tint f${colour(t)}`, 2));
     if (!isOpening) parts.push(rect(x, y + bar, 4, at.row - bar - 0.05 * u, `f${colour(t)}`));
-    const isLeft = !isOpening && to === null && own > w - 10 && own + 8 < x - before, room = Math.max(w - (isOpening ? 6 : 10), at.pad - 8);
-    parts.push(`<g>${title(words)}${isLeft ? text(x - 4, base, M * u, words, `b f${colour(t)}`, "end") : text(x + (isOpening ? 5 : 9), base, M * u, cut(words, room, M * u, 700), `b ${isOpening ? "" : `f${colour(t)}`}`, "start")}</g>`);
-    before = x + Math.min(own, room) + 12; }
+    parts.push(`<g>${title(words)}${text(isLeft ? high : low, base, M * u, said, `b ${isOpening ? "" : `f${colour(t)}`}`, isLeft ? "end" : "start")}</g>`); }
   for (const { t, from, to, value, end } of pending) { if (from >= now) continue; const x = at.mid(from), until = till(0, to), w = Math.max(until - x, 2) - 2;
     parts.push(rect(x, y + 0.06 * u, w, bar - 0.1 * u, `pend s${colour(t)}`, 2), text(x + 4, y + bar - 0.14 * u, S * u, cut(value ?? NONE, Math.max(w - 4, at.width(from) / 2), S * u), `f${colour(t)}`, "start"));
     if (end === "abort" && to < now) parts.push(text(until + 1, y + bar - 0.12 * u, S * u, "✗", "b badt", "start")); }
@@ -321,9 +327,11 @@ function looks(story, at, now, views) { const column = story.columns[now - 1], {
   return story.tracks.map(({ key }, index) => { if (key !== column.key) return "";
     const isOwn = column.by === column.t, y = at.top + at.row * index + (isOwn ? 0.4 * u : at.row - 0.6 * u), view = views.find((it) => it.t === column.t), x = at.mid(now - 1), to = view && !isOwn ? view.x : x;
     return path(`M${r1(x)} 0V${r1(y)}H${r1(to)}`, `link s${colour(column.t)}`) + `<circle cx="${r1(to)}" cy="${r1(y)}" r="${r1(0.35 * u)}" class="f${colour(column.t)}"/>`; }).join(""); }
-const looking = (story, at, views) => views.map(({ x, t }, index) => {
+const looking = (story, at, views, values) => views.map(({ x, t }, index) => {
   const { u } = at, room = (views[index + 1]?.x ?? at.w) - x, name = story.names[t], long = `${name}’s view`;
-  return path(`M${r1(x)} ${r1(0.5 * u)}V${r1(at.top + at.row * story.tracks.length)}`, `view s${colour(t)}`) +
+  const covered = values.flatMap((its, row) => (its.some(({ low, high }) => low - 2 < x && x < high + 2) ? [at.top + at.row * row] : []));
+  const line = covered.map((y) => `V${r1(y + overBar(at))}M${r1(x)} ${r1(y + at.row)}`).join("");
+  return path(`M${r1(x)} ${r1(0.5 * u)}${line}V${r1(at.top + at.row * story.tracks.length)}`, `view s${colour(t)}`) +
     text(x + 4, u, S * u, wide(long, S * u, 700) < room - 6 ? long : cut(name, room - 4, S * u, 700), `b halo f${colour(t)}`, "start"); }).join("");
 function always({ states, text: words }, at, y, now, right) { const { u } = at; return states.map((state, index) => {
     if (index > 0 && state.from >= now) return "";
@@ -337,7 +345,7 @@ function tracks(story, at, step) {
   const views = seen.map((it, index) => ({ t: it.t, x: at.left(it.at) + 3 + 5 * seen.slice(0, index).filter((other) => other.at === it.at).length }));
   const parts = [DEFS, now > 0 && !isEnd ? rect(at.left(now - 1), 0, at.width(now - 1), low + 4, "band") : ""];
   story.tracks.forEach((it, index) => parts.push(track(it, at, at.top + at.row * index, now, till))); if (!isEnd) parts.push(looks(story, at, now, views));
-  parts.push(looking(story, at, views));
+  parts.push(looking(story, at, views, story.tracks.map((it) => valuesOf(it, at, now, till))));
   story.always.forEach((it, index) => parts.push(always(it, at, at.top + at.row * (story.tracks.length + index) + 0.35 * at.u, now, right)));
   return svg(at.w, low + 4, `Rows after ${now} moves`, parts.join("")); }
 return { keys, tracks }; })(); Story.cards = (() => { const { esc, grouped, wide } = Story.text;
