@@ -131,7 +131,7 @@ async function logModel(schedule, key) {
   const stories = {}, lesson = lessonOf();
   for (const it of answers) if (it.level || !stories.serializable) stories[it.level ?? "serializable"] ??= storyOf(playOfLog(schedule, it));
   return {model: {id: key, title: title(), text: schedule, about: stories.serializable.about, question: "", stories, outcomes: {}, levels: ["serializable"], order: [], opens: {level: "serializable", order: []}, isOwnOrder: true,
-    uncounted: "", isLog: true, ...lesson, intro: `${lesson.intro ?? ""}${ladderHtml(answers.filter(it => it.level))}`}};
+    uncounted: "", isLog: true, ...lesson, intro: `${lesson.intro ?? ""}${ladderHtml(answers.filter(it => it.level), answers[0])}`}};
 }
 
 // What `hek history` says of a log as serializable, and at all levels.
@@ -147,11 +147,13 @@ async function answersTo(schedule) {
   return all;
 }
 
-// At which levels a log holds: each has its story.
-function ladderHtml(answers) {
+// At which levels a log holds: each has its story. A level holds in some order of commits, where `own` goes by the end times.
+function ladderHtml(answers, own) {
   const {esc} = Story.text, seen = new Set(), rungs = answers.filter(it => !seen.has(it.level) && seen.add(it.level));
   const said = it => ({serial: "✓ holds", other: "✓ holds", unknown: "unknown"})[Story.story.verdictKind(it.verdict)] ?? `<b class="not">✗ ${esc(it.anomaly ?? "fails")}</b>`;
-  return rungs.length ? `<table class="ladder">${rungs.map(it => `<tr><td><button type="button" class="rung" data-level="${esc(it.level)}">${esc(it.level)}</button></td><td>${said(it)}</td></tr>`).join("")}</table>` : "";
+  const isOther = rungs.some(it => it.level === "serializable" && Story.story.verdictKind(it.verdict) !== "not") && Story.story.verdictKind(own.verdict) === "not";
+  const note = isOther ? "<p>A level holds if some order of commits explains the log. The story goes by the log’s own end times, and in their order the log is not serializable.</p>" : "";
+  return rungs.length ? `<table class="ladder">${rungs.map(it => `<tr><td><button type="button" class="rung" data-level="${esc(it.level)}">${esc(it.level)}</button></td><td>${said(it)}</td></tr>`).join("")}</table>${note}` : "";
 }
 
 // ---- what is shown

@@ -101,10 +101,10 @@ function clearance([x, y], [w, h], story, at, used, curves) {
 
 const SHIFTS = [0, 0.9, -0.9, 1.8];
 
-/** A point of a curve, moved up or down as far as its label, of this height, stays on the curve: into the gap between two lanes, off their boxes. */
-function inGap([x, y], h, at, count) {
+/** How far a label of this height at a point of a curve is moved up or down, and stays on the curve: into the gap between two lanes, off their boxes. */
+function intoGap(y, h, at, count) {
   const gap = Math.round(y / at.lane), middle = gap * at.lane, slack = Math.max(0, at.gap / 2 - h / 2 - 1), most = 0.45 * h;
-  return gap < 1 || gap >= count ? [x, y] : [x, y + clamp(-most, clamp(middle - slack, y, middle + slack) - y, most)];
+  return gap < 1 || gap >= count ? 0 : clamp(-most, clamp(middle - slack, y, middle + slack) - y, most);
 }
 
 /** The edges of the cycle: arrows between the boxes that make them, each with its kind and its key. */
@@ -114,9 +114,11 @@ function edges(story, at) {
   const curves = all.map(({ a, b, from, to }) => join(story, at, a, b, [shift(`${a} ${to > from}`), shift(`${b} ${to < from}`)]));
   const type = (at.width(0) < 3 * at.u ? S : M) * at.u, h = 1.45 * type, words = all.map(({ kind, key }) => `${kind} ${key ?? ""}`.trim()), widths = words.map((it) => wide(it, type, 700) + 0.9 * type);
   const place = (index) => {
-    const w = widths[index], others = used.filter((_, other) => other !== index), score = (point) => clearance(point, [w, h], story, at, others, curves);
-    const points = Array.from({ length: 41 }, (_, part) => inGap(pointAt(curves[index].curve, 0.1 + part * 0.02), h, at, story.names.length));
-    const [x, y] = points.map((point) => [score(point), point]).sort(([one], [other]) => other - one)[0][1];
+    const w = widths[index], others = used.filter((_, other) => other !== index), points = Array.from({ length: 41 }, (_, part) => pointAt(curves[index].curve, 0.1 + part * 0.02));
+    const [x, y] = points.flatMap(([left, top]) => [0, intoGap(top, h, at, story.names.length)].map((by) => {
+      const point = [left, top + by];
+      return [clearance(point, [w, h], story, at, others, curves) - Math.abs(by) / 2, point];
+    })).sort(([one], [other]) => other - one)[0][1];
     used[index] = { x: clamp(w / 2 + 1, x, at.w - w / 2 - 1), y: Math.max(y, h / 2 + 1), w };
   };
   // Each label once more where the others are known.

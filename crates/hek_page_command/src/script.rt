@@ -270,18 +270,18 @@ function clearance([x, y], [w, h], story, at, used, curves) {
   const labels = used.map((it) => Math.max(Math.abs(it.x - x) - (it.w + w) / 2 - 4, Math.abs(it.y - y) - h - 3));
   const tips = curves.map(({ tip }) => Math.max(Math.abs(tip[0] - x) - w / 2 - 0.7 * at.u, Math.abs(tip[1] - y) - h / 2 - 0.9 * at.u));
   return Math.min(...boxes, ...labels, ...tips, x - w / 2, at.w - x - w / 2); }
-const SHIFTS = [0, 0.9, -0.9, 1.8]; function inGap([x, y], h, at, count) {
+const SHIFTS = [0, 0.9, -0.9, 1.8]; function intoGap(y, h, at, count) {
   const gap = Math.round(y / at.lane), middle = gap * at.lane, slack = Math.max(0, at.gap / 2 - h / 2 - 1), most = 0.45 * h;
-  return gap < 1 || gap >= count ? [x, y] : [x, y + clamp(-most, clamp(middle - slack, y, middle + slack) - y, most)]; }
+  return gap < 1 || gap >= count ? 0 : clamp(-most, clamp(middle - slack, y, middle + slack) - y, most); }
 function edges(story, at) {
   const ends = new Map(), used = [], all = story.verdict.edges.filter((it) => it.a !== null && it.b !== null && it.a !== undefined && it.b !== undefined);
   const shift = (key) => { const count = ends.get(key) ?? 0; ends.set(key, count + 1); return SHIFTS[count % 4] * Math.min(at.u, at.width(0) / 4); };
   const curves = all.map(({ a, b, from, to }) => join(story, at, a, b, [shift(`${a} ${to > from}`), shift(`${b} ${to < from}`)]));
   const type = (at.width(0) < 3 * at.u ? S : M) * at.u, h = 1.45 * type, words = all.map(({ kind, key }) => `${kind} ${key ?? ""}`.trim()), widths = words.map((it) => wide(it, type, 700) + 0.9 * type);
   const place = (index) => {
-    const w = widths[index], others = used.filter((_, other) => other !== index), score = (point) => clearance(point, [w, h], story, at, others, curves);
-    const points = Array.from({ length: 41 }, (_, part) => inGap(pointAt(curves[index].curve, 0.1 + part * 0.02), h, at, story.names.length));
-    const [x, y] = points.map((point) => [score(point), point]).sort(([one], [other]) => other - one)[0][1];
+    const w = widths[index], others = used.filter((_, other) => other !== index), points = Array.from({ length: 41 }, (_, part) => pointAt(curves[index].curve, 0.1 + part * 0.02));
+    const [x, y] = points.flatMap(([left, top]) => [0, intoGap(top, h, at, story.names.length)].map((by) => { const point = [left, top + by];
+      return [clearance(point, [w, h], story, at, others, curves) - Math.abs(by) / 2, point]; })).sort(([one], [other]) => other - one)[0][1];
     used[index] = { x: clamp(w / 2 + 1, x, at.w - w / 2 - 1), y: Math.max(y, h / 2 + 1), w }; };
   for (let round = 0; round < 3; round++) all.forEach((_, index) => place(index));
   const line = ({ curve, tip, isDown, size }) => path(curved(curve), "edge") + head(...tip, isDown, size * 1.5, "bad");
