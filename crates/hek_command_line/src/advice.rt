@@ -1,7 +1,7 @@
 //! What is wrong with a bad argument and what is wanted in its place, for a reader at a terminal, or with `--explain`.
 use clap::ArgMatches;
 use hek_diagnostics::nearest_word;
-use hek_levels_command::Promise;
+use hek_ladder::{Promise, Wish};
 use hek_permute::Form;
 use hek_permute_command::part_of;
 use hek_rules::{Level, number};
@@ -122,7 +122,7 @@ const COUNTS: &[Count] = &[
 const LEVELS: &[&str] = &["serializable", "repeatable", "snapshot"];
 
 /// The orders that `hek history` can be asked for.
-const KINDS: &[&str] = &["any", "versions", "commit", "real"];
+const KINDS: &[&str] = &["any", "versions", "real"];
 
 /// The forms of moves that `hek permute` can be asked for.
 const GRAINS: &[&str] = &["move", "split", "event"];
@@ -141,8 +141,6 @@ enum Wrong<'a> {
     NoOrder,
     /// No order of a history has this name, but maybe one that is near.
     NoKind(Option<&'a str>),
-    /// Levels below a serial order take no order by commits.
-    NoBinding,
     /// No form of moves has this name, but maybe one that is near.
     NoGrain(Option<&'a str>),
 }
@@ -164,7 +162,7 @@ pub fn advice_of<'a>(alloc: Global, command: &str, found: &ArgMatches<'a>) -> Op
         }
     }
     match found.get_str("level") {
-        Some(value) if Level::named(value.as_bytes()).is_none() => {
+        Some(value) if command == "history" || Level::named(value.as_bytes()).is_none() => {
             if command != "history" {
                 let wrong = Wrong::NoLevel(nearest_word(alloc, value, LEVELS));
                 return Some(Advice::new("level", value, wrong));
@@ -196,13 +194,12 @@ pub fn advice_of<'a>(alloc: Global, command: &str, found: &ArgMatches<'a>) -> Op
     Some(Advice::new("order", value, Wrong::NoOrder))
 }
 
-/// What is wrong with an order of a history. One that has its name goes with no level that is asked for.
+/// What is wrong with an order of a history.
 fn kind_advice(alloc: Global, value: &str) -> Option<Advice<'_>> {
-    let wrong = match value {
-        "any" | "real" => return None,
-        "versions" | "commit" => Wrong::NoBinding,
-        _ => Wrong::NoKind(nearest_of(alloc, value, KINDS)),
-    };
+    if Wish::order_named(value).is_some() {
+        return None;
+    }
+    let wrong = Wrong::NoKind(nearest_of(alloc, value, KINDS));
     Some(Advice::new("order", value, wrong))
 }
 
@@ -270,7 +267,6 @@ impl<'a> Advice<'a> {
             Wrong::NoPart => write!(f, "`{value}` is not a part"),
             Wrong::NoOrder => write!(f, "`{value}` is not an order of the moves"),
             Wrong::NoKind(_) => write!(f, "no order is called `{value}`"),
-            Wrong::NoBinding => write!(f, "`{value}` goes with a serial order alone"),
             Wrong::NoGrain(_) => write!(f, "no grain is called `{value}`"),
         }
     }
@@ -282,15 +278,15 @@ impl<'a> Advice<'a> {
             }
             Wrong::NoLevel(_) => f.write_str("serializable repeatable snapshot"),
             Wrong::NoPromise(_) => {
-                for word in Promise::WORDS {
-                    write!(f, "{word} ")?;
+                for (place, word) in Promise::WORDS.iter().enumerate() {
+                    let blank = if place == 0 { "" } else { " " };
+                    write!(f, "{blank}{word}")?;
                 }
-                f.write_str("repeatable")
+                Ok(())
             }
             Wrong::NoPart => f.write_str("K/N, as in `1/3`, K from 1 to N"),
             Wrong::NoOrder => f.write_str("the name of its transaction for each move"),
-            Wrong::NoKind(_) => f.write_str("any versions commit real"),
-            Wrong::NoBinding => f.write_str("any real"),
+            Wrong::NoKind(_) => f.write_str("any versions real versions,real"),
             Wrong::NoGrain(_) => f.write_str("move split event"),
         }
     }

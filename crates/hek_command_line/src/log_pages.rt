@@ -1,8 +1,8 @@
 //! The page of a log: the story of its transactions, with what is said of it as serializable.
 use crate::disk::{Disk, open};
 use clap::ArgMatches;
-use hek_history::Level;
-use hek_history_command::{Choice, Extent, history_command};
+use hek_history_command::{Asked, Choice, Extent, history_command};
+use hek_ladder::Wish;
 use hek_page_command::{Heading, Part, page_command};
 use hek_report::{HekFault, Printing, ScheduleFile, read_text};
 use std::alloc::Global;
@@ -26,8 +26,11 @@ const WHOLE: Part = Part {
 };
 
 const AS_SERIALIZABLE: Choice = Choice {
-    level: Some(Level::Serializable),
-    order: None,
+    asked: Asked::Verdict,
+    wish: Wish {
+        order: None,
+        sessions: None,
+    },
     extent: Extent::First,
     effort: None,
     explains: false,

@@ -133,7 +133,7 @@ with the number of the first event at fault, and status 1. A serializable transa
 
 pub(crate) const HISTORY: CommandText = CommandText {
     name: "history",
-    about: "Says whether a log of transactions has a serial order, and if not, why not",
+    about: "Says whether a log of transactions is serializable, at which levels it holds, and if not, why not",
     example: r#"A log has a line of JSON for each transaction, and a first line for the rows that were there. Its keys and values are numbers or texts.
 
 Example:
@@ -143,12 +143,12 @@ Where skew.jsonl has the lines
   {"txn":"a","ops":[["read","x",1],["update","y",0,true]]}
   {"txn":"b","ops":[["read","y",1],["update","x",0,true]]}
 it prints
-  not serial: write skew (G2-item)
+  not serializable: write skew (G2-item)
     a read x = 1, which b overwrote with 0    a before b
     b read y = 1, which a overwrote with 0    b before a
-With --levels it says of each level whether the log satisfies it: the last line is
-  fails at serializable; holds at snapshot, parallel-snapshot, causal, read-atomic, monotonic-view, read-committed, read-uncommitted
-The status is 0 if there is an order, or all that is asked for holds, 1 if not, 3 if that is not known or there is nothing to judge, and 4 after a fault of the log."#,
+  holds at snapshot
+All transactions are asked for as if they were at one level. The order of the versions of each key binds where the log has it, by the ends of its transactions or the numbers of its writes, and so do its sessions.
+The status is 0 if the log is serializable, or all that is asked for holds, 1 if not, 3 if that is not known or there is nothing to judge, and 4 after a fault of the log."#,
     arguments: &[
         ArgumentText {
             name: "FILE",
@@ -158,27 +158,32 @@ The status is 0 if there is an order, or all that is asked for holds, 1 if not, 
         EXPLAIN,
         ArgumentText {
             name: "level",
-            help: "judges all transactions at a level: serializable, repeatable, snapshot, parallel-snapshot, causal, read-atomic, monotonic-view, read-committed or read-uncommitted; or asks for a guarantee of sessions: monotonic-reads, read-your-writes, monotonic-writes, writes-follow-reads, or guarantees for all four",
+            help: "asks for one level: serializable, repeatable, snapshot, parallel-snapshot, prefix, causal, read-atomic, monotonic-view, read-committed or read-uncommitted; or own, each transaction at the level of its line; or for a guarantee of sessions: monotonic-reads, read-your-writes, monotonic-writes, writes-follow-reads, or guarantees for all four",
             form: Form::Value("L"),
         },
         ArgumentText {
             name: "levels",
-            help: "says of each level whether the log satisfies it, from read-uncommitted to serializable",
+            help: "prints a line for each level, from serializable to read-uncommitted",
             form: Form::Flag,
         },
         ArgumentText {
             name: "sessions",
-            help: "has sessions bind at the level, or at each with --levels: a transaction comes after those before it in its session, and sees them",
+            help: "has sessions bind, as they do where the log has some: a transaction comes after those before it in its session, and sees them from read-atomic on",
+            form: Form::Flag,
+        },
+        ArgumentText {
+            name: "no-sessions",
+            help: "has sessions not bind",
             form: Form::Flag,
         },
         ArgumentText {
             name: "guarantees",
-            help: "says of each guarantee of sessions whether the log satisfies it; after the levels, if they are asked for too",
+            help: "prints a line for each guarantee of sessions; after the levels, if they are asked for too",
             form: Form::Flag,
         },
         ArgumentText {
             name: "order",
-            help: "asks for an order of a kind: any, versions, commit or real; of these levels take any and real",
+            help: "says which order binds: any, versions, real, or versions,real; without it versions, where the log knows them",
             form: Form::Value("KIND"),
         },
         ArgumentText {
