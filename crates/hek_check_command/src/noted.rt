@@ -1,6 +1,6 @@
 //! A note on a trace in which each transaction has what its level promises, though they can't follow one another by end time.
 use crate::verdict::transcript_of_text;
-use hek_history_report::{Together, put_phrase, together_of};
+use hek_history_report::{Together, put_serializable, together_of};
 use hek_rules::{NoMemory, Schedule, Transcript, Verdict};
 use hek_serial::check;
 use std::alloc::Global;
@@ -53,7 +53,7 @@ fn line_with(
     }
     let mut line = Vec::new(alloc);
     line.extend_from_slice(b"hek: note: as each level promises; one after another: ")?;
-    put_phrase(schedule, together, &mut line)?;
+    put_serializable(schedule, together, &mut line)?;
     line.push(b'\n')?;
     Ok(Some(line))
 }

@@ -3,7 +3,7 @@ use crate::check::put_serial_reply;
 use crate::faults::Fault;
 use crate::reported::Reported;
 use crate::sources::{Source, missing_reads};
-use hek_history_report::put_phrase;
+use hek_history_report::put_serializable;
 use hek_report::put;
 use hek_rules::NoMemory;
 use std::alloc::Global;
@@ -34,7 +34,7 @@ fn put_summary(reported: &Reported<'_>, lines: &mut Vec<u8>) -> Result<(), NoMem
     put(write!(lines, " {judged}"))?;
     if let Some(together) = reported.together {
         put(write!(lines, "; one after another: "))?;
-        put_phrase(reported.schedule, together, lines)?;
+        put_serializable(reported.schedule, together, lines)?;
     }
     put(writeln!(lines))
 }
