@@ -150,7 +150,7 @@ async function answersTo(schedule) {
 // At which levels a log holds: each has its story.
 function ladderHtml(answers) {
   const {esc} = Story.text, seen = new Set(), rungs = answers.filter(it => !seen.has(it.level) && seen.add(it.level));
-  const said = it => it.verdict === "holds" || /^serial/.test(it.verdict) ? "✓ holds" : it.verdict === "unknown" ? "unknown" : `<b class="not">✗ ${esc(it.anomaly ?? "fails")}</b>`;
+  const said = it => it.verdict === "holds" || /^serializable/.test(it.verdict) ? "✓ holds" : it.verdict === "unknown" ? "unknown" : `<b class="not">✗ ${esc(it.anomaly ?? "fails")}</b>`;
   return rungs.length ? `<table class="ladder">${rungs.map(it => `<tr><td><button type="button" class="rung" data-level="${esc(it.level)}">${esc(it.level)}</button></td><td>${said(it)}</td></tr>`).join("")}</table>` : "";
 }
 

@@ -59,6 +59,9 @@ fn asked_of<'a>(found: &ArgMatches<'a>) -> Result<Asked, HekFault<'a>> {
     match found.get_str("level") {
         None => Ok(Asked::Verdict),
         Some(word) => match Promise::named(word) {
+            Some(promise) if promise.is_guarantee() && found.get_flag("no-sessions") => {
+                Err(HekFault::BadArgument)
+            }
             Some(promise) => Ok(Asked::One(promise)),
             None => Err(HekFault::BadArgument),
         },
