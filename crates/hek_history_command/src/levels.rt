@@ -54,7 +54,14 @@ pub(crate) fn write_levels<'a, W: Write, O: Write>(
             binding: scene.binding,
             effort: scene.effort,
         };
-        write_all(alloc, scene, Promise::Serializable, heading, ladder.held(), report)?;
+        write_all(
+            alloc,
+            scene,
+            Promise::Serializable,
+            heading,
+            ladder.held(),
+            report,
+        )?;
     }
     Ok(status)
 }

@@ -143,7 +143,15 @@ impl<W: Write> Report<'_, W> {
         }
         let mut objects = Lines::new(self.alloc);
         let binding = self.binding;
-        json::put_level(self.alloc, promise, standing, cause, binding, log, &mut objects)?;
+        json::put_level(
+            self.alloc,
+            promise,
+            standing,
+            cause,
+            binding,
+            log,
+            &mut objects,
+        )?;
         self.write_objects(objects)
     }
 

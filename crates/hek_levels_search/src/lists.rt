@@ -40,11 +40,7 @@ pub fn list_at<T>(lists: &[Vec<T>], place: usize) -> &[T] {
 }
 
 /// Adds something to the end of the list at a place, if there is one.
-pub fn add_in<T: Copy>(
-    lists: &mut Vec<Vec<T>>,
-    place: usize,
-    value: T,
-) -> Result<(), NoMemory> {
+pub fn add_in<T: Copy>(lists: &mut Vec<Vec<T>>, place: usize, value: T) -> Result<(), NoMemory> {
     match lists.get_mut(place) {
         Some(list) => add(list, value),
         None => Ok(()),
