@@ -49,8 +49,7 @@ fn value_of(rows: &[(u64, u64)], key: u64) -> Option<u64> {
 }
 
 /// Whether two values, or their absence, are the same.
-fn same_found(found: Option<u64>, value: Option<u64>) -> bool
-{
+fn same_found(found: Option<u64>, value: Option<u64>) -> bool {
     match (found, value) {
         (None, None) => true,
         (Some(x), Some(y)) => x == y,
@@ -59,8 +58,7 @@ fn same_found(found: Option<u64>, value: Option<u64>) -> bool
 }
 
 /// Whether the answer is right where the key has this value, or is absent.
-fn fits(operation: &Operation, value: Option<u64>) -> bool
-{
+fn fits(operation: &Operation, value: Option<u64>) -> bool {
     match operation {
         Operation::Read(_, found) => same_found(*found, value),
         Operation::Put(_, _) | Operation::Scan(_, _) => true,
@@ -87,8 +85,7 @@ pub(crate) fn tells(lenient: bool, key: u64, operation: &Operation, value: Optio
 }
 
 /// Whether the answer says that the key had this value, or was absent.
-fn says(key: u64, operation: &Operation, value: Option<u64>) -> bool
-{
+fn says(key: u64, operation: &Operation, value: Option<u64>) -> bool {
     match operation {
         Operation::Scan(scope, pairs) => {
             let found = value_of(pairs.as_slice(), key);

@@ -8,10 +8,9 @@ use hek_levels::{Asked, Guarantees, Level, Rules, Turn, bare, find_lost};
 use hek_levels_search::{Guess, Hint, Shown, Verdict, judge};
 use hek_rules::NoMemory;
 use std::alloc::Global;
-use std::env;
-use std::fs;
 use std::io::BufReader;
 use std::process::ExitCode;
+use std::{env, fs};
 
 fn guarantee(reads: bool, own: bool, writes: bool, follow: bool) -> Rules {
     Guarantees {
@@ -79,7 +78,9 @@ fn turns_of(
                 for operation in &transaction.operations {
                     let lane = hek_history::key_of(operation);
                     let changes = hek_history::change_of(operation) != hek_history::Change::Keep;
-                    let is_new = !turns.iter().any(|turn| turn.lane as u64 == lane.wrapping_add(1 << 41));
+                    let is_new = !turns
+                        .iter()
+                        .any(|turn| turn.lane as u64 == lane.wrapping_add(1 << 41));
                     if changes && is_new {
                         turns.push(Turn {
                             lane: lane.wrapping_add(1 << 41) as usize,
@@ -163,12 +164,7 @@ fn merged(alloc: Global, log: &Log) -> Result<Vec<Hint>, NoMemory> {
     Ok(hints)
 }
 
-fn run(
-    rt: &HostRuntime,
-    alloc: Global,
-    log: &mut Log,
-    words: &[String],
-) -> Result<u8, NoMemory> {
+fn run(rt: &HostRuntime, alloc: Global, log: &mut Log, words: &[String]) -> Result<u8, NoMemory> {
     let mut order = "any";
     let mut sessions = false;
     let mut wanted = Vec::new(alloc);
@@ -217,10 +213,19 @@ fn run(
     let turns = turns_of(alloc, log, order, sessions)?;
     let seen = log_of(alloc, &log.history, turns.as_slice())?;
     let mut guesses = Vec::new(alloc);
-    guesses.push(Guess { hints: hints_of(alloc, &log.history, 0)?, turns: Vec::new(alloc) })?;
-    guesses.push(Guess { hints: hints_of(alloc, &log.history, 1)?, turns: Vec::new(alloc) })?;
+    guesses.push(Guess {
+        hints: hints_of(alloc, &log.history, 0)?,
+        turns: Vec::new(alloc),
+    })?;
+    guesses.push(Guess {
+        hints: hints_of(alloc, &log.history, 1)?,
+        turns: Vec::new(alloc),
+    })?;
     if log.has_sessions() {
-        guesses.push(Guess { hints: merged(alloc, log)?, turns: session_turns(alloc, log)? })?;
+        guesses.push(Guess {
+            hints: merged(alloc, log)?,
+            turns: session_turns(alloc, log)?,
+        })?;
     }
     for word in wanted.iter() {
         let word: &str = word;
@@ -231,7 +236,13 @@ fn run(
             }
             let turns = bare(alloc, &seen)?;
             let plain = Level::Serializable.rules();
-            match judge(alloc, &Asked::All(plain), &turns, guesses.as_slice(), 100_000)? {
+            match judge(
+                alloc,
+                &Asked::All(plain),
+                &turns,
+                guesses.as_slice(),
+                100_000,
+            )? {
                 Verdict::Holds(_) => {
                     let _ = println!(rt; "holds at {word}");
                 }
@@ -247,7 +258,13 @@ fn run(
         let Some(rules) = rules_named(word) else {
             continue;
         };
-        match judge(alloc, &Asked::All(rules), &seen, guesses.as_slice(), 100_000)? {
+        match judge(
+            alloc,
+            &Asked::All(rules),
+            &seen,
+            guesses.as_slice(),
+            100_000,
+        )? {
             Verdict::Holds(Shown::Points(_)) => {
                 let _ = println!(rt; "holds at {word}");
             }

@@ -384,7 +384,11 @@ pub(crate) fn show_turn(lanes: &mut HashMap<usize, u64>, turn: Turn) -> Result<(
 }
 
 /// The turns of y are those of somebody who is seen.
-pub(crate) fn show_turns(log: &Log, lanes: &mut HashMap<usize, u64>, y: usize) -> Result<(), NoMemory>
+pub(crate) fn show_turns(
+    log: &Log,
+    lanes: &mut HashMap<usize, u64>,
+    y: usize,
+) -> Result<(), NoMemory>
     ensures raised { OnOk result (AreRaised (get_in ◌==◌ lanes.old) (get_in ◌==◌ lanes.new)) }
     ensures there { OnOk result (AreLaned log.now (get_in ◌==◌ lanes.new) y) }
 {

@@ -11,7 +11,8 @@ use crate::start::prepared;
 use crate::steps::steps_of;
 use hek_history::Point;
 use hek_levels::{
-    Asked, Certificate, Log, Turn, explains, explains_by_points, is_committed, is_possible, scans_of,
+    Asked, Certificate, Log, Turn, explains, explains_by_points, is_committed, is_possible,
+    scans_of,
 };
 use hek_levels_refutation::{Step, refutes};
 use hek_rules::NoMemory;
@@ -257,9 +258,7 @@ impl<'a> Search<'a> {
         if !missed.is_empty() {
             return Ok(Turned::Missed(missed));
         }
-        Ok(Turned::Judged(judge_points(
-            self.alloc, self.asked, self.log, points,
-        )?))
+        Ok(Turned::Judged(judge_points(self.alloc, self.asked, self.log, points)?))
     }
 
     /// The points by a guess as a verdict.
@@ -295,12 +294,7 @@ impl<'a> Search<'a> {
     }
 
     /// What a search comes to. Its steps count if nothing is assumed.
-    fn seek(
-        &self,
-        hints: &[Hint],
-        assumed: &[Turn],
-        most: usize,
-    ) -> Result<Turned, NoMemory> {
+    fn seek(&self, hints: &[Hint], assumed: &[Turn], most: usize) -> Result<Turned, NoMemory> {
         let problem = self.problem(assumed)?;
         let mut known = prepared(self.alloc, &problem, hints);
         let mut replay = Replay::new(self.alloc);
@@ -315,9 +309,7 @@ impl<'a> Search<'a> {
             }
             Outcome::Refuted(conflict) if assumed.is_empty() => {
                 let steps = steps_of(&known, conflict)?;
-                Ok(Turned::Judged(judge_steps(
-                    self.alloc, self.asked, self.log, steps,
-                )?))
+                Ok(Turned::Judged(judge_steps(self.alloc, self.asked, self.log, steps)?))
             }
             Outcome::Refuted(_) => Ok(Turned::Judged(Verdict::Unknown(NOWHERE))),
             Outcome::Unknown(violations) => Ok(Turned::Judged(Verdict::Unknown(Progress {
@@ -333,12 +325,7 @@ impl<'a> Search<'a> {
         if !left.is_empty() {
             return Ok(Turned::Missed(left));
         }
-        Ok(Turned::Judged(judge_sources(
-            self.alloc,
-            self.asked,
-            self.log,
-            certificate,
-        )?))
+        Ok(Turned::Judged(judge_sources(self.alloc, self.asked, self.log, certificate)?))
     }
 
     /// Searches until no scan misses a key that has a row.
