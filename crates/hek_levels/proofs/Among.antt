@@ -42,14 +42,14 @@ in-new [] y = (zero, refl)
 in-new (z ∷ xs) y = let r = in-new xs y in (suc r.0, r.1)
 
 pub in-filter : {X : Type 0} (test : X → Bool) (xs : List X) (x : X) → test x ≡ true → IsIn xs x → IsIn (filter test xs) x
-in-filter test [] x yes m = absurd (in-nothing x m)
-in-filter {X} test (y ∷ xs) x yes m =
+in-filter test [] x so m = absurd (in-nothing x m)
+in-filter {X} test (y ∷ xs) x so m =
     elim (in-cases y x xs m) [
       | inl same ↦
-          let first : test y ≡ true = subst (λ (w : X). test w ≡ true) (sym same) yes in
+          let first : test y ≡ true = subst (λ (w : X). test w ≡ true) (sym same) so in
           rw first (zero, subst (λ (w : X). ◌≡◌ {A = Option X} (Some y) (Some w)) same refl)
       | inr later ↦
-          let r = in-filter test xs x yes later in
+          let r = in-filter test xs x so later in
           elim (cases_Bool (test y)) [ inl a ↦ rw a (suc r.0, r.1) | inr a ↦ rw a r ]
     ]
 
@@ -58,7 +58,7 @@ pub in-lookup : {K X : Type 0} (test : K → Bool) (es : List (K × X)) → is_s
 in-lookup test [] f = cc
 in-lookup test (e ∷ es) f =
     elim (cases_Bool (test e.0)) [
-      | inl yes ↦ (e, (zero, refl), yes)
+      | inl so ↦ (e, (zero, refl), so)
       | inr other ↦ let r = in-lookup test es (rw other at f) in (r.0, (suc r.1.0, r.1.1), r.2)
     ]
 
@@ -76,22 +76,22 @@ abbrev pub IsNoted : (ℕ → Bool) → List (ℕ × ℕ) → List ℕ → List 
 IsNoted test all keys left = (e : ℕ × ℕ) → test e.0 ≡ true → IsIn all e → IsAmong keys e.0 ⊎ IsIn left e
 
 pub noted-start : (test : ℕ → Bool) (all left : List (ℕ × ℕ)) (keys : List ℕ) → left ≡ all → IsNoted test all keys left
-noted-start test all left keys same e yes m = inr (subst (λ (es : List (ℕ × ℕ)). IsIn es e) (sym same) m)
+noted-start test all left keys same e so m = inr (subst (λ (es : List (ℕ × ℕ)). IsIn es e) (sym same) m)
 
 pub noted-more : (test : ℕ → Bool) (all left rest : List (ℕ × ℕ)) (x : ℕ × ℕ) (old new : List ℕ) → left ≡ x ∷ rest → ((k : ℕ) → IsAmong old k → IsAmong new k) → (test x.0 ≡ true → IsAmong new x.0) →
     IsNoted test all old left → IsNoted test all new rest
-noted-more test all left rest x old new is kept there known e yes m =
-    elim (known e yes m) [
+noted-more test all left rest x old new is kept there known e so m =
+    elim (known e so m) [
       | inl had ↦ inl (kept e.0 had)
       | inr later ↦
           elim (in-cases x e rest (subst (λ (es : List (ℕ × ℕ)). IsIn es e) is later)) [
-            | inl same ↦ inl (subst (λ (f : ℕ × ℕ). IsAmong new f.0) same (there (subst (λ (f : ℕ × ℕ). test f.0 ≡ true) (sym same) yes)))
+            | inl same ↦ inl (subst (λ (f : ℕ × ℕ). IsAmong new f.0) same (there (subst (λ (f : ℕ × ℕ). test f.0 ≡ true) (sym same) so)))
             | inr more ↦ inr more
           ]
     ]
 
 pub noted-end : (test : ℕ → Bool) (all left : List (ℕ × ℕ)) (keys : List ℕ) → left ≡ [] → IsNoted test all keys left → (e : ℕ × ℕ) → test e.0 ≡ true → IsIn all e → IsAmong keys e.0
-noted-end test all left keys none known e yes m = elim (known e yes m) [ inl had ↦ had | inr later ↦ absurd (in-none left e none later) ]
+noted-end test all left keys none known e so m = elim (known e so m) [ inl had ↦ had | inr later ↦ absurd (in-none left e none later) ]
 
 -- one less is left
 pub left-more : (P : ℕ → Type 0) (all left rest : List ℕ) (x : ℕ) → left ≡ x ∷ rest → P x → ((y : ℕ) → IsIn all y → P y ⊎ IsIn left y) → (y : ℕ) → IsIn all y → P y ⊎ IsIn rest y

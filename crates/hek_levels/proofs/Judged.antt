@@ -100,9 +100,9 @@ missing-of log t s k read e = go (slice_get (scans_of log t) s) refl e
     go (Some scan) is f =
         elim (cases_Bool (misses scan k)) [
           | inr not_so ↦ absurd (let none : None ≡ Some read = rw not_so at f in cc)
-          | inl yes ↦
-              let said : Some (record { operation = scan.operation; key = k; need = Absent }) ≡ Some read = rw yes at f in
-              record { scan = scan; there = is; said = yes; key = cc; need = cc; operation = cc }
+          | inl so ↦
+              let said : Some (record { operation = scan.operation; key = k; need = Absent }) ≡ Some read = rw so at f in
+              record { scan = scan; there = is; said = so; key = cc; need = cc; operation = cc }
         ]
 
 -- of a key that nobody has touched the opening is a source

@@ -20,7 +20,7 @@ last_more log order i t f g known a more = record {
         | inl less ↦
             let old = known.all j x key less b w in
             elim (cases_Bool (is_some (left_in (writes_of log t) key))) [
-              | inl yes ↦ (i, more key ∙ rw yes refl, omega (arith, less))
+              | inl so ↦ (i, more key ∙ rw so refl, omega (arith, less))
               | inr not_so ↦ (old.0, more key ∙ rw not_so old.1, old.2)
             ]
         | inr same ↦

@@ -4,6 +4,7 @@ pub mod Turned
 pub mod Among
 pub mod Ranged
 pub mod Givens
+pub mod Sources
 pub mod Marks
 pub mod Swept
 pub mod Judged

@@ -1,12 +1,15 @@
 -- Turns: who is before whom, and what a map of the latest turns knows.
-use Rattle.std.proofs.Common.{◌≡◌, ◌==◌, ℕ, zero, suc, ◌+◌, ◌<◌, ◌≤◌, Bool, true, false, cond, ltb, List, [], ◌∷◌, Option, Some, refl, sym, ◌∙◌, subst, inl, inr, arith}
+use Rattle.std.proofs.Common.{◌≡◌, ◌==◌, ℕ, zero, suc, ◌+◌, ◌<◌, ◌≤◌, Bool, true, false, cond, ltb, List, [], ◌∷◌, Option, Some, refl, sym, ap, ◌∙◌, subst, inl, inr, length, arith}
 use Rattle.std.specs.Prelude.{slice_get, ◌&&◌, ◌||◌}
 use Rattle.std.specs.List.{list_any}
 use Rattle.std.proofs.lemmas.Bool.{cases_Bool, eqb-true, eq-eqb}
 use Rattle.std.proofs.lemmas.Bool.Decides.{nat_tests}
+use Rattle.std.proofs.lemmas.Option.{slice_get_within}
 use Rattle.hek_levels.specs.declared.log.Log.{Log}
 use Rattle.hek_levels.specs.declared.log.Turn.{Turn}
-use Rattle.hek_levels.specs.Logs.{turns_of, is_before_turn, is_seen_turn, is_kept, is_earlier}
+use Rattle.hek_levels.specs.declared.log.Scan.{Scan}
+use Rattle.hek_history.specs.Answers.{covers}
+use Rattle.hek_levels.specs.Logs.{misses, turns_of, is_before_turn, is_seen_turn, is_kept, is_earlier}
 use Rattle.hek_levels.specs.Seen.{At}
 use Rattle.hek_levels.specs.Places.{AreInTurn, AreLatest}
 use Rattle.hek_levels.specs.Sweeps.{IsFrom, AreRaised, AreLaned, IsBeforeAny}
@@ -17,9 +20,43 @@ pub any-at : {X : Type 0} (f : X → Bool) (xs : List X) → list_any f xs ≡ t
 any-at f [] e = cc
 any-at f (x ∷ xs) e =
     elim (cases_Bool (f x)) [
-      | inl yes ↦ (zero, x, refl, yes)
+      | inl so ↦ (zero, x, refl, so)
       | inr no_one ↦ let r = any-at f xs (rw no_one at e) in (suc r.0, r.1, r.2, r.3)
     ]
+
+one-same : {X : Type 0} (x y : X) → ◌≡◌ {A = Option X} (Some x) (Some y) → x ≡ y
+one-same x y e = cc
+
+pub at-any : {X : Type 0} (f : X → Bool) (xs : List X) (i : ℕ) (x : X) → slice_get xs i ≡ Some x → f x ≡ true → list_any f xs ≡ true
+at-any f [] i x there holds = cc
+at-any f (y ∷ xs) zero x there holds = let here : f y ≡ true = ap f (one-same y x there) ∙ holds in rw here refl
+at-any f (y ∷ xs) (suc i) x there holds =
+    let later = at-any f xs i x there holds in
+    elim (cases_Bool (f y)) [ inl a ↦ rw a refl | inr a ↦ rw a later ]
+
+pub any-none : {X : Type 0} (f : X → Bool) (xs : List X) → ((i : ℕ) (x : X) → slice_get xs i ≡ Some x → f x ≡ false) → list_any f xs ≡ false
+any-none f [] all = refl
+any-none f (x ∷ xs) all = let here : f x ≡ false = all zero x refl in rw here (any-none f xs (λ i y there. all (suc i) y there))
+
+pub element-at : {X : Type 0} (xs : List X) (n : ℕ) → n < length xs → (x : X) × (slice_get xs n ≡ Some x)
+element-at [] n l = absurd (omega (arith, l))
+element-at (x ∷ xs) zero l = (x, refl)
+element-at (x ∷ xs) (suc n) l = element-at xs n (omega (arith, l))
+
+-- what holds of each element so far, and of the next
+pub element-more : {X : Type 0} (P : X → Type 0) (xs : List X) (n : ℕ) → ((k : ℕ) (x : X) → k < n → slice_get xs k ≡ Some x → P x) → ((x : X) → slice_get xs n ≡ Some x → P x) →
+    (k : ℕ) (x : X) → k < n + 1 → slice_get xs k ≡ Some x → P x
+element-more P xs n before here k x l there =
+    elim (cases_below k n l) [
+      | inl less ↦ before k x less there
+      | inr same ↦ here x (subst (λ (m : ℕ). slice_get xs m ≡ Some x) same there)
+    ]
+
+pub element-all : {X : Type 0} (P : X → Type 0) (xs ys : List X) (n : ℕ) → xs ≡ ys → length xs ≤ n → ((k : ℕ) (x : X) → k < n → slice_get xs k ≡ Some x → P x) → (k : ℕ) (x : X) → slice_get ys k ≡ Some x → P x
+element-all P xs ys n same end before k x there =
+    let here : slice_get xs k ≡ Some x = rw same there in
+    let within = slice_get_within xs k x here in
+    before k x (omega (arith, within, end)) here
 
 pub both-true : (a b : Bool) → (a && b) ≡ true → (a ≡ true) × (b ≡ true)
 both-true true b e = (refl, e)
@@ -140,3 +177,9 @@ not_earlier log lanes x t known come =
           let less = f.5 in
           absurd (omega arith)
     ]
+
+-- a key that a scan excepts is not missed
+pub excepted : (scan : Scan) (n key : ℕ) → slice_get scan.except.items n ≡ Some key → misses scan key ≡ false
+excepted scan n key there =
+    let found = at-any (λ (k : ℕ). k == key) scan.except.items n key there (eq-eqb key key refl) in
+    elim (cases_Bool (covers scan.scope key)) [ inl a ↦ rw a (rw found refl) | inr a ↦ rw a refl ]

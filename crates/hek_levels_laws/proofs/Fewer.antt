@@ -22,19 +22,8 @@ use Rattle.hek_levels.specs.Levels.{asked_of}
 use Rattle.hek_levels.specs.Logs.{transaction, reads_in, reads_of, scans_in, scans_of, writes_in, writes_of, turns_in, turns_of, missing_in, read_at, meets_in, left_in, left_by, offers, does_write, committed_in, is_committed, possible_in, is_possible, aborted_by, is_before_turn, is_seen_turn, is_kept, is_earlier}
 use Rattle.hek_levels.specs.Seen.{Explanation, ReadsFrom, SeesByOwn, Precedes, IsLinked, SeesFirst, Shows, SeesBy, Sees}
 use Rattle.hek_levels.specs.Explanations.{IsSource, Explains}
-use Rattle.hek_levels.proofs.Turned.{any-at}
+use Rattle.hek_levels.proofs.Turned.{any-at, at-any}
 use Rattle.hek_levels_laws.specs.Laws.{AreAmong, IsFewer, IsFewerOf, HasFewerTurns, FewerTurnsImply}
-
-one-same : {X : Type 0} (x y : X) → ◌≡◌ {A = Option X} (Some x) (Some y) → x ≡ y
-one-same x y e = cc
-
--- a test that one passes, one of more passes
-at-any : {X : Type 0} (f : X → Bool) (xs : List X) (i : ℕ) (x : X) → slice_get xs i ≡ Some x → f x ≡ true → list_any f xs ≡ true
-at-any f [] i x there yes = cc
-at-any f (y ∷ xs) zero x there yes = let here : f y ≡ true = ap f (one-same y x there) ∙ yes in rw here refl
-at-any f (y ∷ xs) (suc i) x there yes =
-    let later = at-any f xs i x there yes in
-    elim (cases_Bool (f y)) [ inl a ↦ rw a refl | inr a ↦ rw a later ]
 
 any-more : (f g : Turn → Bool) (few more : List Turn) → AreAmong few more → ((x : Turn) → f x ≡ true → g x ≡ true) → list_any f few ≡ true → list_any g more ≡ true
 any-more f g few more among implies e =
