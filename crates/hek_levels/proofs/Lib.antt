@@ -1,6 +1,14 @@
 pub mod Orders
 pub mod Earlier
+pub mod Turned
+pub mod Among
+pub mod Ranged
+pub mod Givens
+pub mod Sources
 pub mod Marks
 pub mod Swept
 pub mod Judged
+pub mod Lasts
+pub mod Replays
+pub mod Pointed
 pub mod Founds

@@ -44,7 +44,15 @@ fn visit(
     let Some(y) = at(certificate.order.as_slice(), p) else {
         return Ok(false);
     };
-    carry(rules, log, certificate, t, &mut sight.marked, &sight.lanes, y)?;
+    carry(
+        rules,
+        log,
+        certificate,
+        t,
+        &mut sight.marked,
+        &sight.lanes,
+        y,
+    )?;
     if !may_see(rules, log, t, sight, y) {
         return Ok(true);
     }
@@ -123,13 +131,7 @@ fn is_direct(rules: Rules, log: &Log, t: usize) -> bool
 }
 
 /// Whether a writer does not write a key from the place low on.
-fn is_apart(
-    log: &Log,
-    places: &HashMap<usize, usize>,
-    x: usize,
-    key: u64,
-    low: usize,
-) -> bool
+fn is_apart(log: &Log, places: &HashMap<usize, usize>, x: usize, key: u64, low: usize) -> bool
     ensures { IsTrue result → writes_it log.now x key ≡ true → (j : ℕ) → get_in ◌==◌ places.now x ≡ Some j → j < low }
 {
     if !does_write(log, x, key) {
@@ -224,9 +226,29 @@ fn is_newest_from(
         return Ok(false);
     }
     if is_direct(rules, log, t) {
-        return look(alloc, rules, log, certificate, places, t, read.operation, read.key, low);
+        return look(
+            alloc,
+            rules,
+            log,
+            certificate,
+            places,
+            t,
+            read.operation,
+            read.key,
+            low,
+        );
     }
-    sweep(alloc, rules, log, certificate, i, t, read.operation, read.key, low)
+    sweep(
+        alloc,
+        rules,
+        log,
+        certificate,
+        i,
+        t,
+        read.operation,
+        read.key,
+        low,
+    )
 }
 
 /// Whether no writer of its key that the read of t at a place sees is newer than its source.
@@ -254,7 +276,17 @@ fn is_newest(
     if !is_written_since(last, read.key, low) {
         return Ok(true);
     }
-    is_newest_from(alloc, asked.of(t), log, certificate, places, i, t, read, low)
+    is_newest_from(
+        alloc,
+        asked.of(t),
+        log,
+        certificate,
+        places,
+        i,
+        t,
+        read,
+        low,
+    )
 }
 
 /// The same of each read in the list of t.

@@ -95,12 +95,7 @@ fn is_each_lacked(
 }
 
 /// Whether all reads of t find what the rows have.
-fn are_met(
-    alloc: Global,
-    log: &Log,
-    rows: &BTreeMap<u64, u64>,
-    t: usize,
-) -> Result<bool, NoMemory>
+fn are_met(alloc: Global, log: &Log, rows: &BTreeMap<u64, u64>, t: usize) -> Result<bool, NoMemory>
     ensures { IfOk result (λ yes. IsTrue yes → (r : ThePlace) (read : TheRead) → read_there log.now t r ≡ Some read → meets_it read.need (row_of rows.now read.key) ≡ true) }
 {
     if !is_each_met(log, rows, t) {
@@ -150,8 +145,9 @@ fn begin_at(
     if !are_met(alloc, log, &replay.rows, t)? {
         return Ok(false);
     }
+    let rules = asked.of(t);
     mark(&mut replay.begun, t, replay.count)?;
-    look(asked.of(t), log, &mut replay.looking, t)?;
+    look(rules, log, &mut replay.looking, t)?;
     Ok(true)
 }
 
@@ -189,6 +185,16 @@ fn is_closed(
     !rules.first.writers || is_unwritten_since(log, last, t, low)
 }
 
+/// Whether t stands at a place of an order.
+fn is_at(order: &[usize], i: usize, t: usize) -> bool
+    ensures { IsTrue result → At order.now i t }
+{
+    match at(order, i) {
+        Some(x) => x == t,
+        None => false,
+    }
+}
+
 /// t commits, if it may.
 fn commit_at(
     asked: &Asked,
@@ -201,13 +207,14 @@ fn commit_at(
     ensures { IfOk result (λ yes. IsTrue yes → IsReplay asked.now log.now order.now replay.new.count (row_of replay.new.rows) (get_in ◌==◌ replay.new.begun) (get_in ◌==◌ replay.new.last) (get_in ◌==◌ replay.new.looking)) }
 {
     let i = replay.count;
-    if at(order, i) != Some(t) {
+    if !is_at(order, i, t) {
         return Ok(false);
     }
     let Some(low) = place_of(&replay.begun, t) else {
         return Ok(false);
     };
-    if !is_closed(asked.of(t), log, order, &replay.last, t, low, i) {
+    let rules = asked.of(t);
+    if !is_closed(rules, log, order, &replay.last, t, low, i) {
         return Ok(false);
     }
     if !have_come(&replay.looking, turns_of(log, t)) {
