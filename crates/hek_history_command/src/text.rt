@@ -32,6 +32,12 @@ impl fmt::Display for Counted {
     }
 }
 
+/// The line that no transaction is judged.
+pub(crate) fn put_nothing(lines: &mut Vec<u8>) -> Result<(), NoMemory> {
+    lines.extend_from_slice(b"nothing to judge\n")?;
+    Ok(())
+}
+
 /// The words of a verdict: that what is asked holds.
 fn put_held_front(heading: Heading, counts: Counts, lines: &mut Vec<u8>) -> Result<(), NoMemory> {
     match heading.promise {
