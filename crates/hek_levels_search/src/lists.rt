@@ -59,13 +59,3 @@ pub fn reverse_from<T>(list: &mut Vec<T>, from: usize) {
         rest.reverse();
     }
 }
-
-/// Turns a list from a place on, so that what stands so many places later begins it.
-pub fn turn_from<T>(list: &mut Vec<T>, from: usize, by: usize) {
-    if from <= list.len() {
-        let (_before, rest) = list.split_at_mut(from);
-        if by <= rest.len() {
-            rest.rotate_left(by);
-        }
-    }
-}
