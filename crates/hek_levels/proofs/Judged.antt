@@ -92,17 +92,33 @@ pub record IsMissing (log : Log) (t s k : ℕ) (read : Read) : Type 0 where
   pub need : read.need ≡ Absent
   pub operation : read.operation ≡ scan.operation
 
+none-is : (read : Read) → ◌≡◌ {A = Option Read} None (Some read) → ⊥
+none-is read e = cc
+
+abbrev the_read : Scan → ℕ → Read
+the_read scan k = record { operation = scan.operation; key = k; need = Absent }
+
+the-same : (a b : Read) → ◌≡◌ {A = Option Read} (Some a) (Some b) → a ≡ b
+the-same a b e = cc
+
 pub missing-of : (log : Log) (t s k : ℕ) (read : Read) → read_at log t (Missing s k) ≡ Some read → IsMissing log t s k read
 missing-of log t s k read e = go (slice_get (scans_of log t) s) refl e
   where
     go : (o : Option Scan) → slice_get (scans_of log t) s ≡ o → missing_in o k ≡ Some read → IsMissing log t s k read
-    go None is f = cc
+    go None is f = absurd (none-is read f)
     go (Some scan) is f =
         elim (cases_Bool (misses scan k)) [
-          | inr not_so ↦ absurd (let none : None ≡ Some read = rw not_so at f in cc)
-          | inl so ↦
-              let said : Some (record { operation = scan.operation; key = k; need = Absent }) ≡ Some read = rw so at f in
-              record { scan = scan; there = is; said = so; key = cc; need = cc; operation = cc }
+          | inr not_so ↦ absurd (none-is read (rw not_so at f))
+          | inl is_so ↦
+              let same : the_read scan k ≡ read = the-same (the_read scan k) read (rw is_so at f) in
+              record {
+                scan = scan;
+                there = is;
+                said = is_so;
+                key = ap (λ (r : Read). r.key) (sym same);
+                need = ap (λ (r : Read). r.need) (sym same);
+                operation = ap (λ (r : Read). r.operation) (sym same);
+              }
         ]
 
 -- of a key that nobody has touched the opening is a source

@@ -4,10 +4,11 @@ pub mod Turned
 pub mod Among
 pub mod Ranged
 pub mod Givens
-pub mod Sources
+pub mod Sourcing
 pub mod Marks
 pub mod Swept
 pub mod Judged
+pub mod Touched
 pub mod Lasts
 pub mod Replays
 pub mod Pointed

@@ -1,6 +1,6 @@
 -- Keys of rows.
 use Rattle.std.proofs.Common.{◌≡◌, ℕ, ◌<◌, ◌≤◌, Bool, true, false, cond, List, [], ◌∷◌, Option, Some, None, Ordering, Less, Equal, Greater, refl, sym, ap, ◌∙◌, subst, inl, inr, ◌⊎◌, arith}
-use Rattle.std.specs.Prelude.{is_some, not, ◌&&◌}
+use Rattle.std.specs.Prelude.{is_some, not, ◌&&◌, ◌==◌}
 use Rattle.std.specs.BTreeMap.{BTreeMap}
 use Rattle.std.specs.BTreeMap.Range.{range_contains, entries_between}
 use Rattle.std.specs.declared.ops.Bound.{Bound}
@@ -8,7 +8,7 @@ use Rattle.std.specs.declared.ops.Bound.TheVariants.{Included, Excluded}
 use Rattle.std.specs.Ordering.{nat_cmp, is_eq, is_le}
 use Rattle.std.specs.Cmp.{nat_cmp_is}
 use Rattle.std.specs.List.{filter}
-use Rattle.std.proofs.lemmas.Bool.{cases_Bool, cases_order}
+use Rattle.std.proofs.lemmas.Bool.{cases_Bool, cases_order, eq-eqb, ne_eqb}
 use Rattle.hek_levels.specs.Rows.{row_of, IsAmong}
 use Rattle.hek_levels.proofs.Among.{IsIn, in-lookup, in-filter}
 
@@ -51,3 +51,15 @@ in-rows rows key some =
 -- one within the range is among those of the range
 pub in-between : (from to : ℕ) (es : List (ℕ × ℕ)) (e : ℕ × ℕ) → from ≤ e.0 → e.0 < to → IsIn es e → IsIn (entries_between nat_cmp (Included from) (Excluded to) es) e
 in-between from to es e le lt m = in-filter (λ (f : ℕ × ℕ). range_contains nat_cmp (Included from) (Excluded to) f.0) es e (in-range from to e.0 le lt) m
+
+-- whether two keys compare as equal
+pub eq-cmp : (a b : ℕ) → is_eq (nat_cmp a b) ≡ (a == b)
+eq-cmp a b =
+    elim (cases_order a b) [
+      | inl same ↦ ap is_eq (equal-cmp a b same) ∙ sym (eq-eqb a b same)
+      | inr differ ↦
+          elim differ [
+            | inl less ↦ ap is_eq (less-cmp a b less) ∙ sym (ne_eqb a b (λ same. absurd (omega (arith, less, same))))
+            | inr more ↦ ap is_eq (greater-cmp a b more) ∙ sym (ne_eqb a b (λ same. absurd (omega (arith, more, same))))
+          ]
+    ]

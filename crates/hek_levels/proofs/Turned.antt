@@ -24,7 +24,7 @@ any-at f (x ∷ xs) e =
       | inr no_one ↦ let r = any-at f xs (rw no_one at e) in (suc r.0, r.1, r.2, r.3)
     ]
 
-one-same : {X : Type 0} (x y : X) → ◌≡◌ {A = Option X} (Some x) (Some y) → x ≡ y
+pub one-same : {X : Type 0} (x y : X) → ◌≡◌ {A = Option X} (Some x) (Some y) → x ≡ y
 one-same x y e = cc
 
 pub at-any : {X : Type 0} (f : X → Bool) (xs : List X) (i : ℕ) (x : X) → slice_get xs i ≡ Some x → f x ≡ true → list_any f xs ≡ true
@@ -57,6 +57,17 @@ element-all P xs ys n same end before k x there =
     let here : slice_get xs k ≡ Some x = rw same there in
     let within = slice_get_within xs k x here in
     before k x (omega (arith, within, end)) here
+
+pub each-more : {X : Type 0} (P : ℕ → X → Type 0) (xs : List X) (n : ℕ) → ((k : ℕ) (x : X) → k < n → slice_get xs k ≡ Some x → P k x) → ((x : X) → slice_get xs n ≡ Some x → P n x) →
+    (k : ℕ) (x : X) → k < n + 1 → slice_get xs k ≡ Some x → P k x
+each-more P xs n before here k x l there =
+    elim (cases_below k n l) [
+      | inl less ↦ before k x less there
+      | inr same ↦ subst (λ (m : ℕ). P m x) (sym same) (here x (subst (λ (m : ℕ). slice_get xs m ≡ Some x) same there))
+    ]
+
+pub each-all : {X : Type 0} (P : ℕ → X → Type 0) (xs : List X) (n : ℕ) → length xs ≤ n → ((k : ℕ) (x : X) → k < n → slice_get xs k ≡ Some x → P k x) → (k : ℕ) (x : X) → slice_get xs k ≡ Some x → P k x
+each-all P xs n end before k x there = let within = slice_get_within xs k x there in before k x (omega (arith, within, end)) there
 
 pub both-true : (a b : Bool) → (a && b) ≡ true → (a ≡ true) × (b ≡ true)
 both-true true b e = (refl, e)

@@ -14,7 +14,7 @@ ghost use Rattle.hek_levels.specs.Explanations.{explanation, source_at as source
 ghost use Rattle.hek_levels.specs.Places.{IsPlacing};
 ghost use Rattle.hek_levels.specs.Sweeps.{AreLast, IsMarked, IsSwept, IsNewestFrom, IsNewestAt, IsDirect};
 
-use crate::certificate::{Certificate, Writer};
+use crate::certificate::{Certificate, Missing, Writer};
 use crate::log::{Change, Log, Place, Read};
 use crate::logged::{at, does_write, has_seen_turns, read_at, reads_of, writes_of};
 use crate::places::place_of;
@@ -315,6 +315,19 @@ fn is_each_newest(
     Ok(true)
 }
 
+/// The n-th of keys that are missing in scans, as a read.
+fn missing_at(given: &[Missing], n: usize) -> Option<Place>
+    ensures { (one : TheMissing) → slice_get given.now n ≡ Some one → result ≡ Some (MissingAt one.scan one.key) }
+{
+    match given.get(n) {
+        Some(one) => Some(Place::Missing {
+            scan: one.scan,
+            key: one.key,
+        }),
+        None => None,
+    }
+}
+
 /// The same of each key that is missing in a scan of t whose source is given.
 fn is_each_given_newest(
     alloc: Global,
@@ -334,9 +347,8 @@ fn is_each_given_newest(
 {
     let given = missing_of(certificate, t);
     for n in 0..given.len() {
-        let place = Place::Missing {
-            scan: given[n].scan,
-            key: given[n].key,
+        let Some(place) = missing_at(given, n) else {
+            return Ok(false);
         };
         if !is_newest(alloc, asked, log, certificate, places, last, i, t, place)? {
             return Ok(false);

@@ -13,9 +13,9 @@ use Rattle.hek_levels.specs.declared.rules.Level.TheVariants.{ReadCommitted, Mon
 use Rattle.hek_levels.specs.declared.certificate.Writer.TheVariants as writer
 use Rattle.hek_levels.specs.Logs.{transaction, writes_of, meets, offers}
 use Rattle.hek_levels.specs.Seen.{Explanation}
-use Rattle.hek_levels.specs.Explanations.{Explains}
+use Rattle.hek_levels.specs.Explanations.{Explains, HasExplanation}
 use Rattle.hek_levels.specs.Levels.{rules_of, rules_for, all_four}
-use Rattle.hek_levels.specs.Uncommitted.{passing_of, is_found, IsReadUncommitted}
+use Rattle.hek_levels.specs.Uncommitted.{passing_of, is_found, IsBare, IsInTurn, IsReadUncommitted}
 
 -- what explains a log by the first rules explains it by the second
 abbrev pub Implies : Rules → Rules → Type 0
@@ -80,3 +80,7 @@ IsFound log t read = (offers log writer.Opening read ≡ true) ⊎ ((x : ℕ) ×
 -- what is computed of a read is what it says
 abbrev pub FoundSays : Type 0
 FoundSays = (log : Log) (t : ℕ) (read : Read) → (is_found log t read ≡ true) ↔ IsFound log t read
+
+-- an order keeps the turns of a log just if its bare log, without reads and writes, has an explanation
+abbrev pub BareSays : Type 0
+BareSays = (asked : Asked) (log bare : Log) → IsBare log bare → HasExplanation asked bare ↔ ((order : List ℕ) × IsInTurn log order)

@@ -1,5 +1,5 @@
 //! Laws of levels, as contracts of functions that do nothing.
-ghost use Rattle.hek_levels_laws.specs.Laws.{LevelsImply, FewerTurnsImply, GuaranteesImply, ExplainedIsReadUncommitted, FoundSays};
+ghost use Rattle.hek_levels_laws.specs.Laws.{LevelsImply, FewerTurnsImply, GuaranteesImply, ExplainedIsReadUncommitted, FoundSays, BareSays};
 
 /// Serializable implies snapshot, this prefix and parallel snapshot, each of these causal, this read atomic, this the monotonic view, and
 /// this read committed, by one explanation.
@@ -25,4 +25,9 @@ pub fn explained_is_read_uncommitted()
 /// What a read found was at some time there just if the opening has it or a change of another transaction left it.
 pub fn found_says()
     ensures { FoundSays }
+{}
+
+/// An order keeps the turns of a log just if its bare log has an explanation.
+pub fn bare_says()
+    ensures { BareSays }
 {}

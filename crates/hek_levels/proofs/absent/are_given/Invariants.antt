@@ -4,4 +4,4 @@ use Rattle.hek_levels.specs.Absences.{given_in_map}
 use Rattle.hek_levels.proofs.absent.are_given.Given as goal
 
 abbrev pub invariant-loop-m : goal.invariant-loop-m
-invariant-loop-m l = (q key : ℕ) → q < l.m → slice_get l.keys.items q ≡ Some key → is_some (given_in_map l.map l.n key) ≡ true
+invariant-loop-m l = (q key : ℕ) → q < l.m → slice_get l.keys q ≡ Some key → is_some (given_in_map l.map l.n key) ≡ true

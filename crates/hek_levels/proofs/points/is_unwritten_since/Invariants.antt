@@ -5,4 +5,4 @@ use Rattle.hek_levels.specs.declared.log.Change.{Change}
 use Rattle.hek_levels.proofs.points.is_unwritten_since.Given as goal
 
 abbrev pub invariant-loop-n : goal.invariant-loop-n
-invariant-loop-n l = (k m : ℕ) (c : Change) → k < l.n → slice_get l.changes k ≡ Some c → get ◌==◌ l.last c.key ≡ Some m → m < l.low
+invariant-loop-n l = (k : ℕ) (c : Change) → k < l.n → slice_get l.changes k ≡ Some c → (m : ℕ) → get ◌==◌ l.last c.key ≡ Some m → m < l.low

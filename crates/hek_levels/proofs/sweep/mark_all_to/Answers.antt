@@ -1,6 +1,6 @@
 use Rattle.std.specs.HashMap.{get}
 use Rattle.std.specs.Prelude.{◌==◌}
-use Rattle.hek_levels.proofs.Sources.{on_ok_two, sources-marked_to}
+use Rattle.hek_levels.proofs.Sourcing.{on_ok_two, sources-marked_to}
 use Rattle.hek_levels.proofs.sweep.mark_all_to.Goals as goal
 
 pub returns : goal.returns

@@ -1,6 +1,6 @@
 use Rattle.std.specs.HashMap.{get}
 use Rattle.std.specs.Prelude.{◌==◌}
-use Rattle.hek_levels.proofs.Sources.{on_ok, on_ok_two, sources-marked}
+use Rattle.hek_levels.proofs.Sourcing.{on_ok, on_ok_two, sources-marked}
 use Rattle.hek_levels.proofs.sweep.mark_sources.Goals as goal
 
 pub returns-clause-kept : goal.returns-clause-kept
