@@ -27,7 +27,7 @@ in-nothing : {X : Type 0} (x : X) → IsIn [] x → ⊥
 in-nothing {X} x m = let e : ◌≡◌ {A = Option X} None (Some x) = m.1 in cc
 
 pub in-none : {X : Type 0} (xs : List X) (x : X) → xs ≡ [] → IsIn xs x → ⊥
-in-none xs x e m = in-nothing x (subst (λ (ys : List _). IsIn ys x) e m)
+in-none {X} xs x e m = in-nothing x (subst (λ (ys : List X). IsIn ys x) e m)
 
 pub in-old : (xs : List ℕ) (y x : ℕ) → IsIn xs x → IsIn (xs ++ y ∷ []) x
 in-old [] y x m = absurd (in-nothing x m)

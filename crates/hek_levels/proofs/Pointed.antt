@@ -49,7 +49,7 @@ begun-at asked log order rows begun last looking r j t a =
     let k = r.committed j t (slice_get_within order j t a) a in
     let is : begins_in (begun t) ≡ k.0 = ap begins_in k.1 in
     record {
-      reads = subst (λ (n : ℕ). ReadsAt log order n t) (sym is) (r.begun t k.0 k.1).1;
+      reads = subst (λ (n : ℕ). ReadsAt log order n t) (sym is) (r.reads t k.0 k.1).1;
       closed = subst (λ (n : ℕ). IsClosed (asked_of asked t) log order n j t) (sym is) k.2;
       apart = (λ on q x le l b. r.apart t k.0 q x k.1 on (subst (λ (n : ℕ). n ≤ q) is le) l b);
     }

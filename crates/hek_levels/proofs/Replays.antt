@@ -28,10 +28,10 @@ none-some n e = cc
 pub replay_start : (asked : Asked) (log : Log) (order : List ℕ) (rows begun last looking : ℕ → Option ℕ) → ((k : ℕ) → rows k ≡ value_of log.rows.items k) → ((k : ℕ) → begun k ≡ None) → ((k : ℕ) → last k ≡ None) →
     IsReplay asked log order 0 rows begun last looking
 replay_start asked log order rows begun last looking same none none' = record {
-  rows = (λ key. ap Some (sym (same key)));
-  last = record { all = (λ i x key l a w. absurd (omega (arith, l))) };
-  begun = (λ t n is. absurd (none-some n (sym (none t) ∙ is)));
-  looking = (λ t n is on. absurd (none-some n (sym (none t) ∙ is)));
+  left = (λ key. ap Some (sym (same key)));
+  lasts = record { all = (λ i x key l a w. absurd (omega (arith, l))) };
+  reads = (λ t n is. absurd (none-some n (sym (none t) ∙ is)));
+  looks = (λ t n is on. absurd (none-some n (sym (none t) ∙ is)));
   apart = (λ t n j x is on le l a. absurd (omega (arith, l)));
   committed = (λ j t l a. absurd (omega (arith, l)));
 }
@@ -39,28 +39,28 @@ replay_start asked log order rows begun last looking same none none' = record {
 module _ (asked : Asked) (log : Log) (order : List ℕ) (i : ℕ) (rows begun last looking : ℕ → Option ℕ) (r : IsReplay asked log order i rows begun last looking) where
   -- who reads what the rows have reads what the first i left
   reads-rows : (t : ℕ) → ((p : Place) (read : Read) → read_at log t p ≡ Some read → meets read.need (rows read.key) ≡ true) → ReadsAt log order i t
-  reads-rows t met p read there = ap (λ (o : Option (Option ℕ)). meets_in read.need o) (r.rows read.key) ∙ met p read there
+  reads-rows t met p read there = ap (λ (o : Option (Option ℕ)). meets_in read.need o) (r.left read.key) ∙ met p read there
 
   pub replay_begin : (t : ℕ) (begun' looking' : ℕ → Option ℕ) → begun t ≡ None → ((p : Place) (read : Read) → read_at log t p ≡ Some read → meets read.need (rows read.key) ≡ true) →
       ((k : ℕ) → begun' k ≡ cond (t == k) (Some i) (begun k)) → AreRaised looking looking' → (sees_turns (asked_of asked t) ≡ true → AreLaned log looking' t) → IsReplay asked log order i rows begun' last looking'
   replay_begin t begun' looking' none met more raised known = record {
-    rows = r.rows;
-    last = r.last;
-    begun = (λ x n is.
+    left = r.left;
+    lasts = r.lasts;
+    reads = (λ x n is.
         elim (cases_Bool (t == x)) [
           | inl same ↦
               let y : t ≡ x = eqb-true t x same in
               let m : i ≡ n = some_is i n (sym (at_entry begun begun' t i more x y) ∙ is) in
               (omega (arith, m), subst (λ (k : ℕ). ReadsAt log order k x) m (subst (λ (z : ℕ). ReadsAt log order i z) y (reads-rows t met)))
-          | inr other ↦ r.begun x n (sym (at_others begun begun' t i more x other) ∙ is)
+          | inr other ↦ r.reads x n (sym (at_others begun begun' t i more x other) ∙ is)
         ]);
-    looking = (λ x n is on.
+    looks = (λ x n is on.
         elim (cases_Bool (t == x)) [
           | inl same ↦
               let y : t ≡ x = eqb-true t x same in
               subst (λ (z : ℕ). AreLaned log looking' z) y (known (subst (λ (z : ℕ). sees_turns (asked_of asked z) ≡ true) (sym y) on))
           | inr other ↦
-              let old = r.looking x n (sym (at_others begun begun' t i more x other) ∙ is) on in
+              let old = r.looks x n (sym (at_others begun begun' t i more x other) ∙ is) on in
               λ k turn there seen. raised turn.lane turn.first (old k turn there seen)
         ]);
     apart = (λ x n j y is on le l a.
@@ -85,7 +85,7 @@ module _ (asked : Asked) (log : Log) (order : List ℕ) (i : ℕ) (rows begun la
       go : (o : Option (Option ℕ)) → left_in (writes_of log t) key ≡ o → left_by log key (writer_with log key (Some t) (last_writer log order key i)) ≡ Some (left_over (left_in (writes_of log t) key) (rows key))
       go None is =
           let not_so : does_write log t key ≡ false = ap is_some is in
-          rw not_so (r.rows key ∙ rw is refl)
+          rw not_so (r.left key ∙ rw is refl)
       go (Some v) is =
           let does : does_write log t key ≡ true = ap is_some is in
           rw does (is ∙ rw is refl)
@@ -95,18 +95,18 @@ module _ (asked : Asked) (log : Log) (order : List ℕ) (i : ℕ) (rows begun la
       ((k : ℕ) → rows' k ≡ left_over (left_in (writes_of log t) k) (rows k)) → ((k : ℕ) → last' k ≡ cond (is_some (left_in (writes_of log t) k)) (Some i) (last k)) →
       IsReplay asked log order (i + 1) rows' begun last' looking
   replay_commit t low rows' last' a is closed come changed more = record {
-    rows = (λ key.
+    left = (λ key.
         let one : i + 1 ≡ suc i = omega arith in
         ap (λ (n : ℕ). left_by log key (last_writer log order key n)) one ∙ left-with t key a ∙ ap Some (sym (changed key)));
-    last = last_more log order i t last last' r.last a more;
-    begun = (λ x n b. let old = r.begun x n b in let le = old.0 in (omega (arith, le), old.1));
-    looking = r.looking;
+    lasts = last_more log order i t last last' r.lasts a more;
+    reads = (λ x n b. let old = r.reads x n b in let le = old.0 in (omega (arith, le), old.1));
+    looks = r.looks;
     apart = (λ x n j y b on le l c.
         elim (cases_below j i l) [
           | inl less ↦ r.apart x n j y b on le less c
           | inr same ↦
               let z : t ≡ y = same_at order i t y a (subst (λ (k : ℕ). At order k y) same c) in
-              subst (λ (k : ℕ). is_earlier log k x ≡ false) z (not_earlier log looking t x (r.looking x n b on) come)
+              subst (λ (k : ℕ). is_earlier log k x ≡ false) z (not_earlier log looking t x (r.looks x n b on) come)
         ]);
     committed = (λ j x l b.
         elim (cases_below j i l) [
