@@ -380,7 +380,7 @@ not serial 2
 .RE
 with the number of the first event at fault, and status 1. A serializable transaction is judged by all its replies; a repeatable one by the values and pairs that it found, so phantoms pass; a snapshot one by its reads as of its begin, so write skew passes. \(ga\-\-level serializable\(ga judges all as serializable, by end time; \(ga\-\-summary\(ga says whether they can follow one another, in whatever order.
 .SS history
-Says whether a log of transactions has a serial order, and if not, why not.
+Says whether a log of transactions is serializable, at which levels it holds, and if not, why not.
 .PP
 \fBhek history [OPTIONS] <FILE>\fR
 .TP
@@ -391,19 +391,22 @@ a log, or \- for standard input
 says of each fault what is wrong, what is wanted and what is meant, as at a terminal; =never only names it (always, never)
 .TP
 \fB\-\-level\fR \fIL\fR
-judges all transactions at a level: serializable, repeatable, snapshot, parallel\-snapshot, causal, read\-atomic, monotonic\-view, read\-committed or read\-uncommitted; or asks for a guarantee of sessions: monotonic\-reads, read\-your\-writes, monotonic\-writes, writes\-follow\-reads, or guarantees for all four
+asks for one level: serializable, repeatable, snapshot, parallel\-snapshot, prefix, causal, read\-atomic, monotonic\-view, read\-committed or read\-uncommitted; or own, each transaction at the level of its line; or for a guarantee of sessions: monotonic\-reads, read\-your\-writes, monotonic\-writes, writes\-follow\-reads, or guarantees for all four
 .TP
 \fB\-\-levels\fR
-says of each level whether the log satisfies it, from read\-uncommitted to serializable
+prints a line for each level, from serializable to read\-uncommitted
 .TP
 \fB\-\-sessions\fR
-has sessions bind at the level, or at each with \-\-levels: a transaction comes after those before it in its session, and sees them
+has sessions bind, as they do where the log has some: a transaction comes after those before it in its session, and sees them from read\-atomic on
+.TP
+\fB\-\-no\-sessions\fR
+has sessions not bind
 .TP
 \fB\-\-guarantees\fR
-says of each guarantee of sessions whether the log satisfies it; after the levels, if they are asked for too
+prints a line for each guarantee of sessions; after the levels, if they are asked for too
 .TP
 \fB\-\-order\fR \fIKIND\fR
-asks for an order of a kind: any, versions, commit or real; of these levels take any and real
+says which order binds: any, versions, real, or versions,real; without it versions, where the log knows them
 .TP
 \fB\-\-effort\fR \fIN\fR
 tries up to N repairs of an order before it gives up; without it 100000, and one for each transaction
@@ -436,18 +439,14 @@ Where skew.jsonl has the lines
 it prints
 .RS 4
 .nf
-not serial: write skew (G2\-item)
+not serializable: write skew (G2\-item)
   a read x = 1, which b overwrote with 0    a before b
   b read y = 1, which a overwrote with 0    b before a
+holds at snapshot
 .fi
 .RE
-With \-\-levels it says of each level whether the log satisfies it: the last line is
-.RS 4
-.nf
-fails at serializable; holds at snapshot, parallel\-snapshot, causal, read\-atomic, monotonic\-view, read\-committed, read\-uncommitted
-.fi
-.RE
-The status is 0 if there is an order, or all that is asked for holds, 1 if not, 3 if that is not known or there is nothing to judge, and 4 after a fault of the log.
+All transactions are asked for as if they were at one level. The order of the versions of each key binds where the log has it, by the ends of its transactions or the numbers of its writes, and so do its sessions.
+The status is 0 if the log is serializable, or all that is asked for holds, 1 if not, 3 if that is not known or there is nothing to judge, and 4 after a fault of the log.
 .SS drive
 Runs events as they are typed, one a line, and answers each at once.
 .PP

@@ -10,7 +10,7 @@ _hek() {
         'page:Writes a schedule'\''s run, or a log, as a page for a browser'
         'permute:Plays every order of a schedule'\''s moves, and counts the outcomes'
         'check:Says whether each transaction of a trace got what its level promises'
-        'history:Says whether a log of transactions has a serial order, and if not, why not'
+        'history:Says whether a log of transactions is serializable, at which levels it holds, and if not, why not'
         'drive:Runs events as they are typed, one a line, and answers each at once'
         'threads:Runs each transaction of a schedule in its own thread, and prints the history'
         'word:Explains lock words, as Begin and as End words'
@@ -125,11 +125,12 @@ _hek() {
         history)
             _arguments \
                 '--explain=-[says of each fault what is wrong, what is wanted and what is meant, as at a terminal; =never only names it]::HOW:(always never)' \
-                '--level[judges all transactions at a level\: serializable, repeatable, snapshot, parallel-snapshot, causal, read-atomic, monotonic-view, read-committed or read-uncommitted; or asks for a guarantee of sessions\: monotonic-reads, read-your-writes, monotonic-writes, writes-follow-reads, or guarantees for all four]:L:(serializable repeatable snapshot)' \
-                '--levels[says of each level whether the log satisfies it, from read-uncommitted to serializable]' \
-                '--sessions[has sessions bind at the level, or at each with --levels\: a transaction comes after those before it in its session, and sees them]' \
-                '--guarantees[says of each guarantee of sessions whether the log satisfies it; after the levels, if they are asked for too]' \
-                '--order[asks for an order of a kind\: any, versions, commit or real; of these levels take any and real]:KIND:(any versions commit real)' \
+                '--level[asks for one level\: serializable, repeatable, snapshot, parallel-snapshot, prefix, causal, read-atomic, monotonic-view, read-committed or read-uncommitted; or own, each transaction at the level of its line; or for a guarantee of sessions\: monotonic-reads, read-your-writes, monotonic-writes, writes-follow-reads, or guarantees for all four]:L:(serializable repeatable snapshot)' \
+                '--levels[prints a line for each level, from serializable to read-uncommitted]' \
+                '--sessions[has sessions bind, as they do where the log has some\: a transaction comes after those before it in its session, and sees them from read-atomic on]' \
+                '--no-sessions[has sessions not bind]' \
+                '--guarantees[prints a line for each guarantee of sessions; after the levels, if they are asked for too]' \
+                '--order[says which order binds\: any, versions, real, or versions,real; without it versions, where the log knows them]:KIND:(any versions real versions,real)' \
                 '--effort[tries up to N repairs of an order before it gives up; without it 100000, and one for each transaction]:N:' \
                 '--all=-[goes on after an anomaly, without the answers on which it rests, and counts them by name; =counts prints the counts alone]::HOW:(each counts)' \
                 '--order-out[writes the order that was found, a line for each transaction; - is standard output, after the verdict]:OUT:_files' \
