@@ -14,7 +14,7 @@ import time
 
 CODES = {" ": "Space", "/": "Slash"}
 # The numbers by which Chromium knows keys; a letter's is that of its capital.
-NUMBERS = {"Tab": 9, "Enter": 13, "Escape": 27, " ": 32, "End": 35, "Home": 36, "ArrowLeft": 37, "ArrowUp": 38, "ArrowRight": 39, "ArrowDown": 40,
+NUMBERS = {"Tab": 9, "Enter": 13, "Escape": 27, " ": 32, "PageUp": 33, "PageDown": 34, "End": 35, "Home": 36, "ArrowLeft": 37, "ArrowUp": 38, "ArrowRight": 39, "ArrowDown": 40,
            "Backspace": 8, "F8": 119, "/": 191}
 # What Chromium does at a letter with Control.
 COMMANDS = {"z": ["undo"], "a": ["selectAll"]}

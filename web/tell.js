@@ -141,8 +141,9 @@ async function answersTo(schedule) {
     if (!wasm) return {err: "The machine isn't loaded yet."};
     const got = await hek(["history", ...words, "--json", "--explain", LOG], {[LOG]: schedule});
     if (got.isEnded) return got;
-    if (!got.out.trim() || got.status === 2) return {err: got.err};
-    all.push(...objects(got.out));
+    const its = objects(got.out);
+    if (!its.length || its.some(it => it.kind === "fault")) return {err: got.err};
+    all.push(...its);
   }
   return all;
 }
