@@ -91,9 +91,15 @@ const frees = (story, at, step) => story.waits.map((wait) => {
 
 // ---- the cycle
 
-/** How far a label at a point is from boxes, other labels, arrow heads and the edges of the picture. */
+/** The columns that the cycle is made of. */
+const inCycle = (story) => new Set(story.verdict.edges.flatMap(({ a, b }) => [a, b]));
+
+/** How far a label at a point is from boxes, other labels, arrow heads and the edges of the picture. It may rather cover a box that has faded. */
 function clearance([x, y], [w, h], story, at, used, curves) {
-  const boxes = story.columns.map((column, index) => Math.max(Math.abs(at.mid(index) - x) - (at.width(index) + w) / 2, Math.abs(at.y(column.t) + at.high / 2 - y) - (at.high + h) / 2));
+  const kept = inCycle(story), boxes = story.columns.map((column, index) => {
+    const free = Math.max(Math.abs(at.mid(index) - x) - (at.width(index) + w) / 2, Math.abs(at.y(column.t) + at.high / 2 - y) - (at.high + h) / 2);
+    return kept.has(index) ? free : Math.max(free, -0.25 * at.u);
+  });
   const labels = used.map((it) => Math.max(Math.abs(it.x - x) - (it.w + w) / 2 - 4, Math.abs(it.y - y) - h - 3));
   const tips = curves.map(({ tip }) => Math.max(Math.abs(tip[0] - x) - w / 2 - 0.7 * at.u, Math.abs(tip[1] - y) - h / 2 - 0.9 * at.u));
   return Math.min(...boxes, ...labels, ...tips, x - w / 2, at.w - x - w / 2);
@@ -143,7 +149,7 @@ export const labelOf = (column, index) => `${index + 1}: ${plain(column.say ?? "
 
 /** The lanes after `step` moves; the step after the last is the verdict. With `isLive` each box can be pressed. */
 export function lanes(story, at, step, isLive = false) {
-  const isEnd = step > at.count, now = Math.min(step, at.count), isCycle = isEnd && story.verdict.kind === "not", kept = new Set(story.verdict.edges.flatMap(({ a, b }) => [a, b])), h = at.lane * story.names.length;
+  const isEnd = step > at.count, now = Math.min(step, at.count), isCycle = isEnd && story.verdict.kind === "not", kept = inCycle(story), h = at.lane * story.names.length;
   const band = now > 0 && !isEnd ? rect(at.left(now - 1), 0, at.width(now - 1), h, "band") : "", dim = (is) => (is ? ' class="dim"' : "");
   const rules = story.names.map((_, t) => path(`M0 ${r1(at.y(t) + at.high / 2)}H${r1(at.w)}`, "rule")).join(""), lives = story.names.map((_, t) => life(story, at, t, now)).join("");
   const bars = story.waits.filter((wait) => wait.from < now).map((wait) => `<g${dim(isCycle)}>${waitBar(story, at, wait, now)}</g>`).join("");
