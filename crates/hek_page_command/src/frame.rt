@@ -5,7 +5,7 @@ pub(crate) const FRONT: &str = r#"<!DOCTYPE html>
 <head>
 <meta charset="utf-8">
 <meta name="viewport" content="width=device-width, initial-scale=1">
-<meta http-equiv="Content-Security-Policy" content="default-src 'none'; script-src 'sha256-CXE8RZuBisQvuL5+6+VrtMHvfBhbv/03/QWYuJkuhp0='; style-src 'sha256-YvKsi02e/IXD7c9ywA1F5g3/4ZcohC1f7GWNjHs6KBQ='; style-src-attr 'unsafe-inline'; img-src data:; base-uri 'none'; form-action 'none'">
+<meta http-equiv="Content-Security-Policy" content="default-src 'none'; script-src 'sha256-mPWBIvPLN5ZWJQyjCfgk7NXmeuVQ34GyTIfvZhYWlY4='; style-src 'sha256-zVuQI8MUlpkXk61VemMIhfXWNUACC/CjSvEoP7w03Ec='; style-src-attr 'unsafe-inline'; img-src data:; base-uri 'none'; form-action 'none'">
 <title>"#;
 
 pub(crate) const HEAD: &str = r#"</title>

@@ -204,9 +204,10 @@ function layout(story, { w, h, u, all = [story], rows = true }) {
   const slots = slotsOf(all), own = slots.of[all.indexOf(story)]; let way, xs, length, pad = (isNarrow ? 1.2 : 2.6) * u, room = w - gutter - pad - tail;
   for (way of ways(all, slots, room, u, isNarrow)) { if (way.isTight) [pad, room] = [0.4 * u, room + pad - 0.4 * u];
     xs = spread(all, slots, way.widths, way.least); length = end(all, slots, way.widths, xs); if (length <= room + 0.5) break; }
-  const first = way.widths.flat()[0] ?? 0, isEven = way.least === first, stretch = isEven || length >= room ? 1 : clamp(1, (room - first) / Math.max(length - first, 1), 2);
-  const widths = way.widths[all.indexOf(story)], place = (x) => pad + first / 2 + (x - first / 2) * stretch;
-  const mid = (index) => place(xs[own[index]] ?? (xs.at(-1) ?? 0) + first), most = place(length - first / 2) + first / 2;
+  const first = way.widths.flat()[0] ?? 0, isEven = way.least === first, boxes = way.widths.flatMap((its, which) => its.map((width, index) => ({ x: xs[slots.of[which][index]] - first / 2, width })));
+  const stretches = boxes.filter(({ x }) => x > 1).map(({ x, width }) => (room - (first + width) / 2) / x), stretch = isEven || length >= room ? 1 : clamp(1, Math.min(2, ...stretches), 2);
+  const widths = way.widths[all.indexOf(story)], place = (x) => pad + first / 2 + x * stretch;
+  const mid = (index) => place((xs[own[index]] ?? (xs.at(-1) ?? 0) + first) - first / 2), most = Math.max(pad, ...boxes.map(({ x, width }) => place(x) + width / 2));
   const left = (index) => mid(index) - (widths[index] ?? first) / 2, right = (index) => (index ? mid(index - 1) + (widths[index - 1] ?? first) / 2 : pad);
   const high = heights(story, { h, u, rows, isNarrow });
   return { w: Math.max(most + tail, w - gutter), u, count: story.columns.length, gutter, pad, nameSize, size: high.high > 3.6 * u ? way.size : Math.min(way.size, L), isNarrow, mid, left, right,
@@ -567,8 +568,9 @@ pub(crate) const SCRIPT_SECOND: &str = r##"function worksheet(story) {
 return { questionAt, questions, questionHtml, result, worksheet }; })(); Story.player = (() => { const { BAR } = Story.cards;
 const { cards, compared, sentence, sentenceRoom, stage, told } = Story.view; const { questionAt, questionHtml, questions, result } = Story.ask;
 const { samePlace } = Story.story; const { esc, rich } = Story.text; const NARROW = "(max-width: 50rem)";
-const FORWARD = { ArrowRight: 1, ArrowDown: 1, PageDown: 1, ArrowLeft: -1, ArrowUp: -1, PageUp: -1 }; const READING = 700; class Player { constructor(host) {
-    this.host = host; this.model = this.place = null; this.reading = -Infinity; this.answers = new Map(); this.isAsking = false; this.listen(); }
+const FORWARD = { ArrowRight: 1, ArrowDown: 1, PageDown: 1, ArrowLeft: -1, ArrowUp: -1, PageUp: -1 }; const READING = 700; const LEAST_CARDS = 10;
+class Player { constructor(host) { this.host = host; this.model = this.place = null; this.reading = -Infinity; this.answers = new Map(); this.isAsking = false;
+    this.listen(); }
   get story() { return this.model?.stories[this.place.level] ?? null; }
   get end() { return (this.story?.columns.length ?? 0) + 1; }
   show(model, place, { scrolls = true } = {}) { const isNew = model !== this.model || place.level !== this.place?.level;
@@ -583,20 +585,24 @@ const FORWARD = { ArrowRight: 1, ArrowDown: 1, PageDown: 1, ArrowLeft: -1, Arrow
   feedback(story) { const { asks, step } = this.place, answer = this.answers.get(step - 1); if (!asks || answer === undefined) return "";
     const isRight = answer === questionAt(story, step - 1).right;
     return `<p class="guess ${isRight ? "" : "not"}">${isRight ? "✓ Right." : `✗ The guess was: ${rich(answer, story.names)}.`}</p>`; }
-  showCards(story) {
+  showCards(story, high = null) {
     const { model, place, unit } = this, box = byId("st-cards"), isHidden = place.mode !== "" || place.asks || model.levels.length < 2, narrow = matchMedia(NARROW).matches;
     box.hidden = isHidden; if (isHidden) return put(box, ""); box.style.setProperty("--cards", model.levels.length);
-    const scrolled = [...box.querySelectorAll(".level")].map((it) => it.scrollTop);
+    if (high === null) box.style.removeProperty("--high"); else box.style.setProperty("--high", `${high}px`);
+    for (const it of box.querySelectorAll(".more")) it.remove(); const scrolled = [...box.querySelectorAll(".level")].map((it) => it.scrollTop);
     put(box, cards(model, story, place, { w: box.clientWidth, u: unit, narrow })); box.querySelectorAll(".level").forEach((card, index) => {
       card.scrollTop = scrolled[index] ?? 0; if (card.scrollHeight <= card.clientHeight + 2) return;
       const all = card.querySelectorAll("[data-order]").length, bar = BAR * unit, top = card.scrollTop + card.lastElementChild.getBoundingClientRect().top - card.getBoundingClientRect().top - card.clientTop, whole = Math.floor((card.clientHeight - top - 1.2 * unit) / bar), h = card.clientHeight - top - whole * bar + 1;
       card.insertAdjacentHTML("beforeend", `<div class="more" style="height: ${h}px; margin-top: -${h}px">${all - whole} more ↓</div>`); }); return undefined; }
-  showStage(story) {
+  showStage(story, isLast = false) {
     const { model, place, unit: u } = this, main = byId("st-main"), view = byId("st-stage"), narrow = matchMedia(NARROW).matches, style = getComputedStyle(main);
     const w = main.clientWidth - parseFloat(style.paddingLeft) - parseFloat(style.paddingRight), below = byId("st-cards").hidden ? 0 : byId("st-cards").offsetHeight + 0.5 * u;
     const room = { w, h: narrow ? 0 : main.clientHeight - byId("st-say").offsetHeight - below - 1.2 * u, u };
     const { html, at } = place.mode === "compare" ? compared(model, story, place.step, room) : stage(story, place.step, room), hadFocus = view.contains(document.activeElement) && document.activeElement !== view;
-    put(byId("st-grid"), html); if (hadFocus) (view.querySelector('[tabindex="0"]') ?? view).focus({ preventScroll: true });
+    put(byId("st-grid"), html); const left = byId("st-cards").offsetHeight - (view.scrollHeight - view.clientHeight) - 1;
+    if (!narrow && !isLast && below > 0 && view.scrollHeight > view.clientHeight + 1 && left >= LEAST_CARDS * u) { this.showCards(story, left);
+      this.showStage(story, true); return; }
+    if (hadFocus) (view.querySelector('[tabindex="0"]') ?? view).focus({ preventScroll: true });
     const x = place.step ? at.left(place.step - 1) : 0, edge = view.clientWidth - at.gutter;
     if (x < view.scrollLeft || x + at.width(0) * 1.5 > view.scrollLeft + edge) view.scrollLeft = Math.max(0, x - edge * 0.6);
     view.classList.toggle("cut", view.scrollWidth > view.clientWidth + 1); }
@@ -1482,7 +1488,9 @@ function nextMoves({ u, x, cell, laneY, cellY, cellH, tight }) {
 
 /** The head of a lane: name, its short form where it has one, level, and those of its fields that say something. */
 function laneHead(id, y, { laneH: h, gutter, u, isPhone, tight }) {
-  const it = run.txn(id, here);
+"##;
+
+pub(crate) const SCRIPT_THIRD: &str = r#"  const it = run.txn(id, here);
   const short = shortOf(id);
   const tokenW = short === it.name || isPhone ? 0 : widthOf(short, 0.9 * u, 700) + 0.6 * u;
   const room = gutter - tokenW - 0.8 * u;
@@ -1496,9 +1504,7 @@ function laneHead(id, y, { laneH: h, gutter, u, isPhone, tight }) {
   const next = after + (tokenW ? tokenW + 0.3 * u : 0);
   const level = fitting([it.level, `${it.level.slice(0, 7)}\u2026`, `${it.level.slice(0, 4)}\u2026`, ""], gutter - next - 0.3 * u, 0.95 * u);
   const state = it.kind === "not" ? "not begun" : it.kind === "active" && it.finished ? "finished" : it.kind;
-"##;
-
-pub(crate) const SCRIPT_THIRD: &str = r#"  if (isPhone) {
+  if (isPhone) {
     if (it.waits || it.commits) parts.push(`<text class="lane-facts" x="${f1(0.2 * u)}" y="${f1(y + 2.7 * u)}"><tspan class="warn">waits ${it.waits || it.commits}</tspan></text>`);
     return parts.join("") + "</g>";
   }
@@ -2506,7 +2512,9 @@ function showTree() {
   const inside = isAt ? "" : `<p class="whose">In the middle of a move</p><p>\u2192 goes on with it.</p>`;
   $("because").innerHTML = `<div class="moves">${found || inside || `<p class="whose">Who moves next?</p><div class="pick${tree.isMerged ? " merged" : ""}${isCrowd ? " crowd" : ""}" style="--n:${isCrowd ? Math.ceil(ways / 2) : Math.min(ways, 3)}">${choices}</div>`}</div>`;
   // the outcomes that can still be reached
-  if (!pinned) {
+"#;
+
+pub(crate) const SCRIPT_FOURTH: &str = r##"  if (!pinned) {
     $("words-title").innerHTML = `Outcomes from here <small>${ordersSaid(reach, place)}</small>`;
     if (isSecret) $("words-title").textContent = "Outcomes: what do you think?";
     const shown = isSecret ? [] : outcomesShown(node.counts);
@@ -2519,9 +2527,7 @@ function showTree() {
     put("word", `<ul class="outcomes${data.outcomes.length > 3 ? " many" : ""}"${digits > 3 ? ` style="--digits:${digits}"` : ""}>${rows.join("")}${left ? `<li class="rest soft">and ${left} more</li>` : ""}</ul>`);
     // Lines that are broken may need more room than there is.
     if (!isSmall() && $("word").scrollHeight > $("word").clientHeight + 2) $("word").firstElementChild.classList.add("many");
-"#;
-
-pub(crate) const SCRIPT_FOURTH: &str = r##"  }
+  }
 }
 
 /** How common an outcome is. */
