@@ -9,6 +9,7 @@ use crate::prefixes::is_whole;
 use crate::story::{StepRange, Story, story_of};
 use hek_permute::{Form, Moves, OrderFault, Play, outcome_of, play_order, schedule_with};
 use hek_permute_command::{Given, put_judged};
+use hek_report::Text;
 use hek_rules::{Event, NoMemory, Schedule, TxnId};
 use std::alloc::Global;
 
@@ -65,9 +66,11 @@ fn outcome_line(
         return Ok(None);
     }
     let outcome = outcome_of(alloc, given.schedule, play)?;
-    let mut text = Vec::new(alloc);
+    let mut lines = Vec::new(alloc);
+    let mut text = Text::after(&mut lines);
     put_judged(alloc, given, &outcome, &mut text)?;
-    Ok(Some(text))
+    text.done()?;
+    Ok(Some(lines))
 }
 
 /// The story of these events over a schedule's rows and transactions, after the first `done` ones.
