@@ -1,16 +1,29 @@
 //! What operations do to a key, and whether an answer is right.
-ghost use Rattle.std.specs.Prelude.{◌≡◌};
-ghost use Rattle.hek_rules.specs.Listing.{value_of as value_in};
-ghost use Rattle.hek_history.specs.Answers.{after as value_after_change, is_change as is_any, followed_by as composed, change_at as change_there, last_change as last_of, fits as fits_at, same_found as same_as, tells as told_by};
-ghost use Rattle.hek_history_levels.specs.Reads.{changes as changes_it};
-ghost use Rattle.std.specs.Prelude.{None};
+use hek_history::{Change, Operation, covers, key_of};
+use hek_levels::Need;
 
-use hek_history::{Change, Operation, change_of, covers, key_of};
+/// A value is found, or absence.
+fn need_of(found: Option<u64>) -> Need {
+    match found {
+        None => Need::Absent,
+        Some(x) => Need::Value(x),
+    }
+}
+
+/// What an answer says of the operation's key, if it says something.
+pub(crate) fn need_at(operation: &Operation) -> Option<Need> {
+    match operation {
+        Operation::Read(_, found) => Some(need_of(*found)),
+        Operation::Put(_, _) | Operation::Scan(_, _) => None,
+        Operation::Insert(_, _, done) => { Some(if *done { Need::Absent } else { Need::Present }) }
+        Operation::Update(_, _, done) | Operation::Delete(_, done) => {
+            Some(if *done { Need::Present } else { Need::Absent })
+        }
+    }
+}
 
 /// Whether anything is done to the key.
-pub(crate) fn is_change(change: Change) -> bool
-    ensures { result ≡ is_any change }
-{
+pub(crate) fn is_change(change: Change) -> bool {
     match change {
         Change::Keep => false,
         Change::Remove | Change::Set(_) => true,
@@ -18,58 +31,15 @@ pub(crate) fn is_change(change: Change) -> bool
 }
 
 /// What a change leaves of a key that was absent.
-pub(crate) fn left(change: Change) -> Option<u64>
-    ensures { result ≡ value_after_change change None }
-{
+pub(crate) fn left(change: Change) -> Option<u64> {
     match change {
         Change::Keep | Change::Remove => None,
         Change::Set(x) => Some(x),
     }
 }
 
-/// One change and then another.
-fn followed_by(first: Change, later: Change) -> Change
-    ensures { result ≡ composed first later }
-{
-    match later {
-        Change::Keep => first,
-        Change::Remove | Change::Set(_) => later,
-    }
-}
-
-/// What an operation does to a key.
-fn change_at(key: u64, operation: &Operation) -> Change
-    ensures { result ≡ change_there key operation.now }
-{
-    if key_of(operation) == key {
-        change_of(operation)
-    } else {
-        Change::Keep
-    }
-}
-
-/// What operations in order do to a key: its last change.
-pub(crate) fn last_change(key: u64, operations: &[Operation]) -> Change
-    ensures { result ≡ last_of key operations.now }
-{
-    let mut change = Change::Keep;
-    for operation in operations {
-        change = followed_by(change, change_at(key, operation));
-    }
-    change
-}
-
-/// Whether operations change the key.
-pub(crate) fn changes(operations: &[Operation], key: u64) -> bool
-    ensures { result ≡ changes_it operations.now key }
-{
-    is_change(last_change(key, operations))
-}
-
-/// The value of a key in rows.
-pub(crate) fn value_of(rows: &[(u64, u64)], key: u64) -> Option<u64>
-    ensures { result ≡ value_in rows.now key }
-{
+/// The value of a key in rows that rise.
+fn value_of(rows: &[(u64, u64)], key: u64) -> Option<u64> {
     for row in rows {
         if row.0 == key {
             return Some(row.1);
@@ -80,7 +50,6 @@ pub(crate) fn value_of(rows: &[(u64, u64)], key: u64) -> Option<u64>
 
 /// Whether two values, or their absence, are the same.
 fn same_found(found: Option<u64>, value: Option<u64>) -> bool
-    ensures { result ≡ same_as found value }
 {
     match (found, value) {
         (None, None) => true,
@@ -91,7 +60,6 @@ fn same_found(found: Option<u64>, value: Option<u64>) -> bool
 
 /// Whether the answer is right where the key has this value, or is absent.
 fn fits(operation: &Operation, value: Option<u64>) -> bool
-    ensures { result ≡ fits_at operation.now value }
 {
     match operation {
         Operation::Read(_, found) => same_found(*found, value),
@@ -113,9 +81,13 @@ fn fits(operation: &Operation, value: Option<u64>) -> bool
     }
 }
 
+/// Whether the answer allows that the key had this value, or was absent; a lenient one allows all where it is right of absence.
+pub(crate) fn tells(lenient: bool, key: u64, operation: &Operation, value: Option<u64>) -> bool {
+    lenient && says(key, operation, None) || says(key, operation, value)
+}
+
 /// Whether the answer says that the key had this value, or was absent.
-pub(crate) fn tells(key: u64, operation: &Operation, value: Option<u64>) -> bool
-    ensures { result ≡ told_by key operation.now value }
+fn says(key: u64, operation: &Operation, value: Option<u64>) -> bool
 {
     match operation {
         Operation::Scan(scope, pairs) => {

@@ -3,10 +3,7 @@
 #![tactic(auto)]
 
 mod answers;
-mod changes;
-mod fitting;
-mod keys;
-mod reads;
 mod step;
+mod transaction;
 
 pub use step::log_of;

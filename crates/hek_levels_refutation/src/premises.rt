@@ -9,7 +9,7 @@ ghost use Rattle.hek_levels.specs.Explanations.{Explains};
 ghost use Rattle.hek_levels_refutation.specs.Claims.{AllHold, Holds};
 
 use crate::claim::{Claim, Shown};
-use hek_levels::{Log, Writer, is_committed, read_at};
+use hek_levels::{Log, Place, Writer, is_committed, read_at};
 
 /// The claim at a place.
 pub(crate) fn claim_at(shown: &[Shown], place: usize) -> Option<Claim>
@@ -108,7 +108,7 @@ pub(crate) fn takes_place(log: &Log, shown: &[Shown], t: usize, taken: Option<us
 #[derive(Clone, Copy)]
 pub(crate) struct Found {
     pub reader: usize,
-    pub place: usize,
+    pub place: Place,
     pub writer: Writer,
 }
 
@@ -156,13 +156,14 @@ pub(crate) fn not_at(shown: &[Shown], place: usize) -> Option<Found>
 #[derive(Clone, Copy)]
 pub(crate) struct Left {
     pub reader: usize,
-    pub place: usize,
+    pub place: Place,
     pub number: usize,
+    pub end: usize,
 }
 
 /// The candidates that the claim at a place leaves.
 pub(crate) fn left_at(shown: &[Shown], place: usize) -> Option<Left>
-    ensures { IfSome result (λ left. (rules : TheRules) (log : TheLog) (e : Explanation) → AllHold rules log e shown.now → Holds rules log e (From left.reader left.place left.number)) }
+    ensures { IfSome result (λ left. (rules : TheRules) (log : TheLog) (e : Explanation) → AllHold rules log e shown.now → Holds rules log e (From left.reader left.place left.number left.end)) }
 {
     match claim_at(shown, place) {
         Some(
@@ -170,11 +171,13 @@ pub(crate) fn left_at(shown: &[Shown], place: usize) -> Option<Left>
                 reader,
                 place: r,
                 number,
+                end,
             },
         ) => Some(Left {
             reader,
             place: r,
             number,
+            end,
         }),
         _ => None,
     }
@@ -184,7 +187,7 @@ pub(crate) fn left_at(shown: &[Shown], place: usize) -> Option<Left>
 #[derive(Clone, Copy)]
 pub(crate) struct Met {
     pub reader: usize,
-    pub place: usize,
+    pub place: Place,
     pub transaction: usize,
 }
 

@@ -9,7 +9,7 @@ ghost use Rattle.hek_levels_refutation.specs.Claims.{AllHold, FollowsFrom};
 
 use crate::claim::{Claim, Context, Link};
 use crate::premises::{edge_at, is_before, pair_at, source_at, takes_place, visible_at};
-use hek_levels::{Links, Own, Writer, does_write, is_earlier, read_at};
+use hek_levels::{Links, Own, Place, Writer, does_write, is_earlier, read_at};
 
 /// Both write the key, the other before y.
 fn by_writers(
@@ -42,7 +42,7 @@ fn by_writers(
     Some(other)
 }
 
-/// The other is before y, and earlier in its session.
+/// The other is before y, by turns too.
 fn precedes(context: &Context<'_>, y: usize, other: usize, before: usize) -> bool
     ensures { IsTrue result → (e : Explanation) → AllHold context.now.rules context.now.log.now e context.now.shown.now → Precedes context.now.log.now e other y }
 {
@@ -57,8 +57,8 @@ fn precedes(context: &Context<'_>, y: usize, other: usize, before: usize) -> boo
     )
 }
 
-/// The other is before y in its session.
-fn by_session(
+/// A turn of the other is before one of y.
+fn by_turn(
     context: &Context<'_>,
     links: Links,
     y: usize,
@@ -67,7 +67,7 @@ fn by_session(
 ) -> Option<usize>
     ensures { IfSome result (λ x. (e : Explanation) → Explains context.now.rules context.now.log.now e → AllHold context.now.rules context.now.log.now e context.now.shown.now → IsLinked links context.now.log.now e y x) }
 {
-    if !links.session {
+    if !links.turns {
         return None;
     }
     if !precedes(context, y, other, before) {
@@ -76,7 +76,7 @@ fn by_session(
     Some(other)
 }
 
-/// One before y in its session reads from the other.
+/// One whose turn is before one of y reads from the other.
 fn by_reads(
     context: &Context<'_>,
     links: Links,
@@ -87,7 +87,7 @@ fn by_reads(
 ) -> Option<usize>
     ensures { IfSome result (λ x. (e : Explanation) → Explains context.now.rules context.now.log.now e → AllHold context.now.rules context.now.log.now e context.now.shown.now → IsLinked links context.now.log.now e y x) }
 {
-    if !links.session_reads {
+    if !links.turn_reads {
         return None;
     }
     if !precedes(context, y, through, before) {
@@ -108,7 +108,7 @@ fn linked(context: &Context<'_>, links: Links, y: usize, link: Link) -> Option<u
 {
     match link {
         Link::Writers { other, key, before } => by_writers(context, links, y, other, key, before),
-        Link::Session { other, before } => by_session(context, links, y, other, before),
+        Link::Turn { other, before } => by_turn(context, links, y, other, before),
         Link::Reads {
             through,
             before,
@@ -118,7 +118,7 @@ fn linked(context: &Context<'_>, links: Links, y: usize, link: Link) -> Option<u
 }
 
 /// Whether the q-th read of t shows the r-th its source.
-fn shows_own(context: &Context<'_>, t: usize, q: usize, r: usize) -> bool
+fn shows_own(context: &Context<'_>, t: usize, q: Place, r: Place) -> bool
     ensures { IsTrue result → (e : Explanation) (x : ℕ) → e.source t q ≡ TransactionOf x → (read : TheRead) → read_there context.now.log.now t r ≡ Some read → SeesByOwn context.now.rules.own context.now.log.now e t r read.operation x }
 {
     let Some(shown) = read_at(context.log, t, q) else {
@@ -127,15 +127,15 @@ fn shows_own(context: &Context<'_>, t: usize, q: usize, r: usize) -> bool
     let Some(reading) = read_at(context.log, t, r) else {
         return false;
     };
-    match context.rules.own {
+    match context.asked.of(t).own {
         Own::Nothing => false,
-        Own::Earlier => q == r || shown.operation <= reading.operation,
+        Own::Earlier => shown.operation <= reading.operation,
         Own::All => true,
     }
 }
 
 /// A read sees the source of a read of its transaction.
-pub(crate) fn own(context: &Context<'_>, source: usize, r: usize) -> Option<Claim>
+pub(crate) fn own(context: &Context<'_>, source: usize, r: Place) -> Option<Claim>
     ensures { IfSome result (λ claim. FollowsFrom context.now claim) }
 {
     let Some(found) = source_at(context.shown, source) else {
@@ -158,17 +158,17 @@ pub(crate) fn own(context: &Context<'_>, source: usize, r: usize) -> Option<Clai
 pub(crate) fn whole(
     context: &Context<'_>,
     before: usize,
-    r: usize,
+    r: Place,
     taken: Option<usize>,
 ) -> Option<Claim>
     ensures { IfSome result (λ claim. FollowsFrom context.now claim) }
 {
-    if !context.rules.whole {
-        return None;
-    }
     let Some(pair) = pair_at(context.shown, before) else {
         return None;
     };
+    if !context.asked.of(pair.second).whole {
+        return None;
+    }
     if !takes_place(context.log, context.shown, pair.second, taken) {
         return None;
     }
@@ -183,7 +183,7 @@ pub(crate) fn whole(
 pub(crate) fn by_link(
     context: &Context<'_>,
     t: usize,
-    r: usize,
+    r: Place,
     taken: Option<usize>,
     link: Link,
 ) -> Option<Claim>
@@ -192,7 +192,7 @@ pub(crate) fn by_link(
     if !takes_place(context.log, context.shown, t, taken) {
         return None;
     }
-    let Some(x) = linked(context, context.rules.first, t, link) else {
+    let Some(x) = linked(context, context.asked.of(t).first, t, link) else {
         return None;
     };
     Some(Claim::Visible {
@@ -206,12 +206,12 @@ pub(crate) fn by_link(
 pub(crate) fn shows_before(context: &Context<'_>, visible: usize, before: usize) -> Option<Claim>
     ensures { IfSome result (λ claim. FollowsFrom context.now claim) }
 {
-    if !context.rules.prefix {
-        return None;
-    }
     let Some(met) = visible_at(context.shown, visible) else {
         return None;
     };
+    if !context.asked.of(met.reader).prefix {
+        return None;
+    }
     let Some(pair) = pair_at(context.shown, before) else {
         return None;
     };
@@ -229,12 +229,12 @@ pub(crate) fn shows_before(context: &Context<'_>, visible: usize, before: usize)
 pub(crate) fn shows(context: &Context<'_>, visible: usize, source: usize) -> Option<Claim>
     ensures { IfSome result (λ claim. FollowsFrom context.now claim) }
 {
-    if !context.rules.causes {
-        return None;
-    }
     let Some(met) = visible_at(context.shown, visible) else {
         return None;
     };
+    if !context.asked.of(met.reader).causes {
+        return None;
+    }
     let Some(edge) = edge_at(context.log, context.shown, source) else {
         return None;
     };
@@ -255,7 +255,7 @@ pub(crate) fn shows_linked(context: &Context<'_>, visible: usize, link: Link) ->
     let Some(met) = visible_at(context.shown, visible) else {
         return None;
     };
-    let Some(x) = linked(context, context.rules.next, met.transaction, link) else {
+    let Some(x) = linked(context, context.asked.of(met.reader).next, met.transaction, link) else {
         return None;
     };
     Some(Claim::Visible {
