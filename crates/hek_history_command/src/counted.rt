@@ -1,6 +1,5 @@
 //! How many anomalies there are of each name.
-use hek_history_report::{anomaly_name, counted_name};
-use hek_history_search::Anomaly;
+use hek_anomalies::Anomaly;
 use hek_report::{Lines, put};
 use hek_rules::NoMemory;
 use std::alloc::Global;
@@ -43,7 +42,7 @@ impl Tally {
         for (place, one) in self.counted.iter().enumerate() {
             let (anomaly, count) = *one;
             let comma = if place == 0 { "" } else { ", " };
-            let name = counted_name(anomaly, count);
+            let name = anomaly.counted(count);
             put(write!(lines, "{comma}{count} {name}"))?;
         }
         Ok(())
@@ -56,7 +55,7 @@ impl Tally {
         for one in self.counted.iter() {
             let (anomaly, count) = *one;
             out.begin_object();
-            out.put_text("anomaly", anomaly_name(anomaly));
+            out.put_text("anomaly", anomaly.name());
             out.put_number("count", count);
             out.end_object();
         }

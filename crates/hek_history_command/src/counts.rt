@@ -1,5 +1,7 @@
 //! What is counted of an order that was found.
-use hek_history::{History, Operation, Point};
+use hek_history::Operation;
+use hek_ladder::{Scene, order_of};
+use hek_levels_search::Shown;
 use hek_rules::NoMemory;
 use std::alloc::Global;
 
@@ -12,23 +14,18 @@ pub(crate) struct Counts {
     pub elsewhere: Option<u64>,
 }
 
-/// Counts what takes place.
-pub(crate) fn counts_of(
-    alloc: Global,
-    history: &History,
-    points: &[Point],
-) -> Result<Counts, NoMemory> {
+/// Counts what takes place in an explanation.
+pub(crate) fn counts_of(alloc: Global, scene: &Scene, shown: &Shown) -> Result<Counts, NoMemory> {
+    let history = &scene.log.history;
     let mut ends = Vec::new(alloc);
     let mut transactions: u64 = 0;
     let mut reads: u64 = 0;
-    for point in points {
-        if let Point::Commit(place) = *point {
-            if let Some(transaction) = history.transactions.get(place) {
-                transactions = transactions.saturating_add(1);
-                reads = reads.saturating_add(reads_of(transaction.operations.as_slice()));
-                if let Some(end) = transaction.end {
-                    ends.push(end)?;
-                }
+    for place in order_of(alloc, shown)?.iter() {
+        if let Some(transaction) = history.transactions.get(*place) {
+            transactions = transactions.saturating_add(1);
+            reads = reads.saturating_add(reads_of(transaction.operations.as_slice()));
+            if let Some(end) = transaction.end {
+                ends.push(end)?;
             }
         }
     }

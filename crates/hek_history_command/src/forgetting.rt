@@ -1,12 +1,15 @@
 //! Going on after an anomaly: the answers on which it rests are forgotten.
-use hek_history::{Level, Operation, Scope, Transaction, covers, key_of};
+use hek_anomalies::{Answer, Cause};
+use hek_history::{Level, Operation, Scope, Status, Transaction, covers, key_of};
+use hek_history_log::Log;
+use hek_levels::Writer;
 use hek_rules::NoMemory;
 use std::alloc::Global;
 use std::mem;
 
 /// Forgets what a transaction was answered: it becomes serializable, without times, and only writes. A history that has an
 /// explanation has one after this too.
-pub(crate) fn forget_answers(alloc: Global, transaction: &mut Transaction) -> Result<(), NoMemory> {
+fn forget_answers(alloc: Global, transaction: &mut Transaction) -> Result<(), NoMemory> {
     let mut operations = Vec::new(alloc);
     for operation in transaction.operations.iter() {
         add_write(&mut operations, operation)?;
@@ -37,7 +40,7 @@ fn add_write(operations: &mut Vec<Operation>, operation: &Operation) -> Result<(
 
 /// Forgets what a transaction was answered at a key. Its writes stay, and its answers at other keys; of a scan of a bucket those at the
 /// other keys that it listed.
-pub(crate) fn forget_answer(
+fn forget_answer(
     alloc: Global,
     transaction: &mut Transaction,
     key: u64,
@@ -138,5 +141,62 @@ fn split(pairs: &[(u64, u64)], place: usize) -> (&[(u64, u64)], &[(u64, u64)]) {
         pairs.split_at(place)
     } else {
         (pairs, &[])
+    }
+}
+
+/// Forgets the answers on which an anomaly rests; where it rests on none, a transaction of its cycle. One of unknown status is left out
+/// whole.
+pub(crate) fn forget_cause(alloc: Global, log: &mut Log, cause: &Cause) -> Result<(), NoMemory> {
+    for answer in cause.answers.iter() {
+        forget_one(alloc, log, *answer)?;
+    }
+    for edge in cause.cycle.iter() {
+        leave_out_unknown(log, edge.first);
+        leave_out_unknown(log, edge.second);
+    }
+    if cause.answers.is_empty() {
+        for edge in cause.cycle.iter() {
+            if let Writer::Transaction(place) = edge.first {
+                leave_out(log, place);
+                return Ok(());
+            }
+        }
+    }
+    Ok(())
+}
+
+/// A transaction has not taken place.
+fn leave_out(log: &mut Log, place: usize) {
+    if let Some(transaction) = log.history.transactions.get_mut(place) {
+        transaction.status = Status::Aborted;
+    }
+}
+
+/// A writer of unknown status has not taken place.
+fn leave_out_unknown(log: &mut Log, writer: Writer) {
+    let Writer::Transaction(place) = writer else {
+        return;
+    };
+    let is_unknown = match log.history.transactions.get(place) {
+        Some(transaction) => transaction.status == Status::Unknown,
+        None => false,
+    };
+    if is_unknown {
+        leave_out(log, place);
+    }
+}
+
+/// Forgets an answer.
+fn forget_one(alloc: Global, log: &mut Log, answer: Answer) -> Result<(), NoMemory> {
+    let Some(transaction) = log.history.transactions.get_mut(answer.transaction) else {
+        return Ok(());
+    };
+    if transaction.status == Status::Unknown {
+        transaction.status = Status::Aborted;
+        return Ok(());
+    }
+    match answer.key {
+        Some(key) => forget_answer(alloc, transaction, key),
+        None => forget_answers(alloc, transaction),
     }
 }

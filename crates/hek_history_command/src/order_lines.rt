@@ -1,6 +1,7 @@
 //! The order that was found, a line for each point.
 use hek_history::Point;
-use hek_history_log::Log;
+use hek_ladder::{Promise, Scene};
+use hek_levels_search::Shown;
 use hek_report::{HekFault, put, send};
 use hek_rules::NoMemory;
 use std::alloc::Global;
@@ -9,17 +10,41 @@ use std::io::Write;
 /// How many bytes of lines are written at once.
 const MANY: usize = 1 << 16;
 
-/// Writes the order that was found: the name of each serializable transaction, and for a snapshot one two lines, with
-/// `begin` and `commit` after its name.
+/// Writes the order that was found: the name of each transaction, and of one that reads before it commits two lines, with `begin` and
+/// `commit` after its name.
 pub(crate) fn write_order<'a, O: Write>(
     alloc: Global,
-    log: &Log,
+    scene: &Scene,
+    promise: Option<Promise>,
+    shown: &Shown,
+    out: &mut O,
+) -> Result<(), HekFault<'a>> {
+    match shown {
+        Shown::Points(points) => write_points(alloc, scene, promise, points.as_slice(), out),
+        Shown::Sources(certificate) => {
+            let mut lines = Vec::new(alloc);
+            for t in certificate.order.iter() {
+                let name = scene.log.name(*t);
+                put(writeln!(lines, "{name}"))?;
+                if lines.len() >= MANY {
+                    send(&mut lines, out)?;
+                }
+            }
+            send(&mut lines, out)
+        }
+    }
+}
+
+fn write_points<'a, O: Write>(
+    alloc: Global,
+    scene: &Scene,
+    promise: Option<Promise>,
     points: &[Point],
     out: &mut O,
 ) -> Result<(), HekFault<'a>> {
     let mut lines = Vec::new(alloc);
     for point in points {
-        put_point(log, *point, &mut lines)?;
+        put_point(scene, promise, *point, &mut lines)?;
         if lines.len() >= MANY {
             send(&mut lines, out)?;
         }
@@ -27,13 +52,18 @@ pub(crate) fn write_order<'a, O: Write>(
     send(&mut lines, out)
 }
 
-fn put_point(log: &Log, point: Point, lines: &mut Vec<u8>) -> Result<(), NoMemory> {
+fn put_point(
+    scene: &Scene,
+    promise: Option<Promise>,
+    point: Point,
+    lines: &mut Vec<u8>,
+) -> Result<(), NoMemory> {
     let (place, word) = match point {
         Point::Begin(place) => (place, "begin"),
         Point::Commit(place) => (place, "commit"),
     };
-    let name = log.name(place);
-    let written = if is_snapshot(log, place) {
+    let name = scene.log.name(place);
+    let written = if reads_before(scene, promise, place) {
         writeln!(lines, "{name} {word}")
     } else if word == "commit" {
         writeln!(lines, "{name}")
@@ -43,9 +73,14 @@ fn put_point(log: &Log, point: Point, lines: &mut Vec<u8>) -> Result<(), NoMemor
     put(written)
 }
 
-fn is_snapshot(log: &Log, place: usize) -> bool {
-    match log.history.transactions.get(place) {
-        Some(transaction) => transaction.level.is_snapshot(),
+/// Whether a transaction reads before it commits, at the level that is asked for.
+fn reads_before(scene: &Scene, promise: Option<Promise>, place: usize) -> bool {
+    match promise {
         None => false,
+        Some(Promise::Own) => match scene.log.history.transactions.get(place) {
+            Some(transaction) => transaction.level.is_snapshot(),
+            None => false,
+        },
+        Some(promise) => !promise.rules().whole,
     }
 }

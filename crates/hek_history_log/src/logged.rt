@@ -16,6 +16,15 @@ pub struct Log {
     pub(crate) names: Names,
     pub(crate) keys: KeyLabels,
     pub(crate) values: Labels,
+    pub(crate) versions: Vec<Version>,
+}
+
+/// The number of the version that a transaction writes at a key.
+#[derive(Clone, Copy, Debug, PartialEq, Eq)]
+pub struct Version {
+    pub transaction: usize,
+    pub key: u64,
+    pub number: u64,
 }
 
 /// A place in a session: the number that stands for its name, and the number of the place.
@@ -117,6 +126,25 @@ impl Log {
     /// Whether a transaction of the log is in a session.
     pub fn has_sessions(&self) -> bool {
         !self.names.turns.is_empty()
+    }
+
+    /// The version numbers of the writes of the transaction at a place of the history.
+    pub fn versions_of(&self, transaction: usize) -> &[Version] {
+        let from = self
+            .versions
+            .partition_point(|one| one.transaction < transaction);
+        let to = self
+            .versions
+            .partition_point(|one| one.transaction <= transaction);
+        match self.versions.get(from..to) {
+            Some(list) => list,
+            None => &[],
+        }
+    }
+
+    /// Whether a write of the log has a version number.
+    pub fn has_versions(&self) -> bool {
+        !self.versions.is_empty()
     }
 
     /// The name of the session that a number of a turn stands for.

@@ -19,6 +19,7 @@ ghost use Rattle.hek_history_log.specs.Readable.{IsOwn, IsOwnFound, IsReadable, 
 
 use crate::fault::{LogFault, Wanted};
 use crate::log_line::{LogLine, Misfit};
+use crate::logged::Version;
 use crate::numbering::Labels;
 use crate::shown::Label;
 use crate::spot::Spot;
@@ -172,7 +173,62 @@ fn parts_in<'v, 'a>(item: &'v Value<'a>) -> Result<(Kind, &'v [Value<'a>]), Misf
     let Some(kind) = kind_of(parts) else {
         return Err(Misfit::Wanted(Wanted::Operation));
     };
-    Ok((kind, parts))
+    Ok((kind, without_facts(kind, parts)))
+}
+
+/// The parts of an operation without the object that a write may have at its end.
+fn without_facts<'v, 'a>(kind: Kind, parts: &'v [Value<'a>]) -> &'v [Value<'a>] {
+    let is_write = has_answer(kind) || kind == Kind::Write;
+    match parts {
+        [others @ .., Value::Object(_)] if is_write => others,
+        _ => parts,
+    }
+}
+
+/// The version number of an operation of a list, if it has one.
+fn version_in(item: &Value<'_>) -> Result<Option<u64>, Misfit> {
+    let (kind, parts) = parts_in(item)?;
+    let is_write = has_answer(kind) || kind == Kind::Write;
+    let last = match items_of(item) {
+        Some(all) => all.last(),
+        None => None,
+    };
+    match last {
+        Some(Value::Object(members)) if is_write && !parts.is_empty() => {
+            match members.as_slice() {
+                [(name, value)] if *name == "version" => match number_in(value) {
+                    Some(number) => Ok(Some(number)),
+                    None => Err(Misfit::Wanted(Wanted::Version)),
+                },
+                _ => Err(Misfit::Wanted(Wanted::Version)),
+            }
+        }
+        _ => Ok(None),
+    }
+}
+
+/// Adds the version numbers of the writes of a transaction, each with the place of its operation.
+pub(crate) fn read_versions(
+    line: LogLine<'_>,
+    object: &Value<'_>,
+    transaction: usize,
+    versions: &mut Vec<Version>,
+) -> Result<(), LogFault> {
+    let Some(items) = items_in(object, "ops") else {
+        return Ok(());
+    };
+    for (place, item) in items.iter().enumerate() {
+        match version_in(item) {
+            Ok(Some(number)) => versions.push(Version {
+                transaction,
+                key: place as u64,
+                number,
+            })?,
+            Ok(None) => {}
+            Err(misfit) => return Err(line.fault(Spot::Item("ops", place), misfit)),
+        }
+    }
+    Ok(())
 }
 
 fn add(operation: Operation, operations: &mut Vec<Operation>) -> Result<(), Misfit>

@@ -1,133 +1,10 @@
 //! An anomaly in words.
-use hek_history::{Need, Writer};
+use hek_anomalies::{Anomaly, Cause, CycleEdge, EdgeKind, Evidence, OwnFault, Sighting, Told};
 use hek_history_log::{Label, Log};
-use hek_history_search::{
-    Anomaly, Cause, CycleEdge, EdgeKind, Evidence, OwnFault, Reason, Sighting,
-};
+use hek_levels::{Need, Writer};
 use hek_rules::NoMemory;
 use std::alloc::{AllocError, Global};
 use std::fmt;
-
-/// The name of an anomaly, with its sign in the literature if it has one.
-pub fn anomaly_name(anomaly: Anomaly) -> &'static str {
-    match anomaly {
-        Anomaly::DirtyWrite => "dirty write (G0)",
-        Anomaly::AbortedRead => "aborted read (G1a)",
-        Anomaly::IntermediateRead => "intermediate read (G1b)",
-        Anomaly::UnwrittenRead => "a value that nobody wrote",
-        Anomaly::LaterWriteRead => "read of its own later write",
-        Anomaly::CircularInformationFlow => "circular information flow (G1c)",
-        Anomaly::InsertThatExists => "insert that exists",
-        Anomaly::LostUpdate => "lost update",
-        Anomaly::ReadSkew => "read skew (G-single)",
-        Anomaly::SingleAntiDependency => "G-single",
-        Anomaly::WriteSkew => "write skew (G2-item)",
-        Anomaly::ReadOnlyAnomaly => "read-only anomaly (G2-item)",
-        Anomaly::Phantom => "phantom (G2)",
-        Anomaly::LongFork => "long fork (G-nonadjacent)",
-        Anomaly::Nonadjacent => "G-nonadjacent",
-        Anomaly::AntiDependencyCycle => "G2-item",
-        other => other_name(other),
-    }
-}
-
-/// The name of an anomaly of times, of one transaction, or of no cycle.
-fn other_name(anomaly: Anomaly) -> &'static str {
-    match anomaly {
-        Anomaly::StaleRead => "stale read (real time)",
-        Anomaly::AgainstRealTime => "against real time",
-        Anomaly::AgainstTimes => "against begin and end",
-        Anomaly::NonRepeatableRead => "non-repeatable read",
-        Anomaly::PhantomWithin => "phantom in one transaction",
-        Anomaly::OwnWriteLost => "own write lost",
-        Anomaly::OwnAnswers => "the answers of one transaction contradict each other",
-        Anomaly::NoSource => "a read of no writer",
-        _ => "no order of writes",
-    }
-}
-
-/// What anomalies are called in counts: one of them, and several.
-const COUNTED: [(Anomaly, &str, &str); 25] = [
-    (Anomaly::DirtyWrite, "dirty write", "dirty writes"),
-    (Anomaly::AbortedRead, "aborted read", "aborted reads"),
-    (
-        Anomaly::IntermediateRead,
-        "intermediate read",
-        "intermediate reads",
-    ),
-    (
-        Anomaly::UnwrittenRead,
-        "value that nobody wrote",
-        "values that nobody wrote",
-    ),
-    (
-        Anomaly::LaterWriteRead,
-        "read of its own later write",
-        "reads of their own later writes",
-    ),
-    (
-        Anomaly::CircularInformationFlow,
-        "circular information flow",
-        "circular information flows",
-    ),
-    (
-        Anomaly::InsertThatExists,
-        "insert that exists",
-        "inserts that exist",
-    ),
-    (Anomaly::LostUpdate, "lost update", "lost updates"),
-    (Anomaly::ReadSkew, "read skew", "read skews"),
-    (Anomaly::SingleAntiDependency, "G-single", "G-single"),
-    (Anomaly::WriteSkew, "write skew", "write skews"),
-    (
-        Anomaly::ReadOnlyAnomaly,
-        "read-only anomaly",
-        "read-only anomalies",
-    ),
-    (Anomaly::Phantom, "phantom", "phantoms"),
-    (Anomaly::LongFork, "long fork", "long forks"),
-    (Anomaly::Nonadjacent, "G-nonadjacent", "G-nonadjacent"),
-    (Anomaly::AntiDependencyCycle, "G2-item", "G2-item"),
-    (Anomaly::StaleRead, "stale read", "stale reads"),
-    (
-        Anomaly::AgainstRealTime,
-        "cycle against real time",
-        "cycles against real time",
-    ),
-    (
-        Anomaly::AgainstTimes,
-        "cycle against begin and end",
-        "cycles against begin and end",
-    ),
-    (
-        Anomaly::NonRepeatableRead,
-        "non-repeatable read",
-        "non-repeatable reads",
-    ),
-    (
-        Anomaly::PhantomWithin,
-        "phantom in one transaction",
-        "phantoms in one transaction",
-    ),
-    (Anomaly::OwnWriteLost, "own write lost", "own writes lost"),
-    (Anomaly::OwnAnswers, "scan at fault", "scans at fault"),
-    (Anomaly::NoSource, "read of no writer", "reads of no writer"),
-    (
-        Anomaly::NoOrder,
-        "no order of writes",
-        "times no order of writes",
-    ),
-];
-
-/// What so many anomalies are called in counts.
-pub fn counted_name(anomaly: Anomaly, count: u64) -> &'static str {
-    for (one, single, several) in COUNTED {
-        if one == anomaly {
-            return if count == 1 { single } else { several };
-        }
-    }
-    "anomalies"
-}
 
 /// The word of an edge's kind in JSON.
 pub(crate) fn kind_word(kind: EdgeKind) -> &'static str {
@@ -135,10 +12,8 @@ pub(crate) fn kind_word(kind: EdgeKind) -> &'static str {
         EdgeKind::Read => "wr",
         EdgeKind::Overwritten => "rw",
         EdgeKind::Version => "ww",
-        EdgeKind::FirstCommitter => "first-committer",
-        EdgeKind::Time => "time",
+        EdgeKind::Session => "session",
         EdgeKind::RealTime => "real",
-        EdgeKind::Cases => "cases",
         EdgeKind::Own(_) => "own",
     }
 }
@@ -149,9 +24,9 @@ pub(crate) fn evidence_word(evidence: Evidence) -> &'static str {
         Evidence::Answer => "answer",
         Evidence::SameVersion => "same version",
         Evidence::Seen(_) => "another answer",
+        Evidence::Versions => "version numbers",
         Evidence::EndTimes => "end times",
-        Evidence::Path(_) => "reasons",
-        Evidence::Steps => "steps",
+        Evidence::Turns => "turns",
     }
 }
 
@@ -195,7 +70,6 @@ fn reading_words(
 /// What was found at a key, without who found it.
 fn found_words(alloc: Global, log: &Log, key: Label<'_>, need: Need) -> Result<String, AllocError> {
     match need {
-        Need::Anything => format!(in alloc; "looked at {key}"),
         Need::Absent => format!(in alloc; "found {key} absent"),
         Need::Present => format!(in alloc; "found that {key} is there"),
         Need::Value(value) => {
@@ -216,18 +90,11 @@ pub fn edge_words(
     let second = writer_name(log, edge.second);
     match (edge.kind, edge.key) {
         (EdgeKind::Own(fault), _) => own_words(alloc, log, second, fault),
-        (EdgeKind::Time, _) => format!(in alloc; "{first} is before {second} by begin and end"),
-        (EdgeKind::RealTime, _) => {
+        (EdgeKind::Session, _) => format!(in alloc; "{first} is before {second} in their session"),
+        (EdgeKind::RealTime, _) | (_, None) => {
             format!(in alloc; "{first} was answered before {second} was invoked")
         }
-        (EdgeKind::Cases, _) | (_, None) => {
-            format!(in alloc; "{second} before {first} comes to a contradiction")
-        }
         (EdgeKind::Version, Some(key)) => version_words(alloc, log, edge, log.key(key)),
-        (EdgeKind::FirstCommitter, Some(key)) => {
-            let key = log.key(key);
-            format!(in alloc; "{first} began before {second} committed, and both wrote {key}")
-        }
         (EdgeKind::Read, Some(key)) => read_words(alloc, log, anomaly, edge, log.key(key)),
         (EdgeKind::Overwritten, Some(key)) => {
             let words = overwritten_words(alloc, log, edge, log.key(key))?;
@@ -245,20 +112,16 @@ fn version_words(
 ) -> Result<String, AllocError> {
     let first = writer_name(log, edge.first);
     let second = writer_name(log, edge.second);
-    match edge.evidence {
-        Evidence::Seen(seen) => {
+    match (edge.evidence, edge.read) {
+        (Evidence::Seen(seen), Some(read)) => {
             let saw = sighting_words(alloc, log, seen)?;
-            let found = found_words(alloc, log, key, edge.read.unwrap_or(Need::Anything))?;
+            let found = found_words(alloc, log, key, read)?;
             format!(in alloc;
                 "{first} wrote {key} before {second}: {saw} of {first}, and {found} of {second}"
             )
         }
-        Evidence::Path(reader) => {
-            let found = found_words(alloc, log, key, edge.read.unwrap_or(Need::Anything))?;
-            let reader = log.name(reader);
-            format!(in alloc;
-                "{first} wrote {key} before {second}: {reader}, which is after {first}, {found} of {second}"
-            )
+        (Evidence::Versions, _) => {
+            format!(in alloc; "{second} wrote a later version of {key} than {first}")
         }
         _ => format!(in alloc; "{second} wrote {key} after {first}"),
     }
@@ -282,16 +145,14 @@ fn with_evidence(
     edge: CycleEdge,
     words: String,
 ) -> Result<String, AllocError> {
-    let second = writer_name(log, edge.second);
     let source = writer_name(log, edge.source.unwrap_or(Writer::Opening));
     match edge.evidence {
         Evidence::Seen(seen) => {
             let saw = sighting_words(alloc, log, seen)?;
             format!(in alloc; "{words} ({saw}, and {source} wrote both)")
         }
-        Evidence::Path(_) => format!(in alloc;
-            "{words} ({source} wrote that, and is before {second})"
-        ),
+        Evidence::Versions => format!(in alloc; "{words} (a later version)"),
+        Evidence::Turns => format!(in alloc; "{words} ({source} wrote that before)"),
         _ => Ok(words),
     }
 }
@@ -304,7 +165,7 @@ fn read_words(
     edge: CycleEdge,
     key: Label<'_>,
 ) -> Result<String, AllocError> {
-    let need = edge.read.unwrap_or(Need::Anything);
+    let need = edge.read.unwrap_or(Need::Absent);
     let reading = reading_words(alloc, log, edge.second, key, need)?;
     let writer = writer_name(log, edge.first);
     match (anomaly, edge.first, need) {
@@ -315,8 +176,8 @@ fn read_words(
         (Anomaly::LaterWriteRead, _, _) => {
             format!(in alloc; "{reading}, which only it wrote, and that later")
         }
-        (Anomaly::NoSource, _, _) => format!(in alloc;
-            "{reading}: each writer of it is after the read, or was overwritten before it"
+        (Anomaly::ReadOfContradiction, _, _) => format!(in alloc;
+            "{reading}, written by {writer}, whose own answers contradict each other"
         ),
         (Anomaly::AbortedRead, _, _) => {
             format!(in alloc; "{reading}, written by {writer}, which aborted")
@@ -337,7 +198,7 @@ fn overwritten_words(
     edge: CycleEdge,
     key: Label<'_>,
 ) -> Result<String, AllocError> {
-    let need = edge.read.unwrap_or(Need::Anything);
+    let need = edge.read.unwrap_or(Need::Absent);
     let reading = reading_words(alloc, log, edge.first, key, need)?;
     let writer = writer_name(log, edge.second);
     match (edge.written, need) {
@@ -412,15 +273,17 @@ fn own_words(
     }
 }
 
-/// The lines of a cycle: each edge in words, and in a column after them which transaction is before which; below an edge, further in, those
-/// from which it follows.
+/// The lines of what keeps a log from a level: each edge of a cycle in words, and in a column after them which transaction is before
+/// which; below them the reads that show that transactions of unknown status took place. Where steps alone show it, from which reads they
+/// start.
 pub fn cycle_lines(alloc: Global, log: &Log, cause: &Cause) -> Result<Vec<String>, NoMemory> {
     let mut texts = Vec::new(alloc);
-    let mut edges = Vec::new(alloc);
-    gather_texts(alloc, log, cause, &mut texts, &mut edges)?;
+    for edge in cause.cycle.iter() {
+        texts.push(edge_words(alloc, log, cause.anomaly, *edge)?)?;
+    }
     let width = widest(texts.as_slice());
-    let mut lines = Vec::with_capacity(alloc, texts.len())?;
-    for (text, edge) in texts.iter().zip(edges.iter()) {
+    let mut lines = Vec::new(alloc);
+    for (text, edge) in texts.iter().zip(cause.cycle.iter()) {
         let line = if cause.cycle.len() == 1 {
             format!(in alloc; "  {text}")?
         } else {
@@ -428,44 +291,56 @@ pub fn cycle_lines(alloc: Global, log: &Log, cause: &Cause) -> Result<Vec<String
         };
         lines.push(line)?;
     }
+    for edge in cause.shown.iter() {
+        let words = edge_words(alloc, log, cause.anomaly, *edge)?;
+        let taken = writer_name(log, edge.first);
+        lines.push(format!(in alloc; "  {taken} took place: {words}")?)?;
+    }
+    add_steps(alloc, log, cause, &mut lines)?;
     Ok(lines)
 }
 
-/// Adds the words of each edge, and of the reasons of each below it, further in.
-fn gather_texts(
+/// Adds the lines of what steps alone show.
+fn add_steps(
     alloc: Global,
     log: &Log,
     cause: &Cause,
-    texts: &mut Vec<String>,
-    edges: &mut Vec<CycleEdge>,
+    lines: &mut Vec<String>,
 ) -> Result<(), NoMemory> {
-    for (place, edge) in cause.cycle.iter().enumerate() {
-        texts.push(edge_words(alloc, log, cause.anomaly, *edge)?)?;
-        edges.push(*edge)?;
-        for reason in cause.reasons.iter() {
-            if reason.place == place {
-                texts.push(reason_words(alloc, log, cause.anomaly, *reason)?)?;
-                edges.push(reason.edge)?;
-            }
-        }
+    if cause.steps == 0 {
+        return Ok(());
+    }
+    let steps = cause.steps;
+    lines.push(format!(in alloc; "  by {steps} steps, from these answers:")?)?;
+    for told in cause.told.iter() {
+        let words = told_words(alloc, log, told)?;
+        lines.push(format!(in alloc; "    {words}")?)?;
     }
     Ok(())
 }
 
-/// The words of a reason, as far in as it is deep.
-fn reason_words(
-    alloc: Global,
-    log: &Log,
-    anomaly: Anomaly,
-    reason: Reason,
-) -> Result<String, AllocError> {
-    let words = edge_words(alloc, log, anomaly, reason.edge)?;
-    let width = reason.depth.min(DEEPEST).saturating_mul(2);
-    format!(in alloc; "{:width$}{words}", "")
-}
+/// How many writers of a read are named at most.
+const MOST_NAMED: usize = 6;
 
-/// How many steps further in a reason stands at most.
-const DEEPEST: usize = 20;
+/// What a read found, and who may have written that.
+pub(crate) fn told_words(alloc: Global, log: &Log, told: &Told) -> Result<String, AllocError> {
+    let reader = Writer::Transaction(told.reader);
+    let found = reading_words(alloc, log, reader, log.key(told.key), told.need)?;
+    let mut words = format!(in alloc; "{found}: of ")?;
+    for (place, writer) in told.writers.iter().enumerate() {
+        if place >= MOST_NAMED {
+            words.push_str(" or others")?;
+            break;
+        }
+        if place > 0 {
+            words.push_str(" or ")?;
+        }
+        let name = writer_name(log, *writer);
+        let text = format!(in alloc; "{name}")?;
+        words.push_str(text.as_str())?;
+    }
+    Ok(words)
+}
 
 /// How many characters the longest of some texts has.
 fn widest(texts: &[String]) -> usize {

@@ -1,8 +1,8 @@
 //! Who comes before whom in a run, by the names of its schedule.
 use crate::anomaly_words::edge_words;
-use hek_history::{Need, Writer};
+use hek_anomalies::{Cause, CycleEdge, EdgeKind};
 use hek_history_log::{Label, Log};
-use hek_history_search::{Cause, CycleEdge, EdgeKind};
+use hek_levels::{Need, Writer};
 use hek_rules::{NoMemory, Schedule, TxnId};
 use std::alloc::Global;
 
@@ -59,7 +59,7 @@ fn before_of(log: &Log, edge: CycleEdge, first: Side, second: Side, words: Strin
         key: edge.key,
         read: match edge.read {
             Some(Need::Value(value)) => number_of(log.value(value)),
-            Some(Need::Anything | Need::Absent | Need::Present) | None => None,
+            Some(Need::Absent | Need::Present) | None => None,
         },
         written: match edge.written {
             Some(Some(value)) => number_of(log.value(value)),

@@ -1,49 +1,71 @@
 //! A cycle as JSON. The members of an edge are in the order of their names.
-use crate::anomaly_words::{edge_words, evidence_word, kind_word};
+use crate::anomaly_words::{edge_words, evidence_word, kind_word, told_words};
 use crate::before::{Before, Side};
-use hek_history::{Need, Writer};
+use hek_anomalies::{Anomaly, Cause, CycleEdge, EdgeKind, Evidence, OwnFault, Told};
 use hek_history_log::{Label, Log};
-use hek_history_search::{Anomaly, Cause, CycleEdge, EdgeKind, Evidence, OwnFault};
+use hek_levels::{Need, Writer};
 use hek_report::Lines;
 use hek_rules::{NoMemory, Schedule};
 use std::alloc::Global;
 
 /// Puts the member `cycle` of a log: why one transaction is before another, edge by edge.
 pub fn put_cycle(alloc: Global, log: &Log, cause: &Cause, out: &mut Lines) -> Result<(), NoMemory> {
-    out.put_key("cycle");
+    put_edges(alloc, log, "cycle", cause.anomaly, cause.cycle.as_slice(), out)
+}
+
+/// Puts the member `reads` where steps alone show an anomaly: the reads from which they start.
+pub fn put_reads(alloc: Global, log: &Log, cause: &Cause, out: &mut Lines) -> Result<(), NoMemory> {
+    if cause.steps == 0 {
+        return Ok(());
+    }
+    put_told(alloc, log, cause.told.as_slice(), out)
+}
+
+/// Puts the members `steps`, where steps alone show an anomaly, and `took_place`, the reads that show that transactions of unknown
+/// status took place, if there are some.
+pub fn put_steps(alloc: Global, log: &Log, cause: &Cause, out: &mut Lines) -> Result<(), NoMemory> {
+    if cause.steps > 0 {
+        out.put_number("steps", cause.steps as u64);
+    }
+    if cause.shown.is_empty() {
+        return Ok(());
+    }
+    put_edges(alloc, log, "took_place", cause.anomaly, cause.shown.as_slice(), out)
+}
+
+/// Puts a member with edges.
+fn put_edges(
+    alloc: Global,
+    log: &Log,
+    name: &str,
+    anomaly: Anomaly,
+    edges: &[CycleEdge],
+    out: &mut Lines,
+) -> Result<(), NoMemory> {
+    out.put_key(name);
     out.begin_array();
-    for (place, edge) in cause.cycle.iter().enumerate() {
+    for edge in edges {
         out.begin_object();
-        put_reading(log, *edge, out);
-        put_reasons(alloc, log, cause, place, out)?;
-        put_rest(alloc, log, cause.anomaly, *edge, out)?;
+        put_reading(log, anomaly, *edge, out);
+        put_rest(alloc, log, anomaly, *edge, out)?;
         out.end_object();
     }
     out.end_array();
     Ok(())
 }
 
-/// Puts the member `reasons` of an edge that has some: those from which it follows, each with its depth.
-fn put_reasons(
-    alloc: Global,
-    log: &Log,
-    cause: &Cause,
-    place: usize,
-    out: &mut Lines,
-) -> Result<(), NoMemory> {
-    if !cause.reasons.iter().any(|reason| reason.place == place) {
-        return Ok(());
-    }
-    out.put_key("reasons");
+/// Puts the member `reads`: those from which steps start, with who may have written what they found.
+fn put_told(alloc: Global, log: &Log, told: &[Told], out: &mut Lines) -> Result<(), NoMemory> {
+    out.put_key("reads");
     out.begin_array();
-    for reason in cause.reasons.iter() {
-        if reason.place == place {
-            out.begin_object();
-            out.put_number("depth", reason.depth as u64);
-            put_reading(log, reason.edge, out);
-            put_rest(alloc, log, cause.anomaly, reason.edge, out)?;
-            out.end_object();
-        }
+    for one in told {
+        out.begin_object();
+        put_writer("by", log, Writer::Transaction(one.reader), out);
+        put_label("key", Some(log.key(one.key)), out);
+        put_need(Some(one.need), log, out);
+        let words = told_words(alloc, log, one)?;
+        out.put_text("words", words.as_str());
+        out.end_object();
     }
     out.end_array();
     Ok(())
@@ -79,8 +101,14 @@ fn put_rest(
 }
 
 /// The members of an edge up to what was read.
-fn put_reading(log: &Log, edge: CycleEdge, out: &mut Lines) {
-    put_writer("from", log, edge.first, out);
+fn put_reading(log: &Log, anomaly: Anomaly, edge: CycleEdge, out: &mut Lines) {
+    let is_of_nobody = matches!(
+        anomaly,
+        Anomaly::UnwrittenRead | Anomaly::LaterWriteRead
+    );
+    if !is_of_nobody {
+        put_writer("from", log, edge.first, out);
+    }
     match edge.key {
         Some(key) => put_label("key", Some(log.key(key)), out),
         None => put_label("key", None, out),
@@ -105,12 +133,8 @@ fn put_operations(fault: OwnFault, out: &mut Lines) {
     }
 }
 
-/// The members of an edge about what shows it: `reader` where a path does, `seen` where another answer does, `shown`, and `source`, who
-/// wrote what was read.
+/// The members of an edge about what shows it: `seen` where another answer does, `shown`, and `source`, who wrote what was read.
 fn put_evidence(log: &Log, edge: CycleEdge, out: &mut Lines) {
-    if let Evidence::Path(reader) = edge.evidence {
-        put_writer("reader", log, Writer::Transaction(reader), out);
-    }
     if let Evidence::Seen(seen) = edge.evidence {
         out.put_key("seen");
         out.begin_object();

@@ -7,13 +7,11 @@ mod before;
 mod cycle;
 mod printing;
 mod together;
-mod turned;
 
-pub use anomaly_words::{anomaly_name, counted_name, cycle_lines};
+pub use anomaly_words::cycle_lines;
 pub use before::{Before, Side};
-pub use cycle::put_cycle;
+pub use cycle::{put_cycle, put_reads, put_steps};
 pub use printing::{
     put_details, put_members, put_phrase, put_short, put_verdict, put_word, verdict_word,
 };
 pub use together::{Together, together_of};
-pub use turned::turn;

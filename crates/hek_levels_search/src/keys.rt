@@ -7,7 +7,7 @@ use std::alloc::Global;
 
 /// Each key once, in rising order, and each key again in the buckets that scans are of.
 #[derive(Drop)]
-pub(crate) struct Keys {
+pub struct Keys {
     names: Vec<u64>,
     /// Into how many buckets scans divide the keys.
     divisions: Vec<u64>,
@@ -17,7 +17,7 @@ pub(crate) struct Keys {
 
 impl Keys {
     /// No key.
-    pub(crate) fn new(alloc: Global) -> Keys {
+    pub fn new(alloc: Global) -> Keys {
         Keys {
             names: Vec::new(alloc),
             divisions: Vec::new(alloc),
@@ -26,7 +26,7 @@ impl Keys {
     }
 
     /// Takes the keys that a log names: those of rows, of what was found, and of what is left.
-    pub(crate) fn fill(&mut self, log: &Log) -> Result<(), NoMemory> {
+    pub fn fill(&mut self, log: &Log) -> Result<(), NoMemory> {
         for row in &log.rows {
             add(&mut self.names, row.0)?;
         }
@@ -83,12 +83,12 @@ impl Keys {
         Ok(())
     }
 
-    pub(crate) fn len(&self) -> usize {
+    pub fn len(&self) -> usize {
         self.names.len()
     }
 
     /// The place of a key.
-    pub(crate) fn place_of(&self, key: u64) -> Option<usize> {
+    pub fn place_of(&self, key: u64) -> Option<usize> {
         let place = place_from(self.names.as_slice(), key);
         if place < self.names.len() && self.name(place) == key {
             Some(place)
@@ -98,7 +98,7 @@ impl Keys {
     }
 
     /// The key at a place.
-    pub(crate) fn name(&self, place: usize) -> u64 {
+    pub fn name(&self, place: usize) -> u64 {
         at(self.names.as_slice(), place, 0)
     }
 
@@ -109,17 +109,17 @@ impl Keys {
     }
 
     /// How many places there are in buckets.
-    pub(crate) fn bucketed_len(&self) -> usize {
+    pub fn bucketed_len(&self) -> usize {
         self.bucketed.len()
     }
 
     /// Into how many buckets scans divide the keys.
-    pub(crate) fn divisions(&self) -> &[u64] {
+    pub fn divisions(&self) -> &[u64] {
         self.divisions.as_slice()
     }
 
     /// The place of a key among those in buckets, where the keys are divided into so many.
-    pub(crate) fn place_in_bucket(&self, buckets: u64, key: usize) -> usize {
+    pub fn place_in_bucket(&self, buckets: u64, key: usize) -> usize {
         let bucket = if buckets == 0 {
             0
         } else {
@@ -130,7 +130,7 @@ impl Keys {
     }
 
     /// Where the keys that a scan is of stand: from a place up to another, among the keys or among those in buckets.
-    pub(crate) fn places_of(&self, scope: Scope) -> (usize, usize) {
+    pub fn places_of(&self, scope: Scope) -> (usize, usize) {
         match scope {
             Scope::Range(from, to) => (
                 place_from(self.names.as_slice(), from),
@@ -144,7 +144,7 @@ impl Keys {
     }
 
     /// The key that a scan is of at one of its places.
-    pub(crate) fn key_at(&self, scope: Scope, place: usize) -> usize {
+    pub fn key_at(&self, scope: Scope, place: usize) -> usize {
         match scope {
             Scope::Range(_, _) => place,
             Scope::Bucket(_, _) => at(self.bucketed.as_slice(), place, (0, 0, 0)).2,

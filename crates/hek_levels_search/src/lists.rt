@@ -2,13 +2,13 @@
 use hek_rules::NoMemory;
 
 /// Adds something to the end of a list.
-pub(crate) fn add<T: Copy>(list: &mut Vec<T>, value: T) -> Result<(), NoMemory> {
+pub fn add<T: Copy>(list: &mut Vec<T>, value: T) -> Result<(), NoMemory> {
     list.push(value)?;
     Ok(())
 }
 
 /// The part of a list from a place up to another, or nothing if the list has no such part.
-pub(crate) fn part<T>(list: &[T], from: usize, to: usize) -> &[T] {
+pub fn part<T>(list: &[T], from: usize, to: usize) -> &[T] {
     if from <= to && to <= list.len() {
         &list[from..to]
     } else {
@@ -17,7 +17,7 @@ pub(crate) fn part<T>(list: &[T], from: usize, to: usize) -> &[T] {
 }
 
 /// What stands at a place, or the other past the end.
-pub(crate) fn at<T: Copy>(list: &[T], place: usize, other: T) -> T {
+pub fn at<T: Copy>(list: &[T], place: usize, other: T) -> T {
     match list.get(place) {
         Some(there) => *there,
         None => other,
@@ -25,14 +25,14 @@ pub(crate) fn at<T: Copy>(list: &[T], place: usize, other: T) -> T {
 }
 
 /// Puts something at a place, if the list has that place.
-pub(crate) fn put<T: Copy>(list: &mut Vec<T>, place: usize, value: T) {
+pub fn put<T: Copy>(list: &mut Vec<T>, place: usize, value: T) {
     if let Some(there) = list.get_mut(place) {
         *there = value;
     }
 }
 
 /// The list at a place, or an empty one.
-pub(crate) fn list_at<T>(lists: &[Vec<T>], place: usize) -> &[T] {
+pub fn list_at<T>(lists: &[Vec<T>], place: usize) -> &[T] {
     match lists.get(place) {
         Some(list) => list.as_slice(),
         None => &[],
@@ -40,7 +40,7 @@ pub(crate) fn list_at<T>(lists: &[Vec<T>], place: usize) -> &[T] {
 }
 
 /// Adds something to the end of the list at a place, if there is one.
-pub(crate) fn add_in<T: Copy>(
+pub fn add_in<T: Copy>(
     lists: &mut Vec<Vec<T>>,
     place: usize,
     value: T,
@@ -52,12 +52,12 @@ pub(crate) fn add_in<T: Copy>(
 }
 
 /// The place of the first of rising numbers that isn't below another.
-pub(crate) fn place_from(rising: &[u64], least: u64) -> usize {
+pub fn place_from(rising: &[u64], least: u64) -> usize {
     rising.partition_point(|one| *one < least)
 }
 
 /// Reverses a list from a place on.
-pub(crate) fn reverse_from<T>(list: &mut Vec<T>, from: usize) {
+pub fn reverse_from<T>(list: &mut Vec<T>, from: usize) {
     if from <= list.len() {
         let (_before, rest) = list.split_at_mut(from);
         rest.reverse();
@@ -65,7 +65,7 @@ pub(crate) fn reverse_from<T>(list: &mut Vec<T>, from: usize) {
 }
 
 /// Turns a list from a place on, so that what stands so many places later begins it.
-pub(crate) fn turn_from<T>(list: &mut Vec<T>, from: usize, by: usize) {
+pub fn turn_from<T>(list: &mut Vec<T>, from: usize, by: usize) {
     if from <= list.len() {
         let (_before, rest) = list.split_at_mut(from);
         if by <= rest.len() {
