@@ -573,6 +573,23 @@ fn number(value: Option<u64>) -> String {
     value.map_or("null".to_string(), |v| v.to_string())
 }
 
+/// The key that an operation changes, if it does.
+fn changed(op: &Op) -> Option<usize> {
+    match op {
+        Op::Write(k, _) | Op::Insert(k, _, true) | Op::Update(k, _, true) | Op::Delete(k, true) => Some(*k),
+        _ => None,
+    }
+}
+
+/// What the last write of a key says of its version, if that has a number.
+fn version(txn: &Txn, n: usize, key: usize) -> String {
+    let is_last = changed(&txn.ops[n]) == Some(key) && !txn.ops[n + 1..].iter().any(|op| changed(op) == Some(key));
+    match txn.versions.iter().find(|it| it.0 == key) {
+        Some((_, number)) if is_last => format!(",{{\"version\":{number}}}"),
+        _ => String::new(),
+    }
+}
+
 /// The lines of a log.
 fn lines(rows: &[Option<u64>], txns: &[Txn], order: &[usize]) -> String {
     let mut out = String::new();
@@ -606,12 +623,13 @@ fn lines(rows: &[Option<u64>], txns: &[Txn], order: &[usize]) -> String {
         let ops: Vec<String> = txn
             .ops
             .iter()
-            .map(|op| match op {
+            .enumerate()
+            .map(|(n, op)| match op {
                 Op::Read(k, v) => format!("[\"read\",{k},{}]", number(*v)),
-                Op::Write(k, v) => format!("[\"write\",{k},{v}]"),
-                Op::Insert(k, v, d) => format!("[\"insert\",{k},{v},{d}]"),
-                Op::Update(k, v, d) => format!("[\"update\",{k},{v},{d}]"),
-                Op::Delete(k, d) => format!("[\"delete\",{k},{d}]"),
+                Op::Write(k, v) => format!("[\"write\",{k},{v}{}]", version(txn, n, *k)),
+                Op::Insert(k, v, d) => format!("[\"insert\",{k},{v},{d}{}]", version(txn, n, *k)),
+                Op::Update(k, v, d) => format!("[\"update\",{k},{v},{d}{}]", version(txn, n, *k)),
+                Op::Delete(k, d) => format!("[\"delete\",{k},{d}{}]", version(txn, n, *k)),
                 Op::Range(l, h, p) => {
                     let pairs: Vec<String> = p.iter().map(|(k, v)| format!("[{k},{v}]")).collect();
                     format!("[\"range\",{l},{h},[{}]]", pairs.join(","))
@@ -645,6 +663,7 @@ fn bind(txns: &[Txn], seen: &[Seen], versions: bool, sessions: bool, real: bool)
                 if let (Some(a), Some(b)) = (txns[x].end, txns[t].end) {
                     is_kept |= a < b && seen[x].writes.iter().any(|w| seen[t].writes.iter().any(|v| v.0 == w.0));
                 }
+                is_kept |= txns[x].versions.iter().any(|a| txns[t].versions.iter().any(|b| a.0 == b.0 && a.1 < b.1));
             }
             if is_seen {
                 earlier[x] |= 1 << t;
@@ -680,7 +699,7 @@ fn main() {
         let seen: Vec<Seen> = txns.iter().map(|t| seen_of(t, keys, false)).collect();
         let has_sessions = txns.iter().any(|t| t.session.is_some());
         let has_times = txns.iter().any(|t| t.at != (None, None));
-        let has_ends = txns.iter().all(|t| t.status != Status::Committed || t.end.is_some());
+        let has_ends = txns.iter().all(|t| t.status != Status::Committed || t.end.is_some()) || txns.iter().any(|t| !t.versions.is_empty());
         for versions in [false, true] {
             for sessions in [false, true] {
                 for real in [false, true] {

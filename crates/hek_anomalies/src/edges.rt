@@ -23,7 +23,7 @@ fn kind_of(shown: Shown) -> EdgeKind {
 
 /// What says that one writer is before another by a turn.
 fn evidence_of_turn(evident: &Evident, first: usize, second: usize) -> Evidence {
-    match turn_between(evident, first, second) {
+    match turn_between(evident.problem, first, second) {
         Some(turn) => match evident.lanes.get(turn.lane) {
             Some(Lane::Versions(_)) => Evidence::Versions,
             Some(Lane::Ends(_)) => Evidence::EndTimes,

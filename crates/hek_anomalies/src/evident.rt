@@ -1,6 +1,7 @@
 //! What answers show by themselves: the reads that have one source, and who takes place.
 use crate::cause::Answer;
 use crate::lanes::Lanes;
+use crate::links::turn_between;
 use hek_history::History;
 use hek_levels::{Place, Writer, scans_of};
 use hek_levels_search::{Problem, Reading, add, at, put};
@@ -85,8 +86,20 @@ impl Evident<'_> {
         at(self.present.as_slice(), t, false)
     }
 
-    /// Who may have written what a reading found, of all or of those who take place.
+    /// Who may have written what a reading found, of all or of those who take place. Of several only those count whose turn isn't after
+    /// the reader's.
     pub(crate) fn choice_of(&self, reading: Reading, leaves_out: bool) -> Choice {
+        match self.choice_among(reading, leaves_out, false) {
+            Choice::Several => match self.choice_among(reading, leaves_out, true) {
+                Choice::None => Choice::Several,
+                choice => choice,
+            },
+            choice => choice,
+        }
+    }
+
+    /// Who may have written what a reading found, without those whose turns are after the reader's if that is wanted.
+    fn choice_among(&self, reading: Reading, leaves_out: bool, by_turns: bool) -> Choice {
         let candidates = self.problem.candidates(reading);
         let mut choice = if candidates.opening {
             Choice::One(Writer::Opening)
@@ -97,7 +110,8 @@ impl Evident<'_> {
             let Some(t) = self.problem.writer_of(row) else {
                 continue;
             };
-            if t != reading.reader && (!leaves_out || self.is_present(t)) {
+            let counts = t != reading.reader && (!leaves_out || self.is_present(t));
+            if counts && !(by_turns && turn_between(self.problem, reading.reader, t).is_some()) {
                 if choice != Choice::None {
                     return Choice::Several;
                 }

@@ -166,8 +166,12 @@ impl Links {
                 self.add_pairs(evident, t)?;
             }
         }
+        self.gather_turns(evident)?;
+        self.add_next_versions(evident)?;
         self.add_backs(evident)?;
-        self.add_turns(evident)?;
+        for place in 0..self.turned.len() {
+            self.add_next(evident, place)?;
+        }
         self.sort();
         Ok(())
     }
@@ -376,9 +380,6 @@ impl Links {
         let Writer::Transaction(w) = writer else {
             return Ok(());
         };
-        if turn_between(evident, w, x).is_some() {
-            self.add_over(evident, place, x, Shown::OverwroteByTurn, NONE)?;
-        }
         if !sees_both(problem, reading.reader, place, other) {
             return Ok(());
         }
@@ -417,13 +418,76 @@ impl Links {
         Ok(())
     }
 
-    /// Adds, for each link, one back where a turn says that.
+    /// Adds, for each link, those back that turns show.
     fn add_backs(&mut self, evident: &Evident) -> Result<(), NoMemory> {
         for place in 0..self.all.len() {
             let link = at(self.all.as_slice(), place, NO_LINK);
             let (first, second) = (transaction_of(link.first), transaction_of(link.second));
-            if let Some(turn) = turn_between(evident, second, first) {
+            if let Some(turn) = turn_between(evident.problem, second, first) {
                 self.add_turn(evident, turn, second, first)?;
+            }
+            self.add_over_back(evident, first, second)?;
+        }
+        Ok(())
+    }
+
+    /// Adds that a transaction wrote over what another read, where the turns of the writers say that.
+    fn add_over_back(
+        &mut self,
+        evident: &Evident,
+        x: usize,
+        t: usize,
+    ) -> Result<(), NoMemory> {
+        let problem = evident.problem;
+        let from = problem.first_reading(t);
+        let to = problem.end_reading(t).min(from.saturating_add(READINGS));
+        for place in from..to {
+            let Some(Writer::Transaction(w)) = evident.source(place) else {
+                continue;
+            };
+            let is_written = w != x && problem.left_at(x, problem.reading(place).key).is_some();
+            if is_written && turn_between(problem, w, x).is_some() {
+                self.add_over(evident, place, x, Shown::OverwroteByTurn, NONE)?;
+            }
+        }
+        Ok(())
+    }
+
+    /// Adds that readers of a version are before who wrote the next ones.
+    fn add_next_versions(&mut self, evident: &Evident) -> Result<(), NoMemory> {
+        for place in 0..self.found.len() {
+            let found = self.found_at(place);
+            if found.writer > 0 {
+                self.add_next_of(evident, found)?;
+            }
+        }
+        Ok(())
+    }
+
+    /// Adds that a reader of a version is before who wrote the next ones.
+    fn add_next_of(&mut self, evident: &Evident, found: Found) -> Result<(), NoMemory> {
+        let problem = evident.problem;
+        let key = problem.keys.name(found.key);
+        for (n, turn) in problem.turns(found.writer.saturating_sub(1)).iter().enumerate() {
+            if n >= TURNS {
+                return Ok(());
+            }
+            let lane = evident.lanes.get(turn.lane);
+            if lane != Some(Lane::Versions(key)) && lane != Some(Lane::Ends(key)) {
+                continue;
+            }
+            let from = self.turned.partition_point(|one| (
+                one.turn.lane,
+                one.turn.first,
+            ) <= (turn.lane, turn.last));
+            for place in from..from.saturating_add(OVERWRITERS) {
+                let Some(next) = self.turned.get(place).copied() else {
+                    break;
+                };
+                if next.turn.lane == turn.lane {
+                    let x = next.transaction;
+                    self.add_over(evident, found.reading, x, Shown::OverwroteByTurn, NONE)?;
+                }
             }
         }
         Ok(())
@@ -456,8 +520,8 @@ impl Links {
         })
     }
 
-    /// Adds that those of a lane are before the next ones.
-    fn add_turns(&mut self, evident: &Evident) -> Result<(), NoMemory> {
+    /// Gathers the turns of all who take place, by lanes.
+    fn gather_turns(&mut self, evident: &Evident) -> Result<(), NoMemory> {
         self.turned.clear();
         for t in 0..evident.problem.transactions() {
             if evident.is_present(t) {
@@ -472,9 +536,6 @@ impl Links {
         }
         self.turned
             .sort_unstable_by_key(|one| (one.turn.lane, one.turn.first, one.transaction));
-        for place in 0..self.turned.len() {
-            self.add_next(evident, place)?;
-        }
         Ok(())
     }
 
@@ -532,8 +593,7 @@ fn has_read(evident: &Evident, t: usize, key: usize, writer: usize) -> bool {
 }
 
 /// The turn of the second by which a transaction is before another, if one of its first turns is.
-pub(crate) fn turn_between(evident: &Evident, x: usize, t: usize) -> Option<Turn> {
-    let problem = evident.problem;
+pub(crate) fn turn_between(problem: &Problem, x: usize, t: usize) -> Option<Turn> {
     for (n, turn) in problem.turns(x).iter().enumerate() {
         if n >= TURNS {
             return None;

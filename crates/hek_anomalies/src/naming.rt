@@ -41,11 +41,24 @@ fn count(number: &mut usize) {
     *number = number.saturating_add(1);
 }
 
+/// Whether the reader of a value that was written over writes the key too, where of two writers of a key one sees the other: then the edge
+/// is one of versions.
+fn is_of_writers(problem: &Problem, edge: CycleEdge) -> bool {
+    let (Some(t), Some(key)) = (transaction_in(edge.first), edge.key) else {
+        return false;
+    };
+    let Some(place) = problem.keys.place_of(key) else {
+        return false;
+    };
+    problem.rules(t).first.writers && problem.left_at(t, place).is_some()
+}
+
 impl Kinds {
-    fn add(&mut self, edge: CycleEdge) {
+    fn add(&mut self, problem: &Problem, edge: CycleEdge) {
         count(&mut self.edges);
         match edge.kind {
             EdgeKind::Read => count(&mut self.reads),
+            EdgeKind::Overwritten if is_of_writers(problem, edge) => {}
             EdgeKind::Overwritten => {
                 count(&mut self.overwritten);
                 if is_missed(edge) {
@@ -65,10 +78,10 @@ impl Kinds {
 }
 
 /// How many edges of each kind a cycle has.
-fn kinds_of(cycle: &[CycleEdge]) -> Kinds {
+fn kinds_of(problem: &Problem, cycle: &[CycleEdge]) -> Kinds {
     let mut kinds = NO_KINDS;
     for edge in cycle {
-        kinds.add(*edge);
+        kinds.add(problem, *edge);
     }
     kinds
 }
@@ -193,8 +206,10 @@ fn name_by_count(overwritten: usize, names: [Anomaly; 3]) -> Anomaly {
 
 /// The name of a cycle.
 pub(crate) fn name_of(evident: &Evident, cycle: &[CycleEdge]) -> Anomaly {
-    let kinds = kinds_of(cycle);
-    if kinds.real > 0 {
+    let kinds = kinds_of(evident.problem, cycle);
+    if let Some(name) = name_of_rivals(evident, cycle, kinds) {
+        name
+    } else if kinds.real > 0 {
         let names = [Anomaly::AgainstRealTime, Anomaly::StaleRead, Anomaly::RealTimeSkew];
         name_by_count(kinds.overwritten, names)
     } else if kinds.sessions > 0 {
@@ -211,13 +226,31 @@ pub(crate) fn name_of(evident: &Evident, cycle: &[CycleEdge]) -> Anomaly {
     }
 }
 
+/// The name of a cycle of two who write one key, of which one wrote over what the other had not seen.
+fn name_of_rivals(evident: &Evident, cycle: &[CycleEdge], kinds: Kinds) -> Option<Anomaly> {
+    let has_read = cycle
+        .iter()
+        .any(|edge| matches!(edge.kind, EdgeKind::Overwritten));
+    if kinds.edges != 2 || !has_read {
+        return None;
+    }
+    let key = one_key(evident.problem, cycle)?;
+    if are_inserts(evident, cycle, key) {
+        return Some(Anomaly::InsertThatExists);
+    }
+    Some(Anomaly::LostUpdate)
+}
+
 /// The name of a cycle in which something that was read is written over.
 fn name_of_reads(evident: &Evident, cycle: &[CycleEdge], kinds: Kinds) -> Anomaly {
+    if kinds.edges == 2 && kinds.reads == 1 && is_of_one_key(cycle) && one_key(evident.problem, cycle).is_none() {
+        return name_within(cycle);
+    }
     if kinds.missed > 0 {
         return Anomaly::Phantom;
     }
     if kinds.edges == 2 {
-        return name_of_two(evident, cycle, kinds);
+        return name_of_two(kinds);
     }
     if kinds.overwritten == 1 {
         return Anomaly::SingleAntiDependency;
@@ -236,23 +269,26 @@ fn name_of_reads(evident: &Evident, cycle: &[CycleEdge], kinds: Kinds) -> Anomal
     Anomaly::Nonadjacent
 }
 
-/// The name of a cycle of two edges, in which something that was read is written over.
-fn name_of_two(evident: &Evident, cycle: &[CycleEdge], kinds: Kinds) -> Anomaly {
-    if let Some(key) = one_key(evident.problem, cycle) {
-        if are_inserts(evident, cycle, key) {
-            return Anomaly::InsertThatExists;
-        }
-        return Anomaly::LostUpdate;
+/// The name of a cycle of two reads of one key by one transaction.
+fn name_within(cycle: &[CycleEdge]) -> Anomaly {
+    let is_scanned = cycle.iter().any(|edge| edge.scanned);
+    let is_absent = cycle
+        .iter()
+        .any(|edge| matches!(edge.read, Some(Need::Absent)));
+    if is_scanned && is_absent {
+        Anomaly::PhantomWithin
+    } else {
+        Anomaly::NonRepeatableRead
     }
+}
+
+/// The name of a cycle of two edges, in which something that was read is written over.
+fn name_of_two(kinds: Kinds) -> Anomaly {
     if kinds.overwritten == 2 {
         return Anomaly::WriteSkew;
     }
     if kinds.reads == 1 {
-        return if is_of_one_key(cycle) {
-            Anomaly::NonRepeatableRead
-        } else {
-            Anomaly::ReadSkew
-        };
+        return Anomaly::ReadSkew;
     }
     Anomaly::SingleAntiDependency
 }

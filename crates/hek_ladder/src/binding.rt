@@ -49,10 +49,7 @@ impl Binding {
         Binding {
             versions,
             real,
-            sessions: match wish.sessions {
-                Some(binds) => binds,
-                None => log.has_sessions(),
-            },
+            sessions: log.has_sessions() && wish.sessions != Some(false),
         }
     }
 

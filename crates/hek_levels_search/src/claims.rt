@@ -420,7 +420,13 @@ impl Writing<'_, '_> {
             return Ok(self.claim(out));
         }
         let visible = self.see(arrival, reading)?;
-        let _source = self.source(out, reading)?;
+        let source = self.source(out, reading)?;
+        if z == x {
+            // the reader sees who wrote over what it read
+            let first = self.put(Step::Newest { visible, source })?;
+            let second = self.claim(out);
+            return self.put(Step::Chain { first, second });
+        }
         let case = self.put(Step::AssumeBefore {
             first: z,
             second: x,
