@@ -3,7 +3,7 @@ use crate::cause::Answer;
 use crate::lanes::Lanes;
 use crate::links::turn_between;
 use hek_history::History;
-use hek_levels::{Place, Writer, scans_of};
+use hek_levels::{Need, Writer, misses, scans_of};
 use hek_levels_search::{Problem, Reading, add, at, put};
 use hek_rules::NoMemory;
 use std::alloc::Global;
@@ -147,17 +147,19 @@ impl Evident<'_> {
         put(&mut self.sources, place, None);
     }
 
-    /// Whether a reading is by a scan.
+    /// Whether a reading is by a scan, or says what a scan of its transaction says too: that a key is absent.
     pub(crate) fn is_scanned(&self, reading: Reading) -> bool {
-        if let Place::Missing { .. } = reading.place {
-            return true;
+        let key = self.problem.keys.name(reading.key);
+        let is_absent = matches!(reading.need, Need::Absent);
+        for scan in scans_of(self.problem.log, reading.reader) {
+            if scan.operation == reading.operation {
+                return true;
+            }
+            if is_absent && misses(scan, key) {
+                return true;
+            }
         }
-        let scans = scans_of(self.problem.log, reading.reader);
-        let place = scans.partition_point(|scan| scan.operation < reading.operation);
-        match scans.get(place) {
-            Some(scan) => scan.operation == reading.operation,
-            None => false,
-        }
+        false
     }
 
     /// The answer of a reading.

@@ -1,6 +1,6 @@
 //! Going on after an anomaly: the answers on which it rests are forgotten.
 use hek_anomalies::{Answer, Cause};
-use hek_history::{Level, Operation, Scope, Status, Transaction, covers, key_of};
+use hek_history::{Level, Operation, Scope, Transaction, covers, key_of};
 use hek_history_log::Log;
 use hek_levels::Writer;
 use hek_rules::NoMemory;
@@ -144,20 +144,15 @@ fn split(pairs: &[(u64, u64)], place: usize) -> (&[(u64, u64)], &[(u64, u64)]) {
     }
 }
 
-/// Forgets the answers on which an anomaly rests; where it rests on none, a transaction of its cycle. One of unknown status is left out
-/// whole.
+/// Forgets the answers on which an anomaly rests; where it rests on none, the times, versions and session of a transaction of its cycle.
 pub(crate) fn forget_cause(alloc: Global, log: &mut Log, cause: &Cause) -> Result<(), NoMemory> {
     for answer in cause.answers.iter() {
         forget_one(alloc, log, *answer)?;
     }
-    for edge in cause.cycle.iter() {
-        leave_out_unknown(log, edge.first);
-        leave_out_unknown(log, edge.second);
-    }
     if cause.answers.is_empty() {
         for edge in cause.cycle.iter() {
             if let Writer::Transaction(place) = edge.first {
-                leave_out(log, place);
+                log.forget_turns(place);
                 return Ok(());
             }
         }
@@ -165,36 +160,11 @@ pub(crate) fn forget_cause(alloc: Global, log: &mut Log, cause: &Cause) -> Resul
     Ok(())
 }
 
-/// A transaction has not taken place.
-fn leave_out(log: &mut Log, place: usize) {
-    if let Some(transaction) = log.history.transactions.get_mut(place) {
-        transaction.status = Status::Aborted;
-    }
-}
-
-/// A writer of unknown status has not taken place.
-fn leave_out_unknown(log: &mut Log, writer: Writer) {
-    let Writer::Transaction(place) = writer else {
-        return;
-    };
-    let is_unknown = match log.history.transactions.get(place) {
-        Some(transaction) => transaction.status == Status::Unknown,
-        None => false,
-    };
-    if is_unknown {
-        leave_out(log, place);
-    }
-}
-
 /// Forgets an answer.
 fn forget_one(alloc: Global, log: &mut Log, answer: Answer) -> Result<(), NoMemory> {
     let Some(transaction) = log.history.transactions.get_mut(answer.transaction) else {
         return Ok(());
     };
-    if transaction.status == Status::Unknown {
-        transaction.status = Status::Aborted;
-        return Ok(());
-    }
     match answer.key {
         Some(key) => forget_answer(alloc, transaction, key),
         None => forget_answers(alloc, transaction),

@@ -142,6 +142,20 @@ impl Log {
         }
     }
 
+    /// Forgets when a transaction took place: its times, the version numbers of its writes, and its place in a session.
+    pub fn forget_turns(&mut self, transaction: usize) {
+        self.versions.retain(|one| one.transaction != transaction);
+        if let Some(turn) = self.names.turns.get_mut(transaction) {
+            *turn = None;
+        }
+        if let Some(there) = self.history.transactions.get_mut(transaction) {
+            there.begin = None;
+            there.end = None;
+            there.invoked = None;
+            there.answered = None;
+        }
+    }
+
     /// Whether a write of the log has a version number.
     pub fn has_versions(&self) -> bool {
         !self.versions.is_empty()

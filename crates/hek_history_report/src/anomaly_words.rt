@@ -179,8 +179,14 @@ fn read_words(
         (Anomaly::ReadOfContradiction, _, _) => format!(in alloc;
             "{reading}, written by {writer}, whose own answers contradict each other"
         ),
+        (Anomaly::AbortedRead, _, Need::Absent) => {
+            format!(in alloc; "{reading}, deleted by {writer}, which aborted")
+        }
         (Anomaly::AbortedRead, _, _) => {
             format!(in alloc; "{reading}, written by {writer}, which aborted")
+        }
+        (Anomaly::IntermediateRead, _, Need::Absent) => {
+            format!(in alloc; "{reading}, which {writer} deleted, and then wrote again")
         }
         (Anomaly::IntermediateRead, _, _) => {
             format!(in alloc; "{reading}, which {writer} wrote over itself")
