@@ -178,18 +178,23 @@ fn readers_only_read(problem: &Problem, cycle: &[CycleEdge]) -> bool {
     true
 }
 
+/// Whether an edge is a read that was written over by one that need not be seen.
+fn is_overwritten(problem: &Problem, edge: CycleEdge) -> bool {
+    matches!(edge.kind, EdgeKind::Overwritten) && !is_of_writers(problem, edge)
+}
+
 /// Whether two reads that were written over follow one another in a cycle.
-fn is_adjacent(cycle: &[CycleEdge]) -> bool {
+fn is_adjacent(problem: &Problem, cycle: &[CycleEdge]) -> bool {
     let Some(last) = cycle.last() else {
         return false;
     };
-    let mut before = matches!(last.kind, EdgeKind::Overwritten);
+    let mut before = is_overwritten(problem, *last);
     for edge in cycle {
-        let is_overwritten = matches!(edge.kind, EdgeKind::Overwritten);
-        if before && is_overwritten {
+        let is_so = is_overwritten(problem, *edge);
+        if before && is_so {
             return true;
         }
-        before = is_overwritten;
+        before = is_so;
     }
     false
 }
@@ -256,7 +261,7 @@ fn name_of_reads(evident: &Evident, cycle: &[CycleEdge], kinds: Kinds) -> Anomal
         return Anomaly::SingleAntiDependency;
     }
     let only_read = readers_only_read(evident.problem, cycle);
-    let adjacent = is_adjacent(cycle);
+    let adjacent = is_adjacent(evident.problem, cycle);
     if kinds.overwritten == 2 && kinds.edges == 3 && kinds.reads == 1 && only_read {
         return Anomaly::ReadOnlyAnomaly;
     }
