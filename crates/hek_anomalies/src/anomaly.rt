@@ -59,6 +59,14 @@ pub enum Anomaly {
     OwnWriteLost,
     /// A scan has a key twice, or one that it isn't of.
     OwnAnswers,
+    /// Reads of a session go back: a transaction missed what one before it in its session had found.
+    ReadsGoBack,
+    /// A transaction missed what one before it in its session had written.
+    OwnWriteMissed,
+    /// Two writes of a session were seen the other way round.
+    WritesApart,
+    /// A write was seen without what its transaction had read.
+    CauseMissed,
     /// Steps alone show that there is no order.
     NoOrder,
 }
@@ -87,7 +95,7 @@ fn named(
 }
 
 /// All names.
-const NAMES: [Named; 29] = [
+const NAMES: [Named; 33] = [
     Named {
         anomaly: Anomaly::DirtyWrite,
         name: "dirty write (G0)",
@@ -257,8 +265,32 @@ const NAMES: [Named; 29] = [
         several: "scans at fault",
     },
     Named {
+        anomaly: Anomaly::ReadsGoBack,
+        name: "reads of a session go back",
+        one: "session whose reads go back",
+        several: "sessions whose reads go back",
+    },
+    Named {
+        anomaly: Anomaly::OwnWriteMissed,
+        name: "own write of the session missed",
+        one: "own write of the session missed",
+        several: "own writes of the session missed",
+    },
+    Named {
+        anomaly: Anomaly::WritesApart,
+        name: "writes of a session apart",
+        one: "pair of writes of a session apart",
+        several: "pairs of writes of a session apart",
+    },
+    Named {
+        anomaly: Anomaly::CauseMissed,
+        name: "cause without effect",
+        one: "cause without effect",
+        several: "causes without effect",
+    },
+    Named {
         anomaly: Anomaly::NoOrder,
-        name: "no order",
+        name: "no order of transactions",
         one: "contradiction by steps",
         several: "contradictions by steps",
     },
@@ -272,7 +304,7 @@ impl Anomaly {
                 return one;
             }
         }
-        named(self, "no order", "contradiction", "contradictions")
+        named(self, "no order of transactions", "contradiction", "contradictions")
     }
 
     /// The name, with its sign in the literature if it has one.

@@ -2,7 +2,7 @@
 use crate::promise::Promise;
 use crate::scene::Scene;
 use crate::twins::have_both;
-use hek_anomalies::{Cause, Telling, causes_at};
+use hek_anomalies::{Anomaly, Cause, Telling, causes_at};
 use hek_levels::{Asked, Place, bare, find_lost};
 use hek_levels_refutation::{Step, refutes};
 use hek_levels_search::{Progress, Shown, Verdict, judge};
@@ -100,7 +100,9 @@ pub fn causes_of(
         let turns = bare(alloc, &scene.seen)?;
         return told(alloc, scene, &asked, &turns, steps, lost, all);
     }
-    told(alloc, scene, &asked, &scene.seen, steps, lost, all)
+    let mut causes = told(alloc, scene, &asked, &scene.seen, steps, lost, all)?;
+    name_by_guarantee(promise, &mut causes);
+    Ok(causes)
 }
 
 /// What is told of a log.
@@ -122,4 +124,27 @@ fn told(
         lost,
     };
     causes_at(alloc, telling, all)
+}
+
+/// What is broken where a guarantee of sessions is, and steps alone show that.
+fn broken_by(promise: Promise) -> Option<Anomaly> {
+    match promise {
+        Promise::MonotonicReads => Some(Anomaly::ReadsGoBack),
+        Promise::ReadYourWrites => Some(Anomaly::OwnWriteMissed),
+        Promise::MonotonicWrites => Some(Anomaly::WritesApart),
+        Promise::WritesFollowReads => Some(Anomaly::CauseMissed),
+        _ => None,
+    }
+}
+
+/// Names what steps alone show by the guarantee that is broken.
+fn name_by_guarantee(promise: Promise, causes: &mut Vec<Cause>) {
+    let Some(anomaly) = broken_by(promise) else {
+        return;
+    };
+    for cause in causes.iter_mut() {
+        if cause.steps > 0 {
+            cause.anomaly = anomaly;
+        }
+    }
 }
