@@ -28,6 +28,8 @@ LEVELS = "docs/LEVELS.md"
 LEVEL_TABLES = {(LEVELS, ""), ("docs/FORMATS.md", "hek check")}
 # The pages that may have a table of crates.
 CRATE_TABLES = {"docs/ARCHITECTURE.md", "docs/PROOFS.md"}
+# What an option excludes that has few beside it.
+ALL = "any other"
 # How many rows make a table one of levels, or of crates.
 MANY = 2
 
@@ -78,13 +80,13 @@ class Command:
         options = [it.name for it in self.arguments if not it.is_placed]
         left = [it for it in options if it not in rivals and it != name]
         if len(rivals) > len(left) + 3:
-            return "all others" + (f" but {listing(f'`--{it}`' for it in left)}" if left else "")
+            return ALL + (f" but {listing(f'`--{it}`' for it in left)}" if left else "")
         return listing(f"`--{it}`" for it in options if it in rivals and it not in done)
 
     def rows(self):
         """The table of its own arguments."""
         lines, done = ["| Word | What it does |", "|---|---|"], set()
-        most = [it.name for it in self.own if self.excluded(it.name, set()).startswith("all")]
+        most = [it.name for it in self.own if self.excluded(it.name, set()).startswith(ALL)]
         for it in self.own:
             said = self.excluded(it.name, done | (set(most) - {it.name} if it.name not in most else set()))
             needed = [self.named(other).cell() for one, many in self.needs if one == it.name for other in many if f"--{other}" not in it.text]
