@@ -21,8 +21,8 @@ ROW = re.compile(r"const \w+: &Row = &Row \{\n(.*?)\n\};", re.S)
 OTHERS = re.compile(r'Others\(\s*"([^"]+)",\s*&\[(.*?)\]', re.S)
 # A row of a table, or an entry of a list, that begins with an option.
 LISTED = re.compile(r"^(?:\||[-*] ) ?`(?:-\w, |-\w`, `)?--([a-z-]+)[^`]*`")
-# Sections that say what `hek history` takes by hand; its options have no table from the rows yet.
-BY_HAND, BY_HAND_SECTIONS = {"history"}, {"hek history", "Levels"}
+# The command whose options these sections list by hand, as long as no page has a table of them from its row.
+BY_HAND, BY_HAND_SECTIONS = "history", {"hek history", "Levels"}
 LEVELS = "docs/LEVELS.md"
 # The pages and sections that may have a table of levels.
 LEVEL_TABLES = {(LEVELS, ""), ("docs/FORMATS.md", "hek check")}
@@ -156,26 +156,31 @@ def sections(text):
             yield heading, line
 
 
+def wrong_tables(page, text):
+    """Tables of options of a page that aren't what the rows say."""
+    for _, name, there in OPTIONS_OF.findall(text):
+        made = table(name)
+        if made is None:
+            yield f"{page}: options of {name}, which is no command"
+        elif there.splitlines() != made:
+            yield f"{page}: the options of {name} aren't what the rows say: tools/references --write"
+
+
 def wrong_options(pages):
-    """Tables of options that aren't what the rows say, commands without one, and lists of options beside them."""
+    """Tables of options that aren't what the rows say, lists of options beside them, and commands without a table."""
     rows, _ = commands()
-    seen = []
+    seen = [name for text in pages.values() for _, name, _ in OPTIONS_OF.findall(text)]
+    by_hand = BY_HAND not in seen
+    known = {it.name for row in rows.values() for it in row.arguments}
     for page, text in pages.items():
-        for _, name, there in OPTIONS_OF.findall(text):
-            made = table(name)
-            seen.append(name)
-            if made is None:
-                yield f"{page}: options of {name}, which is no command"
-            elif there.splitlines() != made:
-                yield f"{page}: the options of {name} aren't what the rows say: tools/references --write"
-        known = {it.name for row in rows.values() for it in row.arguments}
+        yield from wrong_tables(page, text)
         for heading, line in sections(text):
             found = LISTED.match(line)
-            if found and found[1] in known and heading not in BY_HAND_SECTIONS:
+            if found and found[1] in known and not (by_hand and heading in BY_HAND_SECTIONS):
                 yield f"{page}: a second list of options: `--{found[1]}` under {heading}"
-    wanted = [SHARED, *(name for name, row in rows.items() if name not in BY_HAND and any(not it.is_placed for it in row.own))]
+    wanted = [SHARED, *(name for name, row in rows.items() if any(not it.is_placed for it in row.own))]
     for name in wanted:
-        if seen.count(name) != 1:
+        if seen.count(name) != 1 and not (by_hand and name == BY_HAND):
             yield f"{seen.count(name)} tables of the options of {name}: one page has `<!-- options of .. -->` once"
 
 
