@@ -108,7 +108,8 @@ class Once(Tree):
         self.assertEqual(self.wrong(text + listed), [])
         self.once.BY_HAND = "run"
         self.assertEqual(len(self.wrong(text + listed)), 1)
-        self.assertEqual(self.wrong(text.replace("options of hek run", "none") + listed), [])
+        without = ALL.replace("<!-- options of hek run, written by tools/references --write -->\n", "")
+        self.assertEqual(self.wrong(self.once.with_options(without) + listed), [])
 
     def test_a_second_table_of_levels_is_found(self):
         rows = "\n| Level | It says |\n|---|---|\n| `serializable` | all |\n| `snapshot` | some |\n"
