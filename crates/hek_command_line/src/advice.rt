@@ -4,7 +4,7 @@ use crate::histories::asked_of;
 use crate::pages::is_log;
 use crate::rows::{Argument, Value};
 use crate::said::{Said, digits};
-use crate::texts::Text;
+use crate::texts::{Text, pair};
 use clap::ArgMatches;
 use hek_diagnostics::nearest_word;
 use hek_levels_command::{Asked, Promise};
@@ -208,7 +208,7 @@ impl<'a> Advice<'a> {
                 say_range(said, what, least, most);
             }
             Wrong::TooSmall(what, least, most) => {
-                said.message(too_small(what), &[value, option]);
+                said.message(too_small(what), &pair(value, option));
                 say_range(said, what, least, most);
             }
             Wrong::TooLarge(what, least, most) => {
@@ -216,7 +216,7 @@ impl<'a> Advice<'a> {
                 say_range(said, what, least, most);
             }
             Wrong::NoWord(noun, words, more) => {
-                said.message("no @ is called `@`", &[&*noun, &*value]);
+                said.message("no @ is called `@`", &pair(noun, value));
                 say_words(said, value, words, more);
             }
             Wrong::NoPart => {

@@ -13,7 +13,7 @@ use crate::manual::manual_page;
 use crate::settings::{CommandWords, Settings};
 use crate::shells::completions;
 use crate::streams::Stream;
-use crate::texts::Text;
+use crate::texts::{Text, pair};
 use clap::error::ErrorKind as ClapKind;
 use clap::{ArgMatches, Error};
 use hek_debug_command::put_words;
@@ -285,7 +285,7 @@ fn suggested(alloc: Global, error: &Error, words: &[&str]) -> Text {
     }
     if error.kind() == ClapKind::InvalidSubcommand {
         if let Some(command) = reader_of(word) {
-            lines.fill("  | did you mean `@ @`?\n", &[command.name(), *word]);
+            lines.fill("  | did you mean `@ @`?\n", &pair(command.name(), word));
         } else if let Some(name) = meant_command(alloc, word) {
             lines.fill("  | did you mean `@`?\n", &[name]);
         }
@@ -294,6 +294,8 @@ fn suggested(alloc: Global, error: &Error, words: &[&str]) -> Text {
 }
 
 impl<'a, D: Disk, I: Read + IsTerminal + Drop, W: Write + IsTerminal, E: Write + IsTerminal> Call<
+    '_,
+    '_,
     '_,
     'a,
     D,

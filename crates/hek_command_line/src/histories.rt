@@ -26,7 +26,7 @@ pub fn asked_of(found: &ArgMatches<'_>) -> Option<Asked> {
     }
 }
 
-impl<'a, D: Disk, I: Read + Drop, W: Write, E: Write> Call<'_, 'a, D, I, W, E> {
+impl<'a, D: Disk, I: Read + Drop, W: Write, E: Write> Call<'_, '_, '_, 'a, D, I, W, E> {
     /// Judges a log by what the words ask for. The order that was found goes to a file, or to standard output after the verdict.
     pub fn history(&mut self) -> Answer<'a> {
         if let Some(asked) = asked_of(self.found) {
