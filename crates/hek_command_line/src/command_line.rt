@@ -141,8 +141,13 @@ impl<
         let explains = settings.explaining.is_wanted(faults.is_terminal());
         let kept = Kept::new(alloc, command, found, explains || found.get_flag("json"));
         let paint = reply_paint(settings, command, found, out);
-        let stream = Stream::new(alloc, out, paint);
+        let out = Output {
+            stream: Stream::new(alloc, out, paint),
+            file: None,
+            memory: None,
+        };
         let paint = fault_paint(settings, faults);
+        let faults = Stream::of_faults(alloc, faults, paint);
         let mut call = Call {
             alloc,
             command,
@@ -151,12 +156,8 @@ impl<
             kept: &kept,
             disk: &*disk,
             input: Some(input),
-            out: Output {
-                stream,
-                file: None,
-                memory: None,
-            },
-            faults: Stream::of_faults(alloc, faults, paint),
+            out,
+            faults,
         };
         let ran = call.follow(system);
         call.finish(ran)
