@@ -141,11 +141,8 @@ impl<
         let explains = settings.explaining.is_wanted(faults.is_terminal());
         let kept = Kept::new(alloc, command, found, explains || found.get_flag("json"));
         let paint = reply_paint(settings, command, found, out);
-        let out = Output {
-            stream: Stream::new(alloc, out, paint),
-            file: None,
-            memory: None,
-        };
+        let stream = Stream::new(alloc, out, paint);
+        let out = Output::new(stream);
         let paint = fault_paint(settings, faults);
         let faults = Stream::of_faults(alloc, faults, paint);
         let mut call = Call {

@@ -145,7 +145,16 @@ pub struct Output<'c, 'k, 'a, D: Disk, W: Write> {
     pub memory: Option<Vec<u8>>,
 }
 
-impl<D: Disk, W: Write> Output<'_, '_, '_, D, W> {
+impl<'c, 'k, 'a, D: Disk, W: Write> Output<'c, 'k, 'a, D, W> {
+    /// Standard output.
+    pub fn new(stream: Stream<'c, W>) -> Output<'c, 'k, 'a, D, W> {
+        Output {
+            stream,
+            file: None,
+            memory: None,
+        }
+    }
+
     /// Keeps the file that the words name, if they do, where a command wrote what it should. Answers what came of the command.
     pub fn settle<'f>(
         &mut self,
