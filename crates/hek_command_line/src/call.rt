@@ -40,6 +40,33 @@ pub struct Call<'c, 'f, 'k, 'a, D: Disk, I: Read + Drop, W: Write, E: Write> {
     pub faults: Stream<'c, E>,
 }
 
+impl<'c, 'f, 'k, 'a, D: Disk, I: Read + Drop, W: Write, E: Write> Call<'c, 'f, 'k, 'a, D, I, W, E> {
+    /// A call that has opened nothing yet.
+    pub fn new(
+        alloc: Global,
+        command: Command,
+        found: &'f ArgMatches<'a>,
+        explains: bool,
+        kept: &'k Kept<'a>,
+        disk: &'c D,
+        input: I,
+        out: Output<'c, 'k, 'a, D, W>,
+        faults: Stream<'c, E>,
+    ) -> Call<'c, 'f, 'k, 'a, D, I, W, E> {
+        Call {
+            alloc,
+            command,
+            found,
+            explains,
+            kept,
+            disk,
+            input: Some(input),
+            out,
+            faults,
+        }
+    }
+}
+
 /// The words.
 impl<'a, D: Disk, I: Read + Drop, W: Write, E: Write> Call<'_, '_, '_, 'a, D, I, W, E> {
     /// Whether they have a flag.

@@ -135,29 +135,19 @@ impl<
             faults,
             settings,
         } = self;
-        let Some((command, found)) = called(&*matches) else {
+        let Some(found) = called(&*matches) else {
             return report(HekFault::BadArgument, faults);
         };
+        let (command, found) = found;
         let explains = settings.explaining.is_wanted(faults.is_terminal());
         let kept = Kept::new(alloc, command, found, explains || found.get_flag("json"));
         let paint = reply_paint(settings, command, found, out);
-        let stream = Stream::new(alloc, out, paint);
-        let out = Output::new(stream);
+        let out = Stream::new(alloc, out, paint);
         let paint = fault_paint(settings, faults);
         let faults = Stream::of_faults(alloc, faults, paint);
-        let mut call = Call {
-            alloc,
-            command,
-            found: &*found,
-            explains,
-            kept: &kept,
-            disk: &*disk,
-            input: Some(input),
-            out,
-            faults,
-        };
-        let ran = call.follow(system);
-        call.finish(ran)
+        run_call(
+            system, alloc, command, found, explains, &kept, disk, input, out, faults,
+        )
     }
 
     /// Answers words that the parser of the command line refuses, help among them.
@@ -186,6 +176,60 @@ impl<
         let _ = faults.flush();
         status
     }
+}
+
+/// Runs a command with its words, files and streams. Answers the exit status.
+fn run_call<
+    'c,
+    'f,
+    'k,
+    'a,
+    T: Threads + Wait + Sync,
+    D: Disk,
+    I: Read + IsTerminal + Drop,
+    W: Write + IsTerminal,
+    E: Write + IsTerminal,
+>(
+    system: &T,
+    alloc: Global,
+    command: Command,
+    found: &'f ArgMatches<'a>,
+    explains: bool,
+    kept: &'k Kept<'a>,
+    disk: &'c D,
+    input: I,
+    out: Stream<'c, W>,
+    faults: Stream<'c, E>,
+) -> u8 {
+    let out = Output::new(out);
+    let mut call = Call::new(
+        alloc, command, found, explains, kept, disk, input, out, faults,
+    );
+    let status = follow_call(system, &mut call);
+    let Call {
+        alloc: _,
+        command: _,
+        found: _,
+        explains: _,
+        kept: _,
+        disk: _,
+        input: _input,
+        out: _out,
+        faults: _faults,
+    } = call;
+    status
+}
+
+/// Follows a call's words. Answers the exit status.
+fn follow_call<
+    T: Threads + Wait + Sync,
+    D: Disk,
+    I: Read + IsTerminal + Drop,
+    W: Write + IsTerminal,
+    E: Write + IsTerminal,
+>(system: &T, call: &mut Call<'_, '_, '_, '_, D, I, W, E>) -> u8 {
+    let ran = call.follow(system);
+    call.finish(ran)
 }
 
 /// Whether the words of a command line, the program's name first, ask a question to which 1 answers no.
