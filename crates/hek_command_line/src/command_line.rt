@@ -206,6 +206,7 @@ fn run_call<
         alloc, command, found, explains, kept, disk, input, out, faults,
     );
     let status = follow_call(system, &mut call);
+    // Its parts end one by one: the borrow checker doesn't cover the end of a struct with a struct in it.
     let Call {
         alloc: _,
         command: _,
