@@ -96,12 +96,12 @@ impl<'c, 'k, 'a, D: Disk> LateFile<'c, 'k, 'a, D> {
     }
 
     /// Writes to the file, which is begun now if it isn't yet.
-    fn put(&mut self, buf: &[u8]) -> io::Result<usize> {
+    fn put(&mut self, buf: &[u8]) -> io::Result<()> {
         if let Some(file) = &mut self.file {
-            return file.write(buf);
+            return file.write_all(buf);
         }
         let mut file = self.disk.create(self.name)?;
-        let written = file.write(buf);
+        let written = file.write_all(buf);
         self.file = Some(file);
         written
     }
@@ -116,7 +116,7 @@ fn keep_empty<D: Disk>(disk: &D, name: &str) -> io::Result<()> {
 impl<D: Disk> Write for LateFile<'_, '_, '_, D> {
     fn write(&mut self, buf: &[u8]) -> io::Result<usize> {
         match self.put(buf) {
-            Ok(count) => Ok(count),
+            Ok(()) => Ok(buf.len()),
             Err(error) => {
                 self.kept.note(error.kind());
                 Err(error)
