@@ -27,11 +27,11 @@ use std::io::{ErrorKind, IsTerminal, Read, Write};
 use std::sync::Wait;
 use std::thread::Threads;
 
-/// What a command line is answered with: the files, the standard streams, and what is asked for whatever the command.
+/// What a command line is answered with beside standard input: the files, the streams that are written to, and what is asked for
+/// whatever the command.
 #[derive(Drop)]
-pub struct Surroundings<'s, D: Disk, I: Read + Drop, W: Write, E: Write> {
+pub struct Surroundings<'s, D: Disk, W: Write, E: Write> {
     pub disk: &'s D,
-    pub input: I,
     pub out: &'s mut W,
     pub faults: &'s mut E,
     pub settings: Settings,
@@ -47,9 +47,9 @@ pub fn program<
     I: Read + IsTerminal + Drop,
     W: Write + IsTerminal,
     E: Write + IsTerminal,
->(rt: &R, system: &T, given: Surroundings<'_, D, I, W, E>) -> u8 {
+>(rt: &R, system: &T, input: I, given: Surroundings<'_, D, W, E>) -> u8 {
     match words_of(rt) {
-        Ok(words) => given.answer(system, rt.alloc(), words.as_slice()),
+        Ok(words) => given.answer(system, rt.alloc(), input, words.as_slice()),
         // Of no command is known that 1 isn't an answer of it.
         Err(HekFault::NoMemory) => status_at_fault(report(HekFault::NoMemory, given.faults), true),
         Err(fault) => {
@@ -80,22 +80,17 @@ fn fault_of<'a>(kind: ErrorKind) -> HekFault<'a> {
     }
 }
 
-impl<
-    D: Disk,
-    I: Read + IsTerminal + Drop,
-    W: Write + IsTerminal,
-    E: Write + IsTerminal,
-> Surroundings<'_, D, I, W, E> {
-    /// Answers the words of a command line, the program's name first, with the threads of a system.
-    pub fn answer<T: Threads + Wait + Sync, S: AsStr>(
+impl<D: Disk, W: Write + IsTerminal, E: Write + IsTerminal> Surroundings<'_, D, W, E> {
+    /// Answers the words of a command line, the program's name first, with standard input and the threads of a system.
+    pub fn answer<T: Threads + Wait + Sync, I: Read + IsTerminal + Drop, S: AsStr>(
         self,
         system: &T,
         alloc: Global,
+        input: I,
         words: &[S],
     ) -> u8 {
         let Surroundings {
             disk,
-            input,
             out,
             faults,
             settings,
@@ -107,13 +102,12 @@ impl<
         let CommandWords { words, settings } = left;
         let given = Surroundings {
             disk,
-            input,
             out,
             faults,
             settings,
         };
         match read_words(alloc, words.as_slice()) {
-            Ok(matches) => given.call(system, alloc, &matches),
+            Ok(matches) => given.call(system, alloc, input, &matches),
             Err(error) => {
                 let status = given.refuse(alloc, &error, words.as_slice());
                 status_at_fault(status, asks)
@@ -122,15 +116,15 @@ impl<
     }
 
     /// Calls the command of the words that were read.
-    fn call<T: Threads + Wait + Sync>(
+    fn call<T: Threads + Wait + Sync, I: Read + IsTerminal + Drop>(
         self,
         system: &T,
         alloc: Global,
+        input: I,
         matches: &ArgMatches<'_>,
     ) -> u8 {
         let Surroundings {
             disk,
-            input,
             out,
             faults,
             settings,
@@ -154,7 +148,6 @@ impl<
     fn refuse(self, alloc: Global, error: &Error, words: &[&str]) -> u8 {
         let Surroundings {
             disk: _,
-            input: _,
             out,
             faults,
             settings,
