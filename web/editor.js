@@ -152,7 +152,7 @@ function readFaults(err, name) {
 
 function showFaults(err) {
   const {found, more} = readFaults(err, NAME);
-  [faults, others] = [found, more];
+  [faults, others] = [found, [notice, ...more].filter(Boolean)];
   drawFaults();
 }
 

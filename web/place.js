@@ -139,6 +139,9 @@ function visit(hash) {
   goToAddress();
 }
 
+// What is to be said of the address, until the text changes.
+let notice = "";
+
 async function goToAddress() {
   clearTimeout(addressTimer);
   const asked = readAddress(location.hash), {name} = asked;
@@ -152,8 +155,8 @@ async function goToAddress() {
   }
   now = {level: asked.level ?? SCHEDULES.find(it => it.name === opened)?.opens?.level ?? null, step: asked.step, mode: "", asks: asked.asks};
   wantedOrder = asked.order;
+  notice = said;
   await tell();
-  if (said) { others = [said]; drawFaults(); }
   if (asked.panel === "explorer") await openExplorer(asked.at);
   else if (asked.panel === "trace") await openTrace();
   else if (asked.panel === "words") openWords();

@@ -28,10 +28,11 @@ const storedOf = schedule => schedule === original() ? stored?.[opened] : undefi
 // A text that has what its schedule asks of the machine: `run --auto` begins and ends by itself.
 const isOwnEnds = schedule => !schedule.split("\n").filter(isStep).some(it => /^\s*\S+\s+begin\b/.test(it)) || isProgram(schedule);
 
-// The outcomes of all orders by level, with an order of each; `said` is why there are none.
+// The outcomes of all orders by level, with an order of each; `said` is why there are none. With `--explain` the program says how far it is.
 async function outcomesOf(schedule) {
-  const got = await hek(["permute", "--levels", "--json", NAME], {[NAME]: schedule});
-  if (got.isEnded || got.status !== 0) return {isEnded: got.isEnded, outcomes: {}, said: got.err.split("\n")[0].replace(/^hek: (permute: )?/, "")};
+  const got = await hek(["permute", "--levels", "--json", "--explain", NAME], {[NAME]: schedule});
+  if (got.isEnded) return got;
+  if (got.status !== 0) return {outcomes: {}, said: got.err.split("\n")[0].replace(/^hek: (permute: )?/, "")};
   return {outcomes: byLevel(objects(got.out)), said: ""};
 }
 

@@ -1,5 +1,5 @@
 // The rows of a story over time, where snapshots look, and what is to hold. Pure.
-import { cut, wide } from "./text.mjs";
+import { cut, fitting, list, wide } from "./text.mjs";
 import { DEFS, M, S, colour, path, r1, rect, svg, text, title } from "./svg.mjs";
 
 const NONE = "–";
@@ -58,13 +58,20 @@ function looks(story, at, now, views) {
   }).join("");
 }
 
+/** What is said at a view: those who look at the same column share it, at the last of their lines. */
+function saidOfView(story, at, views, index) {
+  const { u } = at, own = views.filter((it) => it.at === views[index].at), room = (views[index + 1]?.x ?? at.w) - views[index].x - 6, all = list(own.map(({ t }) => story.names[t]));
+  if (own.at(-1) !== views[index] || room < 2 * u) return own.length > 1 ? "" : fitting([story.names[views[index].t], ""], room, S * u, 700);
+  return fitting(own.length > 1 ? [`views of ${all}`, all] : [`${all}’s view`, all], room, S * u, 700);
+}
+
 /** The dotted lines at which transactions look that read a snapshot: over no value. */
 const looking = (story, at, views, values) => views.map(({ x, t }, index) => {
-  const { u } = at, room = (views[index + 1]?.x ?? at.w) - x, name = story.names[t], long = `${name}’s view`;
+  const { u } = at, said = saidOfView(story, at, views, index), isOne = views.filter((it) => it.at === views[index].at).length === 1;
   const covered = values.flatMap((its, row) => (its.some(({ low, high }) => low - 2 < x && x < high + 2) ? [at.top + at.row * row] : []));
   const line = covered.map((y) => `V${r1(y + overBar(at))}M${r1(x)} ${r1(y + at.row)}`).join("");
   return path(`M${r1(x)} ${r1(0.5 * u)}${line}V${r1(at.top + at.row * story.tracks.length)}`, `view s${colour(t)}`) +
-    text(x + 4, u, S * u, wide(long, S * u, 700) < room - 6 ? long : cut(name, room - 4, S * u, 700), `b halo f${colour(t)}`, "start");
+    (said ? text(x + 4, u, S * u, said, `b halo ${isOne ? `f${colour(t)}` : ""}`, "start") : "");
 }).join("");
 
 /** What is to hold, with the values put in: red from the commit on that breaks it. */
@@ -83,7 +90,7 @@ export function tracks(story, at, step) {
   const isEnd = step > at.count, now = Math.min(step, at.count), right = isEnd || now === at.count ? at.w : at.right(now), low = at.top + at.row * (story.tracks.length + story.always.length);
   const till = (_, to) => Math.min(right, to === null || to >= now ? right : at.mid(to));
   const seen = story.views.filter((it) => it.at < now || (it.at === now && isEnd)).sort((one, other) => one.at - other.at);
-  const views = seen.map((it, index) => ({ t: it.t, x: at.left(it.at) + 3 + 5 * seen.slice(0, index).filter((other) => other.at === it.at).length }));
+  const views = seen.map((it, index) => ({ t: it.t, at: it.at, x: at.left(it.at) + 3 + 5 * seen.slice(0, index).filter((other) => other.at === it.at).length }));
   const parts = [DEFS, now > 0 && !isEnd ? rect(at.left(now - 1), 0, at.width(now - 1), low + 4, "band") : ""];
   story.tracks.forEach((it, index) => parts.push(track(it, at, at.top + at.row * index, now, till)));
   if (!isEnd) parts.push(looks(story, at, now, views));

@@ -16,10 +16,9 @@ fn main(rt: HostRuntime) -> ExitCode {
     let _place = fs::open(&rt, FOLDER);
     let given = Surroundings {
         disk: &SystemDisk::new(&rt),
-        input: rt.stdin(),
         out: &mut rt.stdout(),
         faults: &mut rt.stderr(),
         settings: Settings::by_environment(&rt),
     };
-    ExitCode::from(program(&rt, &rt, given))
+    ExitCode::from(program(&rt, &rt, rt.stdin(), given))
 }

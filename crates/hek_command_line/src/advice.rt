@@ -3,7 +3,7 @@ use crate::commands::Command;
 use crate::pages::is_log;
 use crate::rows::{Argument, Value};
 use crate::said::{Said, digits};
-use crate::texts::Text;
+use crate::texts::{Text, pair};
 use clap::ArgMatches;
 use hek_diagnostics::nearest_word;
 use hek_permute_command::part_of;
@@ -156,7 +156,7 @@ impl<'a> Advice<'a> {
                 say_range(said, what, least, most);
             }
             Wrong::TooSmall(what, least, most) => {
-                said.message(too_small(what), &[value, option]);
+                said.message(too_small(what), &pair(value, option));
                 say_range(said, what, least, most);
             }
             Wrong::TooLarge(what, least, most) => {
@@ -164,7 +164,7 @@ impl<'a> Advice<'a> {
                 say_range(said, what, least, most);
             }
             Wrong::NoWord(noun, words, more) => {
-                said.message("no @ is called `@`", &[&*noun, &*value]);
+                said.message("no @ is called `@`", &pair(noun, value));
                 say_words(said, value, words, more);
             }
             Wrong::NoPart => {

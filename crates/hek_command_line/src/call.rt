@@ -17,7 +17,7 @@ use std::io::{IsTerminal, Read, Write};
 pub type Answer<'a> = Result<u8, HekFault<'a>>;
 
 /// A file that is open, or standard input.
-pub type Opened<'c, 'a, I, F> = KeptReader<'c, 'a, InputFile<I, F>>;
+pub type Opened<'k, 'a, I, F> = KeptReader<'k, 'a, InputFile<I, F>>;
 
 /// The name by which a system has the file that is standard input.
 const INPUT_FILE: &str = "/dev/stdin";
@@ -27,21 +27,48 @@ pub const OUTPUT: &str = "-";
 
 /// A command with its words, and the files and streams that it is called with. `input` is standard input, until it is opened.
 #[derive(Drop)]
-pub struct Call<'c, 'a, D: Disk, I: Read + Drop, W: Write, E: Write> {
+pub struct Call<'c, 'f, 'k, 'a, D: Disk, I: Read + Drop, W: Write, E: Write> {
     pub alloc: Global,
     pub command: Command,
-    pub found: &'c ArgMatches<'a>,
+    pub found: &'f ArgMatches<'a>,
     /// Whether faults are explained.
     pub explains: bool,
-    pub kept: &'c Kept<'a>,
+    pub kept: &'k Kept<'a>,
     pub disk: &'c D,
     pub input: Option<I>,
-    pub out: Output<'c, 'a, D, W>,
+    pub out: Output<'c, 'k, 'a, D, W>,
     pub faults: Stream<'c, E>,
 }
 
+impl<'c, 'f, 'k, 'a, D: Disk, I: Read + Drop, W: Write, E: Write> Call<'c, 'f, 'k, 'a, D, I, W, E> {
+    /// A call that has opened nothing yet.
+    pub fn new(
+        alloc: Global,
+        command: Command,
+        found: &'f ArgMatches<'a>,
+        explains: bool,
+        kept: &'k Kept<'a>,
+        disk: &'c D,
+        input: I,
+        out: Output<'c, 'k, 'a, D, W>,
+        faults: Stream<'c, E>,
+    ) -> Call<'c, 'f, 'k, 'a, D, I, W, E> {
+        Call {
+            alloc,
+            command,
+            found,
+            explains,
+            kept,
+            disk,
+            input: Some(input),
+            out,
+            faults,
+        }
+    }
+}
+
 /// The words.
-impl<'a, D: Disk, I: Read + Drop, W: Write, E: Write> Call<'_, 'a, D, I, W, E> {
+impl<'a, D: Disk, I: Read + Drop, W: Write, E: Write> Call<'_, '_, '_, 'a, D, I, W, E> {
     /// Whether they have a flag.
     pub fn flag(&self, name: &str) -> bool {
         self.found.get_flag(name)
@@ -88,9 +115,9 @@ impl<'a, D: Disk, I: Read + Drop, W: Write, E: Write> Call<'_, 'a, D, I, W, E> {
 }
 
 /// The files and the streams.
-impl<'c, 'a, D: Disk, I: Read + Drop, W: Write, E: Write> Call<'c, 'a, D, I, W, E> {
+impl<'k, 'a, D: Disk, I: Read + Drop, W: Write, E: Write> Call<'_, '_, 'k, 'a, D, I, W, E> {
     /// Opens a file to read it. `-` is standard input, which can be opened once.
-    pub fn open(&mut self, name: &'a str) -> Result<Opened<'c, 'a, I, D::Reader>, HekFault<'a>>
+    pub fn open(&mut self, name: &'a str) -> Result<Opened<'k, 'a, I, D::Reader>, HekFault<'a>>
         ensures { IfErr result (ReadFails name.now) }
     {
         if name == INPUT {
@@ -143,7 +170,7 @@ impl<'c, 'a, D: Disk, I: Read + Drop, W: Write, E: Write> Call<'c, 'a, D, I, W, 
     }
 }
 
-impl<D: Disk, I: Read + IsTerminal + Drop, W: Write, E: Write> Call<'_, '_, D, I, W, E> {
+impl<D: Disk, I: Read + IsTerminal + Drop, W: Write, E: Write> Call<'_, '_, '_, '_, D, I, W, E> {
     /// Whether standard input is a terminal.
     pub fn is_typed(&self) -> bool {
         match &self.input {

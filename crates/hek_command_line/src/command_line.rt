@@ -13,7 +13,7 @@ use crate::manual::manual_page;
 use crate::settings::{CommandWords, Settings};
 use crate::shells::completions;
 use crate::streams::Stream;
-use crate::texts::Text;
+use crate::texts::{Text, pair};
 use clap::error::ErrorKind as ClapKind;
 use clap::{ArgMatches, Error};
 use hek_debug_command::put_words;
@@ -27,11 +27,11 @@ use std::io::{ErrorKind, IsTerminal, Read, Write};
 use std::sync::Wait;
 use std::thread::Threads;
 
-/// What a command line is answered with: the files, the standard streams, and what is asked for whatever the command.
+/// What a command line is answered with beside standard input: the files, the streams that are written to, and what is asked for
+/// whatever the command.
 #[derive(Drop)]
-pub struct Surroundings<'s, D: Disk, I: Read + Drop, W: Write, E: Write> {
+pub struct Surroundings<'s, D: Disk, W: Write, E: Write> {
     pub disk: &'s D,
-    pub input: I,
     pub out: &'s mut W,
     pub faults: &'s mut E,
     pub settings: Settings,
@@ -47,9 +47,9 @@ pub fn program<
     I: Read + IsTerminal + Drop,
     W: Write + IsTerminal,
     E: Write + IsTerminal,
->(rt: &R, system: &T, given: Surroundings<'_, D, I, W, E>) -> u8 {
+>(rt: &R, system: &T, input: I, given: Surroundings<'_, D, W, E>) -> u8 {
     match words_of(rt) {
-        Ok(words) => given.answer(system, rt.alloc(), words.as_slice()),
+        Ok(words) => given.answer(system, rt.alloc(), input, words.as_slice()),
         // Of no command is known that 1 isn't an answer of it.
         Err(HekFault::NoMemory) => status_at_fault(report(HekFault::NoMemory, given.faults), true),
         Err(fault) => {
@@ -80,22 +80,17 @@ fn fault_of<'a>(kind: ErrorKind) -> HekFault<'a> {
     }
 }
 
-impl<
-    D: Disk,
-    I: Read + IsTerminal + Drop,
-    W: Write + IsTerminal,
-    E: Write + IsTerminal,
-> Surroundings<'_, D, I, W, E> {
-    /// Answers the words of a command line, the program's name first, with the threads of a system.
-    pub fn answer<T: Threads + Wait + Sync, S: AsStr>(
+impl<D: Disk, W: Write + IsTerminal, E: Write + IsTerminal> Surroundings<'_, D, W, E> {
+    /// Answers the words of a command line, the program's name first, with standard input and the threads of a system.
+    pub fn answer<T: Threads + Wait + Sync, I: Read + IsTerminal + Drop, S: AsStr>(
         self,
         system: &T,
         alloc: Global,
+        input: I,
         words: &[S],
     ) -> u8 {
         let Surroundings {
             disk,
-            input,
             out,
             faults,
             settings,
@@ -107,13 +102,12 @@ impl<
         let CommandWords { words, settings } = left;
         let given = Surroundings {
             disk,
-            input,
             out,
             faults,
             settings,
         };
         match read_words(alloc, words.as_slice()) {
-            Ok(matches) => given.call(system, alloc, &matches),
+            Ok(matches) => given.call(system, alloc, input, &matches),
             Err(error) => {
                 let status = given.refuse(alloc, &error, words.as_slice());
                 status_at_fault(status, asks)
@@ -122,51 +116,38 @@ impl<
     }
 
     /// Calls the command of the words that were read.
-    fn call<T: Threads + Wait + Sync>(
+    fn call<T: Threads + Wait + Sync, I: Read + IsTerminal + Drop>(
         self,
         system: &T,
         alloc: Global,
+        input: I,
         matches: &ArgMatches<'_>,
     ) -> u8 {
         let Surroundings {
             disk,
-            input,
             out,
             faults,
             settings,
         } = self;
-        let Some((command, found)) = called(&*matches) else {
+        let Some(found) = called(&*matches) else {
             return report(HekFault::BadArgument, faults);
         };
+        let (command, found) = found;
         let explains = settings.explaining.is_wanted(faults.is_terminal());
         let kept = Kept::new(alloc, command, found, explains || found.get_flag("json"));
         let paint = reply_paint(settings, command, found, out);
-        let stream = Stream::new(alloc, out, paint);
+        let out = Stream::new(alloc, out, paint);
         let paint = fault_paint(settings, faults);
-        let mut call = Call {
-            alloc,
-            command,
-            found: &*found,
-            explains,
-            kept: &kept,
-            disk: &*disk,
-            input: Some(input),
-            out: Output {
-                stream,
-                file: None,
-                memory: None,
-            },
-            faults: Stream::of_faults(alloc, faults, paint),
-        };
-        let ran = call.follow(system);
-        call.finish(ran)
+        let faults = Stream::of_faults(alloc, faults, paint);
+        run_call(
+            system, alloc, command, found, explains, &kept, disk, input, out, faults,
+        )
     }
 
     /// Answers words that the parser of the command line refuses, help among them.
     fn refuse(self, alloc: Global, error: &Error, words: &[&str]) -> u8 {
         let Surroundings {
             disk: _,
-            input: _,
             out,
             faults,
             settings,
@@ -188,6 +169,61 @@ impl<
         let _ = faults.flush();
         status
     }
+}
+
+/// Runs a command with its words, files and streams. Answers the exit status.
+fn run_call<
+    'c,
+    'f,
+    'k,
+    'a,
+    T: Threads + Wait + Sync,
+    D: Disk,
+    I: Read + IsTerminal + Drop,
+    W: Write + IsTerminal,
+    E: Write + IsTerminal,
+>(
+    system: &T,
+    alloc: Global,
+    command: Command,
+    found: &'f ArgMatches<'a>,
+    explains: bool,
+    kept: &'k Kept<'a>,
+    disk: &'c D,
+    input: I,
+    out: Stream<'c, W>,
+    faults: Stream<'c, E>,
+) -> u8 {
+    let out = Output::new(out);
+    let mut call = Call::new(
+        alloc, command, found, explains, kept, disk, input, out, faults,
+    );
+    let status = follow_call(system, &mut call);
+    // Its parts end one by one: the borrow checker doesn't cover the end of a struct with a struct in it.
+    let Call {
+        alloc: _,
+        command: _,
+        found: _,
+        explains: _,
+        kept: _,
+        disk: _,
+        input: _input,
+        out: _out,
+        faults: _faults,
+    } = call;
+    status
+}
+
+/// Follows a call's words. Answers the exit status.
+fn follow_call<
+    T: Threads + Wait + Sync,
+    D: Disk,
+    I: Read + IsTerminal + Drop,
+    W: Write + IsTerminal,
+    E: Write + IsTerminal,
+>(system: &T, call: &mut Call<'_, '_, '_, '_, D, I, W, E>) -> u8 {
+    let ran = call.follow(system);
+    call.finish(ran)
 }
 
 /// Whether the words of a command line, the program's name first, ask a question to which 1 answers no.
@@ -285,7 +321,7 @@ fn suggested(alloc: Global, error: &Error, words: &[&str]) -> Text {
     }
     if error.kind() == ClapKind::InvalidSubcommand {
         if let Some(command) = reader_of(word) {
-            lines.fill("  | did you mean `@ @`?\n", &[command.name(), *word]);
+            lines.fill("  | did you mean `@ @`?\n", &pair(command.name(), word));
         } else if let Some(name) = meant_command(alloc, word) {
             lines.fill("  | did you mean `@`?\n", &[name]);
         }
@@ -294,6 +330,8 @@ fn suggested(alloc: Global, error: &Error, words: &[&str]) -> Text {
 }
 
 impl<'a, D: Disk, I: Read + IsTerminal + Drop, W: Write + IsTerminal, E: Write + IsTerminal> Call<
+    '_,
+    '_,
     '_,
     'a,
     D,

@@ -45,16 +45,16 @@ impl<I: Read + Drop, F: Read + Drop> Read for InputFile<I, F> {
 
 /// A file that is begun at its first write, and not before. It gets its name when it is kept.
 #[derive(Drop)]
-pub struct LateFile<'c, 'a, D: Disk> {
+pub struct LateFile<'c, 'k, 'a, D: Disk> {
     disk: &'c D,
     name: &'a str,
-    kept: &'c Kept<'a>,
+    kept: &'k Kept<'a>,
     file: Option<D::Writer>,
 }
 
-impl<'c, 'a, D: Disk> LateFile<'c, 'a, D> {
+impl<'c, 'k, 'a, D: Disk> LateFile<'c, 'k, 'a, D> {
     /// A file with this name that isn't begun yet. Why it can't be written is noted.
-    pub fn new(disk: &'c D, name: &'a str, kept: &'c Kept<'a>) -> LateFile<'c, 'a, D> {
+    pub fn new(disk: &'c D, name: &'a str, kept: &'k Kept<'a>) -> LateFile<'c, 'k, 'a, D> {
         LateFile {
             disk,
             name,
@@ -96,12 +96,12 @@ impl<'c, 'a, D: Disk> LateFile<'c, 'a, D> {
     }
 
     /// Writes to the file, which is begun now if it isn't yet.
-    fn put(&mut self, buf: &[u8]) -> io::Result<usize> {
+    fn put(&mut self, buf: &[u8]) -> io::Result<()> {
         if let Some(file) = &mut self.file {
-            return file.write(buf);
+            return file.write_all(buf);
         }
         let mut file = self.disk.create(self.name)?;
-        let written = file.write(buf);
+        let written = file.write_all(buf);
         self.file = Some(file);
         written
     }
@@ -113,10 +113,10 @@ fn keep_empty<D: Disk>(disk: &D, name: &str) -> io::Result<()> {
     disk.keep(file)
 }
 
-impl<D: Disk> Write for LateFile<'_, '_, D> {
+impl<D: Disk> Write for LateFile<'_, '_, '_, D> {
     fn write(&mut self, buf: &[u8]) -> io::Result<usize> {
         match self.put(buf) {
-            Ok(count) => Ok(count),
+            Ok(()) => Ok(buf.len()),
             Err(error) => {
                 self.kept.note(error.kind());
                 Err(error)
@@ -139,13 +139,22 @@ impl<D: Disk> Write for LateFile<'_, '_, D> {
 /// Where a command writes: to memory, if what it writes goes on from there; otherwise to a file, if the words name one; otherwise
 /// to standard output.
 #[derive(Drop)]
-pub struct Output<'c, 'a, D: Disk, W: Write> {
+pub struct Output<'c, 'k, 'a, D: Disk, W: Write> {
     pub stream: Stream<'c, W>,
-    pub file: Option<LateFile<'c, 'a, D>>,
+    pub file: Option<LateFile<'c, 'k, 'a, D>>,
     pub memory: Option<Vec<u8>>,
 }
 
-impl<D: Disk, W: Write> Output<'_, '_, D, W> {
+impl<'c, 'k, 'a, D: Disk, W: Write> Output<'c, 'k, 'a, D, W> {
+    /// Standard output.
+    pub fn new(stream: Stream<'c, W>) -> Output<'c, 'k, 'a, D, W> {
+        Output {
+            stream,
+            file: None,
+            memory: None,
+        }
+    }
+
     /// Keeps the file that the words name, if they do, where a command wrote what it should. Answers what came of the command.
     pub fn settle<'f>(
         &mut self,
@@ -159,13 +168,16 @@ impl<D: Disk, W: Write> Output<'_, '_, D, W> {
     }
 }
 
-impl<D: Disk, W: Write> Write for Output<'_, '_, D, W> {
+impl<D: Disk, W: Write> Write for Output<'_, '_, '_, D, W> {
     fn write(&mut self, buf: &[u8]) -> io::Result<usize> {
         if let Some(memory) = &mut self.memory {
             return memory.write(buf);
         }
         match &mut self.file {
-            Some(file) => self.stream.write_to(buf, file),
+            Some(file) => {
+                self.stream.write_to(buf, file)?;
+                Ok(buf.len())
+            }
             None => self.stream.write(buf),
         }
     }
@@ -178,7 +190,7 @@ impl<D: Disk, W: Write> Write for Output<'_, '_, D, W> {
     }
 }
 
-impl<D: Disk, W: Write + IsTerminal> IsTerminal for Output<'_, '_, D, W> {
+impl<D: Disk, W: Write + IsTerminal> IsTerminal for Output<'_, '_, '_, D, W> {
     fn is_terminal(&self) -> bool {
         self.stream.is_terminal()
     }

@@ -41,7 +41,7 @@ pub fn schedule_of(alloc: Global, bytes: Vec<u8>) -> Option<Schedule> {
     schedule_in(alloc, file).ok()
 }
 
-impl<'a, D: Disk, I: Read + Drop, W: Write, E: Write> Call<'_, 'a, D, I, W, E> {
+impl<'a, D: Disk, I: Read + Drop, W: Write, E: Write> Call<'_, '_, '_, 'a, D, I, W, E> {
     /// The exit status after what came of the command, whose fault is reported. That the reader of its output has left is no
     /// fault.
     pub fn finish(&mut self, ran: Answer<'a>) -> u8 {

@@ -6,7 +6,7 @@ use hek_ladder::{Promise, Wish};
 use hek_report::HekFault;
 use std::io::{Read, Write};
 
-impl<'a, D: Disk, I: Read + Drop, W: Write, E: Write> Call<'_, 'a, D, I, W, E> {
+impl<'a, D: Disk, I: Read + Drop, W: Write, E: Write> Call<'_, '_, '_, 'a, D, I, W, E> {
     /// Judges a log by what the words ask for. The order that was found goes to a file, or to standard output after the verdict.
     pub fn history(&mut self) -> Answer<'a> {
         match self.given("order-out") {

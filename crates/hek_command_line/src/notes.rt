@@ -9,7 +9,7 @@ use hek_report::INPUT;
 use hek_rules::{EventKind, Schedule, next_line, next_word, number};
 use std::io::{Read, Write};
 
-impl<D: Disk, I: Read + Drop, W: Write, E: Write> Call<'_, '_, D, I, W, E> {
+impl<D: Disk, I: Read + Drop, W: Write, E: Write> Call<'_, '_, '_, '_, D, I, W, E> {
     /// Notes what comes to nothing in a command that had no fault.
     pub fn note(&mut self) {
         if self.command == Command::Debug && !self.flag("auto") {

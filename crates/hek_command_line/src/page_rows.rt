@@ -1,6 +1,6 @@
 //! The words of the commands that draw.
 use crate::rows::{
-    ANY, Asks, EXPLAIN, FILE, Form, GRAIN, IMAGE, LEVEL, Others, Row, TEXT, Value, given,
+    ANY, AUTO, Asks, EXPLAIN, FILE, Form, GRAIN, IMAGE, LEVEL, Others, Row, TEXT, Value, given,
 };
 
 /// The number of a step, the first being 1.
@@ -18,7 +18,7 @@ The page tells the run: each read, write, wait and end, the rows, what is to hol
         IMAGE,
         EXPLAIN,
         LEVEL,
-        given!("auto" => Form::Flag, "shows only the reads and writes of FILE, which may be a program, and begins and ends each transaction by itself"),
+        AUTO,
         given!("output" => Form::Output, "writes the page to a file; - is standard output, also where that is a terminal"),
         given!("from" => Form::Valued("N", A_STEP), "begins at step N, by default the first"),
         given!("to" => Form::Valued("N", A_STEP), "ends at step N, by default the last"),
@@ -28,9 +28,9 @@ The page tells the run: each read, write, wait and end, the rows, what is to hol
         given!("next" => Form::Valued("ADDRESS", Value::Text), "the address of the page after this one"),
         given!("orders" => Form::Flag, "makes the explorer of every order of the moves, as hek permute plays them"),
         given!("levels" => Form::Flag, "makes the explorers of all levels, with their outcomes side by side"),
-        given!("split" => Form::Flag, "with --orders: makes finish and precommit a separate move"),
+        given!("split" => Form::Flag, "with --orders or --levels: makes finish and precommit a separate move"),
         GRAIN,
-        given!("limit" => Form::Valued("N", Value::Number("how many at most", 0, ANY)), "with --orders: writes nothing if there are more than N nodes (5000)"),
+        given!("limit" => Form::Valued("N", Value::Number("how many at most", 0, ANY)), "with --orders or --levels: writes nothing if there are more than N nodes (5000)"),
         given!("machine" => Form::Flag, "shows the machine alone, without the story"),
         given!("json" => Form::Flag, "writes the page's data alone, one object of JSON, and then the plays of its story, an object each"),
     ],

@@ -56,7 +56,16 @@ struct Told {
     plays: Vec<u8>,
 }
 
-impl<'a, D: Disk, I: Read + Drop, W: Write + IsTerminal, E: Write> Call<'_, 'a, D, I, W, E> {
+impl<'a, D: Disk, I: Read + Drop, W: Write + IsTerminal, E: Write> Call<
+    '_,
+    '_,
+    '_,
+    'a,
+    D,
+    I,
+    W,
+    E,
+> {
     /// The page goes to standard output, or with `-o` to a file.
     pub fn page(&mut self) -> Answer<'a> {
         match self.given("output") {

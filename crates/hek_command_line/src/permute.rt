@@ -8,7 +8,16 @@ use hek_report::HekFault;
 use std::io::{IsTerminal, Read, Write};
 use std::thread::Threads;
 
-impl<'a, D: Disk, I: Read + Drop, W: Write, E: Write + IsTerminal> Call<'_, 'a, D, I, W, E> {
+impl<'a, D: Disk, I: Read + Drop, W: Write, E: Write + IsTerminal> Call<
+    '_,
+    '_,
+    '_,
+    'a,
+    D,
+    I,
+    W,
+    E,
+> {
     /// Plays orders, with as many threads of the system as the words ask for where outcomes are counted, and writes what the
     /// words ask for.
     pub fn permute<T: Threads + Sync>(&mut self, system: &T) -> Answer<'a> {

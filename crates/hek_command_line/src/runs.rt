@@ -19,6 +19,8 @@ use std::thread::Threads;
 
 impl<'a, D: Disk, I: Read + IsTerminal + Drop, W: Write, E: Write + IsTerminal> Call<
     '_,
+    '_,
+    '_,
     'a,
     D,
     I,

@@ -21,7 +21,7 @@ const IMAGE_MARK: &[u8] = b"HKSC";
 const FRONT: u64 = 4;
 
 /// A file from its first byte, also where its front has been looked at.
-type FromFront<'c, 'a, I, F> = Chain<Cursor<Vec<u8>>, Opened<'c, 'a, I, F>>;
+type FromFront<'k, 'a, I, F> = Chain<Cursor<Vec<u8>>, Opened<'k, 'a, I, F>>;
 
 /// What the words and the name say that a file holds.
 #[derive(Clone, Copy, PartialEq, Eq)]
@@ -34,13 +34,13 @@ enum Holds {
     Unsaid,
 }
 
-impl<'c, 'a, D: Disk, I: Read + Drop, W: Write, E: Write> Call<'c, 'a, D, I, W, E> {
+impl<'k, 'a, D: Disk, I: Read + Drop, W: Write, E: Write> Call<'_, '_, 'k, 'a, D, I, W, E> {
     /// The schedule file that the words name. `--text` and `--image` say what it holds. Without them it is a text if its name
     /// ends in `.hek` and its first bytes aren't those of an image, or if its first word is one with which a line of a schedule
     /// text begins; otherwise it is an image.
     pub fn schedule_file(
         &mut self,
-    ) -> Result<ScheduleFile<BufReader<FromFront<'c, 'a, I, D::Reader>>>, HekFault<'a>> {
+    ) -> Result<ScheduleFile<BufReader<FromFront<'k, 'a, I, D::Reader>>>, HekFault<'a>> {
         let name = self.word("FILE");
         let mut file = self.open(name)?;
         let (front, is_text) = match self.holds(name) {
@@ -65,7 +65,7 @@ impl<'c, 'a, D: Disk, I: Read + Drop, W: Write, E: Write> Call<'c, 'a, D, I, W, 
     pub fn schedule_to_run(
         &mut self,
         plays: bool,
-    ) -> Result<ScheduleFile<BufReader<FromFront<'c, 'a, I, D::Reader>>>, HekFault<'a>> {
+    ) -> Result<ScheduleFile<BufReader<FromFront<'k, 'a, I, D::Reader>>>, HekFault<'a>> {
         let level = self.level();
         let file = self.schedule_file()?;
         match level {

@@ -68,12 +68,11 @@ impl<'o, W: Write> Stream<'o, W> {
     }
 
     /// Writes to a file in its place: text with pictures, or an image.
-    pub fn write_to<F: Write>(&self, bytes: &[u8], file: &mut F) -> io::Result<usize> {
+    pub fn write_to<F: Write>(&self, bytes: &[u8], file: &mut F) -> io::Result<()> {
         match self.paint {
-            Paint::Image => file.write_all(bytes)?,
-            Paint::None | Paint::Replies | Paint::Faults => show(self.alloc, bytes, file)?,
+            Paint::Image => file.write_all(bytes),
+            Paint::None | Paint::Replies | Paint::Faults => show(self.alloc, bytes, file),
         }
-        Ok(bytes.len())
     }
 
     /// Whether the reader has left, so that what was written last went nowhere.
@@ -117,13 +116,12 @@ impl<'o, W: Write> Stream<'o, W> {
     }
 
     /// Writes bytes: text with pictures, and where there are colours each line once it ends.
-    fn put(&mut self, bytes: &[u8]) -> io::Result<usize> {
+    fn put(&mut self, bytes: &[u8]) -> io::Result<()> {
         match self.paint {
-            Paint::Image => self.out.write_all(bytes)?,
-            Paint::None => show(self.alloc, bytes, self.out)?,
-            Paint::Replies | Paint::Faults => self.put_lines(bytes)?,
+            Paint::Image => self.out.write_all(bytes),
+            Paint::None => show(self.alloc, bytes, self.out),
+            Paint::Replies | Paint::Faults => self.put_lines(bytes),
         }
-        Ok(bytes.len())
     }
 
     /// Writes the lines that end with these bytes.
@@ -163,7 +161,7 @@ impl<'o, W: Write> Stream<'o, W> {
     }
 
     /// Writes bytes in place of a line that goes away.
-    fn put_next(&mut self, bytes: &[u8]) -> io::Result<usize> {
+    fn put_next(&mut self, bytes: &[u8]) -> io::Result<()> {
         self.clear()?;
         match bytes.last() {
             Some(b'\n') => self.last = Last::Ended,
@@ -192,7 +190,7 @@ impl<W: Write> Write for Stream<'_, W> {
     fn write(&mut self, buf: &[u8]) -> io::Result<usize> {
         self.keep(buf);
         match self.put_next(buf) {
-            Ok(count) => Ok(count),
+            Ok(()) => Ok(buf.len()),
             Err(error) => Err(self.noted(error)),
         }
     }

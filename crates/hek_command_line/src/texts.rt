@@ -83,6 +83,11 @@ impl Text {
     }
 }
 
+/// Two values, at one lifetime.
+pub fn pair<'v>(first: &'v str, second: &'v str) -> [&'v str; 2] {
+    [first, second]
+}
+
 /// What stands for a byte, if something does.
 fn escape_of<'e>(byte: u8, escapes: &[(u8, &'e str)]) -> Option<&'e str> {
     for (one, escape) in escapes {

@@ -8,7 +8,16 @@ use hek_report::{HekFault, INPUT};
 use hek_rules::FromWrite;
 use std::io::{IsTerminal, Read, Write};
 
-impl<'a, D: Disk, I: Read + Drop, W: Write + IsTerminal, E: Write> Call<'_, 'a, D, I, W, E> {
+impl<'a, D: Disk, I: Read + Drop, W: Write + IsTerminal, E: Write> Call<
+    '_,
+    '_,
+    '_,
+    'a,
+    D,
+    I,
+    W,
+    E,
+> {
     pub fn release(&mut self) -> Answer<'a> {
         let word = self.word("WORD");
         let waits = self.word("WAITS");

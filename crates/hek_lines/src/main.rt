@@ -23,12 +23,11 @@ fn main(rt: HostRuntime) -> ExitCode {
         };
         let given = Surroundings {
             disk: &SystemDisk::new(&rt),
-            input: rt.stdin(),
             out: &mut rt.stdout(),
             faults: &mut rt.stdout(),
             settings: SETTINGS,
         };
-        let status = given.answer(&rt, rt.alloc(), words.as_slice());
+        let status = given.answer(&rt, rt.alloc(), rt.stdin(), words.as_slice());
         let _ = println!(rt; "{line}: status {status}");
     }
     ExitCode::SUCCESS

@@ -303,7 +303,7 @@ const labelOf = (column, index) => `${index + 1}: ${plain(column.say ?? "")}`; f
   const under = isCycle ? story.columns.map((column, index) => (column.kind === "wait" ? "" : rect(at.left(index) + 2, at.y(column.t), at.width(index) - 4, at.high, "chip", column.kind === "commit" ? at.high / 2 : 6))).join("") : "";
   const arrows = isCycle ? "" : frees(story, at, now), found = isCycle ? edges(story, at) : links(story, at, now);
   return svg(at.w, h, `Lanes of ${story.names.join(", ")} after ${now} of ${at.count} moves`, DEFS + band + rules + lives + bars + arrows + under + boxes + found, isLive ? "group" : "img"); }
-return { names, labelOf, lanes }; })(); Story.rows = (() => { const { cut, wide } = Story.text;
+return { names, labelOf, lanes }; })(); Story.rows = (() => { const { cut, fitting, list, wide } = Story.text;
 const { DEFS, M, S, colour, path, r1, rect, svg, text, title } = Story.svg; const NONE = "–";
 const height = (story, at) => at.top + at.row * (story.tracks.length + story.always.length) + 4; function keys(story, at) {
   const { u } = at, count = story.tracks.length, room = at.gutter - 4;
@@ -330,12 +330,16 @@ function looks(story, at, now, views) { const column = story.columns[now - 1], {
   return story.tracks.map(({ key }, index) => { if (key !== column.key) return "";
     const isOwn = column.by === column.t, y = at.top + at.row * index + (isOwn ? 0.4 * u : at.row - 0.6 * u), view = views.find((it) => it.t === column.t), x = at.mid(now - 1), to = view && !isOwn ? view.x : x;
     return path(`M${r1(x)} 0V${r1(y)}H${r1(to)}`, `link s${colour(column.t)}`) + `<circle cx="${r1(to)}" cy="${r1(y)}" r="${r1(0.35 * u)}" class="f${colour(column.t)}"/>`; }).join(""); }
+function saidOfView(story, at, views, index) {
+  const { u } = at, own = views.filter((it) => it.at === views[index].at), room = (views[index + 1]?.x ?? at.w) - views[index].x - 6, all = list(own.map(({ t }) => story.names[t]));
+  if (own.at(-1) !== views[index] || room < 2 * u) return own.length > 1 ? "" : fitting([story.names[views[index].t], ""], room, S * u, 700);
+  return fitting(own.length > 1 ? [`views of ${all}`, all] : [`${all}’s view`, all], room, S * u, 700); }
 const looking = (story, at, views, values) => views.map(({ x, t }, index) => {
-  const { u } = at, room = (views[index + 1]?.x ?? at.w) - x, name = story.names[t], long = `${name}’s view`;
+  const { u } = at, said = saidOfView(story, at, views, index), isOne = views.filter((it) => it.at === views[index].at).length === 1;
   const covered = values.flatMap((its, row) => (its.some(({ low, high }) => low - 2 < x && x < high + 2) ? [at.top + at.row * row] : []));
   const line = covered.map((y) => `V${r1(y + overBar(at))}M${r1(x)} ${r1(y + at.row)}`).join("");
   return path(`M${r1(x)} ${r1(0.5 * u)}${line}V${r1(at.top + at.row * story.tracks.length)}`, `view s${colour(t)}`) +
-    text(x + 4, u, S * u, wide(long, S * u, 700) < room - 6 ? long : cut(name, room - 4, S * u, 700), `b halo f${colour(t)}`, "start"); }).join("");
+    (said ? text(x + 4, u, S * u, said, `b halo ${isOne ? `f${colour(t)}` : ""}`, "start") : ""); }).join("");
 function always({ states, text: words }, at, y, now, right) { const { u } = at; return states.map((state, index) => {
     if (index > 0 && state.from >= now) return "";
     const x = index ? at.mid(state.from) : 0, next = states[index + 1], to = next && next.from < now ? at.mid(next.from) : Math.max(right, at.pad), w = to - x, mark = state.holds ? "✓" : "✗", said = `${mark} ${state.words}`;
@@ -345,7 +349,7 @@ function tracks(story, at, step) {
   const isEnd = step > at.count, now = Math.min(step, at.count), right = isEnd || now === at.count ? at.w : at.right(now), low = at.top + at.row * (story.tracks.length + story.always.length);
   const till = (_, to) => Math.min(right, to === null || to >= now ? right : at.mid(to));
   const seen = story.views.filter((it) => it.at < now || (it.at === now && isEnd)).sort((one, other) => one.at - other.at);
-  const views = seen.map((it, index) => ({ t: it.t, x: at.left(it.at) + 3 + 5 * seen.slice(0, index).filter((other) => other.at === it.at).length }));
+  const views = seen.map((it, index) => ({ t: it.t, at: it.at, x: at.left(it.at) + 3 + 5 * seen.slice(0, index).filter((other) => other.at === it.at).length }));
   const parts = [DEFS, now > 0 && !isEnd ? rect(at.left(now - 1), 0, at.width(now - 1), low + 4, "band") : ""];
   story.tracks.forEach((it, index) => parts.push(track(it, at, at.top + at.row * index, now, till))); if (!isEnd) parts.push(looks(story, at, now, views));
   parts.push(looking(story, at, views, story.tracks.map((it) => valuesOf(it, at, now, till))));
@@ -395,20 +399,20 @@ const hasOutcome = (story) => (outcome) => verdictKind(outcome.verdict) === stor
   outcome.rows.every(([key, value]) => story.tracks.find((it) => it.key === key)?.segments.at(-1).value === value); function endOf({ ends, columns }, t) {
   if (ends[t] !== "abort") return ends[t] === "commit" ? "committed" : "unended";
   return `aborted ${columns.find((it) => it.t === t && it.kind === "abort").cause}`; }
-return { mini, sorted, saidOutcome, BAR, bars, hasOutcome, endOf }; })(); Story.figure = (() => { const { fitting, plain } = Story.text;
-const { COLOURS, L, S, STYLE, XL, rect, r1, svg, text } = Story.svg; const { layout } = Story.layout; const { lanes, names } = Story.lanes;
+return { mini, sorted, saidOutcome, BAR, bars, hasOutcome, endOf }; })(); Story.figure = (() => { const { fitting, plain, wide } = Story.text;
+const { COLOURS, L, M, S, STYLE, XL, rect, r1, svg, text } = Story.svg; const { layout } = Story.layout; const { lanes, names } = Story.lanes;
 const { keys, tracks } = Story.rows; const painted = (drawing, colours) => drawing.replace(/var\(--(\w+)\)/g, (all, name) => colours[name] ?? all);
 function saying(story, step) { if (step === 0) return { say: "", isBad: false };
   if (step > story.columns.length) return { say: plain(story.verdict.say), isBad: story.verdict.kind === "not" || story.verdict.breaks !== null };
   const { say, breaks } = story.columns[step - 1]; return { say: plain(say), isBad: breaks !== null }; }
 function figure(story, { step = story.columns.length + 1, width = 1000, theme = "light", title = "" } = {}) {
   const u = 16, at = layout(story, { w: width, h: 480, u }), hasRows = story.tracks.length + story.always.length > 0, { say, isBad } = saying(story, step);
-  const heading = title ? 1.6 * u : 0, top = heading + (say ? 2.4 * u : 0), low = top + at.lane * story.names.length + 8, wide = at.gutter + at.w;
+  const heading = title ? 1.6 * u : 0, top = heading + (say ? 2.4 * u : 0), low = top + at.lane * story.names.length + 8, room = at.gutter + at.w, size = [XL, L, M].find((it) => wide(say, it * u, 700) <= room - 4) ?? M;
   const parts = [[0, top, names(story, at, step)], [at.gutter, top, lanes(story, at, step)], ...(hasRows ? [[0, low, keys(story, at)], [at.gutter, low, tracks(story, at, step)]] : [])];
   const high = hasRows ? low + Number(/height="([\d.]+)"/.exec(parts[3][2])[1]) : low;
-  const words = (title ? text(2, 1.1 * u, S * u, fitting([title], wide - 4, S * u), "soft", "start") : "") + text(2, heading + 1.7 * u, (say.length > 60 ? L : XL) * u, say, isBad ? "b badt" : "b", "start");
-  const inside = `<style>${STYLE}</style>${rect(0, 0, wide, high, "chip")}${words}${parts.map(([x, y, part]) => `<g transform="translate(${r1(x)} ${r1(y)})">${part}</g>`).join("")}`;
-  return painted(svg(wide, high, title || "a run", inside), COLOURS[theme]); }
+  const words = (title ? text(2, 1.1 * u, S * u, fitting([title], room - 4, S * u), "soft", "start") : "") + text(2, heading + 1.7 * u, size * u, fitting([say], room - 4, size * u, 700), isBad ? "b badt" : "b", "start");
+  const inside = `<style>${STYLE}</style>${rect(0, 0, room, high, "chip")}${words}${parts.map(([x, y, part]) => `<g transform="translate(${r1(x)} ${r1(y)})">${part}</g>`).join("")}`;
+  return painted(svg(room, high, title || "a run", inside), COLOURS[theme]); }
 return { figure }; })(); Story.log = (() => { const { parse } = Story.text; const MOST = { txns: 12, operations: 60 }; const named = (name) => `{${name}}`;
 const same = (one, other) => JSON.stringify(one) === JSON.stringify(other); const isLog = (text) => /^\ufeff?\s*\{/.test(text); function read(text) {
   const lines = text.replace(/^\ufeff/, "").split("\n").flatMap((line, index) => (line.trim() ? [{ ...parse(line), line: index + 1 }] : []));
@@ -596,7 +600,7 @@ class Player { constructor(host) { this.host = host; this.model = this.place = n
       card.insertAdjacentHTML("beforeend", `<div class="more" style="height: ${h}px; margin-top: -${h}px">${all - whole} more ↓</div>`); }); return undefined; }
   showStage(story, isLast = false) {
     const { model, place, unit: u } = this, main = byId("st-main"), view = byId("st-stage"), narrow = matchMedia(NARROW).matches, style = getComputedStyle(main);
-    const w = main.clientWidth - parseFloat(style.paddingLeft) - parseFloat(style.paddingRight), below = byId("st-cards").hidden ? 0 : byId("st-cards").offsetHeight + 0.5 * u;
+    const w = Math.floor(main.getBoundingClientRect().width - parseFloat(style.paddingLeft) - parseFloat(style.paddingRight)) - 1, below = byId("st-cards").hidden ? 0 : byId("st-cards").offsetHeight + 0.5 * u;
     const room = { w, h: narrow ? 0 : main.clientHeight - byId("st-say").offsetHeight - below - 1.2 * u, u };
     const { html, at } = place.mode === "compare" ? compared(model, story, place.step, room) : stage(story, place.step, room), hadFocus = view.contains(document.activeElement) && document.activeElement !== view;
     put(byId("st-grid"), html); const left = byId("st-cards").offsetHeight - (view.scrollHeight - view.clientHeight) - 1;

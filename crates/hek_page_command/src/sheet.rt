@@ -105,10 +105,10 @@ fn put_title(title: &str, sheet: &mut Vec<u8>) -> Result<(), NoMemory> {
 }
 
 /// Appends bytes, each as a page has it.
-fn put_bytes(data: &[u8], sheet: &mut Vec<u8>) -> Result<(), NoMemory>
-    ensures { OnOk result (sheet.new.items ≡ sheet.old.items ++ flat_map escaped data.now) }
+fn put_bytes(bytes: &[u8], sheet: &mut Vec<u8>) -> Result<(), NoMemory>
+    ensures { OnOk result (sheet.new.items ≡ sheet.old.items ++ flat_map escaped bytes.now) }
 {
-    let mut rest = data;
+    let mut rest = bytes;
     while let Some((byte, later)) = rest.split_first() {
         put_byte(*byte, sheet)?;
         rest = later;
