@@ -446,6 +446,9 @@ def judge_drawn(name, seed, number):
     tests = brute().tests_of(rows, transactions)
     asked = [it for it in tests if not by_time or it.endswith(" +sessions")]
     verdicts = {it.replace(" +sessions", " +real") if by_time else it: "holds" if tests[it]() else "fails" for it in asked}
+    present = {key for it in transactions for _, key, need in it["reads"] if need[0] == "present"}
+    if any(value is None and key in present for it in transactions for key, value in [*it["writes"].items(), *it["passing"]]):
+        verdicts.pop("read-uncommitted", None)  # the log has a row for a while that such a read may have found
     return judge_levels(name, number, {"name": f"{seed}-{number}", "log": log, **verdicts})
 
 

@@ -145,6 +145,8 @@ class Transaction:
         its versions came to be."""
         if not self._operations or self._operations[-1][0] in ("read", "scan", "range"):
             raise ValueError("no write has this version")
+        if isinstance(number, bool) or not 0 <= number < 1 << 64:
+            raise ValueError(f"{number!r} is no number of a version")
         self._versions[len(self._operations) - 1] = number
 
     def aborted(self, cause: Cell | None = None) -> None:

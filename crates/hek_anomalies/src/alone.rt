@@ -122,7 +122,12 @@ fn own_edge(t: usize, fault: OwnFault) -> CycleEdge {
 fn name_of_fault(fault: OwnFault) -> Anomaly {
     match fault {
         OwnFault::Contradicted { .. } => Anomaly::OwnWriteLost,
-        OwnFault::Disagree { before, after, scanned, .. } => {
+        OwnFault::Disagree {
+            before,
+            after,
+            scanned,
+            ..
+        } => {
             let is_absent = matches!(before, Need::Absent) || matches!(after, Need::Absent);
             if scanned && is_absent {
                 Anomaly::PhantomWithin

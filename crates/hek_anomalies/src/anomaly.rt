@@ -80,12 +80,7 @@ struct Named {
     several: &'static str,
 }
 
-fn named(
-    anomaly: Anomaly,
-    name: &'static str,
-    one: &'static str,
-    several: &'static str,
-) -> Named {
+fn named(anomaly: Anomaly, name: &'static str, one: &'static str, several: &'static str) -> Named {
     Named {
         anomaly,
         name,
@@ -304,7 +299,12 @@ impl Anomaly {
                 return one;
             }
         }
-        named(self, "no order of transactions", "contradiction", "contradictions")
+        named(
+            self,
+            "no order of transactions",
+            "contradiction",
+            "contradictions",
+        )
     }
 
     /// The name, with its sign in the literature if it has one.

@@ -34,7 +34,11 @@ fn shape_of(problem: &Problem) -> Shape {
     let rules = problem.rules(0);
     Shape {
         is_by_points: problem.is_by_points,
-        most: if matches!(rules.own, Own::Nothing) { 0 } else { 1 },
+        most: if matches!(rules.own, Own::Nothing) {
+            0
+        } else {
+            1
+        },
         is_long: rules.causes && matches!(rules.own, Own::All),
         is_forward: matches!(rules.own, Own::Earlier),
     }

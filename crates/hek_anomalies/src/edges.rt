@@ -48,7 +48,8 @@ fn sighting_of(evident: &Evident, place: usize) -> Evidence {
 fn evidence_of(evident: &Evident, link: Link) -> Evidence {
     let (first, second) = (transaction_of(link.first), transaction_of(link.second));
     match link.shown {
-        Shown::Read | Shown::OverwroteOpening | Shown::Session | Shown::RealTime => Evidence::Answer,
+        Shown::Read | Shown::OverwroteOpening | Shown::Session | Shown::RealTime =>
+            Evidence::Answer,
         Shown::OverwroteSame => Evidence::SameVersion,
         Shown::WroteByTurn => evidence_of_turn(evident, first, second),
         Shown::OverwroteByTurn => match evident.source(link.reading) {

@@ -386,7 +386,11 @@ impl Links {
         let sees = sees_writers(problem, w);
         self.add_between(Link {
             first: commit_of(x),
-            second: if sees { begin_of(problem, w) } else { commit_of(w) },
+            second: if sees {
+                begin_of(problem, w)
+            } else {
+                commit_of(w)
+            },
             shown: Shown::WroteSeen,
             key: reading.key,
             reading: place,
@@ -432,12 +436,7 @@ impl Links {
     }
 
     /// Adds that a transaction wrote over what another read, where the turns of the writers say that.
-    fn add_over_back(
-        &mut self,
-        evident: &Evident,
-        x: usize,
-        t: usize,
-    ) -> Result<(), NoMemory> {
+    fn add_over_back(&mut self, evident: &Evident, x: usize, t: usize) -> Result<(), NoMemory> {
         let problem = evident.problem;
         let from = problem.first_reading(t);
         let to = problem.end_reading(t).min(from.saturating_add(READINGS));
@@ -468,7 +467,11 @@ impl Links {
     fn add_next_of(&mut self, evident: &Evident, found: Found) -> Result<(), NoMemory> {
         let problem = evident.problem;
         let key = problem.keys.name(found.key);
-        for (n, turn) in problem.turns(found.writer.saturating_sub(1)).iter().enumerate() {
+        for (n, turn) in problem
+            .turns(found.writer.saturating_sub(1))
+            .iter()
+            .enumerate()
+        {
             if n >= TURNS {
                 return Ok(());
             }
@@ -476,10 +479,8 @@ impl Links {
             if lane != Some(Lane::Versions(key)) && lane != Some(Lane::Ends(key)) {
                 continue;
             }
-            let from = self.turned.partition_point(|one| (
-                one.turn.lane,
-                one.turn.first,
-            ) <= (turn.lane, turn.last));
+            let from = self.turned.partition_point(|one| (one.turn.lane, one.turn.first)
+                <= (turn.lane, turn.last));
             for place in from..from.saturating_add(OVERWRITERS) {
                 let Some(next) = self.turned.get(place).copied() else {
                     break;
@@ -512,7 +513,11 @@ impl Links {
         };
         self.add_between(Link {
             first: commit_of(x),
-            second: if seen { begin_of(problem, t) } else { commit_of(t) },
+            second: if seen {
+                begin_of(problem, t)
+            } else {
+                commit_of(t)
+            },
             shown,
             key,
             seen,
@@ -545,9 +550,8 @@ impl Links {
             return Ok(());
         };
         let lane = here.turn.lane;
-        let from = self
-            .turned
-            .partition_point(|one| (one.turn.lane, one.turn.first) <= (lane, here.turn.last));
+        let from = self.turned.partition_point(|one| (one.turn.lane, one.turn.first)
+            <= (lane, here.turn.last));
         let mut least = u64::MAX;
         for n in from..from.saturating_add(OVERWRITERS) {
             let Some(next) = self.turned.get(n).copied() else {
@@ -625,8 +629,16 @@ fn overwritten(
     let is_rival = sees_writers(problem, reader) && problem.left_at(reader, reading.key).is_some();
     let sees = is_rival && sees_writers(problem, writer);
     Some(Link {
-        first: if is_rival { commit_of(reader) } else { begin_of(problem, reader) },
-        second: if sees { begin_of(problem, writer) } else { commit_of(writer) },
+        first: if is_rival {
+            commit_of(reader)
+        } else {
+            begin_of(problem, reader)
+        },
+        second: if sees {
+            begin_of(problem, writer)
+        } else {
+            commit_of(writer)
+        },
         shown,
         key: reading.key,
         reading: place,

@@ -215,10 +215,18 @@ pub(crate) fn name_of(evident: &Evident, cycle: &[CycleEdge]) -> Anomaly {
     if let Some(name) = name_of_rivals(evident, cycle, kinds) {
         name
     } else if kinds.real > 0 {
-        let names = [Anomaly::AgainstRealTime, Anomaly::StaleRead, Anomaly::RealTimeSkew];
+        let names = [
+            Anomaly::AgainstRealTime,
+            Anomaly::StaleRead,
+            Anomaly::RealTimeSkew,
+        ];
         name_by_count(kinds.overwritten, names)
     } else if kinds.sessions > 0 {
-        let names = [Anomaly::AgainstSession, Anomaly::SessionRead, Anomaly::SessionSkew];
+        let names = [
+            Anomaly::AgainstSession,
+            Anomaly::SessionRead,
+            Anomaly::SessionSkew,
+        ];
         name_by_count(kinds.overwritten, names)
     } else if kinds.overwritten > 0 {
         name_of_reads(evident, cycle, kinds)
@@ -248,7 +256,11 @@ fn name_of_rivals(evident: &Evident, cycle: &[CycleEdge], kinds: Kinds) -> Optio
 
 /// The name of a cycle in which something that was read is written over.
 fn name_of_reads(evident: &Evident, cycle: &[CycleEdge], kinds: Kinds) -> Anomaly {
-    if kinds.edges == 2 && kinds.reads == 1 && is_of_one_key(cycle) && one_key(evident.problem, cycle).is_none() {
+    if kinds.edges == 2
+        && kinds.reads == 1
+        && is_of_one_key(cycle)
+        && one_key(evident.problem, cycle).is_none()
+    {
         return name_within(cycle);
     }
     if kinds.missed > 0 {

@@ -1,7 +1,7 @@
 //! What is told where steps alone show that there is no explanation: from which reads they start, and who may have written what these
 //! found.
-use crate::anomaly::Anomaly;
 use crate::alone::cause_of;
+use crate::anomaly::Anomaly;
 use crate::cause::{Answer, Cause, Told};
 use hek_levels::{Log, Place, Read, Writer, is_possible, offers, read_at};
 use hek_levels_refutation::Step;
@@ -76,11 +76,7 @@ fn writers_of(
 }
 
 /// What steps show.
-pub(crate) fn cause_of_steps(
-    alloc: Global,
-    log: &Log,
-    steps: &[Step],
-) -> Result<Cause, NoMemory> {
+pub(crate) fn cause_of_steps(alloc: Global, log: &Log, steps: &[Step]) -> Result<Cause, NoMemory> {
     let mut cause = cause_of(alloc, Anomaly::NoOrder, Vec::new(alloc));
     cause.steps = steps.len();
     for (reader, read) in starts_in(alloc, log, steps)?.iter() {

@@ -52,16 +52,6 @@ impl Asked {
             _ => Levels::All,
         }
     }
-
-    /// The strongest level that is asked for.
-    pub(crate) fn promise(self) -> Promise {
-        match self {
-            Asked::One(promise) => promise,
-            Asked::Verdict | Asked::Levels | Asked::Guarantees | Asked::Both => {
-                Promise::Serializable
-            }
-        }
-    }
 }
 
 /// How many repairs of an order a search tries at least where the words don't say.

@@ -40,11 +40,7 @@ fn add_write(operations: &mut Vec<Operation>, operation: &Operation) -> Result<(
 
 /// Forgets what a transaction was answered at a key. Its writes stay, and its answers at other keys; of a scan of a bucket those at the
 /// other keys that it listed.
-fn forget_answer(
-    alloc: Global,
-    transaction: &mut Transaction,
-    key: u64,
-) -> Result<(), NoMemory> {
+fn forget_answer(alloc: Global, transaction: &mut Transaction, key: u64) -> Result<(), NoMemory> {
     let mut operations = Vec::new(alloc);
     for operation in transaction.operations.iter() {
         add_other(alloc, &mut operations, operation, key)?;

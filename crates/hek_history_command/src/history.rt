@@ -1,10 +1,9 @@
 //! The command `history`.
-use crate::choice::{Choice, effort_for};
+use crate::choice::{Asked, Choice, effort_for};
 use crate::explained::Explained;
 use crate::levels::{write_guarantees, write_levels};
 use crate::report::Report;
 use crate::verdict::{write_one, write_verdict};
-use crate::choice::Asked;
 use hek_history::{History, Status};
 use hek_history_log::{Log, LogFault, read_log_watching};
 use hek_ladder::{Binding, Scene, has_times};

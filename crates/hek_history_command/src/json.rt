@@ -94,12 +94,7 @@ pub(crate) fn put_fails(
 }
 
 /// The object of a log of which nothing is known.
-pub(crate) fn put_unknown(
-    heading: Heading,
-    progress: Progress,
-    held: &[Promise],
-    out: &mut Lines,
-) {
+pub(crate) fn put_unknown(heading: Heading, progress: Progress, held: &[Promise], out: &mut Lines) {
     out.begin_line();
     out.put_number("conflicts", progress.conflicts as u64);
     if !held.is_empty() {

@@ -6,6 +6,7 @@ use crate::report::{Heading, Report};
 use crate::verdict::{FAILS, HOLDS, NOT_KNOWN};
 use hek_ladder::{Finding, Ladder, Promise, Rung, Scene, Standing, ask, causes_of};
 use hek_report::HekFault;
+use hek_rules::NoMemory;
 use std::alloc::Global;
 use std::io::Write;
 
@@ -28,11 +29,11 @@ pub(crate) fn write_levels<'a, W: Write, O: Write>(
             Standing::Fails => {
                 write_failed(scene, waiting.as_slice(), report)?;
                 waiting.clear();
-                waiting.push(rung)?;
+                wait(&mut waiting, rung)?;
                 status = FAILS;
             }
             Standing::Unknown => {
-                waiting.push(rung)?;
+                wait(&mut waiting, rung)?;
                 if status == HOLDS {
                     status = NOT_KNOWN;
                 }
@@ -54,9 +55,22 @@ pub(crate) fn write_levels<'a, W: Write, O: Write>(
             binding: scene.binding,
             effort: scene.effort,
         };
-        write_all(alloc, scene, Promise::Serializable, heading, ladder.held(), report)?;
+        write_all(
+            alloc,
+            scene,
+            Promise::Serializable,
+            heading,
+            ladder.held(),
+            report,
+        )?;
     }
     Ok(status)
+}
+
+/// Adds a rung to those that wait for what holds.
+fn wait(waiting: &mut Vec<Rung>, rung: Rung) -> Result<(), NoMemory> {
+    waiting.push(rung)?;
+    Ok(())
 }
 
 /// Writes that levels fail since a weaker one does.

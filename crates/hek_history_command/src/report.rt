@@ -65,7 +65,8 @@ impl<W: Write> Report<'_, W> {
     /// Writes that no transaction is judged.
     pub(crate) fn nothing<'a>(&mut self) -> Result<(), HekFault<'a>> {
         if self.is_text() {
-            let lines = Vec::from_slice(self.alloc, b"nothing to judge\n")?;
+            let mut lines = Vec::new(self.alloc);
+            text::put_nothing(&mut lines)?;
             return self.write(lines);
         }
         let mut objects = Lines::new(self.alloc);
@@ -143,7 +144,15 @@ impl<W: Write> Report<'_, W> {
         }
         let mut objects = Lines::new(self.alloc);
         let binding = self.binding;
-        json::put_level(self.alloc, promise, standing, cause, binding, log, &mut objects)?;
+        json::put_level(
+            self.alloc,
+            promise,
+            standing,
+            cause,
+            binding,
+            log,
+            &mut objects,
+        )?;
         self.write_objects(objects)
     }
 

@@ -32,12 +32,22 @@ impl fmt::Display for Counted {
     }
 }
 
+/// The line that no transaction is judged.
+pub(crate) fn put_nothing(lines: &mut Vec<u8>) -> Result<(), NoMemory> {
+    lines.extend_from_slice(b"nothing to judge\n")?;
+    Ok(())
+}
+
 /// The words of a verdict: that what is asked holds.
 fn put_held_front(heading: Heading, counts: Counts, lines: &mut Vec<u8>) -> Result<(), NoMemory> {
     match heading.promise {
         None => {
             let is_elsewhere = matches!(counts.elsewhere, Some(count) if count > 0);
-            let other = if is_elsewhere { " in another order" } else { "" };
+            let other = if is_elsewhere {
+                " in another order"
+            } else {
+                ""
+            };
             put(write!(lines, "serializable{other}: "))
         }
         Some(Promise::Own) => put(write!(lines, "right: each has what its level promises: ")),
@@ -66,7 +76,10 @@ pub(crate) fn put_holds(
     }
     let binding = heading.binding;
     for (binds, words) in [
-        (binding.versions && log.has_versions(), ", versions by their numbers"),
+        (
+            binding.versions && log.has_versions(),
+            ", versions by their numbers",
+        ),
         (binding.sessions, ", sessions kept"),
         (binding.real, ", real time kept"),
     ] {
@@ -103,12 +116,7 @@ pub(crate) fn put_fails(
 }
 
 /// An anomaly's name, and the lines of its cycle.
-fn put_cause(
-    alloc: Global,
-    cause: &Cause,
-    log: &Log,
-    lines: &mut Vec<u8>,
-) -> Result<(), NoMemory> {
+fn put_cause(alloc: Global, cause: &Cause, log: &Log, lines: &mut Vec<u8>) -> Result<(), NoMemory> {
     let name = cause.anomaly.name();
     put(writeln!(lines, "{name}"))?;
     for line in cycle_lines(alloc, log, cause)?.iter() {
@@ -134,11 +142,7 @@ fn rests_on(cause: &Cause) -> [bool; 3] {
 }
 
 /// The line that says which orders are asked for, if an anomaly rests on that.
-fn put_binding(
-    binding: Binding,
-    cause: &Cause,
-    lines: &mut Vec<u8>,
-) -> Result<(), NoMemory> {
+fn put_binding(binding: Binding, cause: &Cause, lines: &mut Vec<u8>) -> Result<(), NoMemory> {
     let [versions, sessions, real] = rests_on(cause);
     if binding.versions && versions {
         put(writeln!(
@@ -147,10 +151,16 @@ fn put_binding(
         ))?;
     }
     if binding.real && real {
-        put(writeln!(lines, "  in the orders of real time; --order any asks for any"))?;
+        put(writeln!(
+            lines,
+            "  in the orders of real time; --order any asks for any"
+        ))?;
     }
     if binding.sessions && sessions {
-        put(writeln!(lines, "  in the orders that keep sessions; --no-sessions asks for any"))?;
+        put(writeln!(
+            lines,
+            "  in the orders that keep sessions; --no-sessions asks for any"
+        ))?;
     }
     Ok(())
 }

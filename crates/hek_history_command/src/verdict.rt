@@ -78,7 +78,14 @@ pub(crate) fn write_verdict<'a, W: Write, O: Write>(
         return Ok(NOT_KNOWN);
     };
     if choice.extent != Extent::First {
-        write_all(alloc, scene, Promise::Serializable, heading, ladder.held(), report)?;
+        write_all(
+            alloc,
+            scene,
+            Promise::Serializable,
+            heading,
+            ladder.held(),
+            report,
+        )?;
         return Ok(FAILS);
     }
     let causes = causes_of(alloc, scene, level, found, false)?;

@@ -1,2 +1,6 @@
-mod Changed
-mod Pushed
+pub mod Elements
+pub mod Pushed
+pub mod Lefts
+pub mod Owned
+pub mod Readings
+pub mod Takings

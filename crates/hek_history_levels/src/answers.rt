@@ -1,9 +1,28 @@
-//! What operations do to a key, and whether an answer is right.
+//! What operations leave at a key, and whether an answer is right.
+ghost use Rattle.std.specs.Prelude.{◌≡◌};
+ghost use Rattle.hek_rules.specs.Listing.{value_of as value_in};
+ghost use Rattle.hek_history.specs.Answers.{fits as fits_at, same_found as same_as, tells as told_by, allows as allowed_by};
+ghost use Rattle.hek_history_levels.specs.Changes.{left_of};
+ghost use Rattle.hek_history_levels.specs.Reads.{need_of as need_in, need_at as need_there};
+
 use hek_history::{Change, Operation, covers, key_of};
 use hek_levels::Need;
 
+/// What a change leaves of a key, if it changes it.
+pub(crate) fn left(change: Change) -> Option<Option<u64>>
+    ensures { result ≡ left_of change }
+{
+    match change {
+        Change::Keep => None,
+        Change::Remove => Some(None),
+        Change::Set(x) => Some(Some(x)),
+    }
+}
+
 /// A value is found, or absence.
-fn need_of(found: Option<u64>) -> Need {
+fn need_of(found: Option<u64>) -> Need
+    ensures { result ≡ need_in found }
+{
     match found {
         None => Need::Absent,
         Some(x) => Need::Value(x),
@@ -11,7 +30,9 @@ fn need_of(found: Option<u64>) -> Need {
 }
 
 /// What an answer says of the operation's key, if it says something.
-pub(crate) fn need_at(operation: &Operation) -> Option<Need> {
+pub(crate) fn need_at(operation: &Operation) -> Option<Need>
+    ensures { result ≡ need_there operation.now }
+{
     match operation {
         Operation::Read(_, found) => Some(need_of(*found)),
         Operation::Put(_, _) | Operation::Scan(_, _) => None,
@@ -22,24 +43,10 @@ pub(crate) fn need_at(operation: &Operation) -> Option<Need> {
     }
 }
 
-/// Whether anything is done to the key.
-pub(crate) fn is_change(change: Change) -> bool {
-    match change {
-        Change::Keep => false,
-        Change::Remove | Change::Set(_) => true,
-    }
-}
-
-/// What a change leaves of a key that was absent.
-pub(crate) fn left(change: Change) -> Option<u64> {
-    match change {
-        Change::Keep | Change::Remove => None,
-        Change::Set(x) => Some(x),
-    }
-}
-
-/// The value of a key in rows that rise.
-fn value_of(rows: &[(u64, u64)], key: u64) -> Option<u64> {
+/// The value of a key in rows.
+pub(crate) fn value_of(rows: &[(u64, u64)], key: u64) -> Option<u64>
+    ensures { result ≡ value_in rows.now key }
+{
     for row in rows {
         if row.0 == key {
             return Some(row.1);
@@ -50,6 +57,7 @@ fn value_of(rows: &[(u64, u64)], key: u64) -> Option<u64> {
 
 /// Whether two values, or their absence, are the same.
 fn same_found(found: Option<u64>, value: Option<u64>) -> bool
+    ensures { result ≡ same_as found value }
 {
     match (found, value) {
         (None, None) => true,
@@ -60,6 +68,7 @@ fn same_found(found: Option<u64>, value: Option<u64>) -> bool
 
 /// Whether the answer is right where the key has this value, or is absent.
 fn fits(operation: &Operation, value: Option<u64>) -> bool
+    ensures { result ≡ fits_at operation.now value }
 {
     match operation {
         Operation::Read(_, found) => same_found(*found, value),
@@ -81,13 +90,9 @@ fn fits(operation: &Operation, value: Option<u64>) -> bool
     }
 }
 
-/// Whether the answer allows that the key had this value, or was absent; a lenient one allows all where it is right of absence.
-pub(crate) fn tells(lenient: bool, key: u64, operation: &Operation, value: Option<u64>) -> bool {
-    lenient && says(key, operation, None) || says(key, operation, value)
-}
-
 /// Whether the answer says that the key had this value, or was absent.
-fn says(key: u64, operation: &Operation, value: Option<u64>) -> bool
+fn tells(key: u64, operation: &Operation, value: Option<u64>) -> bool
+    ensures { result ≡ told_by key operation.now value }
 {
     match operation {
         Operation::Scan(scope, pairs) => {
@@ -106,4 +111,11 @@ fn says(key: u64, operation: &Operation, value: Option<u64>) -> bool
             }
         }
     }
+}
+
+/// Whether the answer allows that the key had this value, or was absent; a lenient one allows all where it is right of absence.
+pub(crate) fn allows(lenient: bool, key: u64, operation: &Operation, value: Option<u64>) -> bool
+    ensures { result ≡ allowed_by lenient key operation.now value }
+{
+    lenient && tells(key, operation, None) || tells(key, operation, value)
 }

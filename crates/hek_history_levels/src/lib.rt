@@ -3,6 +3,9 @@
 #![tactic(auto)]
 
 mod answers;
+mod fitting;
+mod own;
+mod reads;
 mod step;
 mod transaction;
 

@@ -1,148 +1,94 @@
 //! A transaction as levels see it.
-use crate::answers::{is_change, left, need_at, tells};
-use hek_history::{Level, Operation, Scope, Transaction, change_of, covers, key_of};
-use hek_levels::{Change, Need, Read, Scan, Turn};
+ghost use Rattle.std.specs.Prelude.{◌≡◌, ◌+◌, ◌<◌, ◌&&◌, ℕ, Some, slice_get, length, IfOk, OnOk};
+ghost use Rattle.hek_history_levels.specs.Steps.{is_lenient as lenient_there, IsSeen};
+ghost use Rattle.hek_history_levels.specs.Taking.{IsTaken};
+
+use crate::answers::left;
+use crate::fitting::is_fitting;
+use crate::own::{Own, note};
+use crate::reads::take_reads;
+use hek_history::{Level, Operation, Transaction, change_of, key_of};
+use hek_levels::{Change, Read, Scan, Turn};
 use hek_rules::NoMemory;
 use std::alloc::Global;
 use std::collections::HashMap;
 
 /// What is known of the operations so far.
 #[derive(Drop)]
-struct Taken {
-    fits: bool,
-    reads: Vec<Read>,
-    scans: Vec<Scan>,
-    /// The last change of each key that was changed, and where each key's is.
-    writes: Vec<Change>,
-    places: HashMap<u64, usize>,
-    passing: Vec<Change>,
+pub(crate) struct Taken {
+    pub fits: bool,
+    pub reads: Vec<Read>,
+    pub scans: Vec<Scan>,
+    pub own: Own,
 }
 
-impl Taken {
-    /// The own change of a key so far.
-    fn own(&self, key: u64) -> Option<Change> {
-        match self.places.get(&key).copied() {
-            Some(place) => self.writes.get(place).copied(),
-            None => None,
-        }
-    }
-
-    /// A key is changed.
-    fn change(&mut self, key: u64, value: Option<u64>) -> Result<(), NoMemory> {
-        let change = Change { key, value };
-        if let Some(place) = self.places.get(&key).copied() {
-            if let Some(there) = self.writes.get_mut(place) {
-                let before = std::mem::replace(there, change);
-                self.passing.push(before)?;
-            }
-            return Ok(());
-        }
-        let _before = self.places.insert(key, self.writes.len())?;
-        self.writes.push(change)?;
-        Ok(())
-    }
-
-    /// The answer of a key: against the own change of it, or as a read.
-    fn take_need(
-        &mut self,
-        lenient: bool,
-        place: usize,
-        key: u64,
-        operation: &Operation,
-    ) -> Result<(), NoMemory> {
-        if let Some(own) = self.own(key) {
-            if !tells(lenient, key, operation, own.value) {
-                self.fits = false;
-            }
-            return Ok(());
-        }
-        match need_at(operation) {
-            None => Ok(()),
-            Some(Need::Absent) if lenient => Ok(()),
-            Some(need) => {
-                self.reads.push(Read {
-                    operation: place,
-                    key,
-                    need,
-                })?;
-                Ok(())
-            }
-        }
-    }
-
-    /// The answer of a scan.
-    fn take_scan(
-        &mut self,
-        alloc: Global,
-        lenient: bool,
-        place: usize,
-        operation: &Operation,
-        scope: Scope,
-        pairs: &[(u64, u64)],
-    ) -> Result<(), NoMemory> {
-        let mut except = Vec::new(alloc);
-        let mut before: Option<u64> = None;
-        for pair in pairs {
-            if !covers(scope, pair.0) || is_not_after(pair.0, before) {
-                self.fits = false;
-            }
-            before = Some(pair.0);
-            if self.own(pair.0).is_none() {
-                except.push(pair.0)?;
-                self.reads.push(Read {
-                    operation: place,
-                    key: pair.0,
-                    need: Need::Value(pair.1),
-                })?;
-            }
-        }
-        for place in 0..self.writes.len() {
-            let own = self.writes[place];
-            if !tells(lenient, own.key, operation, own.value) {
-                self.fits = false;
-            }
-            if covers(scope, own.key) {
-                except.push(own.key)?;
-            }
-        }
-        except.sort_unstable();
-        if !lenient {
-            self.scans.push(Scan {
-                operation: place,
-                scope,
-                except,
-            })?;
-        }
-        Ok(())
-    }
-
-    /// An operation.
-    fn take(
-        &mut self,
-        alloc: Global,
-        lenient: bool,
-        place: usize,
-        operation: &Operation,
-    ) -> Result<(), NoMemory> {
-        if let Operation::Scan(scope, pairs) = operation {
-            return self.take_scan(alloc, lenient, place, operation, *scope, pairs.as_slice());
-        }
-        let key = key_of(operation);
-        self.take_need(lenient, place, key, operation)?;
-        let change = change_of(operation);
-        if is_change(change) {
-            return self.change(key, left(change));
-        }
-        Ok(())
+/// Whether no answer of absence is judged.
+fn is_lenient(level: Level) -> bool
+    ensures { result ≡ lenient_there level }
+{
+    match level {
+        Level::Repeatable => true,
+        Level::Serializable | Level::Snapshot => false,
     }
 }
 
-/// Whether a key is not above the one before it.
-fn is_not_after(key: u64, before: Option<u64>) -> bool {
-    match before {
-        Some(other) => key <= other,
-        None => false,
+fn both(first: bool, second: bool) -> bool
+    ensures { result ≡ (first && second) }
+{
+    first && second
+}
+
+/// An operation more.
+fn take(
+    alloc: Global,
+    lenient: bool,
+    operations: &[Operation],
+    n: usize,
+    taken: &mut Taken,
+) -> Result<(), NoMemory>
+    requires within { n < length operations.now }
+    requires taken { IsTaken lenient operations.now n taken.old }
+    ensures { OnOk result (IsTaken lenient operations.now (n + 1) taken.new) }
+{
+    let operation = &operations[n];
+    let fits = is_fitting(lenient, &taken.own, operation);
+    taken.fits = both(taken.fits, fits);
+    take_reads(
+        alloc,
+        lenient,
+        &taken.own,
+        n,
+        operation,
+        &mut taken.reads,
+        &mut taken.scans,
+    )?;
+    match left(change_of(operation)) {
+        Some(value) => {
+            let key = key_of(operation);
+            note(&mut taken.own, Change { key, value })
+        }
+        None => Ok(()),
     }
+}
+
+/// What is known of all operations.
+fn taken_of(alloc: Global, lenient: bool, operations: &[Operation]) -> Result<Taken, NoMemory>
+    ensures { IfOk result (λ taken. IsTaken lenient operations.now (length operations.now) taken) }
+{
+    let mut taken = Taken {
+        fits: true,
+        reads: Vec::new(alloc),
+        scans: Vec::new(alloc),
+        own: Own {
+            writes: Vec::new(alloc),
+            places: HashMap::new(alloc),
+            passing: Vec::new(alloc),
+        },
+    };
+    for n in 0..operations.len() {
+        take(alloc, lenient, operations, n, &mut taken)?;
+    }
+    Ok(taken)
 }
 
 /// A transaction as levels see it.
@@ -150,37 +96,18 @@ pub(crate) fn seen(
     alloc: Global,
     turns: &[Turn],
     transaction: &Transaction,
-) -> Result<hek_levels::Transaction, NoMemory> {
-    let lenient = match transaction.level {
-        Level::Repeatable => true,
-        Level::Serializable | Level::Snapshot => false,
-    };
-    let mut taken = Taken {
-        fits: true,
-        reads: Vec::new(alloc),
-        scans: Vec::new(alloc),
-        writes: Vec::new(alloc),
-        places: HashMap::new(alloc),
-        passing: Vec::new(alloc),
-    };
-    for (place, operation) in transaction.operations.iter().enumerate() {
-        taken.take(alloc, lenient, place, operation)?;
-    }
-    let Taken {
-        fits,
-        reads,
-        scans,
-        writes,
-        places: _,
-        passing,
-    } = taken;
+) -> Result<hek_levels::Transaction, NoMemory>
+    ensures { IfOk result (λ found. IsSeen turns.now transaction.now found) }
+{
+    let lenient = is_lenient(transaction.level);
+    let taken = taken_of(alloc, lenient, transaction.operations.as_slice())?;
     Ok(hek_levels::Transaction {
         status: transaction.status,
-        fits,
+        fits: taken.fits,
         turns: Vec::from_slice(alloc, turns)?,
-        reads,
-        scans,
-        writes,
-        passing,
+        reads: taken.reads,
+        scans: taken.scans,
+        writes: taken.own.writes,
+        passing: taken.own.passing,
     })
 }

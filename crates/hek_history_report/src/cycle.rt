@@ -10,7 +10,14 @@ use std::alloc::Global;
 
 /// Puts the member `cycle` of a log: why one transaction is before another, edge by edge.
 pub fn put_cycle(alloc: Global, log: &Log, cause: &Cause, out: &mut Lines) -> Result<(), NoMemory> {
-    put_edges(alloc, log, "cycle", cause.anomaly, cause.cycle.as_slice(), out)
+    put_edges(
+        alloc,
+        log,
+        "cycle",
+        cause.anomaly,
+        cause.cycle.as_slice(),
+        out,
+    )
 }
 
 /// Puts the member `reads` where steps alone show an anomaly: the reads from which they start.
@@ -30,7 +37,14 @@ pub fn put_steps(alloc: Global, log: &Log, cause: &Cause, out: &mut Lines) -> Re
     if cause.shown.is_empty() {
         return Ok(());
     }
-    put_edges(alloc, log, "took_place", cause.anomaly, cause.shown.as_slice(), out)
+    put_edges(
+        alloc,
+        log,
+        "took_place",
+        cause.anomaly,
+        cause.shown.as_slice(),
+        out,
+    )
 }
 
 /// Puts a member with edges.
@@ -102,10 +116,7 @@ fn put_rest(
 
 /// The members of an edge up to what was read.
 fn put_reading(log: &Log, anomaly: Anomaly, edge: CycleEdge, out: &mut Lines) {
-    let is_of_nobody = matches!(
-        anomaly,
-        Anomaly::UnwrittenRead | Anomaly::LaterWriteRead
-    );
+    let is_of_nobody = matches!(anomaly, Anomaly::UnwrittenRead | Anomaly::LaterWriteRead);
     if !is_of_nobody {
         put_writer("from", log, edge.first, out);
     }

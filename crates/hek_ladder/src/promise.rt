@@ -113,10 +113,8 @@ impl Promise {
     /// The rules of all transactions; those of read uncommitted are about turns alone, and the own ones are those of a log.
     pub fn rules(self) -> Rules {
         match self {
-            Promise::Serializable
-            | Promise::Repeatable
-            | Promise::Own
-            | Promise::ReadUncommitted => Level::Serializable.rules(),
+            Promise::Serializable | Promise::Repeatable | Promise::Own | Promise::ReadUncommitted =>
+                Level::Serializable.rules(),
             Promise::Snapshot => Level::Snapshot.rules(),
             Promise::ParallelSnapshot => Level::ParallelSnapshot.rules(),
             Promise::Prefix => Level::Prefix.rules(),
@@ -139,10 +137,7 @@ impl Promise {
 
     /// Whether one level that holds answers another, which stands after it among the levels.
     pub fn implies(self, weaker: Promise) -> bool {
-        !matches!(
-            (self, weaker),
-            (Promise::ParallelSnapshot, Promise::Prefix)
-        )
+        !matches!((self, weaker), (Promise::ParallelSnapshot, Promise::Prefix))
     }
 }
 

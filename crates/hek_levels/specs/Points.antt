@@ -47,10 +47,10 @@ pub record IsClosed (rules : Rules) (log : Log) (order : List ℕ) (n j t : ℕ)
 -- what is known after points at which the first i of an order have committed: the rows, after how many commits each has begun that has,
 -- the last writer of each key, and in each lane the latest turn of one that has begun and sees turns
 pub record IsReplay (asked : Asked) (log : Log) (order : List ℕ) (i : ℕ) (rows begun last looking : ℕ → Option ℕ) : Type 0 where
-  pub rows : (key : ℕ) → left_by log key (last_writer log order key i) ≡ Some (rows key)
-  pub last : AreLast log order i last
-  pub begun : (t n : ℕ) → begun t ≡ Some n → (n ≤ i) × ReadsAt log order n t
-  pub looking : (t n : ℕ) → begun t ≡ Some n → sees_turns (asked_of asked t) ≡ true → AreLaned log looking t
+  pub left : (key : ℕ) → left_by log key (last_writer log order key i) ≡ Some (rows key)
+  pub lasts : AreLast log order i last
+  pub reads : (t n : ℕ) → begun t ≡ Some n → (n ≤ i) × ReadsAt log order n t
+  pub looks : (t n : ℕ) → begun t ≡ Some n → sees_turns (asked_of asked t) ≡ true → AreLaned log looking t
   pub apart : (t n j x : ℕ) → begun t ≡ Some n → sees_turns (asked_of asked t) ≡ true → n ≤ j → j < i → At order j x → is_earlier log x t ≡ false
   pub committed : (j t : ℕ) → j < i → At order j t → (n : ℕ) × (begun t ≡ Some n) × IsClosed (asked_of asked t) log order n j t
 

@@ -3,6 +3,7 @@ ghost use Rattle.std.specs.Prelude.{◌≡◌, ◌==◌, ◌&&◌, ◌||◌, ◌
 ghost use Rattle.std.specs.HashMap.{get as get_in};
 ghost use Rattle.hek_levels.specs.declared.log.Place.TheVariants.{Missing as MissingAt};
 ghost use Rattle.hek_levels.specs.declared.certificate.Writer.{Writer as TheWriter};
+ghost use Rattle.hek_levels.specs.declared.certificate.Missing.{Missing as TheMissing};
 ghost use Rattle.hek_levels.specs.declared.log.Scan.{Scan as TheScan};
 ghost use Rattle.hek_levels.specs.Logs.{left_in};
 ghost use Rattle.hek_levels.specs.Seen.{At};
@@ -50,6 +51,16 @@ fn by_place(alloc: Global, list: &[Missing]) -> Result<HashMap<(usize, u64), Wri
     Ok(map)
 }
 
+/// Whether the m-th of these keys has a source that is given, for the n-th scan.
+fn is_given(map: &HashMap<(usize, u64), Writer>, n: usize, keys: &[u64], m: usize) -> bool
+    ensures { IsTrue result → (key : ℕ) → slice_get keys.now m ≡ Some key → is_some (given_in_map map.now n key) ≡ true }
+{
+    match keys.get(m) {
+        Some(key) => given(map, n, *key).is_some(),
+        None => false,
+    }
+}
+
 /// Whether each key with a row that the scan misses, which is the n-th, has a source that is given.
 fn are_given(
     alloc: Global,
@@ -60,13 +71,30 @@ fn are_given(
 ) -> Result<bool, NoMemory>
     ensures { IfOk result (λ yes. IsTrue yes → AreGiven rows.now (given_in_map map.now) n scan.now) }
 {
-    let keys = missed(alloc, rows, scan)?;
+    let list = missed(alloc, rows, scan)?;
+    let keys = list.as_slice();
     for m in 0..keys.len() {
-        if given(map, n, keys[m]).is_none() {
+        if !is_given(map, n, keys, m) {
             return Ok(false);
         }
     }
     Ok(true)
+}
+
+/// The same of the n-th scan.
+fn are_given_at(
+    alloc: Global,
+    rows: &BTreeMap<u64, u64>,
+    map: &HashMap<(usize, u64), Writer>,
+    scans: &[Scan],
+    n: usize,
+) -> Result<bool, NoMemory>
+    ensures { IfOk result (λ yes. IsTrue yes → (scan : TheScan) → slice_get scans.now n ≡ Some scan → AreGiven rows.now (given_in_map map.now) n scan) }
+{
+    match scans.get(n) {
+        Some(scan) => are_given(alloc, rows, map, n, scan),
+        None => Ok(true),
+    }
 }
 
 /// The same of each scan.
@@ -79,7 +107,7 @@ fn are_each_given(
     ensures { IfOk result (λ yes. IsTrue yes → (n : ℕ) (scan : TheScan) → slice_get scans.now n ≡ Some scan → AreGiven rows.now (given_in_map map.now) n scan) }
 {
     for n in 0..scans.len() {
-        if !are_given(alloc, rows, map, n, &scans[n])? {
+        if !are_given_at(alloc, rows, map, scans, n)? {
             return Ok(false);
         }
     }
@@ -135,6 +163,24 @@ fn is_right(
     }
 }
 
+/// The same of the n-th of these.
+fn is_right_at(
+    log: &Log,
+    places: &HashMap<usize, usize>,
+    map: &HashMap<(usize, u64), Writer>,
+    i: usize,
+    t: usize,
+    list: &[Missing],
+    n: usize,
+) -> bool
+    ensures { IsTrue result → (one : TheMissing) (w : TheWriter) → slice_get list.now n ≡ Some one → given_in_map map.now one.scan one.key ≡ Some w → IsSourcedBy log.now (get_in ◌==◌ places.now) i t (MissingAt one.scan one.key) w }
+{
+    match list.get(n) {
+        Some(one) => is_right(log, places, map, i, t, *one),
+        None => true,
+    }
+}
+
 /// The same of each of these.
 fn are_right(
     log: &Log,
@@ -148,7 +194,7 @@ fn are_right(
     ensures { IsTrue result → (s k : ℕ) (w : TheWriter) → given_at list.now s k ≡ Some w → IsSourcedBy log.now (get_in ◌==◌ places.now) i t (MissingAt s k) w }
 {
     for n in 0..list.len() {
-        if !is_right(log, places, map, i, t, list[n]) {
+        if !is_right_at(log, places, map, i, t, list, n) {
             return false;
         }
     }

@@ -21,7 +21,8 @@ pub use certificate::{Certificate, Missing, Sources, Writer};
 pub use judging::explains;
 pub use log::{Change, Log, Need, Place, Read, Scan, Transaction, Turn};
 pub use logged::{
-    at, does_write, is_committed, is_earlier, is_kept, is_possible, misses, offers, passing_of, read_at, reads_of, scans_of, turns_of, writes_of,
+    at, does_write, is_committed, is_earlier, is_kept, is_possible, misses, offers, passing_of,
+    read_at, reads_of, scans_of, turns_of, writes_of,
 };
 pub use points::explains_by_points;
 pub use rules::{Asked, Guarantees, Level, Links, Own, Rules};

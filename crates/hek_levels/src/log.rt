@@ -33,10 +33,7 @@ pub struct Scan {
 #[derive(Clone, Copy, PartialEq, Eq)]
 pub enum Place {
     Listed(usize),
-    Missing {
-        scan: usize,
-        key: u64,
-    },
+    Missing { scan: usize, key: u64 },
 }
 
 /// A key gets a value, or goes.

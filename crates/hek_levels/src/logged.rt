@@ -3,6 +3,7 @@ ghost use Rattle.std.specs.Prelude.{◌≡◌, slice_get, Some, true, false, IsT
 ghost use Rattle.std.specs.List.{list_any};
 ghost use Rattle.hek_rules.specs.Listing.{value_of as value_in};
 ghost use Rattle.hek_levels.specs.Logs.{meets as meets_it, left_in, reads_of as reads_there, scans_of as scans_there, writes_of as writes_there, turns_of as turns_there, read_at as read_there, missing_in, misses as misses_it, is_committed as committed_there, is_possible as possible_there, is_earlier as earlier_there, is_kept as kept_there, is_before_turn, is_seen_turn, does_write as writes_it, left_by as left_there, offers as offers_it};
+ghost use Rattle.hek_levels.specs.declared.log.Turn.{Turn as TheTurn};
 ghost use Rattle.hek_levels.specs.Uncommitted.{passing_of as passing_there};
 ghost use Rattle.hek_levels.specs.Sweeps.{HasNoSeenTurns};
 
@@ -67,11 +68,24 @@ pub fn misses(scan: &Scan, key: u64) -> bool
     covers(scan.scope, key) && !scan.except.contains(&key)
 }
 
+/// Whether the n-th of these is a key.
+fn is_there(keys: &[u64], n: usize, key: u64) -> bool
+    ensures { IsTrue result → slice_get keys.now n ≡ Some key }
+{
+    match keys.get(n) {
+        Some(found) => *found == key,
+        None => false,
+    }
+}
+
 /// Whether a key is among those of which a scan does not say that they are absent, which rise.
 pub(crate) fn is_excepted(scan: &Scan, key: u64) -> bool
     ensures { IsTrue result → misses_it scan.now key ≡ false }
 {
-    scan.except.binary_search(&key).is_ok()
+    match scan.except.binary_search(&key) {
+        Ok(n) => is_there(scan.except.as_slice(), n, key),
+        Err(_) => false,
+    }
 }
 
 /// What a scan says of a key that is missing in it.
@@ -147,6 +161,16 @@ fn is_before_one(turn: Turn, others: &[Turn]) -> bool
     false
 }
 
+/// The same of the n-th turn.
+fn is_before_at(turns: &[Turn], n: usize, others: &[Turn]) -> bool
+    ensures { (a : TheTurn) → slice_get turns.now n ≡ Some a → result ≡ list_any (λ b. is_before_turn a b) others.now }
+{
+    match turns.get(n) {
+        Some(turn) => is_before_one(*turn, others),
+        None => false,
+    }
+}
+
 /// Whether a turn is before one of these that is seen.
 fn is_seen_by_one(turn: Turn, others: &[Turn]) -> bool
     ensures { result ≡ list_any (λ b. is_seen_turn turn b) others.now }
@@ -157,6 +181,16 @@ fn is_seen_by_one(turn: Turn, others: &[Turn]) -> bool
         }
     }
     false
+}
+
+/// The same of the n-th turn.
+fn is_seen_at(turns: &[Turn], n: usize, others: &[Turn]) -> bool
+    ensures { (a : TheTurn) → slice_get turns.now n ≡ Some a → result ≡ list_any (λ b. is_seen_turn a b) others.now }
+{
+    match turns.get(n) {
+        Some(turn) => is_seen_by_one(*turn, others),
+        None => false,
+    }
 }
 
 /// Whether some turn of t is seen.
@@ -176,9 +210,10 @@ pub(crate) fn has_seen_turns(log: &Log, t: usize) -> bool
 pub fn is_kept(log: &Log, x: usize, t: usize) -> bool
     ensures { result ≡ kept_there log.now x t }
 {
+    let turns = turns_of(log, x);
     let others = turns_of(log, t);
-    for turn in turns_of(log, x) {
-        if is_before_one(*turn, others) {
+    for n in 0..turns.len() {
+        if is_before_at(turns, n, others) {
             return true;
         }
     }
@@ -189,9 +224,10 @@ pub fn is_kept(log: &Log, x: usize, t: usize) -> bool
 pub fn is_earlier(log: &Log, x: usize, t: usize) -> bool
     ensures { result ≡ earlier_there log.now x t }
 {
+    let turns = turns_of(log, x);
     let others = turns_of(log, t);
-    for turn in turns_of(log, x) {
-        if is_seen_by_one(*turn, others) {
+    for n in 0..turns.len() {
+        if is_seen_at(turns, n, others) {
             return true;
         }
     }

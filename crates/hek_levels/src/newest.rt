@@ -14,7 +14,7 @@ ghost use Rattle.hek_levels.specs.Explanations.{explanation, source_at as source
 ghost use Rattle.hek_levels.specs.Places.{IsPlacing};
 ghost use Rattle.hek_levels.specs.Sweeps.{AreLast, IsMarked, IsSwept, IsNewestFrom, IsNewestAt, IsDirect};
 
-use crate::certificate::{Certificate, Writer};
+use crate::certificate::{Certificate, Missing, Writer};
 use crate::log::{Change, Log, Place, Read};
 use crate::logged::{at, does_write, has_seen_turns, read_at, reads_of, writes_of};
 use crate::places::place_of;
@@ -44,7 +44,15 @@ fn visit(
     let Some(y) = at(certificate.order.as_slice(), p) else {
         return Ok(false);
     };
-    carry(rules, log, certificate, t, &mut sight.marked, &sight.lanes, y)?;
+    carry(
+        rules,
+        log,
+        certificate,
+        t,
+        &mut sight.marked,
+        &sight.lanes,
+        y,
+    )?;
     if !may_see(rules, log, t, sight, y) {
         return Ok(true);
     }
@@ -123,13 +131,7 @@ fn is_direct(rules: Rules, log: &Log, t: usize) -> bool
 }
 
 /// Whether a writer does not write a key from the place low on.
-fn is_apart(
-    log: &Log,
-    places: &HashMap<usize, usize>,
-    x: usize,
-    key: u64,
-    low: usize,
-) -> bool
+fn is_apart(log: &Log, places: &HashMap<usize, usize>, x: usize, key: u64, low: usize) -> bool
     ensures { IsTrue result → writes_it log.now x key ≡ true → (j : ℕ) → get_in ◌==◌ places.now x ≡ Some j → j < low }
 {
     if !does_write(log, x, key) {
@@ -224,9 +226,29 @@ fn is_newest_from(
         return Ok(false);
     }
     if is_direct(rules, log, t) {
-        return look(alloc, rules, log, certificate, places, t, read.operation, read.key, low);
+        return look(
+            alloc,
+            rules,
+            log,
+            certificate,
+            places,
+            t,
+            read.operation,
+            read.key,
+            low,
+        );
     }
-    sweep(alloc, rules, log, certificate, i, t, read.operation, read.key, low)
+    sweep(
+        alloc,
+        rules,
+        log,
+        certificate,
+        i,
+        t,
+        read.operation,
+        read.key,
+        low,
+    )
 }
 
 /// Whether no writer of its key that the read of t at a place sees is newer than its source.
@@ -254,7 +276,17 @@ fn is_newest(
     if !is_written_since(last, read.key, low) {
         return Ok(true);
     }
-    is_newest_from(alloc, asked.of(t), log, certificate, places, i, t, read, low)
+    is_newest_from(
+        alloc,
+        asked.of(t),
+        log,
+        certificate,
+        places,
+        i,
+        t,
+        read,
+        low,
+    )
 }
 
 /// The same of each read in the list of t.
@@ -283,6 +315,19 @@ fn is_each_newest(
     Ok(true)
 }
 
+/// The n-th of keys that are missing in scans, as a read.
+fn missing_at(given: &[Missing], n: usize) -> Option<Place>
+    ensures { (one : TheMissing) → slice_get given.now n ≡ Some one → result ≡ Some (MissingAt one.scan one.key) }
+{
+    match given.get(n) {
+        Some(one) => Some(Place::Missing {
+            scan: one.scan,
+            key: one.key,
+        }),
+        None => None,
+    }
+}
+
 /// The same of each key that is missing in a scan of t whose source is given.
 fn is_each_given_newest(
     alloc: Global,
@@ -302,9 +347,8 @@ fn is_each_given_newest(
 {
     let given = missing_of(certificate, t);
     for n in 0..given.len() {
-        let place = Place::Missing {
-            scan: given[n].scan,
-            key: given[n].key,
+        let Some(place) = missing_at(given, n) else {
+            return Ok(false);
         };
         if !is_newest(alloc, asked, log, certificate, places, last, i, t, place)? {
             return Ok(false);

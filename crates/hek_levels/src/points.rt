@@ -2,6 +2,7 @@
 ghost use Rattle.std.specs.Prelude.{◌≡◌, ◌==◌, ◌+◌, ◌<◌, ◌≤◌, ℕ, true, false, Some, length, slice_get, IsTrue, IfOk, OnOk, if◌then◌else◌};
 ghost use Rattle.std.specs.HashMap.{get as get_in};
 ghost use Rattle.hek_levels.specs.declared.log.Read.{Read as TheRead};
+ghost use Rattle.hek_levels.specs.declared.log.Change.{Change as TheChange};
 ghost use Rattle.hek_levels.specs.declared.log.Place.{Place as ThePlace};
 ghost use Rattle.hek_levels.specs.declared.log.Place.TheVariants.{Listed as ListedAt, Missing as MissingAt};
 ghost use Rattle.hek_levels.specs.Levels.{asked_of};
@@ -11,7 +12,7 @@ ghost use Rattle.hek_levels.specs.Rows.{row_of};
 ghost use Rattle.hek_levels.specs.Sweeps.{AreLast, AreLaned, AreRaised};
 ghost use Rattle.hek_levels.specs.Points.{commits_of as commits_there, sees_turns as sees_them, IsClosed, IsReplay, HasReplay, IsExplainedBy};
 
-use crate::log::{Log, Place};
+use crate::log::{Change, Log, Place};
 use crate::logged::{at, meets, read_at, reads_of, scans_of, turns_of, writes_of};
 use crate::newest::{is_written_since, mark_writes};
 use crate::places::{find_places, have_all_places, is_absent, mark, place_of};
@@ -75,7 +76,24 @@ fn is_each_met(log: &Log, rows: &BTreeMap<u64, u64>, t: usize) -> bool
     true
 }
 
-/// Whether the rows have no key that a scan of t misses.
+/// Whether the rows have no key that the n-th scan of t misses.
+fn is_lacked(
+    alloc: Global,
+    log: &Log,
+    rows: &BTreeMap<u64, u64>,
+    t: usize,
+    n: usize,
+) -> Result<bool, NoMemory>
+    ensures { IfOk result (λ yes. IsTrue yes → (key : ℕ) (read : TheRead) → read_there log.now t (MissingAt n key) ≡ Some read → meets_it read.need (row_of rows.now read.key) ≡ true) }
+{
+    let Some(scan) = scans_of(log, t).get(n) else {
+        return Ok(true);
+    };
+    let keys = missed(alloc, rows, scan)?;
+    Ok(keys.is_empty())
+}
+
+/// The same of each scan of t.
 fn is_each_lacked(
     alloc: Global,
     log: &Log,
@@ -84,10 +102,8 @@ fn is_each_lacked(
 ) -> Result<bool, NoMemory>
     ensures { IfOk result (λ yes. IsTrue yes → (s key : ℕ) (read : TheRead) → read_there log.now t (MissingAt s key) ≡ Some read → meets_it read.need (row_of rows.now read.key) ≡ true) }
 {
-    let scans = scans_of(log, t);
-    for n in 0..scans.len() {
-        let keys = missed(alloc, rows, &scans[n])?;
-        if !keys.is_empty() {
+    for n in 0..scans_of(log, t).len() {
+        if !is_lacked(alloc, log, rows, t, n)? {
             return Ok(false);
         }
     }
@@ -95,12 +111,7 @@ fn is_each_lacked(
 }
 
 /// Whether all reads of t find what the rows have.
-fn are_met(
-    alloc: Global,
-    log: &Log,
-    rows: &BTreeMap<u64, u64>,
-    t: usize,
-) -> Result<bool, NoMemory>
+fn are_met(alloc: Global, log: &Log, rows: &BTreeMap<u64, u64>, t: usize) -> Result<bool, NoMemory>
     ensures { IfOk result (λ yes. IsTrue yes → (r : ThePlace) (read : TheRead) → read_there log.now t r ≡ Some read → meets_it read.need (row_of rows.now read.key) ≡ true) }
 {
     if !is_each_met(log, rows, t) {
@@ -150,9 +161,20 @@ fn begin_at(
     if !are_met(alloc, log, &replay.rows, t)? {
         return Ok(false);
     }
+    let rules = asked.of(t);
     mark(&mut replay.begun, t, replay.count)?;
-    look(asked.of(t), log, &mut replay.looking, t)?;
+    look(rules, log, &mut replay.looking, t)?;
     Ok(true)
+}
+
+/// Whether the key of the n-th change was not written from the place low on.
+fn is_unwritten_at(last: &HashMap<u64, usize>, changes: &[Change], n: usize, low: usize) -> bool
+    ensures { IsTrue result → (c : TheChange) (m : ℕ) → slice_get changes.now n ≡ Some c → get_in ◌==◌ last.now c.key ≡ Some m → m < low }
+{
+    match changes.get(n) {
+        Some(change) => !is_written_since(last, change.key, low),
+        None => true,
+    }
 }
 
 /// Whether no key that t writes was written from the place low on.
@@ -161,7 +183,7 @@ fn is_unwritten_since(log: &Log, last: &HashMap<u64, usize>, t: usize, low: usiz
 {
     let changes = writes_of(log, t);
     for n in 0..changes.len() {
-        if is_written_since(last, changes[n].key, low) {
+        if !is_unwritten_at(last, changes, n, low) {
             return false;
         }
     }
@@ -189,6 +211,16 @@ fn is_closed(
     !rules.first.writers || is_unwritten_since(log, last, t, low)
 }
 
+/// Whether t stands at a place of an order.
+fn is_at(order: &[usize], i: usize, t: usize) -> bool
+    ensures { IsTrue result → At order.now i t }
+{
+    match at(order, i) {
+        Some(x) => x == t,
+        None => false,
+    }
+}
+
 /// t commits, if it may.
 fn commit_at(
     asked: &Asked,
@@ -201,13 +233,14 @@ fn commit_at(
     ensures { IfOk result (λ yes. IsTrue yes → IsReplay asked.now log.now order.now replay.new.count (row_of replay.new.rows) (get_in ◌==◌ replay.new.begun) (get_in ◌==◌ replay.new.last) (get_in ◌==◌ replay.new.looking)) }
 {
     let i = replay.count;
-    if at(order, i) != Some(t) {
+    if !is_at(order, i, t) {
         return Ok(false);
     }
     let Some(low) = place_of(&replay.begun, t) else {
         return Ok(false);
     };
-    if !is_closed(asked.of(t), log, order, &replay.last, t, low, i) {
+    let rules = asked.of(t);
+    if !is_closed(rules, log, order, &replay.last, t, low, i) {
         return Ok(false);
     }
     if !have_come(&replay.looking, turns_of(log, t)) {

@@ -1,5 +1,5 @@
 //! Rows by key.
-ghost use Rattle.std.specs.Prelude.{◌≡◌, ◌==◌, ◌≤◌, ◌<◌, ℕ, None, Some, slice_get, is_some, OnOk, IfOk, true, if◌then◌else◌};
+ghost use Rattle.std.specs.Prelude.{◌≡◌, ◌==◌, ◌≤◌, ◌<◌, ℕ, None, Some, slice_get, is_some, IsTrue, OnOk, IfOk, true, if◌then◌else◌};
 ghost use Rattle.hek_rules.specs.Listing.{value_of};
 ghost use Rattle.hek_levels.specs.Logs.{left_in, misses as misses_it};
 ghost use Rattle.hek_levels.specs.Rows.{row_of as row_there, either, left_over, IsAmong};
@@ -68,6 +68,24 @@ pub(crate) fn change_rows(rows: &mut BTreeMap<u64, u64>, changes: &[Change]) -> 
     Ok(())
 }
 
+/// Whether a scan may miss a key.
+fn may_miss(scan: &Scan, key: u64) -> bool
+    ensures { misses_it scan.now key ≡ true → IsTrue result }
+{
+    covers(scan.scope, key) && !is_excepted(scan, key)
+}
+
+/// A key is among these, if a scan misses it.
+fn note_missed(keys: &mut Vec<u64>, scan: &Scan, key: u64) -> Result<(), NoMemory>
+    ensures kept { OnOk result ((k : ℕ) → IsAmong keys.old.items k → IsAmong keys.new.items k) }
+    ensures there { OnOk result (misses_it scan.now key ≡ true → IsAmong keys.new.items key) }
+{
+    if may_miss(scan, key) {
+        keys.push(key)?;
+    }
+    Ok(())
+}
+
 /// The keys of rows in a range that a scan misses.
 fn missed_within(
     alloc: Global,
@@ -81,9 +99,7 @@ fn missed_within(
 {
     let mut keys = Vec::new(alloc);
     for (key, _value) in rows.range(from..to) {
-        if !is_excepted(scan, *key) {
-            keys.push(*key)?;
-        }
+        note_missed(&mut keys, scan, *key)?;
     }
     Ok(keys)
 }
@@ -98,9 +114,7 @@ fn missed_anywhere(
 {
     let mut keys = Vec::new(alloc);
     for (key, _value) in rows {
-        if covers(scan.scope, *key) && !is_excepted(scan, *key) {
-            keys.push(*key)?;
-        }
+        note_missed(&mut keys, scan, *key)?;
     }
     Ok(keys)
 }

@@ -1,16 +1,19 @@
 //! Whom a read sees: from its transaction back along the order.
-ghost use Rattle.std.specs.Prelude.{◌≡◌, ◌==◌, ◌≤◌, ◌<◌, ℕ, true, Some, IsTrue, OnOk, if◌then◌else◌};
+ghost use Rattle.std.specs.Prelude.{◌≡◌, ◌==◌, ◌≤◌, ◌<◌, ℕ, true, Some, slice_get, IsTrue, OnOk, if◌then◌else◌};
 ghost use Rattle.std.specs.HashMap.{get as get_in};
 ghost use Rattle.hek_levels.specs.declared.certificate.Writer.TheVariants.{Transaction as TransactionOf};
 ghost use Rattle.hek_levels.specs.declared.log.Place.TheVariants.{Listed as ListedAt, Missing as MissingAt};
 ghost use Rattle.hek_levels.specs.declared.log.Read.{Read as TheRead};
+ghost use Rattle.hek_levels.specs.declared.log.Turn.{Turn as TheTurn};
+ghost use Rattle.hek_levels.specs.declared.log.Change.{Change as TheChange};
+ghost use Rattle.hek_levels.specs.declared.certificate.Missing.{Missing as TheMissing};
 ghost use Rattle.hek_levels.specs.Logs.{does_write as writes_it, read_at as read_there};
 ghost use Rattle.hek_levels.specs.Seen.{SeesByOwn, ReadsTo};
 ghost use Rattle.hek_levels.specs.Explanations.{explanation, source_at as source_there, given_of, given_at};
 ghost use Rattle.hek_levels.specs.Sweeps.{IsMarked, AreMarked, AreKept, IsFrom, AreRaised, AreLaned, AreKeyed, IsShown, IsBeforeAny, MayLink, MayLinkAny, MaySee, MayCarry};
 
 use crate::certificate::{Certificate, Missing, Writer};
-use crate::log::{Log, Place, Turn};
+use crate::log::{Change, Log, Place, Turn};
 use crate::logged::{does_write, is_earlier, read_at, reads_of, turns_of, writes_of};
 use crate::rules::{Links, Own, Rules};
 use crate::sourced::{listed_source, missing_of};
@@ -67,6 +70,21 @@ fn mark_listed(
     Ok(())
 }
 
+/// The source of the n-th key that is missing is marked from now on.
+fn mark_given(
+    marked: &mut HashMap<usize, usize>,
+    given: &[Missing],
+    n: usize,
+) -> Result<(), NoMemory>
+    ensures kept { OnOk result (AreKept (get_in ◌==◌ marked.old) (get_in ◌==◌ marked.new)) }
+    ensures there { OnOk result ((one : TheMissing) (x : ℕ) → slice_get given.now n ≡ Some one → one.writer ≡ TransactionOf x → IsMarked (get_in ◌==◌ marked.new) x) }
+{
+    match given.get(n) {
+        Some(one) => mark_writer(marked, one.writer),
+        None => Ok(()),
+    }
+}
+
 /// Each source of a key that is missing in a scan of y is marked from now on.
 fn mark_missing(
     certificate: &Certificate,
@@ -78,7 +96,7 @@ fn mark_missing(
 {
     let given = missing_of(certificate, y);
     for n in 0..given.len() {
-        mark_writer(marked, given[n].writer)?;
+        mark_given(marked, given, n)?;
     }
     Ok(())
 }
@@ -135,20 +153,20 @@ fn mark_listed_to(
     Ok(())
 }
 
-/// A source of a key that is missing in a scan of t is marked from now on, if that is of the n-th operation or one before it.
-fn mark_given_to(
+/// The source of a key that is missing in a scan of t is marked from now on, if that is of the n-th operation or one before it.
+fn mark_one_to(
     log: &Log,
     marked: &mut HashMap<usize, usize>,
     t: usize,
     n: usize,
-    given: Missing,
+    one: Missing,
 ) -> Result<(), NoMemory>
     ensures kept { OnOk result (AreKept (get_in ◌==◌ marked.old) (get_in ◌==◌ marked.new)) }
-    ensures there { OnOk result ((x : ℕ) → (read : TheRead) → read_there log.now t (MissingAt given.scan given.key) ≡ Some read → read.operation ≤ n → given.writer ≡ TransactionOf x → IsMarked (get_in ◌==◌ marked.new) x) }
+    ensures there { OnOk result ((x : ℕ) → (read : TheRead) → read_there log.now t (MissingAt one.scan one.key) ≡ Some read → read.operation ≤ n → one.writer ≡ TransactionOf x → IsMarked (get_in ◌==◌ marked.new) x) }
 {
     let place = Place::Missing {
-        scan: given.scan,
-        key: given.key,
+        scan: one.scan,
+        key: one.key,
     };
     let Some(read) = read_at(log, t, place) else {
         return Ok(());
@@ -156,7 +174,25 @@ fn mark_given_to(
     if n < read.operation {
         return Ok(());
     }
-    mark_writer(marked, given.writer)
+    mark_writer(marked, one.writer)
+}
+
+/// The same of the m-th of these.
+fn mark_given_to(
+    log: &Log,
+    marked: &mut HashMap<usize, usize>,
+    t: usize,
+    n: usize,
+    given: &[Missing],
+    m: usize,
+) -> Result<(), NoMemory>
+    ensures kept { OnOk result (AreKept (get_in ◌==◌ marked.old) (get_in ◌==◌ marked.new)) }
+    ensures there { OnOk result ((x : ℕ) (one : TheMissing) (read : TheRead) → slice_get given.now m ≡ Some one → read_there log.now t (MissingAt one.scan one.key) ≡ Some read → read.operation ≤ n → one.writer ≡ TransactionOf x → IsMarked (get_in ◌==◌ marked.new) x) }
+{
+    match given.get(m) {
+        Some(one) => mark_one_to(log, marked, t, n, *one),
+        None => Ok(()),
+    }
 }
 
 /// Each source of a key that is missing in a scan of t by the n-th operation or one before it is marked from now on.
@@ -172,7 +208,7 @@ fn mark_missing_to(
 {
     let given = missing_of(certificate, t);
     for m in 0..given.len() {
-        mark_given_to(log, marked, t, n, given[m])?;
+        mark_given_to(log, marked, t, n, given, m)?;
     }
     Ok(())
 }
@@ -360,6 +396,17 @@ fn mark_key(keys: &mut HashMap<u64, u64>, key: u64) -> Result<(), NoMemory>
     Ok(())
 }
 
+/// The key of the n-th change is marked from now on.
+fn show_key(keys: &mut HashMap<u64, u64>, changes: &[Change], n: usize) -> Result<(), NoMemory>
+    ensures kept { OnOk result (AreKept (get_in ◌==◌ keys.old) (get_in ◌==◌ keys.new)) }
+    ensures there { OnOk result ((c : TheChange) → slice_get changes.now n ≡ Some c → IsMarked (get_in ◌==◌ keys.new) c.key) }
+{
+    match changes.get(n) {
+        Some(change) => mark_key(keys, change.key),
+        None => Ok(()),
+    }
+}
+
 /// The keys that y writes are marked from now on.
 fn show_keys(log: &Log, keys: &mut HashMap<u64, u64>, y: usize) -> Result<(), NoMemory>
     ensures kept { OnOk result (AreKept (get_in ◌==◌ keys.old) (get_in ◌==◌ keys.new)) }
@@ -367,7 +414,7 @@ fn show_keys(log: &Log, keys: &mut HashMap<u64, u64>, y: usize) -> Result<(), No
 {
     let changes = writes_of(log, y);
     for n in 0..changes.len() {
-        mark_key(keys, changes[n].key)?;
+        show_key(keys, changes, n)?;
     }
     Ok(())
 }
@@ -383,14 +430,29 @@ pub(crate) fn show_turn(lanes: &mut HashMap<usize, u64>, turn: Turn) -> Result<(
     begin(lanes, turn)
 }
 
+/// The same of the n-th turn.
+fn show_turn_at(lanes: &mut HashMap<usize, u64>, turns: &[Turn], n: usize) -> Result<(), NoMemory>
+    ensures raised { OnOk result (AreRaised (get_in ◌==◌ lanes.old) (get_in ◌==◌ lanes.new)) }
+    ensures there { OnOk result ((turn : TheTurn) → slice_get turns.now n ≡ Some turn → turn.seen ≡ true → IsFrom (get_in ◌==◌ lanes.new) turn.lane turn.first) }
+{
+    match turns.get(n) {
+        Some(turn) => show_turn(lanes, *turn),
+        None => Ok(()),
+    }
+}
+
 /// The turns of y are those of somebody who is seen.
-pub(crate) fn show_turns(log: &Log, lanes: &mut HashMap<usize, u64>, y: usize) -> Result<(), NoMemory>
+pub(crate) fn show_turns(
+    log: &Log,
+    lanes: &mut HashMap<usize, u64>,
+    y: usize,
+) -> Result<(), NoMemory>
     ensures raised { OnOk result (AreRaised (get_in ◌==◌ lanes.old) (get_in ◌==◌ lanes.new)) }
     ensures there { OnOk result (AreLaned log.now (get_in ◌==◌ lanes.new) y) }
 {
     let turns = turns_of(log, y);
     for n in 0..turns.len() {
-        show_turn(lanes, turns[n])?;
+        show_turn_at(lanes, turns, n)?;
     }
     Ok(())
 }

@@ -1,5 +1,5 @@
 //! Read uncommitted: what each committed transaction found was at some time there, and some order keeps the turns.
-ghost use Rattle.std.specs.Prelude.{◌≡◌, ◌==◌, ◌&&◌, ℕ, Some, None, true, false, IsTrue, OnOk, IfOk, IfSome, IfNone, if◌then◌else◌};
+ghost use Rattle.std.specs.Prelude.{◌≡◌, ◌==◌, ◌&&◌, ℕ, Some, None, true, false, slice_get, IsTrue, OnOk, IfOk, IfSome, IfNone, if◌then◌else◌};
 ghost use Rattle.std.specs.HashMap.{get as get_in};
 ghost use Rattle.hek_rules.specs.Listing.{value_of};
 ghost use Rattle.hek_levels.specs.declared.log.Need.{Need as TheNeed};
@@ -152,6 +152,25 @@ fn is_found(log: &Log, rows: &BTreeMap<u64, u64>, changers: &Changers, t: usize,
         || is_other(who_leaves(changers, read.key, read.need), t)
 }
 
+/// Whether the read of t at a place found what was never there.
+fn is_lost(
+    log: &Log,
+    rows: &BTreeMap<u64, u64>,
+    changers: &Changers,
+    t: usize,
+    place: Place,
+) -> bool
+    requires rows { (k : ℕ) → row_of rows.now k ≡ value_of log.now.rows.items k }
+    requires index { IsIndex log.now changers.now }
+    ensures none { result ≡ false → (read : TheRead) → read_there log.now t place ≡ Some read → is_found_there log.now t read ≡ true }
+    ensures some { IsTrue result → (read : TheRead) × (read_there log.now t place ≡ Some read) × (is_found_there log.now t read ≡ false) }
+{
+    match read_at(log, t, place) {
+        Some(read) => !is_found(log, rows, changers, t, read),
+        None => false,
+    }
+}
+
 /// The first read in the list of t that found what was never there.
 fn lost_listed(log: &Log, rows: &BTreeMap<u64, u64>, changers: &Changers, t: usize) -> Option<usize>
     requires rows { (k : ℕ) → row_of rows.now k ≡ value_of log.now.rows.items k }
@@ -159,32 +178,38 @@ fn lost_listed(log: &Log, rows: &BTreeMap<u64, u64>, changers: &Changers, t: usi
     ensures none { IfNone result ((r : ℕ) (read : TheRead) → read_there log.now t (ListedAt r) ≡ Some read → is_found_there log.now t read ≡ true) }
     ensures some { IfSome result (λ r. (read : TheRead) × (read_there log.now t (ListedAt r) ≡ Some read) × (is_found_there log.now t read ≡ false)) }
 {
-    let reads = reads_of(log, t);
-    for r in 0..reads.len() {
-        if !is_found(log, rows, changers, t, reads[r]) {
+    for r in 0..reads_of(log, t).len() {
+        if is_lost(log, rows, changers, t, Place::Listed(r)) {
             return Some(r);
         }
     }
     None
 }
 
-/// What a scan says of a key that is missing in it, if that was never so.
+/// The n-th of these keys, if the scan of t at a place misses it, and it was never so.
 fn lost_key(
     log: &Log,
     rows: &BTreeMap<u64, u64>,
     changers: &Changers,
     t: usize,
     s: usize,
-    key: u64,
-) -> bool
+    keys: &[u64],
+    n: usize,
+) -> Option<u64>
     requires rows { (k : ℕ) → row_of rows.now k ≡ value_of log.now.rows.items k }
     requires index { IsIndex log.now changers.now }
-    ensures none { result ≡ false → (read : TheRead) → read_there log.now t (MissingAt s key) ≡ Some read → is_found_there log.now t read ≡ true }
-    ensures some { IsTrue result → (read : TheRead) × (read_there log.now t (MissingAt s key) ≡ Some read) × (is_found_there log.now t read ≡ false) }
+    ensures none { IfNone result ((key : ℕ) (read : TheRead) → slice_get keys.now n ≡ Some key → read_there log.now t (MissingAt s key) ≡ Some read → is_found_there log.now t read ≡ true) }
+    ensures some { IfSome result (λ key. (read : TheRead) × (read_there log.now t (MissingAt s key) ≡ Some read) × (is_found_there log.now t read ≡ false)) }
 {
-    match read_at(log, t, Place::Missing { scan: s, key }) {
-        Some(read) => !is_found(log, rows, changers, t, read),
-        None => false,
+    let Some(there) = keys.get(n) else {
+        return None;
+    };
+    let key = *there;
+    let place = Place::Missing { scan: s, key };
+    if is_lost(log, rows, changers, t, place) {
+        Some(key)
+    } else {
+        None
     }
 }
 
@@ -205,10 +230,11 @@ fn lost_missing(
     let Some(scan) = scans_of(log, t).get(s) else {
         return Ok(None);
     };
-    let keys = missed(alloc, rows, scan)?;
+    let list = missed(alloc, rows, scan)?;
+    let keys = list.as_slice();
     for n in 0..keys.len() {
-        if lost_key(log, rows, changers, t, s, keys[n]) {
-            return Ok(Some(keys[n]));
+        if let Some(key) = lost_key(log, rows, changers, t, s, keys, n) {
+            return Ok(Some(key));
         }
     }
     Ok(None)

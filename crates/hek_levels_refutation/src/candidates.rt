@@ -3,11 +3,12 @@ ghost use Rattle.std.specs.Prelude.{◌≡◌, ◌<◌, ◌≤◌, ℕ, true, fa
 ghost use Rattle.hek_levels.specs.declared.certificate.Writer.{Writer as TheWriter};
 ghost use Rattle.hek_levels.specs.declared.certificate.Writer.TheVariants.{Transaction as TransactionOf};
 ghost use Rattle.hek_levels.specs.Logs.{is_possible as possible_there, offers as offers_it};
-ghost use Rattle.hek_levels_refutation.specs.Claims.{number_of as number_in, FollowsFrom};
-ghost use Rattle.hek_levels_refutation.specs.Candidates.{IsCandidate, IsNoneBetween, IsNoneFrom};
+ghost use Rattle.hek_levels.specs.Seen.{Explanation, TakesPlace};
+ghost use Rattle.hek_levels_refutation.specs.Claims.{number_of as number_in, AllHold, FollowsFrom};
+ghost use Rattle.hek_levels_refutation.specs.Candidates.{IsCandidate, IsNoneBetween};
 
 use crate::claim::{Claim, Context};
-use crate::premises::{Left, is_same, left_at, not_at, takes_place};
+use crate::premises::{Left, is_same, is_same_place, left_at, not_at, takes_place};
 use hek_levels::{Log, Place, Read, Writer, is_possible, offers, read_at};
 
 /// The writer of a number.
@@ -106,13 +107,19 @@ pub(crate) fn skip_back(context: &Context<'_>, from: usize, number: usize) -> Op
 }
 
 /// Whether the claim at a place is that the writer of a number is not the source of a read.
-fn is_not(context: &Context<'_>, left: Left, number: usize, not: usize) -> bool {
+fn is_not(context: &Context<'_>, left: Left, number: usize, not: usize) -> bool
+    ensures { IsTrue result → (e : Explanation) → AllHold context.now.asked.now context.now.log.now e context.now.shown.now → TakesPlace e left.reader → number_in (e.source left.reader left.place) ≡ number → ⊥ }
+{
     let Some(found) = not_at(context.shown, not) else {
         return false;
     };
-    found.reader == left.reader
-        && found.place == left.place
-        && is_same(found.writer, writer_of(number))
+    if found.reader != left.reader {
+        return false;
+    }
+    if !is_same_place(found.place, left.place) {
+        return false;
+    }
+    is_same(found.writer, writer_of(number))
 }
 
 /// The first that is left is not the source.
@@ -122,7 +129,10 @@ pub(crate) fn drop_first(context: &Context<'_>, from: usize, not: usize) -> Opti
     let Some(left) = left_at(context.shown, from) else {
         return None;
     };
-    if left.number == usize::MAX || !is_not(context, left, left.number, not) {
+    if left.number == usize::MAX {
+        return None;
+    }
+    if !is_not(context, left, left.number, not) {
         return None;
     }
     Some(Claim::From {
@@ -140,7 +150,10 @@ pub(crate) fn drop_last(context: &Context<'_>, from: usize, not: usize) -> Optio
     let Some(left) = left_at(context.shown, from) else {
         return None;
     };
-    if left.end == 0 || !is_not(context, left, left.end - 1, not) {
+    if left.end == 0 {
+        return None;
+    }
+    if !is_not(context, left, left.end - 1, not) {
         return None;
     }
     Some(Claim::From {
@@ -164,13 +177,7 @@ pub(crate) fn only(context: &Context<'_>, from: usize) -> Option<Claim>
     if left.number == usize::MAX {
         return None;
     }
-    if !is_none_between(
-        context.log,
-        left.reader,
-        read,
-        left.number + 1,
-        left.end,
-    ) {
+    if !is_none_between(context.log, left.reader, read, left.number + 1, left.end) {
         return None;
     }
     Some(Claim::Source {

@@ -4,7 +4,9 @@ ghost use Rattle.hek_levels_refutation.specs.declared.claim.Context.{Context as 
 ghost use Rattle.hek_levels_refutation.specs.Claims.{FollowsFrom};
 
 use crate::claim::{Claim, Context};
-use crate::premises::{is_same, pair_at, source_at, takes_place, turn_at, visible_at};
+use crate::premises::{
+    is_same, is_same_place, pair_at, source_at, takes_place, turn_at, visible_at,
+};
 use hek_levels::{Place, Writer, does_write, is_committed, is_kept, is_possible, read_at};
 
 /// The opening is before each transaction.
@@ -113,7 +115,7 @@ pub(crate) fn newest(context: &Context<'_>, visible: usize, source: usize) -> Op
     if met.reader != found.reader {
         return None;
     }
-    if met.place != found.place {
+    if !is_same_place(met.place, found.place) {
         return None;
     }
     let Some(read) = read_at(context.log, met.reader, met.place) else {

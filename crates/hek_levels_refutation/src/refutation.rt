@@ -264,9 +264,14 @@ enum Outcome {
 }
 
 /// One step.
-fn advance(asked: &Asked, log: &Log, shown: &mut Vec<Shown>, step: Step) -> Result<Outcome, NoMemory>
-    requires { IsSound rules log.now shown.old.items }
-    ensures { IfOk result (λ outcome. IsOutcome rules log.now shown.new.items outcome) }
+fn advance(
+    asked: &Asked,
+    log: &Log,
+    shown: &mut Vec<Shown>,
+    step: Step,
+) -> Result<Outcome, NoMemory>
+    requires { IsSound asked.now log.now shown.old.items }
+    ensures { IfOk result (λ outcome. IsOutcome asked.now log.now shown.new.items outcome) }
 {
     let context = Context {
         asked,
@@ -291,7 +296,7 @@ fn advance(asked: &Asked, log: &Log, shown: &mut Vec<Shown>, step: Step) -> Resu
 /// assumed opens a case, and a contradiction ends the innermost that is open: the contrary takes its place. Where
 /// none is open, the log has no explanation.
 pub fn refutes(alloc: Global, asked: &Asked, log: &Log, steps: &[Step]) -> Result<bool, NoMemory>
-    ensures { IfOk result (λ yes. IsTrue yes → HasNoExplanation rules log.now) }
+    ensures { IfOk result (λ yes. IsTrue yes → HasNoExplanation asked.now log.now) }
 {
     let mut shown = Vec::new(alloc);
     for n in 0..steps.len() {

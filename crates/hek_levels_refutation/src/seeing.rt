@@ -4,6 +4,7 @@ ghost use Rattle.hek_levels.specs.declared.log.Read.{Read as TheRead};
 ghost use Rattle.hek_levels.specs.declared.certificate.Writer.TheVariants.{Transaction as TransactionOf};
 ghost use Rattle.hek_levels.specs.Logs.{read_at as read_there};
 ghost use Rattle.hek_levels.specs.Seen.{Explanation, IsLinked, Precedes, SeesByOwn};
+ghost use Rattle.hek_levels.specs.Levels.{asked_of};
 ghost use Rattle.hek_levels.specs.Explanations.{Explains};
 ghost use Rattle.hek_levels_refutation.specs.Claims.{AllHold, FollowsFrom};
 
@@ -20,7 +21,7 @@ fn by_writers(
     key: u64,
     before: usize,
 ) -> Option<usize>
-    ensures { IfSome result (λ x. (e : Explanation) → Explains context.now.rules context.now.log.now e → AllHold context.now.rules context.now.log.now e context.now.shown.now → IsLinked links context.now.log.now e y x) }
+    ensures { IfSome result (λ x. (e : Explanation) → Explains context.now.asked.now context.now.log.now e → AllHold context.now.asked.now context.now.log.now e context.now.shown.now → IsLinked links context.now.log.now e y x) }
 {
     if !links.writers {
         return None;
@@ -44,7 +45,7 @@ fn by_writers(
 
 /// The other is before y, by turns too.
 fn precedes(context: &Context<'_>, y: usize, other: usize, before: usize) -> bool
-    ensures { IsTrue result → (e : Explanation) → AllHold context.now.rules context.now.log.now e context.now.shown.now → Precedes context.now.log.now e other y }
+    ensures { IsTrue result → (e : Explanation) → AllHold context.now.asked.now context.now.log.now e context.now.shown.now → Precedes context.now.log.now e other y }
 {
     if !is_earlier(context.log, other, y) {
         return false;
@@ -65,7 +66,7 @@ fn by_turn(
     other: usize,
     before: usize,
 ) -> Option<usize>
-    ensures { IfSome result (λ x. (e : Explanation) → Explains context.now.rules context.now.log.now e → AllHold context.now.rules context.now.log.now e context.now.shown.now → IsLinked links context.now.log.now e y x) }
+    ensures { IfSome result (λ x. (e : Explanation) → Explains context.now.asked.now context.now.log.now e → AllHold context.now.asked.now context.now.log.now e context.now.shown.now → IsLinked links context.now.log.now e y x) }
 {
     if !links.turns {
         return None;
@@ -85,7 +86,7 @@ fn by_reads(
     before: usize,
     source: usize,
 ) -> Option<usize>
-    ensures { IfSome result (λ x. (e : Explanation) → Explains context.now.rules context.now.log.now e → AllHold context.now.rules context.now.log.now e context.now.shown.now → IsLinked links context.now.log.now e y x) }
+    ensures { IfSome result (λ x. (e : Explanation) → Explains context.now.asked.now context.now.log.now e → AllHold context.now.asked.now context.now.log.now e context.now.shown.now → IsLinked links context.now.log.now e y x) }
 {
     if !links.turn_reads {
         return None;
@@ -104,7 +105,7 @@ fn by_reads(
 
 /// Whom y sees by a link.
 fn linked(context: &Context<'_>, links: Links, y: usize, link: Link) -> Option<usize>
-    ensures { IfSome result (λ x. (e : Explanation) → Explains context.now.rules context.now.log.now e → AllHold context.now.rules context.now.log.now e context.now.shown.now → IsLinked links context.now.log.now e y x) }
+    ensures { IfSome result (λ x. (e : Explanation) → Explains context.now.asked.now context.now.log.now e → AllHold context.now.asked.now context.now.log.now e context.now.shown.now → IsLinked links context.now.log.now e y x) }
 {
     match link {
         Link::Writers { other, key, before } => by_writers(context, links, y, other, key, before),
@@ -119,7 +120,7 @@ fn linked(context: &Context<'_>, links: Links, y: usize, link: Link) -> Option<u
 
 /// Whether the q-th read of t shows the r-th its source.
 fn shows_own(context: &Context<'_>, t: usize, q: Place, r: Place) -> bool
-    ensures { IsTrue result → (e : Explanation) (x : ℕ) → e.source t q ≡ TransactionOf x → (read : TheRead) → read_there context.now.log.now t r ≡ Some read → SeesByOwn context.now.rules.own context.now.log.now e t r read.operation x }
+    ensures { IsTrue result → (e : Explanation) (x : ℕ) → e.source t q ≡ TransactionOf x → (read : TheRead) → read_there context.now.log.now t r ≡ Some read → SeesByOwn (asked_of context.now.asked.now t).own context.now.log.now e t read.operation x }
 {
     let Some(shown) = read_at(context.log, t, q) else {
         return false;
@@ -127,7 +128,8 @@ fn shows_own(context: &Context<'_>, t: usize, q: Place, r: Place) -> bool
     let Some(reading) = read_at(context.log, t, r) else {
         return false;
     };
-    match context.asked.of(t).own {
+    let rules = context.asked.of(t);
+    match rules.own {
         Own::Nothing => false,
         Own::Earlier => shown.operation <= reading.operation,
         Own::All => true,
@@ -166,7 +168,8 @@ pub(crate) fn whole(
     let Some(pair) = pair_at(context.shown, before) else {
         return None;
     };
-    if !context.asked.of(pair.second).whole {
+    let rules = context.asked.of(pair.second);
+    if !rules.whole {
         return None;
     }
     if !takes_place(context.log, context.shown, pair.second, taken) {
@@ -192,7 +195,8 @@ pub(crate) fn by_link(
     if !takes_place(context.log, context.shown, t, taken) {
         return None;
     }
-    let Some(x) = linked(context, context.asked.of(t).first, t, link) else {
+    let rules = context.asked.of(t);
+    let Some(x) = linked(context, rules.first, t, link) else {
         return None;
     };
     Some(Claim::Visible {
@@ -209,7 +213,8 @@ pub(crate) fn shows_before(context: &Context<'_>, visible: usize, before: usize)
     let Some(met) = visible_at(context.shown, visible) else {
         return None;
     };
-    if !context.asked.of(met.reader).prefix {
+    let rules = context.asked.of(met.reader);
+    if !rules.prefix {
         return None;
     }
     let Some(pair) = pair_at(context.shown, before) else {
@@ -232,7 +237,8 @@ pub(crate) fn shows(context: &Context<'_>, visible: usize, source: usize) -> Opt
     let Some(met) = visible_at(context.shown, visible) else {
         return None;
     };
-    if !context.asked.of(met.reader).causes {
+    let rules = context.asked.of(met.reader);
+    if !rules.causes {
         return None;
     }
     let Some(edge) = edge_at(context.log, context.shown, source) else {
@@ -255,7 +261,8 @@ pub(crate) fn shows_linked(context: &Context<'_>, visible: usize, link: Link) ->
     let Some(met) = visible_at(context.shown, visible) else {
         return None;
     };
-    let Some(x) = linked(context, context.asked.of(met.reader).next, met.transaction, link) else {
+    let rules = context.asked.of(met.reader);
+    let Some(x) = linked(context, rules.next, met.transaction, link) else {
         return None;
     };
     Some(Claim::Visible {

@@ -271,7 +271,8 @@ impl Problem<'_> {
         }
         for there in from..to {
             let key = self.keys.key_at(scan.scope, there);
-            if count < most && present.keys.contains(&key)
+            if count < most
+                && present.keys.contains(&key)
                 && self.note_missed(t, place, scan, key, left)?
             {
                 count = count.saturating_add(1);

@@ -109,7 +109,9 @@ impl Writing<'_, '_> {
         let place = match found.says {
             Says::Before { first, second } => self.build_before(fact, found.rule, first, second)?,
             Says::Source { reading, source } => Some(self.narrow(fact, reading, Some(source))?),
-            Says::Not { reading, source } => Some(self.build_not(fact, found.rule, reading, source)?),
+            Says::Not { reading, source } => Some(self.build_not(
+                fact, found.rule, reading, source,
+            )?),
             Says::Taken(_) => {
                 let read = self.known.facts.premise(fact, 0);
                 let premise = self.claim(read);
@@ -368,7 +370,11 @@ impl Writing<'_, '_> {
                         None => None,
                     };
                     let second = self.known.facts.ends(premise).1;
-                    came = if self.begins(second).is_some() { Some(here) } else { None };
+                    came = if self.begins(second).is_some() {
+                        Some(here)
+                    } else {
+                        None
+                    };
                     if let Some(claim) = claim {
                         joined = Some(self.join(joined, claim)?);
                     } else if came.is_none() {
@@ -532,7 +538,12 @@ impl Writing<'_, '_> {
         let last = self.known.facts.premise(fact, place);
         if let Rule::Leave(_) = self.known.facts.get(last).rule {
             for _ in from..to {
-                if let Rule::Enter = self.known.facts.get(self.known.facts.premise(fact, place)).rule {
+                if let Rule::Enter = self
+                    .known
+                    .facts
+                    .get(self.known.facts.premise(fact, place))
+                    .rule
+                {
                     break;
                 }
                 place = place.saturating_sub(1);
@@ -762,7 +773,11 @@ impl Writing<'_, '_> {
     /// The place in a cycle of the first fact that leads from a commit, or from the opening.
     fn cycle_start(&self, conflict: usize, count: usize) -> usize {
         for turn in 0..count {
-            let first = self.known.facts.ends(self.known.facts.premise(conflict, turn)).0;
+            let first = self
+                .known
+                .facts
+                .ends(self.known.facts.premise(conflict, turn))
+                .0;
             let is_commit = matches!(
                 self.known.nodes.moment(first),
                 Some(Moment::Commit(_)) | Some(Moment::Opening)

@@ -91,7 +91,6 @@ impl Clock {
             None
         }
     }
-
 }
 
 impl Known<'_> {

@@ -1,4 +1,7 @@
 //! What a log is by the rules that are asked for: what the search found is judged, and only then is it the verdict.
+ghost use Rattle.std.specs.Prelude.{IfOk};
+ghost use Rattle.hek_levels_search.specs.Verdicts.{IsVerdict, IsTurned};
+
 use crate::certificate::Making;
 use crate::front::points_from_front;
 use crate::guessed::points_by_guess;
@@ -11,7 +14,8 @@ use crate::start::prepared;
 use crate::steps::steps_of;
 use hek_history::Point;
 use hek_levels::{
-    Asked, Certificate, Log, Turn, explains, explains_by_points, is_committed, is_possible, scans_of,
+    Asked, Certificate, Log, Turn, explains, explains_by_points, is_committed, is_possible,
+    scans_of,
 };
 use hek_levels_refutation::{Step, refutes};
 use hek_rules::NoMemory;
@@ -94,16 +98,17 @@ const WIDTHS: [u64; 2] = [24, 100];
 const ASSUMED: usize = usize::MAX - 1;
 
 /// What is searched.
-#[derive(Drop)]
-struct Search<'a> {
+#[derive(Clone, Copy)]
+struct Question<'a> {
     alloc: Global,
     asked: &'a Asked,
     log: &'a Log,
     guesses: &'a [Guess],
     effort: usize,
-    /// The keys that scans miss of which there are readings.
-    listed: Vec<Absence>,
 }
+
+/// The keys that scans miss of which there are readings.
+type Listed = Vec<Absence>;
 
 /// Points as a verdict, if they are an explanation.
 fn judge_points(
@@ -111,7 +116,9 @@ fn judge_points(
     asked: &Asked,
     log: &Log,
     points: Vec<Point>,
-) -> Result<Verdict, NoMemory> {
+) -> Result<Verdict, NoMemory>
+    ensures { IfOk result (λ verdict. IsVerdict asked.now log.now verdict) }
+{
     if explains_by_points(alloc, asked, log, points.as_slice())? {
         Ok(Verdict::Holds(Shown::Points(points)))
     } else {
@@ -125,7 +132,9 @@ fn judge_sources(
     asked: &Asked,
     log: &Log,
     certificate: Certificate,
-) -> Result<Verdict, NoMemory> {
+) -> Result<Verdict, NoMemory>
+    ensures { IfOk result (λ verdict. IsVerdict asked.now log.now verdict) }
+{
     if explains(alloc, asked, log, &certificate)? {
         Ok(Verdict::Holds(Shown::Sources(certificate)))
     } else {
@@ -139,7 +148,9 @@ fn judge_steps(
     asked: &Asked,
     log: &Log,
     steps: Vec<Step>,
-) -> Result<Verdict, NoMemory> {
+) -> Result<Verdict, NoMemory>
+    ensures { IfOk result (λ verdict. IsVerdict asked.now log.now verdict) }
+{
     if refutes(alloc, asked, log, steps.as_slice())? {
         Ok(Verdict::Fails(steps))
     } else {
@@ -163,301 +174,378 @@ enum Turned {
     Missed(Vec<Absence>),
 }
 
-impl<'a> Search<'a> {
-    /// Where a guess expects transactions.
-    fn hints(&self, place: usize) -> &'a [Hint] {
-        match self.guesses.get(place) {
-            Some(guess) => guess.hints.as_slice(),
-            None => &[],
-        }
+/// Where a guess expects transactions.
+fn hints_of<'a>(guesses: &'a [Guess], place: usize) -> &'a [Hint] {
+    match guesses.get(place) {
+        Some(guess) => guess.hints.as_slice(),
+        None => &[],
     }
+}
 
-    /// The turns of a guess.
-    fn turns(&self, place: usize) -> &'a [Turn] {
-        match self.guesses.get(place) {
-            Some(guess) => guess.turns.as_slice(),
-            None => &[],
-        }
+/// The turns of a guess.
+fn turns_of<'a>(guesses: &'a [Guess], place: usize) -> &'a [Turn] {
+    match guesses.get(place) {
+        Some(guess) => guess.turns.as_slice(),
+        None => &[],
     }
+}
 
-    /// The log as the search sees it.
-    fn problem(&self, assumed: &[Turn]) -> Result<Problem<'a>, NoMemory> {
-        reduced(
-            self.alloc,
-            self.log,
-            self.asked,
-            self.listed.as_slice(),
-            assumed,
-        )
+/// More keys that scans miss are readings. Answers whether there is room for them, and they are new.
+fn list(listed: &mut Listed, missed: &[Absence]) -> Result<bool, NoMemory> {
+    let before = listed.len();
+    if before.saturating_add(missed.len()) > MOST_LISTED {
+        return Ok(false);
     }
+    listed.extend_from_slice(missed)?;
+    listed.sort_unstable();
+    listed.dedup();
+    Ok(listed.len() != before)
+}
 
-    /// More keys that scans miss are readings. Answers whether there is room for them.
-    fn list(&mut self, missed: &[Absence]) -> Result<bool, NoMemory> {
-        if self.listed.len().saturating_add(missed.len()) > MOST_LISTED {
-            return Ok(false);
-        }
-        self.listed.extend_from_slice(missed)?;
-        self.listed.sort_unstable();
-        self.listed.dedup();
-        Ok(true)
-    }
-
-    /// All keys that scans miss are readings, if they are few.
-    fn list_few(&mut self) -> Result<(), NoMemory> {
-        let problem = self.problem(&[])?;
-        let mut count: usize = 0;
-        for t in 0..problem.transactions() {
-            for scan in scans_of(self.log, t) {
-                let (from, to) = problem.keys.places_of(scan.scope);
-                count = count.saturating_add(to.saturating_sub(from));
+/// All keys that the scans of a transaction miss are readings.
+fn list_all_of(
+    log: &Log,
+    problem: &Problem,
+    t: usize,
+    listed: &mut Listed,
+) -> Result<(), NoMemory> {
+    for (place, scan) in scans_of(log, t).iter().enumerate() {
+        let (from, to) = problem.keys.places_of(scan.scope);
+        for there in from..to {
+            let key = problem.keys.name(problem.keys.key_at(scan.scope, there));
+            if scan.except.binary_search(&key).is_err() {
+                add(
+                    listed,
+                    Absence {
+                        transaction: t,
+                        scan: place,
+                        key,
+                    },
+                )?;
             }
         }
-        if count > MOST_ABSENCES {
-            return Ok(());
-        }
-        for t in 0..problem.transactions() {
-            if is_possible(self.log, t) {
-                self.list_all_of(&problem, t)?;
-            }
-        }
-        self.listed.sort_unstable();
-        self.listed.dedup();
-        Ok(())
     }
+    Ok(())
+}
 
-    /// All keys that the scans of a transaction miss are readings.
-    fn list_all_of(&mut self, problem: &Problem, t: usize) -> Result<(), NoMemory> {
-        for (place, scan) in scans_of(self.log, t).iter().enumerate() {
+/// Whether all keys that scans miss are few together.
+fn are_few(log: &Log, problem: &Problem) -> bool {
+    let mut count: usize = 0;
+    for t in 0..problem.transactions() {
+        for scan in scans_of(log, t) {
             let (from, to) = problem.keys.places_of(scan.scope);
-            for there in from..to {
-                let key = problem.keys.name(problem.keys.key_at(scan.scope, there));
-                if scan.except.binary_search(&key).is_err() {
-                    add(
-                        &mut self.listed,
-                        Absence {
-                            transaction: t,
-                            scan: place,
-                            key,
-                        },
-                    )?;
+            count = count.saturating_add(to.saturating_sub(from));
+        }
+    }
+    count <= MOST_ABSENCES
+}
+
+/// Turns that say that each transaction takes place within so many places after its own by a guess.
+fn within(alloc: Global, log: &Log, hints: &[Hint], width: u64) -> Result<Vec<Turn>, NoMemory> {
+    let mut order = Vec::new(alloc);
+    let mut turns = Vec::new(alloc);
+    for t in 0..log.transactions.len() {
+        add(&mut order, t)?;
+        add(
+            &mut turns,
+            Turn {
+                lane: ASSUMED,
+                first: 0,
+                last: u64::MAX,
+                seen: true,
+            },
+        )?;
+    }
+    order.sort_unstable_by_key(|t| (hint_at(hints, *t).commit, *t));
+    for (place, t) in order.iter().enumerate() {
+        if is_committed(log, *t) {
+            if let Some(turn) = turns.get_mut(*t) {
+                turn.first = place as u64;
+                turn.last = (place as u64).saturating_add(width);
+            }
+        }
+    }
+    Ok(turns)
+}
+
+/// Whether each transaction reads where it commits.
+fn is_whole(asked: &Asked, log: &Log) -> bool {
+    for t in 0..log.transactions.len() {
+        if !asked.of(t).whole {
+            return false;
+        }
+    }
+    true
+}
+
+/// The log as a search sees it.
+fn problem_of<'a>(
+    question: Question<'a>,
+    listed: &[Absence],
+    assumed: &[Turn],
+) -> Result<Problem<'a>, NoMemory> {
+    reduced(
+        question.alloc,
+        question.log,
+        question.asked,
+        listed,
+        assumed,
+    )
+}
+
+/// All keys that scans miss are readings, if they are few.
+fn list_few(question: Question<'_>, listed: &mut Listed) -> Result<(), NoMemory> {
+    let problem = problem_of(question, &[], &[])?;
+    if !are_few(question.log, &problem) {
+        return Ok(());
+    }
+    for t in 0..problem.transactions() {
+        if is_possible(question.log, t) {
+            list_all_of(question.log, &problem, t, listed)?;
+        }
+    }
+    listed.sort_unstable();
+    listed.dedup();
+    Ok(())
+}
+
+/// Points as a verdict; or the keys with rows that scans miss there.
+fn turn_points(
+    question: Question<'_>,
+    problem: &Problem,
+    points: Vec<Point>,
+    most: usize,
+) -> Result<Turned, NoMemory>
+    ensures { IfOk result (λ turned. IsTurned question.asked.now question.log.now turned) }
+{
+    let missed = problem.missed(question.alloc, points.as_slice(), most)?;
+    if !missed.is_empty() {
+        return Ok(Turned::Missed(missed));
+    }
+    let verdict = judge_points(question.alloc, question.asked, question.log, points)?;
+    Ok(Turned::Judged(verdict))
+}
+
+/// An order with its sources as a verdict; or the keys that scans miss that have no source yet.
+fn turn_sources(question: Question<'_>, known: &Known, replay: &Replay) -> Result<Turned, NoMemory>
+    ensures { IfOk result (λ turned. IsTurned question.asked.now question.log.now turned) }
+{
+    let Making { certificate, left } = known.certificate(&replay.sourcing)?;
+    if !left.is_empty() {
+        return Ok(Turned::Missed(left));
+    }
+    let verdict = judge_sources(question.alloc, question.asked, question.log, certificate)?;
+    Ok(Turned::Judged(verdict))
+}
+
+/// The points by a guess, with these readings, as a verdict; or the keys with rows that scans miss there.
+fn guess_once(
+    question: Question<'_>,
+    listed: &[Absence],
+    hints: &[Hint],
+    most: usize,
+) -> Result<Turned, NoMemory>
+    ensures { IfOk result (λ turned. IsTurned question.asked.now question.log.now turned) }
+{
+    let problem = problem_of(question, listed, &[])?;
+    let points = points_by_guess(question.alloc, &problem, hints)?;
+    if problem.is_by_points && !is_whole(question.asked, question.log) {
+        return turn_points(question, &problem, points, most);
+    }
+    let verdict = judge_points(question.alloc, question.asked, question.log, points)?;
+    Ok(Turned::Judged(verdict))
+}
+
+/// The points by a guess as a verdict.
+fn by_guess(
+    question: Question<'_>,
+    listed: &mut Listed,
+    hints: &[Hint],
+) -> Result<Verdict, NoMemory>
+    ensures { IfOk result (λ verdict. IsVerdict question.asked.now question.log.now verdict) }
+{
+    let mut most = AT_FIRST;
+    for _ in 0..ROUNDS {
+        match guess_once(question, listed.as_slice(), hints, most)? {
+            Turned::Judged(verdict) => return Ok(verdict),
+            Turned::Missed(missed) => {
+                if !list(listed, missed.as_slice())? {
+                    break;
                 }
             }
         }
-        Ok(())
+        most = most.saturating_mul(2);
     }
+    Ok(Verdict::Unknown(NOWHERE))
+}
 
-    /// Points as a verdict; or the keys with rows that scans miss there.
-    fn turn_points(
-        &self,
-        problem: &Problem,
-        points: Vec<Point>,
-        most: usize,
-    ) -> Result<Turned, NoMemory> {
-        let missed = problem.missed(self.alloc, points.as_slice(), most)?;
-        if !missed.is_empty() {
-            return Ok(Turned::Missed(missed));
-        }
-        Ok(Turned::Judged(judge_points(
-            self.alloc, self.asked, self.log, points,
-        )?))
+/// The points of an order from the front as a verdict.
+fn by_front(
+    question: Question<'_>,
+    listed: &[Absence],
+    hints: &[Hint],
+    assumed: &[Turn],
+) -> Result<Verdict, NoMemory>
+    ensures { IfOk result (λ verdict. IsVerdict question.asked.now question.log.now verdict) }
+{
+    let problem = problem_of(question, listed, assumed)?;
+    match points_from_front(question.alloc, &problem, hints)? {
+        Some(points) => judge_points(question.alloc, question.asked, question.log, points),
+        None => Ok(Verdict::Unknown(NOWHERE)),
     }
+}
 
-    /// The points by a guess as a verdict.
-    fn by_guess(&mut self, hints: &[Hint]) -> Result<Verdict, NoMemory> {
-        let mut most = AT_FIRST;
-        for _ in 0..ROUNDS {
-            let problem = self.problem(&[])?;
-            let points = points_by_guess(self.alloc, &problem, hints)?;
-            if !problem.is_by_points || self.is_whole() {
-                return judge_points(self.alloc, self.asked, self.log, points);
-            }
-            match self.turn_points(&problem, points, most)? {
-                Turned::Judged(verdict) => return Ok(verdict),
-                Turned::Missed(missed) => {
-                    let before = self.listed.len();
-                    if !self.list(missed.as_slice())? || self.listed.len() == before {
-                        break;
-                    }
-                }
-            }
-            most = most.saturating_mul(2);
+/// What a search comes to. Its steps count if nothing is assumed.
+fn seek(
+    question: Question<'_>,
+    listed: &[Absence],
+    hints: &[Hint],
+    assumed: &[Turn],
+    most: usize,
+) -> Result<Turned, NoMemory>
+    ensures { IfOk result (λ turned. IsTurned question.asked.now question.log.now turned) }
+{
+    let problem = problem_of(question, listed, assumed)?;
+    let mut known = prepared(question.alloc, &problem, hints);
+    let mut replay = Replay::new(question.alloc);
+    match known.seek(question.effort, &mut replay)? {
+        Outcome::Ordered if problem.is_by_points => {
+            let points = known.points()?;
+            turn_points(question, &problem, points, most)
         }
-        Ok(Verdict::Unknown(NOWHERE))
+        Outcome::Ordered => {
+            replay.finish(&known)?;
+            turn_sources(question, &known, &replay)
+        }
+        Outcome::Refuted(conflict) if assumed.is_empty() => {
+            let steps = steps_of(&known, conflict)?;
+            let verdict = judge_steps(question.alloc, question.asked, question.log, steps)?;
+            Ok(Turned::Judged(verdict))
+        }
+        Outcome::Refuted(_) => Ok(Turned::Judged(Verdict::Unknown(NOWHERE))),
+        Outcome::Unknown(violations) => Ok(Turned::Judged(Verdict::Unknown(Progress {
+            conflicts: known.conflicts,
+            violations,
+        }))),
     }
+}
 
-    /// The points of an order from the front as a verdict.
-    fn by_front(&mut self, hints: &[Hint], assumed: &[Turn]) -> Result<Verdict, NoMemory> {
-        let problem = self.problem(assumed)?;
-        match points_from_front(self.alloc, &problem, hints)? {
-            Some(points) => judge_points(self.alloc, self.asked, self.log, points),
-            None => Ok(Verdict::Unknown(NOWHERE)),
-        }
-    }
-
-    /// What a search comes to. Its steps count if nothing is assumed.
-    fn seek(
-        &self,
-        hints: &[Hint],
-        assumed: &[Turn],
-        most: usize,
-    ) -> Result<Turned, NoMemory> {
-        let problem = self.problem(assumed)?;
-        let mut known = prepared(self.alloc, &problem, hints);
-        let mut replay = Replay::new(self.alloc);
-        match known.seek(self.effort, &mut replay)? {
-            Outcome::Ordered if problem.is_by_points => {
-                let points = known.points()?;
-                self.turn_points(&problem, points, most)
-            }
-            Outcome::Ordered => {
-                replay.finish(&known)?;
-                self.turn_sources(&known, &replay)
-            }
-            Outcome::Refuted(conflict) if assumed.is_empty() => {
-                let steps = steps_of(&known, conflict)?;
-                Ok(Turned::Judged(judge_steps(
-                    self.alloc, self.asked, self.log, steps,
-                )?))
-            }
-            Outcome::Refuted(_) => Ok(Turned::Judged(Verdict::Unknown(NOWHERE))),
-            Outcome::Unknown(violations) => Ok(Turned::Judged(Verdict::Unknown(Progress {
-                conflicts: known.conflicts,
-                violations,
-            }))),
-        }
-    }
-
-    /// An order with its sources as a verdict; or the keys that scans miss that have no source yet.
-    fn turn_sources(&self, known: &Known, replay: &Replay) -> Result<Turned, NoMemory> {
-        let Making { certificate, left } = known.certificate(&replay.sourcing)?;
-        if !left.is_empty() {
-            return Ok(Turned::Missed(left));
-        }
-        Ok(Turned::Judged(judge_sources(
-            self.alloc,
-            self.asked,
-            self.log,
-            certificate,
-        )?))
-    }
-
-    /// Searches until no scan misses a key that has a row.
-    fn by_search(&mut self, hints: &[Hint], assumed: &[Turn]) -> Result<Verdict, NoMemory> {
-        let mut most = AT_FIRST;
-        for _ in 0..ROUNDS {
-            match self.seek(hints, assumed, most)? {
-                Turned::Judged(verdict) => return Ok(verdict),
-                Turned::Missed(missed) => {
-                    let before = self.listed.len();
-                    if !self.list(missed.as_slice())? || self.listed.len() == before {
-                        break;
-                    }
-                }
-            }
-            most = most.saturating_mul(2);
-        }
-        Ok(Verdict::Unknown(NOWHERE))
-    }
-
-    /// Turns that say that each transaction takes place within so many places after its own by a guess.
-    fn within(&self, hints: &[Hint], width: u64) -> Result<Vec<Turn>, NoMemory> {
-        let mut order = Vec::new(self.alloc);
-        let mut turns = Vec::new(self.alloc);
-        for t in 0..self.log.transactions.len() {
-            add(&mut order, t)?;
-            add(
-                &mut turns,
-                Turn {
-                    lane: ASSUMED,
-                    first: 0,
-                    last: u64::MAX,
-                    seen: true,
-                },
-            )?;
-        }
-        order.sort_unstable_by_key(|t| (hint_at(hints, *t).commit, *t));
-        for (place, t) in order.iter().enumerate() {
-            if is_committed(self.log, *t) {
-                if let Some(turn) = turns.get_mut(*t) {
-                    turn.first = place as u64;
-                    turn.last = (place as u64).saturating_add(width);
+/// Searches until no scan misses a key that has a row.
+fn by_search(
+    question: Question<'_>,
+    listed: &mut Listed,
+    hints: &[Hint],
+    assumed: &[Turn],
+) -> Result<Verdict, NoMemory>
+    ensures { IfOk result (λ verdict. IsVerdict question.asked.now question.log.now verdict) }
+{
+    let mut most = AT_FIRST;
+    for _ in 0..ROUNDS {
+        match seek(question, listed.as_slice(), hints, assumed, most)? {
+            Turned::Judged(verdict) => return Ok(verdict),
+            Turned::Missed(missed) => {
+                if !list(listed, missed.as_slice())? {
+                    break;
                 }
             }
         }
-        Ok(turns)
+        most = most.saturating_mul(2);
     }
+    Ok(Verdict::Unknown(NOWHERE))
+}
 
-    /// A verdict by searches that assume the turns of a guess, or that each transaction takes place near its place by a guess.
-    fn by_assumption(&mut self, verdict: Verdict) -> Result<Verdict, NoMemory> {
-        for place in 0..self.guesses.len() {
-            if !self.turns(place).is_empty() {
-                let found = self.by_search(self.hints(place), self.turns(place))?;
-                if is_known(&found) {
-                    return Ok(found);
-                }
-            }
-        }
-        for place in 0..self.guesses.len() {
-            let hints = self.hints(place);
-            for width in WIDTHS {
-                let assumed = self.within(hints, width)?;
-                let found = self.by_search(hints, assumed.as_slice())?;
-                if is_known(&found) {
-                    return Ok(found);
-                }
-            }
-        }
-        Ok(verdict)
-    }
-
-    /// The points of an order from the front as a verdict, by the first guess or with the turns of another.
-    fn by_fronts(&mut self) -> Result<Verdict, NoMemory> {
-        let found = self.by_front(self.hints(0), &[])?;
-        if is_known(&found) {
-            return Ok(found);
-        }
-        for place in 0..self.guesses.len() {
-            if !self.turns(place).is_empty() {
-                let found = self.by_front(self.hints(place), self.turns(place))?;
-                if is_known(&found) {
-                    return Ok(found);
-                }
-            }
-        }
-        Ok(Verdict::Unknown(NOWHERE))
-    }
-
-    /// Whether each transaction reads where it commits.
-    fn is_whole(&self) -> bool {
-        for t in 0..self.log.transactions.len() {
-            if !self.asked.of(t).whole {
-                return false;
-            }
-        }
-        true
-    }
-
-    /// The verdict.
-    fn run(&mut self) -> Result<Verdict, NoMemory> {
-        self.list_few()?;
-        for place in 0..self.guesses.len() {
-            let found = self.by_guess(self.hints(place))?;
+/// A verdict by searches that assume the turns of a guess.
+fn by_turns(question: Question<'_>, listed: &mut Listed) -> Result<Verdict, NoMemory>
+    ensures { IfOk result (λ verdict. IsVerdict question.asked.now question.log.now verdict) }
+{
+    for place in 0..question.guesses.len() {
+        let hints = hints_of(question.guesses, place);
+        let assumed = turns_of(question.guesses, place);
+        if !assumed.is_empty() {
+            let found = by_search(question, listed, hints, assumed)?;
             if is_known(&found) {
                 return Ok(found);
             }
         }
-        if self.is_whole() {
-            let found = self.by_fronts()?;
+    }
+    Ok(Verdict::Unknown(NOWHERE))
+}
+
+/// A verdict by searches that assume that each transaction takes place near its place by a guess.
+fn by_widths(
+    question: Question<'_>,
+    listed: &mut Listed,
+    hints: &[Hint],
+) -> Result<Verdict, NoMemory>
+    ensures { IfOk result (λ verdict. IsVerdict question.asked.now question.log.now verdict) }
+{
+    for width in WIDTHS {
+        let assumed = within(question.alloc, question.log, hints, width)?;
+        let found = by_search(question, listed, hints, assumed.as_slice())?;
+        if is_known(&found) {
+            return Ok(found);
+        }
+    }
+    Ok(Verdict::Unknown(NOWHERE))
+}
+
+/// A verdict by searches that assume something; where none has one, the verdict so far.
+fn by_assumption(
+    question: Question<'_>,
+    listed: &mut Listed,
+    verdict: Verdict,
+) -> Result<Verdict, NoMemory>
+    requires { IsVerdict question.asked.now question.log.now verdict }
+    ensures { IfOk result (λ verdict. IsVerdict question.asked.now question.log.now verdict) }
+{
+    let found = by_turns(question, listed)?;
+    if is_known(&found) {
+        return Ok(found);
+    }
+    for place in 0..question.guesses.len() {
+        let found = by_widths(question, listed, hints_of(question.guesses, place))?;
+        if is_known(&found) {
+            return Ok(found);
+        }
+    }
+    Ok(verdict)
+}
+
+/// The points of an order from the front as a verdict, by the first guess or with the turns of another.
+fn by_fronts(question: Question<'_>, listed: &[Absence]) -> Result<Verdict, NoMemory>
+    ensures { IfOk result (λ verdict. IsVerdict question.asked.now question.log.now verdict) }
+{
+    if !is_whole(question.asked, question.log) {
+        return Ok(Verdict::Unknown(NOWHERE));
+    }
+    let found = by_front(question, listed, hints_of(question.guesses, 0), &[])?;
+    if is_known(&found) {
+        return Ok(found);
+    }
+    for place in 0..question.guesses.len() {
+        let hints = hints_of(question.guesses, place);
+        let assumed = turns_of(question.guesses, place);
+        if !assumed.is_empty() {
+            let found = by_front(question, listed, hints, assumed)?;
             if is_known(&found) {
                 return Ok(found);
             }
         }
-        let found = self.by_search(self.hints(0), &[])?;
+    }
+    Ok(Verdict::Unknown(NOWHERE))
+}
+
+/// The points by each guess as a verdict.
+fn by_guesses(question: Question<'_>, listed: &mut Listed) -> Result<Verdict, NoMemory>
+    ensures { IfOk result (λ verdict. IsVerdict question.asked.now question.log.now verdict) }
+{
+    for place in 0..question.guesses.len() {
+        let found = by_guess(question, listed, hints_of(question.guesses, place))?;
         if is_known(&found) {
             return Ok(found);
         }
-        self.by_assumption(found)
     }
+    Ok(Verdict::Unknown(NOWHERE))
 }
 
 /// What a log is by the rules that are asked for: first by points as they are guessed, then by a search with up to `effort` repairs of an
@@ -470,14 +558,29 @@ pub fn judge(
     log: &Log,
     guesses: &[Guess],
     effort: usize,
-) -> Result<Verdict, NoMemory> {
-    let mut search = Search {
+) -> Result<Verdict, NoMemory>
+    ensures { IfOk result (λ verdict. IsVerdict asked.now log.now verdict) }
+{
+    let question = Question {
         alloc,
         asked,
         log,
         guesses,
         effort,
-        listed: Vec::new(alloc),
     };
-    search.run()
+    let mut listed = Vec::new(alloc);
+    list_few(question, &mut listed)?;
+    let found = by_guesses(question, &mut listed)?;
+    if is_known(&found) {
+        return Ok(found);
+    }
+    let found = by_fronts(question, listed.as_slice())?;
+    if is_known(&found) {
+        return Ok(found);
+    }
+    let found = by_search(question, &mut listed, hints_of(guesses, 0), &[])?;
+    if is_known(&found) {
+        return Ok(found);
+    }
+    by_assumption(question, &mut listed, found)
 }

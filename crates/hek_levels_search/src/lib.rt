@@ -32,4 +32,6 @@ mod steps;
 pub use judging::{Guess, Hint, Progress, Shown, Verdict, judge};
 pub use keys::Keys;
 pub use lists::{add, at, part, put, reverse_from};
-pub use problem::{Absence, Candidates, Counted, Left, NO_READING, Problem, Reading, Source, meets, reduced};
+pub use problem::{
+    Absence, Candidates, Counted, Left, NO_READING, Problem, Reading, Source, meets, reduced,
+};

@@ -40,11 +40,7 @@ pub fn list_at<T>(lists: &[Vec<T>], place: usize) -> &[T] {
 }
 
 /// Adds something to the end of the list at a place, if there is one.
-pub fn add_in<T: Copy>(
-    lists: &mut Vec<Vec<T>>,
-    place: usize,
-    value: T,
-) -> Result<(), NoMemory> {
+pub fn add_in<T: Copy>(lists: &mut Vec<Vec<T>>, place: usize, value: T) -> Result<(), NoMemory> {
     match lists.get_mut(place) {
         Some(list) => add(list, value),
         None => Ok(()),
@@ -61,15 +57,5 @@ pub fn reverse_from<T>(list: &mut Vec<T>, from: usize) {
     if from <= list.len() {
         let (_before, rest) = list.split_at_mut(from);
         rest.reverse();
-    }
-}
-
-/// Turns a list from a place on, so that what stands so many places later begins it.
-pub fn turn_from<T>(list: &mut Vec<T>, from: usize, by: usize) {
-    if from <= list.len() {
-        let (_before, rest) = list.split_at_mut(from);
-        if by <= rest.len() {
-            rest.rotate_left(by);
-        }
     }
 }

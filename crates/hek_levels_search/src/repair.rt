@@ -31,11 +31,7 @@ impl Known<'_> {
     }
 
     /// Repairs a violation, if it is still one.
-    pub(crate) fn repair(
-        &mut self,
-        violation: Violation,
-        replay: &mut Replay,
-    ) -> Result<(), Stop> {
+    pub(crate) fn repair(&mut self, violation: Violation, replay: &mut Replay) -> Result<(), Stop> {
         match violation {
             Violation::Found { reading, writer } => self.repair_found(reading, writer, violation),
             Violation::Both { first, second, key } => {
@@ -115,7 +111,12 @@ impl Known<'_> {
             return self.follow(after);
         }
         if !self.problem.reads_before(reading.reader) {
-            return self.choose(after, before, self.is_expected_first(source, writer), violation);
+            return self.choose(
+                after,
+                before,
+                self.is_expected_first(source, writer),
+                violation,
+            );
         }
         if self.is_decided_after(source, writer, its, others, violation)? {
             return self.follow(after);
@@ -214,7 +215,11 @@ impl Known<'_> {
         if self.is_led(x, t)? {
             return self.follow(other);
         }
-        let (first, second) = if self.expects_other(t, x, key) { (x, t) } else { (t, x) };
+        let (first, second) = if self.expects_other(t, x, key) {
+            (x, t)
+        } else {
+            (t, x)
+        };
         let (its, others) = (self.nodes.commit(first), self.nodes.commit(second));
         if self.decide(its, others, violation)? {
             let way = self.winner(second, first, key);

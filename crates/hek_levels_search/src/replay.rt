@@ -1,8 +1,8 @@
 //! The order of the moments is replayed, to see where it fails.
 use crate::known::Known;
+use crate::lanes::Lanes;
 use crate::lists::{add, at, put};
 use crate::problem::{Problem, meets};
-use crate::lanes::Lanes;
 use crate::sight::Walk;
 use crate::sourcing::Sourcing;
 use hek_history::Point;

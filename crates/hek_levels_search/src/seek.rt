@@ -52,11 +52,7 @@ impl Known<'_> {
     }
 
     /// What follows from the facts, and then a repair.
-    fn repair_one(
-        &mut self,
-        next: Option<Violation>,
-        replay: &mut Replay,
-    ) -> Result<(), Stop> {
+    fn repair_one(&mut self, next: Option<Violation>, replay: &mut Replay) -> Result<(), Stop> {
         self.activate_pending()?;
         if let Some(violation) = next {
             self.repair(violation, replay)?;
@@ -116,11 +112,7 @@ impl Known<'_> {
     }
 
     /// Replays and repairs until nothing fails.
-    fn repair_until(
-        &mut self,
-        effort: usize,
-        replay: &mut Replay,
-    ) -> Result<Outcome, NoMemory> {
+    fn repair_until(&mut self, effort: usize, replay: &mut Replay) -> Result<Outcome, NoMemory> {
         let mut work = Work { replay, effort };
         for _ in 0..effort {
             let before = self.looked_at(&work);
@@ -141,11 +133,7 @@ impl Known<'_> {
     }
 
     /// Searches from the start. The replay is that of the last order.
-    pub(crate) fn seek(
-        &mut self,
-        effort: usize,
-        replay: &mut Replay,
-    ) -> Result<Outcome, NoMemory> {
+    pub(crate) fn seek(&mut self, effort: usize, replay: &mut Replay) -> Result<Outcome, NoMemory> {
         self.sight = NEAR;
         match self.start() {
             Ok(()) => self.repair_until(effort, replay),

@@ -292,12 +292,7 @@ impl Walk {
     }
 
     /// Goes on from a stop.
-    fn go_on(
-        &mut self,
-        ground: Ground<'_, '_>,
-        reader: usize,
-        n: usize,
-    ) -> Result<(), NoMemory> {
+    fn go_on(&mut self, ground: Ground<'_, '_>, reader: usize, n: usize) -> Result<(), NoMemory> {
         let stop = self.stop(n);
         let t = stop.transaction;
         let rules = ground.known.problem.rules(reader);

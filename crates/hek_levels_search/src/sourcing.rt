@@ -238,7 +238,12 @@ impl Sourcing {
                 break;
             }
             let from = end.saturating_sub(many);
-            walk.walk(ground, u, self.written(known, reading.key, from).place, NONE)?;
+            walk.walk(
+                ground,
+                u,
+                self.written(known, reading.key, from).place,
+                NONE,
+            )?;
             for number in (from..end).rev() {
                 let writer = self.written(known, reading.key, number).writer;
                 if walk.has_seen(writer) {

@@ -2,12 +2,11 @@
 use crate::clock::Clock;
 use crate::facts::{Facts, Rule, Says, Stop};
 use crate::graph::Graph;
+use crate::judging::Hint;
 use crate::known::Known;
 use crate::lists::add;
-use crate::nodes::Nodes;
+use crate::nodes::{Moment, Nodes};
 use crate::problem::{Problem, Source};
-use crate::judging::Hint;
-use crate::nodes::Moment;
 use hek_rules::NoMemory;
 use std::alloc::Global;
 use std::collections::HashMap;
@@ -41,7 +40,11 @@ pub(crate) fn choice_of(problem: &Problem, place: usize) -> Choice {
 }
 
 /// The state of a search before its first fact.
-pub(crate) fn prepared<'a>(alloc: Global, problem: &'a Problem<'a>, hints: &'a [Hint]) -> Known<'a> {
+pub(crate) fn prepared<'a>(
+    alloc: Global,
+    problem: &'a Problem<'a>,
+    hints: &'a [Hint],
+) -> Known<'a> {
     Known {
         alloc,
         problem,
