@@ -134,11 +134,8 @@ function edgeEnds({ kind, key, read: seen, written, from, to, operations, words 
     .map((it, index) => it ?? own(index ? to : from).at(-1));
 }
 
-<<<<<<< HEAD
-=======
 const VERDICT = { holds: "serializable", serializable: "serializable", "serializable in another order": "serializable", fails: "not serializable", "not serializable": "not serializable" };
 
->>>>>>> e28d0460
 /** The play of a log, whose verdict is an object of `hek history --json`: as serializable, or at the level that it names. */
 export function playOfLog(text, answer) {
   const { rows, txns: all } = read(text), edges = answer.cycle ?? [], txns = chosen(all, edges);

@@ -1,6 +1,6 @@
 //! A note on a trace in which each transaction has what its level promises, though they can't follow one another by end time.
 use crate::verdict::transcript_of_text;
-use hek_history_report::{Together, put_serializable, together_of};
+use hek_history_report::{Together, put_phrase, together_of};
 use hek_rules::{NoMemory, Schedule, Transcript, Verdict};
 use hek_serial::check;
 use std::alloc::Global;
@@ -52,15 +52,10 @@ fn line_with(
         return Ok(None);
     }
     let mut line = Vec::new(alloc);
-<<<<<<< HEAD
     line.extend_from_slice(
         b"hek: note: each transaction got what its level promises; the outcome is ",
     )?;
     put_phrase(schedule, together, &mut line)?;
-=======
-    line.extend_from_slice(b"hek: note: as each level promises; one after another: ")?;
-    put_serializable(schedule, together, &mut line)?;
->>>>>>> e28d0460
     line.push(b'\n')?;
     Ok(Some(line))
 }

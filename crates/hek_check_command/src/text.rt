@@ -3,7 +3,7 @@ use crate::check::put_serial_reply;
 use crate::faults::Fault;
 use crate::reported::Reported;
 use crate::sources::{Source, missing_reads};
-use hek_history_report::put_serializable;
+use hek_history_report::put_phrase;
 use hek_report::put;
 use hek_rules::NoMemory;
 use std::alloc::Global;
@@ -33,13 +33,8 @@ fn put_summary(reported: &Reported<'_>, lines: &mut Vec<u8>) -> Result<(), NoMem
     let judged = reported.judged;
     put(write!(lines, " {judged}"))?;
     if let Some(together) = reported.together {
-<<<<<<< HEAD
         put(write!(lines, "; the outcome is "))?;
         put_phrase(reported.schedule, together, lines)?;
-=======
-        put(write!(lines, "; one after another: "))?;
-        put_serializable(reported.schedule, together, lines)?;
->>>>>>> e28d0460
     }
     put(writeln!(lines))
 }

@@ -12,7 +12,6 @@ pub use anomaly_words::cycle_lines;
 pub use before::{Before, Side};
 pub use cycle::{put_cycle, put_reads, put_steps};
 pub use printing::{
-    put_details, put_members, put_phrase, put_serializable, put_short, put_verdict, put_word,
-    verdict_word,
+    put_details, put_members, put_phrase, put_short, put_verdict, put_word, verdict_word,
 };
 pub use together::{Together, together_of};

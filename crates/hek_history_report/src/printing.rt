@@ -63,23 +63,6 @@ pub fn put_phrase(
     put_after(schedule, together, [": ", ": "], lines)
 }
 
-/// Appends the verdict on one line in the words that logs are judged in: `serializable`, `serializable in another order: b a`, or
-/// `not serializable: a before b, b before a`.
-pub fn put_serializable(
-    schedule: &Schedule,
-    together: &Together,
-    lines: &mut Vec<u8>,
-) -> Result<(), NoMemory> {
-    let word = match verdict_of(together) {
-        Some(Serializability::ByEndTime) => "serializable",
-        Some(Serializability::InAnotherOrder) => "serializable in another order",
-        Some(Serializability::NotSerial) => "not serializable",
-        None => UNKNOWN,
-    };
-    lines.extend_from_slice(word.as_bytes())?;
-    put_after(schedule, together, [": ", ": "], lines)
-}
-
 /// Appends what is said beside a verdict: `; order b a`, or `; cycle a before b, b before a`; nothing for a verdict with
 /// neither.
 pub fn put_details(

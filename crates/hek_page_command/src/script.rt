@@ -465,9 +465,10 @@ function edgeEnds({ kind, key, read: seen, written, from, to, operations, words 
   const isAt = (it) => same(it.key, key), reads = (name, value) => own(name).findLast((it) => foundBy(moves[it]).some((pair) => same(pair, [key, value]))) ?? own(name).findLast((it) => (moves[it].kind === "read" || moves[it].kind === "miss") && isAt(moves[it])) ?? own(name).findLast((it) => moves[it].kind === "scan");
   const writes = (name, value) => own(name).findLast((it) => moves[it].kind === "write" && isAt(moves[it]) && (value === null || value === undefined || same(moves[it].value, value))) ?? own(name).findLast((it) => moves[it].kind === "write" && isAt(moves[it]));
   return [kind === "rw" ? reads(from, seen) : writes(from, kind === "wr" ? seen ?? written : null), kind === "wr" ? reads(to, seen ?? written) : writes(to, kind === "rw" ? written : null)] .map((it, index) => it ?? own(index ? to : from).at(-1)); }
+const VERDICT = { holds: "serializable", serializable: "serializable", "serializable in another order": "serializable", fails: "not serializable", "not serializable": "not serializable" };
 function playOfLog(text, answer) { const { rows, txns: all } = read(text), edges = answer.cycle ?? [], txns = chosen(all, edges);
   const moves = txns.flatMap((txn) => [...txn.ops.map((op) => moveOf(op, txn.name, txn.line)), endOf(txn)]);
-  const cycle = edges.map((edge) => ({ ...edge, from: edge.from === null ? null : String(edge.from), to: edge.to === null ? null : String(edge.to), ends: edgeEnds(edge, moves) }));
+  const cycle = edges.map((edge) => ({ ...edge, from: edge.from === null || edge.from === undefined ? null : String(edge.from), to: edge.to === null ? null : String(edge.to), ends: edgeEnds(edge, moves) }));
   const order = constraints(txns, moves, cycle).order(moves), place = (index) => order.indexOf(index) + 1;
   const told = order.map((index) => ({ ...moves[index], ...found(moves[index], moves, rows, place) })); return {
     kind: "log", level: answer.level ?? "serializable", names: txns.map(({ name }) => name), levels: txns.map(({ level }) => level ?? "serializable"), order: null, moves: told, breaks: null,
@@ -677,8 +678,7 @@ const levelOf = ({ level, levels }) => level ?? (new Set(levels).size === 1 ? le
     const outcomes = rows.filter((it) => Number(it.levels[level]) > 0).map((it) => ({ ...it, orders: Number(it.levels[level]), first: it.first[level] }));
     return [level, { orders: outcomes.reduce((sum, it) => sum + it.orders, 0), outcomes }]; })); }
 class StoryPage { constructor(sheet, objects, panels) { Object.assign(this, { sheet, panels, models: new Map() }); this.text = sheet.text ?? "";
-    const log = objects.find((it) => it.verdict !== undefined && it.kind === undefined && it.levels === undefined);
-    this.plays = log ? [playOfLog(this.text, log)] : objects.filter((it) => it.kind === "play");
+    const log = objects.find((it) => it.kind === "verdict"); this.plays = log ? [playOfLog(this.text, log)] : objects.filter((it) => it.kind === "play");
     this.outcomes = outcomesOf(objects.filter((it) => it.kind === undefined && it.levels !== undefined)); this.isLog = Boolean(log); [this.own] = this.plays;
     this.place = { level: log ? "serializable" : levelOf(this.own), step: 0, mode: "", asks: false }; this.order = this.own.order ?? [];
     this.player = new Player({ go: (change, isEntry, options) => this.go(change, isEntry, options) });
