@@ -17,7 +17,7 @@ const HIDDEN = /[\u0000-\u0008\u000b-\u001f\u007f-\u009f\u061c\u200e\u200f\u202a
 const ENTITIES = { "&": "&amp;", "<": "&lt;", ">": "&gt;", '"': "&quot;", "'": "&#39;" };
 const shown = (text) => String(text).replace(HIDDEN, (it) => (it < " " ? String.fromCharCode(0x2400 + it.charCodeAt(0)) : it === "\u007f" ? "\u2421" : "\ufffd"));
 const esc = (text) => shown(text).replace(/[&<>"']/g, (it) => ENTITIES[it]);
-const parse = (json) => JSON.parse(json.replace(/"(?:[^"\\]|\\.)*"|-?\d{16,}/g, (it) => (it[0] === '"' ? it : `"${it}"`)));
+const parse = (json) => JSON.parse(json.replace(/"[^"\\]*(?:\\.[^"\\]*)*"|-?\d{16,}/g, (it) => (it[0] === '"' ? it : `"${it}"`)));
 const grouped = (number) => String(number).replace(/\B(?=(\d{3})+$)/g, ",");
 const list = (texts) => (texts.length < 2 ? texts.join("") : `${texts.slice(0, -1).join(", ")} and ${texts.at(-1)}`);
 const sentences = (all) => all.filter(Boolean).map((it) => it[0].toUpperCase() + it.slice(1) + (/[.!?]$/.test(it) ? "" : ".")).join(" ");
@@ -716,7 +716,7 @@ class StoryPage { constructor(sheet, objects, panels) { Object.assign(this, { sh
     const asked = order?.split(".") ?? this.own.order ?? []; this.order = this.has(asked) ? asked : this.own.order ?? [];
     this.place = { ...this.place, level: front ? level : levelOf(this.own), step: Number(at || 0), mode: "" };
     if (this.isLog) this.place.level = "serializable"; this.show(); return true; } }
-return { StoryPage }; })(); "use strict"; const sheet = JSON.parse(document.getElementById("data").textContent);
+return { StoryPage }; })(); "use strict"; const sheet = Story.text.parse(document.getElementById("data").textContent);
 let data = sheet.kind === "levels" ? sheet.trees[0] : sheet; const $ = (id) => document.getElementById(id);
 const linesOf = (text) => text.split("\n").filter((line) => line !== "");
 const esc = (text) => String(text).replace(/[&<>"]/g, (it) => ({ "&": "&amp;", "<": "&lt;", ">": "&gt;", '"': "&quot;" })[it]); function eventOf(line) {
@@ -2407,24 +2407,30 @@ function eventsOfMove(shown) {
 const total = (counts) => counts.reduce((sum, it) => sum + it, 0);
 const isWhole = () => tree.nodes[tree.path.at(-1)].next.length === 0;
 
-/** The parts of an outcome: its ends and rows, and the verdict, to which the line of an invariant belongs that it breaks; `isPlain` where it is serializable by end time. */
-function outcomeParts(text) {
-  const parts = text.split("; ");
-  const breaks = /^breaks /.test(parts.at(-1)) ? `; ${parts.pop()}` : "";
-  const verdict = parts.pop() + breaks;
-  const kind = verdictKind(verdict);
-  return { parts, verdict, isGood: !breaks && kind !== "not", isPlain: !breaks && kind === "serial" };
-}
+/** The rows at the end of an outcome. */
+const rowsAtEnd = ({ rows }) => rows.map(([key, value]) => `${key}=${value}`).join(" ");
 
-/** An outcome in few words: of more than two transactions those that don't commit. */
-function outcomeOf(text) {
-  const { parts, verdict, isPlain } = outcomeParts(text);
-  const txns = parts.filter((it) => /(committed|aborted|unended)/.test(it) && !/^rows/.test(it)).map((it) => it.split(" "));
-  const rows = parts.find((it) => it.startsWith("rows")) ?? "";
-  const telling = txns.length > 2 ? txns.filter(([, state]) => state !== "committed") : txns;
-  const endOf = (state, cause) => (state === "committed" ? "commits" : state === "unended" ? "goes on" : `aborts (${cause})`);
-  const said = telling.map(([name, state, cause]) => `${tagName(name)} ${endOf(state, cause)}`).join(", ") || "all commit";
-  return `${said}<span class="soft"> \u00b7 ${esc(rows.replace("rows ", ""))}${isPlain ? "" : ` \u00b7 <b>${esc(verdict)}</b>`}</span>`;
+/** The ends and the rows of an outcome, as `hek permute` words them. */
+const endsAndRows = (outcome) => [...outcome.ends.map(({ txn, end }) => `${txn} ${end}`), `rows ${rowsAtEnd(outcome)}`.trim()].join("; ");
+
+/** The verdict of an outcome, and the line of the first invariant that it breaks. */
+const verdictOf = ({ verdict, breaks }) => verdict + (breaks === undefined ? "" : `; breaks line ${breaks}`);
+
+/** An outcome whole, as a line of `hek permute` has it. */
+const outcomeText = (outcome) => `${endsAndRows(outcome)}; ${verdictOf(outcome)}`;
+
+/** Whether an outcome is serializable, and breaks no invariant. */
+const isGood = ({ verdict, breaks }) => breaks === undefined && verdictKind(verdict) !== "not";
+
+/** How a transaction ends, in a sentence. */
+const endSaid = (end) => (end === "committed" ? "commits" : end === "unended" ? "goes on" : `aborts (${end.replace("aborted ", "")})`);
+
+/** An outcome in few words: of more than two transactions those that don't commit. A verdict that is serializable by end time isn't said. */
+function outcomeOf(outcome) {
+  const { ends, verdict, breaks } = outcome, isPlain = breaks === undefined && verdictKind(verdict) === "serial";
+  const telling = ends.length > 2 ? ends.filter(({ end }) => end !== "committed") : ends;
+  const said = telling.map(({ txn, end }) => `${tagName(txn)} ${endSaid(end)}`).join(", ") || "all commit";
+  return `${said}<span class="soft"> \u00b7 ${esc(rowsAtEnd(outcome))}${isPlain ? "" : ` \u00b7 <b>${esc(verdictOf(outcome))}</b>`}</span>`;
 }
 
 const letterOf = (outcome) => "ABCDEFGHIJKLMNOPQRSTUVWXYZ"[outcome] ?? String(outcome);
@@ -2511,20 +2517,20 @@ function showTree() {
     const joins = isJoin(tree, node.index, next);
     const idle = (joins ? hasEnded(tree.names[who]) : it.steps.length === 0) ? ' <span class="soft">(has aborted)</span>' : "";
     return `<button type="button" class="choice${isTaken ? " taken" : ""}" data-next="${next}"${joins ? ` title="${esc(joinSaid(next))}"` : ""}><kbd>${who + 1}</kbd> <span>${joins ? `${JOINS} ` : ""}${(isCrowd ? shortTag : tagName)(tree.names[who])} <b>${esc(move)}</b>${idle}</span>${outcomeBar(it.counts)}<span class="count">${isSecret ? "" : countsSaid(it.counts, room)}</span></button>`;
-  }).join("");
-  const found = whole && isAt ? `<p class="whose">This order is complete.</p><p class="final">${outcomeOf(data.outcomes[node.outcome])}</p><p>All together: <b>${esc(outcomeParts(data.outcomes[node.outcome]).verdict)}</b>. ${reachSaid(node)}</p>` : "";
+"#;
+
+pub(crate) const SCRIPT_FOURTH: &str = r##"  }).join("");
+  const found = whole && isAt ? `<p class="whose">This order is complete.</p><p class="final">${outcomeOf(data.outcomes[node.outcome])}</p><p>All together: <b>${esc(verdictOf(data.outcomes[node.outcome]))}</b>. ${reachSaid(node)}</p>` : "";
   const inside = isAt ? "" : `<p class="whose">In the middle of a move</p><p>\u2192 goes on with it.</p>`;
   $("because").innerHTML = `<div class="moves">${found || inside || `<p class="whose">Who moves next?</p><div class="pick${tree.isMerged ? " merged" : ""}${isCrowd ? " crowd" : ""}" style="--n:${isCrowd ? Math.ceil(ways / 2) : Math.min(ways, 3)}">${choices}</div>`}</div>`;
   // the outcomes that can still be reached
-"#;
-
-pub(crate) const SCRIPT_FOURTH: &str = r##"  if (!pinned) {
+  if (!pinned) {
     $("words-title").innerHTML = `Outcomes from here <small>${ordersSaid(reach, place)}</small>`;
     if (isSecret) $("words-title").textContent = "Outcomes: what do you think?";
     const shown = isSecret ? [] : outcomesShown(node.counts);
     const rows = shown.map((at) => {
-      const [text, count] = [data.outcomes[at], node.counts[at]];
-      return `<li class="${count ? "" : "out"}"><span class="n">${count}</span><span class="swatch o${at % 6}"></span><b>${letterOf(at)}</b><span class="what">${outcomeOf(text)}</span><button type="button" data-find="${at}"${count ? "" : " disabled"}>find one</button><span class="rail"><i class="o${at % 6}" style="width:${f1((100 * count) / Math.max(reach, 1))}%"></i></span></li>`;
+      const count = node.counts[at];
+      return `<li class="${count ? "" : "out"}"><span class="n">${count}</span><span class="swatch o${at % 6}"></span><b>${letterOf(at)}</b><span class="what">${outcomeOf(data.outcomes[at])}</span><button type="button" data-find="${at}"${count ? "" : " disabled"}>find one</button><span class="rail"><i class="o${at % 6}" style="width:${f1((100 * count) / Math.max(reach, 1))}%"></i></span></li>`;
     });
     const left = isSecret ? 0 : data.outcomes.length - shown.length;
     const digits = Math.max(...shown.map((at) => String(tree.nodes[0].counts[at]).length));
@@ -2597,15 +2603,18 @@ const levels = { trees: [], shown: null, order: [] };
 
 function plantLevels() {
   levels.trees = sheet.trees.map(treeOf);
-  const marked = outcomesAtLevels().find(({ text, counts }) => !outcomeParts(text).isGood && counts.some(Boolean)) ?? outcomesAtLevels()[0];
+  const marked = outcomesAtLevels().find(({ outcome, counts }) => !isGood(outcome) && counts.some(Boolean)) ?? outcomesAtLevels()[0];
   const at = marked.counts.findIndex(Boolean);
-  levels.order = orderTo(levels.trees[at], sheet.trees[at].outcomes.indexOf(marked.text));
+  levels.order = orderTo(levels.trees[at], placeOf(sheet.trees[at], marked.text));
 }
 
-/** Each outcome with how many orders have it at each level. */
+/** The place among a tree's outcomes of the one with a text. */
+const placeOf = (its, text) => its.outcomes.findIndex((it) => outcomeText(it) === text);
+
+/** Each outcome, with its text and how many orders have it at each level. */
 function outcomesAtLevels() {
-  const texts = [...new Set(sheet.trees.flatMap((it) => it.outcomes))];
-  return texts.map((text) => ({ text, counts: sheet.trees.map((it, at) => levels.trees[at].nodes[0].counts[it.outcomes.indexOf(text)] ?? 0) }));
+  const all = new Map(sheet.trees.flatMap((it) => it.outcomes).map((it) => [outcomeText(it), it]));
+  return [...all].map(([text, outcome]) => ({ text, outcome, counts: sheet.trees.map((it, at) => levels.trees[at].nodes[0].counts[placeOf(it, text)] ?? 0) }));
 }
 
 /** The first order of a tree that has an outcome: the names of those that move. */
@@ -2618,9 +2627,8 @@ function columnAt(at) {
   const steps = path.flatMap((node) => its.nodes[node].steps).map((it) => eventOf(it.line)).filter((it) => /^(read|scan|insert|update|delete|precommit|commit|fail)$/.test(it.op) || it.op === "detect").filter(isNews());
   const lines = steps.map((it) => `<li class="${kindOf(it)}"><b class="t c${Math.max(its.names.indexOf(it.name), 0) % 6}">${esc(it.name ?? "")}</b> ${esc(it.event)} <span aria-hidden="true">\u2192</span> <b>${esc(it.reply)}</b></li>`);
   const outcome = its.nodes[path.at(-1)].outcome;
-  const text = outcome === null ? "" : sheet.trees[at].outcomes[outcome];
   const other = askedOf(its, path, levels.order) === null ? "" : `<p class="joined">${JOINS} Shown as ${esc(namesOf(its, path).join(" "))}, which ends the same.</p>`;
-  return `<section><h3>${LEVELS[at]} <button type="button" data-level="${at}">story</button></h3>${other}<ol>${lines.join("")}</ol><p class="ends">${endsSaid(text)}</p></section>`;
+  return `<section><h3>${LEVELS[at]} <button type="button" data-level="${at}">story</button></h3>${other}<ol>${lines.join("")}</ol><p class="ends">${outcome === null ? "" : endsSaid(sheet.trees[at].outcomes[outcome])}</p></section>`;
 }
 
 /** Whether a step says what its transaction hasn't said last. */
@@ -2630,25 +2638,24 @@ function isNews() {
 }
 
 /** An outcome in words: how each transaction ends, the rows, and the verdict. */
-function endsSaid(text) {
-  const { parts, verdict, isGood } = outcomeParts(text);
-  return `${parts.map(esc).join("; ")}; <b class="${isGood ? "good" : "bad"}">${esc(verdict)}</b>`;
+function endsSaid(outcome) {
+  return `${esc(endsAndRows(outcome))}; <b class="${isGood(outcome) ? "good" : "bad"}">${esc(verdictOf(outcome))}</b>`;
 }
 
 function showLevels() {
   const orders = total(levels.trees[0].nodes[0].counts);
-  const rows = outcomesAtLevels().map(({ text, counts }) => {
+  const rows = outcomesAtLevels().map(({ text, outcome, counts }) => {
     const cells = counts.map((count, at) => (count ? `<td class="n"><button type="button" data-level="${at}" data-outcome="${esc(text)}" aria-label="${count} orders at ${LEVELS[at]}, show one of: ${esc(text)}">${count}</button></td>` : '<td class="n none">0</td>'));
-    return `<tr>${cells.join("")}<td>${endsSaid(text)}</td></tr>`;
+    return `<tr>${cells.join("")}<td>${endsSaid(outcome)}</td></tr>`;
   });
   $("levels").innerHTML = `<p class="plain long">${esc((isSecret ? data.question : data.about) || "The same moves, with all transactions at one level.")}</p>
     <table><caption>${orders} orders of the moves at each level. A number shows the story of one of them.</caption><thead><tr>${LEVELS.map((it) => `<th scope="col">${it}</th>`).join("")}<th scope="col">ends, rows, verdict</th></tr></thead><tbody>${isSecret ? "" : rows.join("")}</tbody></table>
     <h2>One order: ${levels.order.map(esc).join(" ")}</h2><div class="columns">${isSecret ? "" : LEVELS.map((it, at) => columnAt(at)).join("")}</div>`;
 }
 
-/** Goes to the story of the order that stands in the columns, or of the first one with an outcome, at a level. */
-function goToLevel(at, outcome) {
-  if (outcome !== undefined) levels.order = orderTo(levels.trees[at], sheet.trees[at].outcomes.indexOf(outcome));
+/** Goes to the story of the order that stands in the columns, or of the first one whose outcome has a text, at a level. */
+function goToLevel(at, text) {
+  if (text !== undefined) levels.order = orderTo(levels.trees[at], placeOf(sheet.trees[at], text));
   takeLevel(at);
   tree.path = pathOf(tree, levels.order);
   run = runOfPath();
@@ -2839,10 +2846,7 @@ const firstOrder = (outcome) => movesOn(tree, 0, outcome).order.join(" ");
 
 function outcomesInPrint() {
   const counts = tree.nodes[0].counts;
-  const rows = data.outcomes.map((text, at) => {
-    const { parts, verdict } = outcomeParts(text);
-    return `<tr><td>${letterOf(at)}</td><td>${counts[at]}</td><td>${parts.map(esc).join("; ")}</td><td><b>${esc(verdict)}</b></td><td>${esc(firstOrder(at))}</td></tr>`;
-  });
+  const rows = data.outcomes.map((outcome, at) => `<tr><td>${letterOf(at)}</td><td>${counts[at]}</td><td>${esc(endsAndRows(outcome))}</td><td><b>${esc(verdictOf(outcome))}</b></td><td>${esc(firstOrder(at))}</td></tr>`);
   return `<caption>${esc(data.title)}. ${esc(data.about ?? "")} ${total(counts)} orders of the moves.</caption><thead><tr><th></th><th>orders</th><th>ends and rows</th><th>verdict</th><th>the first of these orders</th></tr></thead><tbody>${rows.join("")}</tbody>`;
 }
 

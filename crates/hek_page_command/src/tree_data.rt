@@ -2,10 +2,11 @@
 use crate::comments::Comments;
 use crate::data::{put_lines, text_of};
 use crate::heading::{Heading, put_heading};
+use crate::played::Judged;
 use crate::states::Join;
 use crate::tree::{Node, StepPlaces, Tree};
 use hek_permute::{Form, Moves};
-use hek_permute_command::Given;
+use hek_permute_command::{Given, put_judged};
 use hek_report::Lines;
 use hek_rules::{Event, Schedule, TxnId};
 use hek_worker::is_work;
@@ -30,7 +31,7 @@ pub(crate) fn put_tree_data(
     put_start(given.schedule, tree, out);
     put_names(given.schedule, out);
     put_moves(alloc, given, texts, moves, form, out);
-    put_tree(tree, out);
+    put_tree(given.schedule, tree, out);
 }
 
 /// Puts the state before the first move, in which nobody waits.
@@ -140,8 +141,8 @@ fn last_texts(form: Form, fails: bool) -> &'static [&'static str] {
 }
 
 /// Puts the nodes, and what they name by place.
-fn put_tree(tree: &Tree, out: &mut Lines) {
-    put_texts("outcomes", &tree.outcomes, out);
+fn put_tree(schedule: &Schedule, tree: &Tree, out: &mut Lines) {
+    put_outcomes(schedule, tree.outcomes.as_slice(), out);
     put_texts("texts", &tree.texts, out);
     out.put_key("steps");
     out.begin_array();
@@ -153,6 +154,18 @@ fn put_tree(tree: &Tree, out: &mut Lines) {
     out.begin_array();
     for node in &tree.nodes {
         write_node(node, out);
+    }
+    out.end_array();
+}
+
+/// Puts the outcomes, each as `hek permute --json` writes one.
+fn put_outcomes(schedule: &Schedule, outcomes: &[Judged], out: &mut Lines) {
+    out.put_key("outcomes");
+    out.begin_array();
+    for judged in outcomes {
+        out.begin_object();
+        put_judged(schedule, &judged.outcome, judged.breaks, out);
+        out.end_object();
     }
     out.end_array();
 }
