@@ -6,6 +6,7 @@ use crate::said::{Said, digits};
 use crate::texts::{Text, pair};
 use clap::ArgMatches;
 use hek_diagnostics::nearest_word;
+use hek_ladder::Promise;
 use hek_permute_command::part_of;
 use hek_report::INPUT;
 use hek_rules::number;
@@ -46,6 +47,9 @@ pub fn advice_of<'a>(command: Command, found: &ArgMatches<'a>) -> Option<Advice<
     }
     if command == Command::Word && found.get_flag("changes") {
         return misfit_of_changes(found);
+    }
+    if command == Command::History && found.get_flag("no-sessions") {
+        return misfit_of_guarantee(found);
     }
     None
 }
@@ -95,6 +99,11 @@ const OF_RUNS: Wrong = Wrong::Misfit(
     "a schedule as FILE, and --text if its name ends as that of a log",
 );
 
+const OF_SESSIONS: Wrong = Wrong::Misfit(
+    "a guarantee is about sessions",
+    "a level, or no --no-sessions",
+);
+
 const OF_INPUT: Wrong = Wrong::Misfit(
     "exchanges are read from standard input",
     "- as the only word",
@@ -121,6 +130,15 @@ fn misfit_of_changes<'a>(found: &ArgMatches<'a>) -> Option<Advice<'a>> {
         Some([one]) if *one == INPUT => None,
         _ => Some(Advice::new("changes", "", OF_INPUT)),
     }
+}
+
+/// A guarantee of sessions that is asked for without them.
+fn misfit_of_guarantee<'a>(found: &ArgMatches<'a>) -> Option<Advice<'a>> {
+    let value = found.get_str("level")?;
+    let promise = Promise::named(value)?;
+    promise
+        .is_guarantee()
+        .then_some(Advice::new("level", value, OF_SESSIONS))
 }
 
 impl<'a> Advice<'a> {
