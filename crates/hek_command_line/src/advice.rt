@@ -135,10 +135,11 @@ fn misfit_of_changes<'a>(found: &ArgMatches<'a>) -> Option<Advice<'a>> {
 /// A guarantee of sessions that is asked for without them.
 fn misfit_of_guarantee<'a>(found: &ArgMatches<'a>) -> Option<Advice<'a>> {
     let value = found.get_str("level")?;
-    let promise = Promise::named(value)?;
-    promise
-        .is_guarantee()
-        .then_some(Advice::new("level", value, OF_SESSIONS))
+    if Promise::named(value)?.is_guarantee() {
+        Some(Advice::new("level", value, OF_SESSIONS))
+    } else {
+        None
+    }
 }
 
 impl<'a> Advice<'a> {
