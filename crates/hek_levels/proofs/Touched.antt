@@ -27,6 +27,11 @@ pub not_some : {A : Type 0} (o : Option A) → is_some o ≡ false → o ≡ Non
 not_some None e = refl
 not_some (Some a) e = cc
 
+-- what cannot be there is not
+pub none-there : {A : Type 0} (o : Option A) → (is_some o ≡ true → ⊥) → o ≡ None
+none-there None no = refl
+none-there (Some a) no = absurd (no refl)
+
 -- ---- what a map has of a scan and a key
 
 pub given-kept : (f : ℕ × ℕ → Option Writer) (a b : ℕ) (w : Writer) → is_some (f (a, b)) ≡ true → (s k : ℕ) →
