@@ -29,8 +29,8 @@ not_some (Some a) e = cc
 
 -- what cannot be there is not
 pub none-there : {A : Type 0} (o : Option A) → (is_some o ≡ true → ⊥) → o ≡ None
-none-there None no = refl
-none-there (Some a) no = absurd (no refl)
+none-there None never = refl
+none-there (Some a) never = absurd (never refl)
 
 -- ---- what a map has of a scan and a key
 

@@ -1,6 +1,6 @@
-use Rattle.std.proofs.Common.{refl}
+use Rattle.std.proofs.Common.{refl, ap}
 use Rattle.std.specs.HashMap.{get}
-use Rattle.std.specs.Prelude.{◌==◌}
+use Rattle.std.specs.Prelude.{◌==◌, not}
 use Rattle.std.proofs.lemmas.Bool.{both_ways}
 use Rattle.hek_levels.proofs.Replays.{closed_writers}
 use Rattle.hek_levels.proofs.points.is_closed.Goals as goal
@@ -9,7 +9,7 @@ pub returns-then-not-rules : goal.returns-then-not-rules
 returns-then-not-rules c is_so = record {
   before = c.requires.before;
   whole = c.if-is_late.ensures refl;
-  writers = (λ on k x key le l a w. absurd (both_ways _ c.if-not-rules.true on));
+  writers = (λ on k x key le l a w. absurd (both_ways _ (ap not on) c.if-not-rules.true));
 }
 
 pub returns-else-not-rules : goal.returns-else-not-rules

@@ -16,7 +16,7 @@ use Rattle.hek_levels.proofs.uncommitted.lost_missing.Goals as goal
 pub loop-n-preserved : goal.loop-n-preserved
 loop-n-preserved c k key read l there at =
     element-more (λ (name : ℕ). (one : Read) → read_at c.args.log.now c.args.t (place.Missing c.args.s name) ≡ Some one → is_found c.args.log.now c.args.t one ≡ true) c.as_slice-keys.result.now c.loop-n.n
-    (λ j name less here one is. c.loop-n.invariant j name one less here is) ? k key l there read at
+    (λ j name less here one is. c.loop-n.invariant j name one less here is) (λ name here one is. c.in_default-lost_key.ensures.none name one here is) k key l there read at
 
 pub returns-clause-none : goal.returns-clause-none
 returns-clause-none c key read there =
