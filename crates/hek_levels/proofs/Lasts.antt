@@ -1,15 +1,15 @@
 -- The last writer of a key among the first of an order.
-use Rattle.std.proofs.Common.{◌≡◌, ◌==◌, ℕ, zero, suc, ◌+◌, ◌<◌, ◌≤◌, Bool, true, false, cond, List, [], ◌∷◌, Option, Some, None, refl, sym, ap, ◌∙◌, subst, inl, inr, ◌⊎◌, length, add-one, arith}
+use Rattle.std.proofs.Common.{◌≡◌, ℕ, zero, suc, ◌+◌, ◌<◌, ◌≤◌, true, false, cond, List, Option, Some, None, refl, sym, ap, ◌∙◌, subst, inl, inr, ◌⊎◌, arith}
 use Rattle.std.specs.Prelude.{slice_get, is_some}
 use Rattle.std.proofs.lemmas.Bool.{cases_Bool}
 use Rattle.hek_levels.specs.declared.log.Log.{Log}
 use Rattle.hek_levels.specs.declared.certificate.Writer.{Writer}
 use Rattle.hek_levels.specs.declared.certificate.Writer.TheVariants as writer
 use Rattle.hek_levels.specs.Logs.{does_write, writes_of, left_in}
-use Rattle.hek_levels.specs.Seen.{At, place, rank}
+use Rattle.hek_levels.specs.Seen.{At, rank}
 use Rattle.hek_levels.specs.Points.{writer_with, last_writer}
 use Rattle.hek_levels.specs.Sweeps.{AreLast}
-use Rattle.hek_levels.proofs.Orders.{some_is, same_at, cases_below, placed}
+use Rattle.hek_levels.proofs.Orders.{same_at, cases_below, placed}
 
 -- the last places with those of one more
 pub last_more : (log : Log) (order : List ℕ) (i t : ℕ) (f g : ℕ → Option ℕ) → AreLast log order i f → At order i t →
