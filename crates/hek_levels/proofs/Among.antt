@@ -1,5 +1,5 @@
 -- What is among a list.
-use Rattle.std.proofs.Common.{◌≡◌, ℕ, zero, suc, Bool, true, false, cond, List, [], ◌∷◌, ◌++◌, Option, Some, None, refl, sym, ap, subst, ◌∙◌, inl, inr, ◌⊎◌}
+use Rattle.std.proofs.Common.{◌≡◌, ℕ, zero, suc, Bool, true, List, [], ◌∷◌, ◌++◌, Option, Some, None, refl, sym, ap, subst, inl, inr, ◌⊎◌, length, arith}
 use Rattle.std.specs.Prelude.{slice_get, is_some, ◌==◌}
 use Rattle.std.specs.declared.hash.FoldHasher.{FoldHasher}
 use Rattle.std.specs.declared.hash.BuildHasherDefault.{BuildHasherDefault}
@@ -28,6 +28,11 @@ in-nothing {X} x m = let e : ◌≡◌ {A = Option X} None (Some x) = m.1 in cc
 
 pub in-none : {X : Type 0} (xs : List X) (x : X) → xs ≡ [] → IsIn xs x → ⊥
 in-none {X} xs x e m = in-nothing x (subst (λ (ys : List X). IsIn ys x) e m)
+
+-- nothing is among no elements
+pub in-short : {X : Type 0} (xs : List X) (x : X) → length xs ≡ 0 → IsIn xs x → ⊥
+in-short [] x none m = in-nothing x m
+in-short (y ∷ xs) x none m = omega (arith, none)
 
 pub in-old : (xs : List ℕ) (y x : ℕ) → IsIn xs x → IsIn (xs ++ y ∷ []) x
 in-old [] y x m = absurd (in-nothing x m)

@@ -1,5 +1,5 @@
 -- What the passes of the checker show together.
-use Rattle.std.proofs.Common.{◌≡◌, ℕ, ◌+◌, ◌<◌, ◌≤◌, true, false, cond, List, [], ◌∷◌, Option, Some, None, Result, Ok, Err, refl, sym, ap, ◌∙◌, subst, inl, inr, length, arith}
+use Rattle.std.proofs.Common.{◌≡◌, ℕ, ◌+◌, ◌<◌, ◌≤◌, true, cond, List, [], ◌∷◌, Option, Some, None, Result, Ok, Err, refl, sym, ap, ◌∙◌, subst, inl, inr, length, arith}
 use Rattle.std.proofs.lemmas.Bool.{cases_Bool, cases_lt, both_ways, eqb-true}
 use Rattle.std.proofs.lemmas.Option.{slice_get_within}
 use Rattle.std.specs.Prelude.{◌==◌, IfOk, slice_get}
@@ -21,7 +21,7 @@ use Rattle.hek_levels.specs.Levels.{asked_of}
 use Rattle.hek_levels.specs.Logs.{meets, misses, missing_in, scans_of, read_at, does_write, is_kept, is_committed, is_possible, offers}
 use Rattle.hek_levels.specs.Seen.{Explanation, At, rank, place, IsLinked, SeesByOwn, SeesBy, Sees, IsOrdered}
 use Rattle.hek_levels.specs.Explanations.{IsSource, Explains, listed as listed_writer, given_at, given_of, source_at, explanation}
-use Rattle.hek_levels.specs.Places.{IsPlacing, IsPlacedBefore, IsSourcedBy, AreListedSourced, IsUntouched, AreMissingSourced, AreAllMissingSourced, AreInTurn}
+use Rattle.hek_levels.specs.Places.{IsPlacing, IsPlacedBefore, IsSourcedBy, AreListedSourced, IsUntouched, AreAllMissingSourced, AreInTurn}
 use Rattle.hek_levels.specs.Sweeps.{AreLast, IsMarked, IsDirect, IsNewestFrom, IsNewestAt}
 use Rattle.hek_levels.proofs.Orders.{some_is, same_at, cases_below, takes, placed}
 use Rattle.hek_levels.proofs.Earlier.{seen-earlier, stands_before}

@@ -1,15 +1,15 @@
 -- The last writer of a key among the first of an order.
-use Rattle.std.proofs.Common.{◌≡◌, ◌==◌, ℕ, zero, suc, ◌+◌, ◌<◌, ◌≤◌, Bool, true, false, cond, List, [], ◌∷◌, Option, Some, None, refl, sym, ap, ◌∙◌, subst, inl, inr, ◌⊎◌, length, add-one, arith}
+use Rattle.std.proofs.Common.{◌≡◌, ℕ, zero, suc, ◌+◌, ◌<◌, ◌≤◌, true, false, cond, List, Option, Some, None, refl, sym, ap, ◌∙◌, subst, inl, inr, ◌⊎◌, arith}
 use Rattle.std.specs.Prelude.{slice_get, is_some}
 use Rattle.std.proofs.lemmas.Bool.{cases_Bool}
 use Rattle.hek_levels.specs.declared.log.Log.{Log}
 use Rattle.hek_levels.specs.declared.certificate.Writer.{Writer}
 use Rattle.hek_levels.specs.declared.certificate.Writer.TheVariants as writer
 use Rattle.hek_levels.specs.Logs.{does_write, writes_of, left_in}
-use Rattle.hek_levels.specs.Seen.{At, place, rank}
+use Rattle.hek_levels.specs.Seen.{At, rank}
 use Rattle.hek_levels.specs.Points.{writer_with, last_writer}
 use Rattle.hek_levels.specs.Sweeps.{AreLast}
-use Rattle.hek_levels.proofs.Orders.{some_is, same_at, cases_below, placed}
+use Rattle.hek_levels.proofs.Orders.{same_at, cases_below, placed}
 
 -- the last places with those of one more
 pub last_more : (log : Log) (order : List ℕ) (i t : ℕ) (f g : ℕ → Option ℕ) → AreLast log order i f → At order i t →
@@ -41,12 +41,12 @@ writer-is : (x y : ℕ) → ◌≡◌ {A = Writer} (writer.Transaction x) (write
 writer-is x y e = cc
 
 module _ (log : Log) (order : List ℕ) (key : ℕ) where
-  pub last-of : (n x : ℕ) → last_writer log order key n ≡ writer.Transaction x → IsLastOf log order key n x
-  last-of zero x e = cc
-  last-of (suc n) x e = go (slice_get order n) refl e
+  -- one place more
+  last-step : (n x : ℕ) → (last_writer log order key n ≡ writer.Transaction x → IsLastOf log order key n x) → last_writer log order key (suc n) ≡ writer.Transaction x → IsLastOf log order key (suc n) x
+  last-step n x before e = go (slice_get order n) refl e
     where
       old : last_writer log order key n ≡ writer.Transaction x → IsLastOf log order key (suc n) x
-      old f = let r = last-of n x f in let l = r.less in record { k = r.k; less = omega arith; there = r.there; writes = r.writes }
+      old f = let r = before f in let l = r.less in record { k = r.k; less = omega (arith, l); there = r.there; writes = r.writes }
 
       go : (o : Option ℕ) → slice_get order n ≡ o → writer_with log key o (last_writer log order key n) ≡ writer.Transaction x → IsLastOf log order key (suc n) x
       go None is f = old f
@@ -58,16 +58,16 @@ module _ (log : Log) (order : List ℕ) (key : ℕ) where
                 record { k = n; less = omega arith; there = is ∙ ap Some same; writes = subst (λ (z : ℕ). does_write log z key ≡ true) same does }
           ]
 
-  module _ (once : (i j t : ℕ) → At order i t → At order j t → i ≡ j) where
-    pub last-newest : (n k x : ℕ) → k < n → At order k x → does_write log x key ≡ true → suc k ≤ rank order (last_writer log order key n)
-    last-newest zero k x l a w = absurd (omega (arith, l))
-    last-newest (suc n) k x l a w = go (slice_get order n) refl
-      where
-        older : k < n → suc k ≤ rank order (last_writer log order key n)
-        older less = last-newest n k x less a w
+  pub last-of : (n x : ℕ) → last_writer log order key n ≡ writer.Transaction x → IsLastOf log order key n x
+  last-of zero x e = cc
+  last-of (suc n) x e = last-step n x (last-of n x) e
 
+  module _ (once : (i j t : ℕ) → At order i t → At order j t → i ≡ j) where
+    newest-step : (n k x : ℕ) → (k < n → suc k ≤ rank order (last_writer log order key n)) → k < suc n → At order k x → does_write log x key ≡ true → suc k ≤ rank order (last_writer log order key (suc n))
+    newest-step n k x older l a w = go (slice_get order n) refl
+      where
         here : (y : ℕ) → At order n y → suc k ≤ rank order (writer.Transaction y)
-        here y b = let is = placed order once n y b in omega (arith, l)
+        here y b = let is = placed order once n y b in omega (arith, l, is)
 
         cases : (k < n) ⊎ (k ≡ n)
         cases = cases_below k n (omega (arith, l))
@@ -92,3 +92,7 @@ module _ (log : Log) (order : List ℕ) (key : ℕ) where
                         cc)
                   ])
             ]
+
+    pub last-newest : (n k x : ℕ) → k < n → At order k x → does_write log x key ≡ true → suc k ≤ rank order (last_writer log order key n)
+    last-newest zero k x l a w = absurd (omega (arith, l))
+    last-newest (suc n) k x l a w = newest-step n k x (λ less. last-newest n k x less a w) l a w

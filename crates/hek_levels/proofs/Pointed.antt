@@ -1,24 +1,22 @@
 -- Who reads at one point what the others left, and commits at another, is explained.
-use Rattle.std.proofs.Common.{◌≡◌, ◌==◌, ℕ, zero, suc, ◌+◌, ◌<◌, ◌≤◌, Bool, true, false, cond, List, [], ◌∷◌, Option, Some, None, refl, sym, ap, ◌∙◌, subst, inl, inr, ◌⊎◌, length, arith}
-use Rattle.std.specs.Prelude.{slice_get, is_some}
+use Rattle.std.proofs.Common.{◌≡◌, ℕ, ◌<◌, ◌≤◌, true, false, List, [], ◌∷◌, Option, Some, None, refl, sym, ap, ◌∙◌, subst, inl, inr, length, arith}
 use Rattle.std.proofs.lemmas.Bool.{cases_Bool, cases_lt, both_ways}
 use Rattle.std.proofs.lemmas.Option.{slice_get_within}
 use Rattle.hek_levels.specs.declared.log.Log.{Log}
 use Rattle.hek_levels.specs.declared.log.Read.{Read}
 use Rattle.hek_levels.specs.declared.log.Place.{Place}
 use Rattle.hek_levels.specs.declared.rules.Asked.{Asked}
-use Rattle.hek_levels.specs.declared.rules.Rules.{Rules}
 use Rattle.hek_levels.specs.declared.rules.Own.{Own}
 use Rattle.hek_levels.specs.declared.rules.Own.TheVariants.{Nothing, Earlier, All}
 use Rattle.hek_levels.specs.declared.certificate.Writer.{Writer}
 use Rattle.hek_levels.specs.declared.certificate.Writer.TheVariants as writer
 use Rattle.hek_levels.specs.Levels.{asked_of}
 use Rattle.hek_levels.specs.Logs.{read_at, does_write, is_earlier, is_committed, offers}
-use Rattle.hek_levels.specs.Seen.{Explanation, At, TakesPlace, place, rank, IsBefore, ReadsFrom, SeesByOwn, IsLinked, SeesFirst, SeesBy, Sees, IsOrdered}
-use Rattle.hek_levels.specs.Explanations.{IsSource, Explains}
+use Rattle.hek_levels.specs.Seen.{Explanation, At, TakesPlace, place, rank, IsBefore, SeesByOwn, IsLinked, SeesFirst, SeesBy, Sees, IsOrdered}
+use Rattle.hek_levels.specs.Explanations.{IsSource}
 use Rattle.hek_levels.specs.Places.{IsPlacing, AreInTurn}
 use Rattle.hek_levels.specs.Points.{last_writer, ReadsAt, sees_turns, IsClosed, IsReplay, HasReplay, IsExplainedBy}
-use Rattle.hek_levels.proofs.Orders.{some_is, takes, placed}
+use Rattle.hek_levels.proofs.Orders.{takes, placed}
 use Rattle.hek_levels.proofs.Earlier.{reads-earlier, shows-earlier}
 use Rattle.hek_levels.proofs.Judged.{once_placed, all_placed, in_turn}
 use Rattle.hek_levels.proofs.Lasts.{last-of, last-newest}

@@ -1,21 +1,18 @@
 -- One point more.
-use Rattle.std.proofs.Common.{◌≡◌, ◌==◌, ℕ, zero, suc, ◌+◌, ◌<◌, ◌≤◌, Bool, true, false, cond, List, [], ◌∷◌, Option, Some, None, refl, sym, ap, ◌∙◌, subst, inl, inr, ◌⊎◌, length, add-one, arith}
+use Rattle.std.proofs.Common.{◌≡◌, ◌==◌, ℕ, suc, ◌+◌, ◌<◌, ◌≤◌, true, false, cond, List, Option, Some, None, refl, sym, ap, ◌∙◌, subst, inl, inr, arith}
 use Rattle.std.specs.Prelude.{slice_get, is_some}
-use Rattle.std.proofs.lemmas.Bool.{cases_Bool, both_ways, eqb-true}
+use Rattle.std.proofs.lemmas.Bool.{cases_Bool, eqb-true}
 use Rattle.hek_rules.specs.Listing.{value_of}
 use Rattle.hek_levels.specs.declared.log.Log.{Log}
 use Rattle.hek_levels.specs.declared.log.Read.{Read}
 use Rattle.hek_levels.specs.declared.log.Turn.{Turn}
 use Rattle.hek_levels.specs.declared.log.Place.{Place}
 use Rattle.hek_levels.specs.declared.rules.Asked.{Asked}
-use Rattle.hek_levels.specs.declared.rules.Rules.{Rules}
-use Rattle.hek_levels.specs.declared.certificate.Writer.{Writer}
-use Rattle.hek_levels.specs.declared.certificate.Writer.TheVariants as writer
 use Rattle.hek_levels.specs.Levels.{asked_of}
 use Rattle.hek_levels.specs.Logs.{meets, meets_in, read_at, does_write, writes_of, turns_of, left_in, left_by, is_earlier}
 use Rattle.hek_levels.specs.Seen.{At}
 use Rattle.hek_levels.specs.Rows.{left_over}
-use Rattle.hek_levels.specs.Points.{writer_with, last_writer, ReadsAt, sees_turns, IsClosed, IsReplay, HasReplay}
+use Rattle.hek_levels.specs.Points.{writer_with, last_writer, ReadsAt, sees_turns, IsClosed, IsReplay}
 use Rattle.hek_levels.specs.Sweeps.{AreLast, AreLaned, AreRaised}
 use Rattle.hek_levels.proofs.Orders.{some_is, same_at, cases_below}
 use Rattle.hek_levels.proofs.Marks.{at_entry, at_others}

@@ -1,5 +1,5 @@
 -- Whom a transaction reads from: by its list, or by keys that its scans miss.
-use Rattle.std.proofs.Common.{◌≡◌, ℕ, ◌≤◌, Option, Some, None, Result, Ok, Err, refl}
+use Rattle.std.proofs.Common.{◌≡◌, ℕ, ◌≤◌, Option, Some, None, Result, Ok, Err}
 use Rattle.std.specs.Prelude.{OnOk}
 use Rattle.hek_levels.specs.declared.log.Log.{Log}
 use Rattle.hek_levels.specs.declared.log.Read.{Read}
@@ -10,7 +10,7 @@ use Rattle.hek_levels.specs.declared.certificate.Writer.TheVariants as writer
 use Rattle.hek_levels.specs.declared.certificate.Certificate.{Certificate}
 use Rattle.hek_levels.specs.Logs.{read_at}
 use Rattle.hek_levels.specs.Explanations.{explanation, source_at, listed, given_at, given_of}
-use Rattle.hek_levels.specs.Seen.{ReadsFrom, ReadsTo}
+use Rattle.hek_levels.specs.Seen.{ReadsTo}
 use Rattle.hek_levels.specs.Sweeps.{IsMarked, AreMarked}
 
 -- a transaction that is the source of a missing key is given

@@ -1,11 +1,10 @@
 -- A sweep, one place on.
-use Rattle.std.proofs.Common.{◌≡◌, ℕ, ◌+◌, ◌≤◌, Bool, true, false, List, [], ◌∷◌, Option, Some, refl, sym, subst, inl, inr, ◌⊎◌, arith}
+use Rattle.std.proofs.Common.{◌≡◌, ℕ, ◌+◌, ◌≤◌, Bool, true, false, List, [], ◌∷◌, Option, refl, sym, subst, inl, inr, ◌⊎◌, arith}
 use Rattle.hek_levels.specs.declared.log.Log.{Log}
 use Rattle.hek_levels.specs.declared.rules.Rules.{Rules}
-use Rattle.hek_levels.specs.declared.rules.Links.{Links}
 use Rattle.hek_levels.specs.Logs.{does_write, is_earlier}
 use Rattle.hek_levels.specs.Seen.{Explanation, At, TakesPlace, IsBefore, ReadsFrom, Precedes, SeesByOwn, IsLinked, SeesBy, Sees, IsOrdered}
-use Rattle.hek_levels.specs.Sweeps.{IsMarked, AreMarked, AreKept, AreRaised, IsShown, IsBeforeAny, MayLink, MayLinkAny, MaySee, MayCarry, Carries, IsSwept, IsNewestFrom}
+use Rattle.hek_levels.specs.Sweeps.{IsMarked, AreMarked, AreKept, AreRaised, IsShown, MayLink, MayLinkAny, MaySee, MayCarry, Carries, IsSwept, IsNewestFrom}
 use Rattle.hek_levels.proofs.Orders.{takes, same_at, cases_from}
 use Rattle.hek_levels.proofs.Earlier.{before_trans, linked-earlier, seen-earlier, stands_before}
 use Rattle.hek_levels.proofs.Turned.{before_any}

@@ -1,11 +1,10 @@
 -- Keys that are touched, and sources that are given.
-use Rattle.std.proofs.Common.{◌≡◌, ◌==◌, ℕ, zero, suc, ◌+◌, ◌<◌, Bool, true, false, cond, List, [], ◌∷◌, Option, Some, None, refl, sym, ap, ◌∙◌, subst, inl, inr, ◌⊎◌, length, arith}
+use Rattle.std.proofs.Common.{◌≡◌, ◌==◌, ℕ, ◌+◌, Bool, true, false, cond, List, Option, Some, None, refl, sym, ap, ◌∙◌, subst, inl, inr, length, arith}
 use Rattle.std.specs.Prelude.{slice_get, is_some, ◌&&◌, ◌||◌}
 use Rattle.std.proofs.lemmas.Bool.{cases_Bool, both_ways, eqb-true}
 use Rattle.hek_rules.specs.Listing.{value_of}
 use Rattle.hek_levels.specs.declared.log.Log.{Log}
 use Rattle.hek_levels.specs.declared.log.Need.{Need}
-use Rattle.hek_levels.specs.declared.log.Need.TheVariants.{Absent}
 use Rattle.hek_levels.specs.declared.log.Read.{Read}
 use Rattle.hek_levels.specs.declared.log.Scan.{Scan}
 use Rattle.hek_levels.specs.declared.log.Place.{Place}
@@ -16,16 +15,21 @@ use Rattle.hek_levels.specs.declared.certificate.Certificate.{Certificate}
 use Rattle.hek_levels.specs.Logs.{meets, misses, scans_of, read_at, writes_of, left_in, does_write}
 use Rattle.hek_levels.specs.Seen.{At}
 use Rattle.hek_levels.specs.Explanations.{given_at, given_of}
-use Rattle.hek_levels.specs.Places.{IsSourcedBy, IsUntouched, AreMissingSourced, AreTouched}
+use Rattle.hek_levels.specs.Places.{IsSourcedBy, AreMissingSourced, AreTouched}
 use Rattle.hek_levels.specs.Uncommitted.{is_found, did_other_leave}
 use Rattle.hek_levels.proofs.Orders.{same_at, cases_below}
 use Rattle.hek_levels.proofs.Turned.{both-true}
 use Rattle.hek_levels.proofs.Givens.{given_else}
-use Rattle.hek_levels.proofs.Judged.{IsMissing, missing-of}
+use Rattle.hek_levels.proofs.Judged.{IsMissing}
 
 pub not_some : {A : Type 0} (o : Option A) → is_some o ≡ false → o ≡ None
 not_some None e = refl
 not_some (Some a) e = cc
+
+-- what cannot be there is not
+pub none-there : {A : Type 0} (o : Option A) → (is_some o ≡ true → ⊥) → o ≡ None
+none-there None never = refl
+none-there (Some a) never = absurd (never refl)
 
 -- ---- what a map has of a scan and a key
 

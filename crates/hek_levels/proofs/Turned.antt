@@ -1,6 +1,6 @@
 -- Turns: who is before whom, and what a map of the latest turns knows.
 use Rattle.std.proofs.Common.{◌≡◌, ◌==◌, ℕ, zero, suc, ◌+◌, ◌<◌, ◌≤◌, Bool, true, false, cond, ltb, List, [], ◌∷◌, Option, Some, refl, sym, ap, ◌∙◌, subst, inl, inr, length, arith}
-use Rattle.std.specs.Prelude.{slice_get, ◌&&◌, ◌||◌}
+use Rattle.std.specs.Prelude.{slice_get, ◌&&◌}
 use Rattle.std.specs.List.{list_any}
 use Rattle.std.proofs.lemmas.Bool.{cases_Bool, eqb-true, eq-eqb}
 use Rattle.std.proofs.lemmas.Bool.Decides.{nat_tests}
@@ -13,7 +13,7 @@ use Rattle.hek_levels.specs.Logs.{misses, turns_of, is_before_turn, is_seen_turn
 use Rattle.hek_levels.specs.Seen.{At}
 use Rattle.hek_levels.specs.Places.{AreInTurn, AreLatest}
 use Rattle.hek_levels.specs.Sweeps.{IsFrom, AreRaised, AreLaned, IsBeforeAny}
-use Rattle.hek_levels.proofs.Orders.{some_is, same_at, cases_below}
+use Rattle.hek_levels.proofs.Orders.{same_at, cases_below}
 
 -- one that passes a test
 pub any-at : {X : Type 0} (f : X → Bool) (xs : List X) → list_any f xs ≡ true → (i : ℕ) × (x : X) × (slice_get xs i ≡ Some x) × (f x ≡ true)

@@ -190,6 +190,13 @@ fn is_unwritten_since(log: &Log, last: &HashMap<u64, usize>, t: usize, low: usiz
     true
 }
 
+/// Whether a transaction that sees all that is before it began where fewer had committed.
+fn is_late(rules: Rules, low: usize, i: usize) -> bool
+    ensures { result ≡ false → rules.whole ≡ true → low ≡ i }
+{
+    rules.whole && low != i
+}
+
 /// Whether t, which began where the first `low` had committed, sees nobody else but by its turns, where the first i have.
 fn is_closed(
     rules: Rules,
@@ -205,7 +212,7 @@ fn is_closed(
     ensures { IsTrue result → IsClosed rules log.now order.now low i t }
 {
     let _count = order.len();
-    if rules.whole && low != i {
+    if is_late(rules, low, i) {
         return false;
     }
     !rules.first.writers || is_unwritten_since(log, last, t, low)
@@ -252,6 +259,24 @@ fn commit_at(
     Ok(true)
 }
 
+/// Who begins or commits at a point does so, if it may.
+fn pass(
+    alloc: Global,
+    asked: &Asked,
+    log: &Log,
+    order: &[usize],
+    replay: &mut Replay,
+    point: Point,
+) -> Result<bool, NoMemory>
+    requires { IsReplay asked.now log.now order.now replay.old.count (row_of replay.old.rows) (get_in ◌==◌ replay.old.begun) (get_in ◌==◌ replay.old.last) (get_in ◌==◌ replay.old.looking) }
+    ensures { IfOk result (λ yes. IsTrue yes → IsReplay asked.now log.now order.now replay.new.count (row_of replay.new.rows) (get_in ◌==◌ replay.new.begun) (get_in ◌==◌ replay.new.last) (get_in ◌==◌ replay.new.looking)) }
+{
+    match point {
+        Point::Begin(t) => begin_at(alloc, asked, log, order, replay, t),
+        Point::Commit(t) => commit_at(asked, log, order, replay, t),
+    }
+}
+
 /// Whether at each point who begins or commits there may do so, and all commit.
 fn is_replayed(
     alloc: Global,
@@ -270,11 +295,7 @@ fn is_replayed(
         looking: HashMap::new(alloc),
     };
     for point in points {
-        let is_right = match *point {
-            Point::Begin(t) => begin_at(alloc, asked, log, order, &mut replay, t)?,
-            Point::Commit(t) => commit_at(asked, log, order, &mut replay, t)?,
-        };
-        if !is_right {
+        if !pass(alloc, asked, log, order, &mut replay, *point)? {
             return Ok(false);
         }
     }

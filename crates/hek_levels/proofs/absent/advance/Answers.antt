@@ -1,4 +1,4 @@
-use Rattle.std.proofs.Common.{◌≡◌, ℕ, List, Some, ◌∙◌, sym, ap, subst}
+use Rattle.std.proofs.Common.{ℕ, List, ◌∙◌, sym, ap, subst}
 use Rattle.std.specs.HashMap.{get}
 use Rattle.std.specs.Prelude.{◌==◌, ◌||◌, slice_get, is_some}
 use Rattle.hek_levels.specs.declared.log.Change.{Change}

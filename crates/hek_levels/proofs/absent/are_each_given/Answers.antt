@@ -1,4 +1,4 @@
-use Rattle.std.proofs.Common.{ℕ, refl}
+use Rattle.std.proofs.Common.{ℕ}
 use Rattle.hek_levels.specs.declared.log.Scan.{Scan}
 use Rattle.hek_levels.specs.Absences.{given_in_map, AreGiven}
 use Rattle.hek_levels.proofs.Turned.{each-more, each-all}

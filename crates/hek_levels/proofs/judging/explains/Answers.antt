@@ -1,7 +1,6 @@
 use Rattle.std.proofs.Common.{ℕ, List, length, refl, subst}
 use Rattle.std.specs.HashMap.{get}
 use Rattle.std.specs.Prelude.{◌==◌}
-use Rattle.hek_levels.specs.Explanations.{explanation}
 use Rattle.hek_levels.specs.Places.{IsPlacing, AreInTurn}
 use Rattle.hek_levels.proofs.Judged.{ordered_by, explained, if_ok_two}
 use Rattle.hek_levels.proofs.judging.explains.Goals as goal

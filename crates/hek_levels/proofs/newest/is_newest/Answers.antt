@@ -22,4 +22,4 @@ returns c =
     newest_by_sweep (asked_of c.args.asked.now c.args.t) c.args.log.now (explanation c.args.certificate.now) c.requires.ordered c.args.i c.args.t c.args.place c.in-Some.read c.low_of-low.result c.requires.stands
     (sym c.in-Some.ensures)
     (subst (λ (w : Writer). c.low_of-low.result ≤ rank c.args.certificate.now.order.items w) c.source_at.ensures (c.low_of-low.ensures c.args.log.now c.args.certificate.now.order.items c.requires.placing))
-    (subst (λ (r : Rules). IsNewestFrom r c.args.log.now (explanation c.args.certificate.now) c.args.t c.in-Some.read.operation c.in-Some.read.key c.low_of-low.result) c.of-rules.ensures (f true')))
+    (subst (λ (r : Rules). IsNewestFrom r c.args.log.now (explanation c.args.certificate.now) c.args.t c.in-Some.read.operation c.in-Some.read.key c.low_of-low.result) c.of.ensures (f true')))

@@ -1,5 +1,4 @@
 use Rattle.std.proofs.Common.{refl}
-use Rattle.hek_levels.specs.declared.log.Place.TheVariants.{Listed, Missing}
 use Rattle.hek_levels.proofs.Judged.{if_ok}
 use Rattle.hek_levels.proofs.Touched.{met-all}
 use Rattle.hek_levels.specs.Rows.{row_of}

@@ -1,4 +1,4 @@
-use Rattle.std.proofs.Common.{ℕ, List, refl, subst, ◌∙◌}
+use Rattle.std.proofs.Common.{refl, subst, ◌∙◌}
 use Rattle.std.specs.HashMap.{get}
 use Rattle.std.specs.Prelude.{◌==◌}
 use Rattle.hek_levels.specs.Points.{IsExplainedBy}

@@ -1,4 +1,4 @@
-use Rattle.std.proofs.Common.{◌≡◌, ◌≤◌, ℕ, true, Some, refl, ap, length, arith, below_more}
+use Rattle.std.proofs.Common.{◌≡◌, ◌≤◌, ℕ, true, Some, ap, length, arith, below_more}
 use Rattle.std.proofs.lemmas.Option.{slice_get_within}
 use Rattle.hek_levels.specs.declared.log.Read.{Read}
 use Rattle.hek_levels.specs.declared.log.Place.TheVariants.{Missing}

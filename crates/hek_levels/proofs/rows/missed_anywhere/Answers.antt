@@ -1,4 +1,4 @@
-use Rattle.std.proofs.Common.{◌∙◌, ℕ, subst}
+use Rattle.std.proofs.Common.{ℕ, subst}
 use Rattle.std.proofs.lemmas.Map.Iter.{rest_more, rest_all}
 use Rattle.std.specs.Map.Iter.{deref_pair}
 use Rattle.hek_levels.specs.Logs.{misses}
@@ -8,7 +8,7 @@ use Rattle.hek_levels.proofs.Ranged.{in-rows}
 use Rattle.hek_levels.proofs.rows.missed_anywhere.Goals as goal
 
 pub loop-key-init : goal.loop-key-init
-loop-key-init c = noted-start (λ (k : ℕ). misses c.args.scan.now k) c.args.rows.now.entries _ _ (c.into_iter-key-iterator.ensures.into_iter_gives)
+loop-key-init c = noted-start (λ (k : ℕ). misses c.args.scan.now k) c.args.rows.now.entries _ _ c.into_iter-key-iterator.ensures.into_iter_gives.0
 
 pub loop-key-preserved : goal.loop-key-preserved
 loop-key-preserved c =

@@ -1,4 +1,4 @@
-use Rattle.std.proofs.Common.{◌≡◌, ℕ, true, Some}
+use Rattle.std.proofs.Common.{◌≡◌, true}
 use Rattle.std.specs.HashMap.{get}
 use Rattle.std.specs.Prelude.{◌==◌}
 use Rattle.hek_levels.specs.declared.log.Turn.{Turn}

@@ -1,4 +1,4 @@
-use Rattle.std.proofs.Common.{◌≡◌, ◌≤◌, ℕ, true, Some, refl, sym, ap, length, arith, below_more}
+use Rattle.std.proofs.Common.{◌≡◌, ◌≤◌, ℕ, true, Some, refl, ap, length, arith, below_more}
 use Rattle.hek_levels.specs.declared.log.Read.{Read}
 use Rattle.hek_levels.specs.declared.log.Place.TheVariants.{Listed}
 use Rattle.hek_levels.specs.Logs.{read_at}

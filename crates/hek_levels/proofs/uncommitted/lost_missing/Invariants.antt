@@ -7,4 +7,4 @@ use Rattle.hek_levels.specs.Uncommitted.{is_found}
 use Rattle.hek_levels.proofs.uncommitted.lost_missing.Given as goal
 
 abbrev pub invariant-loop-n : goal.invariant-loop-n
-invariant-loop-n l = (k key : ℕ) (read : Read) → k < l.n → slice_get l.keys.items k ≡ Some key → read_at l.log l.t (place.Missing l.s key) ≡ Some read → is_found l.log l.t read ≡ true
+invariant-loop-n l = (k key : ℕ) (read : Read) → k < l.n → slice_get l.keys k ≡ Some key → read_at l.log l.t (place.Missing l.s key) ≡ Some read → is_found l.log l.t read ≡ true
