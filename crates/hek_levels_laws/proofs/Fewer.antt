@@ -64,7 +64,7 @@ possible-same (Some x) None f = absurd f
 possible-same (Some x) (Some y) f = rw f.status (rw f.fits refl)
 
 turns-among : (x y : Option Transaction) → IsFewerOf x y → AreAmong (turns_in x) (turns_in y)
-turns-among None None f i turn there = cc
+turns-among None None f = λ i turn there. cc
 turns-among None (Some y) f = absurd f
 turns-among (Some x) None f = absurd f
 turns-among (Some x) (Some y) f = f.turns
