@@ -1,14 +1,13 @@
 -- What is known of a transaction, with one operation more.
 use Rattle.std.proofs.Common.{◌≡◌, ◌==◌, ◌↔◌, ℕ, zero, suc, ◌+◌, ◌<◌, Bool, true, false, cond, List, [], ◌∷◌, ◌++◌, Option, Some, None, take, refl, sym, ap, ◌∙◌, subst, inl, inr, ◌⊎◌, length, Vec, Global, arith}
 use Rattle.std.specs.Prelude.{slice_get, is_some, IsTrue, ◌&&◌}
-use Rattle.std.proofs.lemmas.Bool.{cases_Bool, eqb-true, eq-eqb}
 use Rattle.std.proofs.lemmas.Option.{slice_get_within}
 use Rattle.std.specs.HashMap.{get}
 use Rattle.std.proofs.Math.Seq.{take-length}
 use Rattle.hek_history.specs.declared.history.Operation.{Operation}
 use Rattle.hek_history.specs.declared.history.Transaction.{Transaction}
 use Rattle.hek_levels.specs.declared.log.Turn.{Turn}
-use Rattle.hek_history.specs.Answers.{key_of, change_of, allows}
+use Rattle.hek_history.specs.Answers.{key_of, change_of}
 use Rattle.hek_levels.specs.declared.log.Change.{Change}
 use Rattle.hek_levels.specs.declared.log.Need.{Need}
 use Rattle.hek_levels.specs.declared.log.Read.{Read}

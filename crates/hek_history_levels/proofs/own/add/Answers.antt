@@ -1,4 +1,4 @@
-use Rattle.std.proofs.Common.{◌≡◌, ◌++◌, ◌∷◌, [], ◌∙◌, ℕ, List, Option, Some, cond, length, sym, ap, subst, rules, arith}
+use Rattle.std.proofs.Common.{◌≡◌, ◌++◌, ◌∷◌, [], ◌∙◌, ℕ, List, Some, cond, length, sym, ap, subst, rules, arith}
 use Rattle.std.specs.HashMap.{get}
 use Rattle.std.specs.Prelude.{◌==◌}
 use Rattle.hek_levels.specs.declared.log.Change.{Change}

@@ -1,4 +1,4 @@
-use Rattle.std.proofs.Common.{◌≡◌, ◌==◌, ◌≤◌, ◌∙◌, ℕ, Vec, Global, List, Option, length, sym, ap, arith}
+use Rattle.std.proofs.Common.{◌==◌, ◌≤◌, ◌∙◌, ℕ, Vec, Global, List, Option, length, sym, ap, arith}
 use Rattle.std.specs.HashMap.{get}
 use Rattle.std.specs.Prelude.{is_some, ◌||◌}
 use Rattle.std.specs.List.{list_any}

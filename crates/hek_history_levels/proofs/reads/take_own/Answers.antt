@@ -1,4 +1,4 @@
-use Rattle.std.proofs.Common.{◌≡◌, ◌∙◌, None, refl, sym, ap}
+use Rattle.std.proofs.Common.{◌≡◌, ◌∙◌, None, refl, sym}
 use Rattle.hek_history_levels.specs.Taking.{own_left}
 use Rattle.hek_history_levels.proofs.Results.{on_ok}
 use Rattle.hek_history_levels.proofs.Readings.{none_of, own-read}

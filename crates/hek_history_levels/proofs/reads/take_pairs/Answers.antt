@@ -1,5 +1,4 @@
-use Rattle.std.proofs.Common.{◌≡◌, ◌+◌, ◌≤◌, ◌↔◌, ◌⊎◌, ◌∙◌, ℕ, None, Vec, Global, length, get_or, sym, subst, arith}
-use Rattle.hek_levels.specs.declared.log.Need.{Need}
+use Rattle.std.proofs.Common.{◌≡◌, ◌+◌, ◌≤◌, ◌↔◌, ◌⊎◌, ◌∙◌, None, Vec, Global, length, get_or, sym, subst, arith}
 use Rattle.hek_levels.specs.declared.log.Need.TheVariants.{Value}
 use Rattle.hek_levels.specs.declared.log.Read.{Read}
 use Rattle.hek_history_levels.specs.Reads.{HasRead}
