@@ -1,8 +1,8 @@
 -- Elements of a list with one more.
-use Rattle.std.proofs.Common.{◌≡◌, ◌==◌, ℕ, zero, suc, ◌<◌, ◌+◌, Bool, true, false, List, [], ◌∷◌, ◌++◌, Option, Some, None, refl, sym, ap, ◌∙◌, subst, inl, inr, ◌⊎◌, length, arith}
+use Rattle.std.proofs.Common.{◌≡◌, ℕ, zero, suc, ◌<◌, ◌+◌, Bool, true, false, List, [], ◌∷◌, ◌++◌, Option, Some, refl, ap, ◌∙◌, inl, inr, ◌⊎◌, length, set, arith}
 use Rattle.std.specs.Prelude.{slice_get, ◌||◌}
 use Rattle.std.specs.List.{list_any}
-use Rattle.std.proofs.lemmas.Option.{slice_get_within}
+use Rattle.std.proofs.lemmas.Bool.{cases_lt}
 
 pub some-is : {A : Type 0} (x y : A) → ◌≡◌ {A = Option A} (Some x) (Some y) → x ≡ y
 some-is x y e = cc
@@ -34,3 +34,21 @@ any-pushed f (z ∷ xs) x = ap (λ (b : Bool). f z || b) (any-pushed f xs x) ∙
     assoc : (a b c : Bool) → (a || (b || c)) ≡ ((a || b) || c)
     assoc true b c = refl
     assoc false b c = refl
+
+-- ---- a list with an element that is replaced
+
+pub replaced-there : {A : Type 0} (xs : List A) (n : ℕ) (x : A) → n < length xs → slice_get (set xs n x) n ≡ Some x
+replaced-there [] n x l = absurd (omega (arith, l))
+replaced-there (y ∷ xs) zero x l = refl
+replaced-there (y ∷ xs) (suc n) x l = replaced-there xs n x (omega (arith, l))
+
+pub others-there : {A : Type 0} (xs : List A) (n k : ℕ) (x : A) → (k ≡ n → ⊥) → slice_get (set xs n x) k ≡ slice_get xs k
+others-there [] n k x other = refl
+others-there (y ∷ xs) zero zero x other = absurd (other refl)
+others-there (y ∷ xs) zero (suc k) x other = refl
+others-there (y ∷ xs) (suc n) zero x other = refl
+others-there (y ∷ xs) (suc n) (suc k) x other = others-there xs n k x (λ e. other (ap suc e))
+
+-- a place below i + 1 is below i, or i
+pub cases-below : (j i : ℕ) → j < i + 1 → (j < i) ⊎ (j ≡ i)
+cases-below j i l = elim (cases_lt j i) [ inl less ↦ inl less | inr ge ↦ inr (omega arith) ]

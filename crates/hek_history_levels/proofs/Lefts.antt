@@ -1,7 +1,7 @@
 -- What operations leave, with one more.
-use Rattle.std.proofs.Common.{◌≡◌, ◌==◌, ℕ, suc, ◌+◌, ◌<◌, Bool, true, false, cond, List, Option, Some, None, take, refl, sym, ap, ◌∙◌, subst, inl, inr, ◌⊎◌, arith}
+use Rattle.std.proofs.Common.{◌≡◌, ◌==◌, ℕ, suc, ◌+◌, true, cond, List, Option, Some, None, take, refl, sym, ap, ◌∙◌, subst, inl, inr, ◌⊎◌, arith}
 use Rattle.std.specs.Prelude.{slice_get, is_some}
-use Rattle.std.proofs.lemmas.Bool.{cases_Bool, cases_lt, eqb-true, eq-eqb}
+use Rattle.std.proofs.lemmas.Bool.{cases_Bool}
 use Rattle.hek_history.specs.declared.history.Operation.{Operation}
 use Rattle.hek_history.specs.declared.history.Change.{Change}
 use Rattle.hek_history.specs.declared.history.Change.TheVariants.{Keep, Remove, Set}
@@ -9,7 +9,7 @@ use Rattle.hek_history.specs.Answers.{key_of, change_of, followed_by, change_at,
 use Rattle.hek_history.proofs.Scanned.{last_change-more}
 use Rattle.hek_levels.specs.declared.log.Change.{Change as TheChange}
 use Rattle.hek_history_levels.specs.Changes.{left_of, left_by, IsPassing}
-use Rattle.hek_history_levels.proofs.Elements.{some-is}
+use Rattle.hek_history_levels.proofs.Elements.{some-is, cases-below}
 
 -- a later change counts
 pub left_else : Option (Option ℕ) → Option (Option ℕ) → Option (Option ℕ)
@@ -48,9 +48,6 @@ pub left-changed : (ops : List Operation) (n : ℕ) (op : Operation) (v : Option
 unfolding left_at left_else
 left-changed ops n op v key there is =
     left-more ops n op key there ∙ elim (cases_Bool (key_of op == key)) [ inl same ↦ rw same (rw is refl) | inr other ↦ rw other refl ]
-
-cases-below : (j i : ℕ) → j < i + 1 → (j < i) ⊎ (j ≡ i)
-cases-below j i l = elim (cases_lt j i) [ inl less ↦ inl less | inr ge ↦ inr (omega arith) ]
 
 -- what passes with one operation more
 pub passing-old : (ops : List Operation) (n : ℕ) (c : TheChange) → IsPassing ops n c → IsPassing ops (n + 1) c

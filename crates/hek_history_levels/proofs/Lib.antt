@@ -1,3 +1,4 @@
+pub mod Results
 pub mod Elements
 pub mod Pushed
 pub mod Lefts

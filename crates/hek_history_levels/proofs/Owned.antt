@@ -1,11 +1,15 @@
 -- The changes of a transaction, with one more.
-use Rattle.std.proofs.Common.{◌≡◌, ◌==◌, ℕ, zero, suc, ◌<◌, Bool, true, false, cond, List, [], ◌∷◌, ◌++◌, Option, Some, None, refl, sym, ap, ◌∙◌, subst, inl, inr, ◌⊎◌, length, arith}
-use Rattle.std.specs.Prelude.{slice_get, is_some}
+use Rattle.std.proofs.Common.{◌≡◌, ◌==◌, ℕ, zero, suc, ◌<◌, Bool, true, false, cond, List, [], ◌∷◌, ◌++◌, Option, Some, None, refl, sym, ap, ◌∙◌, subst, inl, inr, ◌⊎◌, length, take, get_or, ◌+◌, arith}
+use Rattle.std.specs.Prelude.{slice_get, is_some, ◌||◌}
+use Rattle.std.specs.List.{list_any}
+use Rattle.hek_history.specs.declared.history.Scope.{Scope}
+use Rattle.hek_history.specs.Answers.{covers}
+use Rattle.std.proofs.lemmas.Option.{slice_get-get_or}
 use Rattle.std.proofs.lemmas.Bool.{cases_Bool, eqb-true, eq-eqb}
 use Rattle.hek_levels.specs.declared.log.Change.{Change}
 use Rattle.hek_levels.specs.Logs.{left_in}
 use Rattle.hek_history_levels.specs.Taking.{value_in, value_at, ArePlaced, undone}
-use Rattle.hek_history_levels.proofs.Elements.{some-is, last-or-before, stays-there, pushed-there}
+use Rattle.hek_history_levels.proofs.Elements.{some-is, last-or-before, stays-there, pushed-there, any-pushed}
 
 none-some : (p : ℕ) → ◌≡◌ {A = Option ℕ} None (Some p) → ⊥
 none-some p e = cc
@@ -148,3 +152,57 @@ left-placed f changes a k = go (left_in changes k) refl
         let is : f k ≡ Some r.0 = ap f (sym r.3) ∙ a.all r.0 r.1 r.2 in
         sym (ap (value_at changes) is ∙ ap value_in r.2 ∙ ap Some r.4)
     go None e = absent e (f k) refl
+
+-- a key at which something is left has a change
+pub own-entry : (f : ℕ → Option ℕ) (changes : List Change) → ArePlaced f changes → (key : ℕ) (v : Option ℕ) → value_at changes (f key) ≡ Some v →
+    (p : ℕ) × (c : Change) × (slice_get changes p ≡ Some c) × (c.key ≡ key)
+own-entry f changes a key v is = go (f key) refl is
+  where
+    go : (o : Option ℕ) → f key ≡ o → value_at changes o ≡ Some v → (p : ℕ) × (c : Change) × (slice_get changes p ≡ Some c) × (c.key ≡ key)
+    go None e none = cc
+    go (Some p) e some = let r = a.found key p e in (p, r.0, r.1, r.2)
+
+-- ---- the keys of the first changes, one more
+
+or_both : (a b c : Bool) → ((a || b) || c) ≡ (a || (b || c))
+or_both true b c = refl
+or_both false b c = refl
+
+or_false : (b : Bool) → (b || false) ≡ b
+or_false true = refl
+or_false false = refl
+
+left-one : (d : Change) (k : ℕ) → is_some (left_in (d ∷ []) k) ≡ (false || (d.key == k))
+left-one d k = elim (cases_Bool (d.key == k)) [ inl same ↦ rw same refl | inr other ↦ rw other refl ]
+
+left-take : (cs : List Change) (i k : ℕ) (c : Change) → slice_get cs i ≡ Some c → is_some (left_in (take (suc i) cs) k) ≡ (is_some (left_in (take i cs) k) || (c.key == k))
+left-take [] i k c there = cc
+left-take (d ∷ cs) zero k c there = subst (λ (x : Change). is_some (left_in (d ∷ []) k) ≡ (false || (x.key == k))) (some-is d c there) (left-one d k)
+left-take (d ∷ cs) (suc i) k c there = elim (cases_Bool (d.key == k)) [ inl same ↦ rw same refl | inr other ↦ rw other (left-take cs i k c there) ]
+
+module _ (cs : List Change) (i k : ℕ) (d : Change) (keys new first : List ℕ) (l : i < length cs)
+    (before : list_any (λ (n : ℕ). n == k) keys ≡ (list_any (λ (n : ℕ). n == k) first || is_some (left_in (take i cs) k))) where
+  one-more : is_some (left_in (take (i + 1) cs) k) ≡ (is_some (left_in (take i cs) k) || ((get_or cs i d).key == k))
+  one-more =
+      let one : i + 1 ≡ suc i = omega arith in
+      ap (λ (j : ℕ). is_some (left_in (take j cs) k)) one ∙ left-take cs i k (get_or cs i d) (slice_get-get_or cs i d l)
+
+  -- its key is noted
+  pub key-noted : new ≡ keys ++ (get_or cs i d).key ∷ [] → list_any (λ (n : ℕ). n == k) new ≡ (list_any (λ (n : ℕ). n == k) first || is_some (left_in (take (i + 1) cs) k))
+  key-noted is =
+      ap (list_any (λ (n : ℕ). n == k)) is ∙ any-pushed (λ (n : ℕ). n == k) keys (get_or cs i d).key ∙ ap (λ (b : Bool). b || ((get_or cs i d).key == k)) before
+      ∙ or_both (list_any (λ (n : ℕ). n == k) first) (is_some (left_in (take i cs) k)) ((get_or cs i d).key == k)
+      ∙ ap (λ (b : Bool). list_any (λ (n : ℕ). n == k) first || b) (sym one-more)
+
+  -- it is of another scope
+  pub key-left : (scope : Scope) → covers scope k ≡ true → covers scope (get_or cs i d).key ≡ false → new ≡ keys →
+      list_any (λ (n : ℕ). n == k) new ≡ (list_any (λ (n : ℕ). n == k) first || is_some (left_in (take (i + 1) cs) k))
+  key-left scope cover out is =
+      ap (list_any (λ (n : ℕ). n == k)) is ∙ before
+      ∙ ap (λ (b : Bool). list_any (λ (n : ℕ). n == k) first || b) (sym (one-more ∙ ap (λ (b : Bool). is_some (left_in (take i cs) k) || b) other ∙ or_false (is_some (left_in (take i cs) k))))
+    where
+      in_both : (get_or cs i d).key ≡ k → ⊥
+      in_both same = let f : false ≡ true = sym out ∙ ap (covers scope) same ∙ cover in cc
+
+      other : ((get_or cs i d).key == k) ≡ false
+      other = elim (cases_Bool ((get_or cs i d).key == k)) [ inl same ↦ absurd (in_both (eqb-true (get_or cs i d).key k same)) | inr differ ↦ differ ]

@@ -1,10 +1,13 @@
 -- What is known of a transaction, with one operation more.
-use Rattle.std.proofs.Common.{◌≡◌, ◌==◌, ◌↔◌, ℕ, zero, suc, ◌+◌, ◌<◌, Bool, true, false, cond, List, [], ◌∷◌, ◌++◌, Option, Some, None, take, refl, sym, ap, ◌∙◌, subst, inl, inr, ◌⊎◌, length, arith}
+use Rattle.std.proofs.Common.{◌≡◌, ◌==◌, ◌↔◌, ℕ, zero, suc, ◌+◌, ◌<◌, Bool, true, false, cond, List, [], ◌∷◌, ◌++◌, Option, Some, None, take, refl, sym, ap, ◌∙◌, subst, inl, inr, ◌⊎◌, length, Vec, Global, arith}
 use Rattle.std.specs.Prelude.{slice_get, is_some, IsTrue, ◌&&◌}
-use Rattle.std.proofs.lemmas.Bool.{cases_Bool, cases_lt, eqb-true, eq-eqb}
 use Rattle.std.proofs.lemmas.Option.{slice_get_within}
+use Rattle.std.specs.HashMap.{get}
+use Rattle.std.proofs.Math.Seq.{take-length}
 use Rattle.hek_history.specs.declared.history.Operation.{Operation}
-use Rattle.hek_history.specs.Answers.{key_of, change_of, allows}
+use Rattle.hek_history.specs.declared.history.Transaction.{Transaction}
+use Rattle.hek_levels.specs.declared.log.Turn.{Turn}
+use Rattle.hek_history.specs.Answers.{key_of, change_of}
 use Rattle.hek_levels.specs.declared.log.Change.{Change}
 use Rattle.hek_levels.specs.declared.log.Need.{Need}
 use Rattle.hek_levels.specs.declared.log.Read.{Read}
@@ -14,12 +17,13 @@ use Rattle.hek_levels.specs.declared.log.Place.TheVariants as place
 use Rattle.hek_history_levels.specs.Changes.{left_of, left_by, IsPassing}
 use Rattle.hek_history_levels.specs.Reads.{IsRead, read_of, HasRead}
 use Rattle.hek_history_levels.specs.Fits.{IsFitting, AreFittingTo, AreFitting}
-use Rattle.hek_history_levels.specs.Taking.{undone, IsReadBy, AreReadsWith}
-use Rattle.hek_history_levels.proofs.Elements.{some-is, last-or-before, stays-there, pushed-there}
+use Rattle.hek_history_levels.specs.declared.own.Own.{Own}
+use Rattle.hek_history_levels.specs.declared.transaction.Taken.{Taken}
+use Rattle.hek_history_levels.specs.Taking.{own_left, IsOwn, undone, IsReadBy, AreReadsWith, IsTaken}
+use Rattle.hek_history_levels.specs.Steps.{is_lenient, IsSeen}
+use Rattle.hek_history_levels.proofs.Elements.{some-is, last-or-before, stays-there, pushed-there, cases-below}
+use Rattle.hek_history_levels.proofs.Owned.{left-placed}
 use Rattle.hek_history_levels.proofs.Lefts.{left-kept, left-changed, passing-old, passing-new, passing-cases}
-
-cases-below : (j i : ℕ) → j < i + 1 → (j < i) ⊎ (j ≡ i)
-cases-below j i l = elim (cases_lt j i) [ inl less ↦ inl less | inr ge ↦ inr (omega arith) ]
 
 -- ---- fitting
 
@@ -127,7 +131,7 @@ undone-cases xs k (Some v) c m =
 
 undone-new : (xs : List Change) (k : ℕ) (o : Option (Option ℕ)) (c : Change) → k ≡ c.key → o ≡ Some c.value → IsIn (xs ++ undone k o) c
 undone-new xs k o c same is =
-    let one : undone k o ≡ c ∷ [] = ap (undone k) is ∙ cc in
+    let one : undone k o ≡ c ∷ [] = ap (undone k) is ∙ ap (λ (n : ℕ). undone n (Some c.value)) same in
     (length xs, ap (λ (ys : List Change). slice_get (xs ++ ys) (length xs)) one ∙ pushed-there xs c)
 
 pub passing-kept : (ops : List Operation) (n : ℕ) (op : Operation) (xs : List Change) (c : Change) → slice_get ops n ≡ Some op → left_of (change_of op) ≡ None → (IsIn xs c ↔ IsPassing ops n c) → IsIn xs c ↔ IsPassing ops (n + 1) c
@@ -160,3 +164,57 @@ passing-changed ops n op xs ys o v c there changes left is old = (so, then_so)
           | inl had ↦ kept (old.1 had)
           | inr new ↦ subst (λ (zs : List Change). IsIn zs c) (sym is) (undone-new xs (key_of op) o c new.0 (left ∙ ap (left_by (take n ops)) new.0 ∙ new.2))
         ]
+
+-- ---- all of it
+
+module _ (lenient : Bool) (ops : List Operation) (n : ℕ) (op : Operation) (old : Taken) (there : slice_get ops n ≡ Some op) (known : IsTaken lenient ops n old)
+    (fitting all : Bool) (fits_so : IsTrue fitting ↔ IsFitting lenient (own_left old.own) op) (both : all ≡ (old.fits && fitting))
+    (new_reads : Vec Read Global) (new_scans : Vec Scan Global) (more : AreReadsWith lenient (own_left old.own) n op old.reads.items old.scans.items new_reads.items new_scans.items) where
+  fits-now : IsTrue all ↔ AreFittingTo lenient ops (n + 1)
+  fits-now = subst (λ (b : Bool). IsTrue b ↔ AreFittingTo lenient ops (n + 1)) (sym both) (fits-more lenient ops n op (own_left old.own) old.fits fitting there known.left known.fits fits_so)
+
+  reads-now : (m key : ℕ) (need : Need) → HasRead new_reads.items new_scans.items m key need ↔ ((m < n + 1) × IsRead lenient ops m key need)
+  reads-now = reads-more lenient ops n op (own_left old.own) old.reads.items new_reads.items old.scans.items new_scans.items there known.left known.reads more
+
+  -- with an operation that changes nothing
+  pub taken-kept : left_of (change_of op) ≡ None → IsTaken lenient ops (n + 1) (record { fits = all; reads = new_reads; scans = new_scans; own = old.own })
+  taken-kept none = record {
+    own = known.own;
+    left = (λ key. known.left key ∙ sym (left-kept ops n op key there none));
+    passing = (λ c. passing-kept ops n op old.own.passing.items c there none (known.passing c));
+    fits = fits-now;
+    reads = reads-now;
+  }
+
+  -- with one that changes its key
+  pub taken-changed : (v : Option ℕ) (k : ℕ) (new_own : Own) → left_of (change_of op) ≡ Some v → k ≡ key_of op → IsOwn new_own → ((key : ℕ) → own_left new_own key ≡ cond (k == key) (Some v) (own_left old.own key)) →
+      new_own.passing.items ≡ old.own.passing.items ++ undone k (own_left old.own k) → IsTaken lenient ops (n + 1) (record { fits = all; reads = new_reads; scans = new_scans; own = new_own })
+  taken-changed v k new_own changes of placed left_is passing_is = record {
+    own = placed;
+    left = (λ key.
+        left_is key ∙ ap (λ (j : ℕ). cond (j == key) (Some v) (own_left old.own key)) of ∙ ap (λ (o : Option (Option ℕ)). cond (key_of op == key) (Some v) o) (known.left key)
+        ∙ sym (left-changed ops n op v key there changes));
+    passing = (λ c.
+        passing-changed ops n op old.own.passing.items new_own.passing.items (own_left old.own (key_of op)) v c there changes (known.left (key_of op))
+        (passing_is ∙ ap (λ (j : ℕ). old.own.passing.items ++ undone j (own_left old.own j)) of) (known.passing c));
+    fits = fits-now;
+    reads = reads-now;
+  }
+
+-- a transaction as levels see it
+pub seen-by : (given : List Turn) (x : Transaction) (taken : Taken) (the_turns : Vec Turn Global) (lenient : Bool) (ops : List Operation) → lenient ≡ is_lenient x.level → ops ≡ x.operations.items → the_turns.items ≡ given →
+    IsTaken lenient ops (length ops) taken →
+    IsSeen given x (record { status = x.status; fits = taken.fits; turns = the_turns; reads = taken.reads; scans = taken.scans; writes = taken.own.writes; passing = taken.own.passing })
+seen-by given x taken the_turns lenient ops level is turned t =
+    let known : IsTaken (is_lenient x.level) x.operations.items (length x.operations.items) taken =
+    subst (λ (b : Bool). IsTaken b x.operations.items (length x.operations.items) taken) level (subst (λ (os : List Operation). IsTaken lenient os (length os) taken) is t) in
+    let fit = fits-all (is_lenient x.level) x.operations.items in
+    record {
+      status = refl;
+      turns = turned;
+      fits = (λ e. fit.0 (known.fits.0 e), λ a. known.fits.1 (fit.1 a));
+      reads = (λ n key need. reads-all (is_lenient x.level) x.operations.items n key need (HasRead taken.reads.items taken.scans.items n key need) (known.reads n key need));
+      writes = (λ key.
+          left-placed (get ◌==◌ taken.own.places) taken.own.writes.items known.own key ∙ known.left key ∙ ap (λ (os : List Operation). left_by os key) (take-length x.operations.items));
+      passing = known.passing;
+    }

@@ -1,5 +1,5 @@
 -- A log without its reads and writes.
-use Rattle.std.proofs.Common.{◌≡◌, ℕ, ◌<◌, Bool, true, false, cond, List, [], ◌∷◌, Option, Some, None, refl, sym, ap, ◌∙◌, subst, arith}
+use Rattle.std.proofs.Common.{◌≡◌, ℕ, Bool, true, false, cond, List, [], Option, Some, None, refl, sym, ap, ◌∙◌, arith}
 use Rattle.std.specs.Prelude.{slice_get, not}
 use Rattle.std.specs.List.{list_any}
 use Rattle.hek_levels.specs.declared.log.Log.{Log}
@@ -11,10 +11,10 @@ use Rattle.hek_levels.specs.declared.log.Place.{Place}
 use Rattle.hek_levels.specs.declared.log.Place.TheVariants.{Listed, Missing}
 use Rattle.hek_levels.specs.declared.rules.Asked.{Asked}
 use Rattle.hek_levels.specs.declared.certificate.Writer.TheVariants as writer
-use Rattle.hek_levels.specs.Logs.{transaction, reads_in, reads_of, scans_in, scans_of, turns_in, turns_of, missing_in, read_at, committed_in, is_committed, possible_in, is_possible, aborted_by, is_before_turn, is_kept}
-use Rattle.hek_levels.specs.Seen.{Explanation, At, TakesPlace, IsBefore}
-use Rattle.hek_levels.specs.Explanations.{Explains, HasExplanation}
-use Rattle.hek_levels.specs.Uncommitted.{alive_in, is_alive, IsBareOf, IsBare, IsInTurn}
+use Rattle.hek_levels.specs.Logs.{transaction, reads_in, scans_in, turns_in, turns_of, missing_in, read_at, committed_in, possible_in, aborted_by, is_before_turn, is_kept}
+use Rattle.hek_levels.specs.Seen.{Explanation}
+use Rattle.hek_levels.specs.Explanations.{HasExplanation}
+use Rattle.hek_levels.specs.Uncommitted.{alive_in, IsBareOf, IsBare, IsInTurn}
 use Rattle.hek_levels.proofs.Orders.{placed}
 use Rattle.hek_levels_laws.specs.Laws.{BareSays}
 

@@ -1,8 +1,7 @@
 -- A log with fewer turns.
-use Rattle.std.proofs.Common.{◌≡◌, ◌==◌, ℕ, zero, suc, ◌<◌, Bool, true, false, ltb, List, [], ◌∷◌, Option, Some, None, refl, sym, ap, ◌∙◌, subst, inl, inr, ◌⊎◌}
-use Rattle.std.specs.Prelude.{slice_get, is_some, ◌&&◌, ◌||◌}
+use Rattle.std.proofs.Common.{◌≡◌, ℕ, Bool, true, List, [], ◌∷◌, Option, Some, None, refl, sym, ap, ◌∙◌, inl, inr}
+use Rattle.std.specs.Prelude.{slice_get, is_some}
 use Rattle.std.specs.List.{list_any}
-use Rattle.std.proofs.lemmas.Bool.{cases_Bool}
 use Rattle.hek_levels.specs.declared.log.Log.{Log}
 use Rattle.hek_levels.specs.declared.log.Transaction.{Transaction}
 use Rattle.hek_levels.specs.declared.log.Turn.{Turn}
@@ -11,7 +10,6 @@ use Rattle.hek_levels.specs.declared.log.Scan.{Scan}
 use Rattle.hek_levels.specs.declared.log.Change.{Change}
 use Rattle.hek_levels.specs.declared.log.Place.{Place}
 use Rattle.hek_levels.specs.declared.log.Place.TheVariants.{Listed, Missing}
-use Rattle.hek_levels.specs.declared.rules.Asked.{Asked}
 use Rattle.hek_levels.specs.declared.rules.Rules.{Rules}
 use Rattle.hek_levels.specs.declared.rules.Links.{Links}
 use Rattle.hek_levels.specs.declared.rules.Own.{Own}
@@ -19,11 +17,10 @@ use Rattle.hek_levels.specs.declared.rules.Own.TheVariants.{Nothing, Earlier, Al
 use Rattle.hek_levels.specs.declared.certificate.Writer.{Writer}
 use Rattle.hek_levels.specs.declared.certificate.Writer.TheVariants as writer
 use Rattle.hek_levels.specs.Levels.{asked_of}
-use Rattle.hek_levels.specs.Logs.{transaction, reads_in, reads_of, scans_in, scans_of, writes_in, writes_of, turns_in, turns_of, missing_in, read_at, meets_in, left_in, left_by, offers, does_write, committed_in, is_committed, possible_in, is_possible, aborted_by, is_before_turn, is_seen_turn, is_kept, is_earlier}
+use Rattle.hek_levels.specs.Logs.{transaction, reads_in, scans_in, writes_in, writes_of, turns_in, turns_of, missing_in, read_at, meets_in, left_in, left_by, offers, does_write, committed_in, possible_in, is_before_turn, is_seen_turn, is_kept, is_earlier}
 use Rattle.hek_levels.specs.Seen.{Explanation, ReadsFrom, SeesByOwn, Precedes, IsLinked, SeesFirst, Shows, SeesBy, Sees}
-use Rattle.hek_levels.specs.Explanations.{IsSource, Explains}
 use Rattle.hek_levels.proofs.Turned.{any-at, at-any}
-use Rattle.hek_levels_laws.specs.Laws.{AreAmong, IsFewer, IsFewerOf, HasFewerTurns, FewerTurnsImply}
+use Rattle.hek_levels_laws.specs.Laws.{AreAmong, IsFewerOf, HasFewerTurns, FewerTurnsImply}
 
 any-more : (f g : Turn → Bool) (few more : List Turn) → AreAmong few more → ((x : Turn) → f x ≡ true → g x ≡ true) → list_any f few ≡ true → list_any g more ≡ true
 any-more f g few more among implies e =
@@ -64,7 +61,7 @@ possible-same (Some x) None f = absurd f
 possible-same (Some x) (Some y) f = rw f.status (rw f.fits refl)
 
 turns-among : (x y : Option Transaction) → IsFewerOf x y → AreAmong (turns_in x) (turns_in y)
-turns-among None None f i turn there = cc
+turns-among None None f = λ i turn there. cc
 turns-among None (Some y) f = absurd f
 turns-among (Some x) None f = absurd f
 turns-among (Some x) (Some y) f = f.turns

@@ -1,8 +1,6 @@
 -- What one level sees, another sees.
-use Rattle.std.proofs.Common.{◌≡◌, ℕ, ◌<◌, true, false, List, [], ◌∷◌, Some, refl, subst, inl, inr, ◌⊎◌}
+use Rattle.std.proofs.Common.{◌≡◌, ℕ, ◌<◌, true, false, List, [], ◌∷◌, refl, subst, inl, inr}
 use Rattle.hek_levels.specs.declared.log.Log.{Log}
-use Rattle.hek_levels.specs.declared.log.Read.{Read}
-use Rattle.hek_levels.specs.declared.log.Place.{Place}
 use Rattle.hek_levels.specs.declared.rules.Rules.{Rules}
 use Rattle.hek_levels.specs.declared.rules.Asked.{Asked}
 use Rattle.hek_levels.specs.declared.rules.Asked.TheVariants as asked
@@ -10,7 +8,6 @@ use Rattle.hek_levels.specs.declared.rules.Links.{Links}
 use Rattle.hek_levels.specs.declared.rules.Level.TheVariants.{ReadCommitted, MonotonicView, ReadAtomic, Causal, Prefix, ParallelSnapshot, Snapshot, Serializable}
 use Rattle.hek_levels.specs.declared.certificate.Writer.{Writer}
 use Rattle.hek_levels.specs.declared.certificate.Writer.TheVariants as writer
-use Rattle.hek_levels.specs.Logs.{read_at}
 use Rattle.hek_levels.specs.Seen.{Explanation, TakesPlace, rank, ReadsFrom, ReadsTo, SeesByOwn, IsLinked, SeesFirst, Shows, SeesBy, Sees, IsOrdered}
 use Rattle.hek_levels.specs.Explanations.{Explains}
 use Rattle.hek_levels.specs.Levels.{rules_of, rules_for, all_four}

@@ -1,5 +1,5 @@
 -- Which levels and guarantees imply which.
-use Rattle.std.specs.Prelude.{ℕ, Bool, true, false, ◌≡◌, ◌↔◌, ◌⊎◌, ◌++◌, List, Option, Some, None, slice_get}
+use Rattle.std.specs.Prelude.{ℕ, true, ◌≡◌, ◌↔◌, ◌⊎◌, ◌++◌, List, Option, Some, None, slice_get}
 use Rattle.hek_levels.specs.declared.log.Log.{Log}
 use Rattle.hek_levels.specs.declared.log.Transaction.{Transaction}
 use Rattle.hek_levels.specs.declared.log.Turn.{Turn}

@@ -1,4 +1,4 @@
-use Rattle.std.proofs.Common.{◌≡◌, ◌+◌, refl, arith}
+use Rattle.std.proofs.Common.{refl, arith}
 use Rattle.hek_levels_refutation.proofs.Refuting.{dropped_back}
 use Rattle.hek_levels_refutation.proofs.candidates.drop_last.Goals as goal
 

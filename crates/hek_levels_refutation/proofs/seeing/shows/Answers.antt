@@ -1,6 +1,7 @@
 use Rattle.std.proofs.Common.{ℕ, ◌∷◌, inl, inr, sym, ap, ◌∙◌, subst}
 use Rattle.hek_levels.specs.declared.rules.Rules.{Rules}
 use Rattle.hek_levels.specs.Seen.{ReadsFrom}
+use Rattle.hek_levels_refutation.proofs.Refuting.{not_false}
 use Rattle.hek_levels_refutation.proofs.seeing.shows.Goals as goal
 
 pub returns : goal.returns
@@ -14,7 +15,7 @@ returns c e x hold =
             (
               inr
                   (inl (
-                    ap (λ (r : Rules). r.causes) (sym c.of-rules.ensures) ∙ c.if-not-rules.false,
+                    ap (λ (r : Rules). r.causes) (sym c.of-rules.ensures) ∙ not_false c.of-rules.result.causes c.if-not-rules.false,
                     subst (λ (n : ℕ). ReadsFrom c.args.context.now.log.now e n c.in-Some-edge_at.edge.transaction) c.if-edge-met.false edge.1,
                   )),
               s.1,

@@ -1,6 +1,7 @@
 use Rattle.std.proofs.Common.{ℕ, ◌∷◌, inl, sym, ap, ◌∙◌, subst}
 use Rattle.hek_levels.specs.declared.rules.Rules.{Rules}
 use Rattle.hek_levels.specs.Seen.{IsBefore}
+use Rattle.hek_levels_refutation.proofs.Refuting.{not_false}
 use Rattle.hek_levels_refutation.proofs.seeing.shows_before.Goals as goal
 
 pub returns : goal.returns
@@ -12,7 +13,7 @@ returns c e x hold =
           let s = v.1 read there in (
             c.in-Some.met.transaction ∷ s.0,
             (
-              inl (ap (λ (r : Rules). r.prefix) (sym c.of-rules.ensures) ∙ c.if-not-rules.false, subst (λ (n : ℕ). IsBefore e c.in-Some-pair_at.pair.first n) c.if-pair-met.false before),
+              inl (ap (λ (r : Rules). r.prefix) (sym c.of-rules.ensures) ∙ not_false c.of-rules.result.prefix c.if-not-rules.false, subst (λ (n : ℕ). IsBefore e c.in-Some-pair_at.pair.first n) c.if-pair-met.false before),
               s.1,
             ),
           ),
