@@ -15,6 +15,7 @@ mod keys;
 mod known;
 mod lanes;
 mod lists;
+mod narrowing;
 mod nodes;
 mod order;
 mod problem;
@@ -28,6 +29,7 @@ mod sight;
 mod sourcing;
 mod start;
 mod steps;
+mod visible;
 
 pub use judging::{Guess, Hint, Progress, Shown, Verdict, judge};
 pub use keys::Keys;
