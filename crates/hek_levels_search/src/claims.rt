@@ -18,6 +18,22 @@ pub(crate) struct Arrival {
     pub entered: usize,
 }
 
+/// A path so far: the claim that its first node is before its last commit, how it comes to the begin at which it is, and where it
+/// entered the clock.
+#[derive(Clone, Copy)]
+struct Chain {
+    joined: Option<usize>,
+    came: Option<Arrival>,
+    entered: usize,
+}
+
+/// No path.
+const NO_CHAIN: Chain = Chain {
+    joined: None,
+    came: None,
+    entered: NOWHERE,
+};
+
 impl Writing<'_, '_> {
     /// Adds a step whose claim is added to those that are shown. Answers the place of the claim.
     pub(crate) fn put(&mut self, step: Step) -> Result<usize, NoMemory> {
@@ -300,13 +316,7 @@ impl Writing<'_, '_> {
         source: Source,
     ) -> Result<usize, NoMemory> {
         if let Rule::NotCovered(count) = rule {
-            let rest = self.known.facts.path_len(fact);
-            let before = match self.chain(fact, 0, count)? {
-                Some(before) => before,
-                None => NOWHERE,
-            };
-            let visible = self.visible_from(fact, count, rest, reading)?;
-            return self.put(Step::NotOlder { visible, before });
+            return self.build_not_covered(fact, count, reading);
         }
         let out = self.known.facts.premise(fact, 0);
         let begin = self.known.facts.ends(out).0;
@@ -338,6 +348,19 @@ impl Writing<'_, '_> {
         self.refute_visible(case, out, overwritten, rest, visible)
     }
 
+    /// Adds the steps that exclude a source since another is after it, by so many facts, and before the reader.
+    fn build_not_covered(
+        &mut self,
+        fact: usize,
+        count: usize,
+        reading: usize,
+    ) -> Result<usize, NoMemory> {
+        let rest = self.known.facts.path_len(fact);
+        let before = self.chain(fact, 0, count)?.unwrap_or(NOWHERE);
+        let visible = self.visible_from(fact, count, rest, reading)?;
+        self.put(Step::NotOlder { visible, before })
+    }
+
     /// The claim of the path on which a fact rests.
     fn path_claim(&mut self, fact: usize) -> Result<usize, NoMemory> {
         let count = self.known.facts.path_len(fact);
@@ -352,40 +375,49 @@ impl Writing<'_, '_> {
         from: usize,
         to: usize,
     ) -> Result<Option<usize>, NoMemory> {
-        let mut joined = None;
-        let mut came: Option<Arrival> = None;
-        let mut entered = NOWHERE;
+        let mut chain = NO_CHAIN;
         for turn in from..to {
             let premise = self.known.facts.premise(fact, turn);
-            let rule = self.known.facts.get(premise).rule;
-            match rule {
-                Rule::Enter => entered = premise,
-                Rule::Later => {}
-                _ => {
-                    let here = Arrival {
-                        fact: premise,
-                        entered,
-                    };
-                    let claim = match came {
-                        Some(arrival) => Some(self.cross(arrival, premise)?),
-                        None => None,
-                    };
-                    let second = self.known.facts.ends(premise).1;
-                    came = if self.begins(second).is_some() {
-                        Some(here)
-                    } else {
-                        None
-                    };
-                    if let Some(claim) = claim {
-                        joined = Some(self.join(joined, claim)?);
-                    } else if came.is_none() {
-                        let claim = self.arrive(here)?;
-                        joined = Some(self.join(joined, claim)?);
-                    }
-                }
-            }
+            chain = self.go_along(chain, premise)?;
         }
-        Ok(joined)
+        Ok(chain.joined)
+    }
+
+    /// Adds a fact to a chain.
+    fn go_along(&mut self, chain: Chain, premise: usize) -> Result<Chain, NoMemory> {
+        match self.known.facts.get(premise).rule {
+            Rule::Enter => Ok(Chain {
+                entered: premise,
+                ..chain
+            }),
+            Rule::Later => Ok(chain),
+            _ => self.go_over(chain, premise),
+        }
+    }
+
+    /// Adds a fact between two transactions to a chain, or one that leaves the clock.
+    fn go_over(&mut self, chain: Chain, premise: usize) -> Result<Chain, NoMemory> {
+        let here = Arrival {
+            fact: premise,
+            entered: chain.entered,
+        };
+        let second = self.known.facts.ends(premise).1;
+        let came = if self.begins(second).is_some() {
+            Some(here)
+        } else {
+            None
+        };
+        let claim = match chain.came {
+            Some(arrival) => self.cross(arrival, premise)?,
+            None if came.is_some() => return Ok(Chain { came, ..chain }),
+            None => self.arrive(here)?,
+        };
+        let joined = Some(self.join(chain.joined, claim)?);
+        Ok(Chain {
+            joined,
+            came,
+            ..chain
+        })
     }
 
     /// Adds a claim to that of the path before it.

@@ -10,6 +10,7 @@ mod facts;
 mod front;
 mod graph;
 mod guessed;
+mod hops;
 mod judging;
 mod keys;
 mod known;

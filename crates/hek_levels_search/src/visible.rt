@@ -3,8 +3,17 @@ use crate::claims::{Arrival, NOWHERE};
 use crate::facts::Rule;
 use crate::sight::{Hop, Way};
 use crate::steps::Writing;
+use hek_levels::Place;
 use hek_levels_refutation::{Link, Step};
 use hek_rules::NoMemory;
+
+/// Where a hop of a reading starts: at its reader, or at another whom it sees by a claim.
+#[derive(Clone, Copy)]
+struct Start {
+    place: Place,
+    seer: usize,
+    visible: Option<usize>,
+}
 
 impl Writing<'_, '_> {
     /// Adds the claim that a reading sees whom a path comes from that arrives where its reader begins.
@@ -117,69 +126,93 @@ impl Writing<'_, '_> {
         from: usize,
         to: usize,
     ) -> Result<usize, NoMemory> {
-        let mut seer = self.reader(reading);
-        let mut visible = NOWHERE;
+        let place = self.place(reading);
+        let mut start = Start {
+            place,
+            seer: self.reader(reading),
+            visible: None,
+        };
         let mut used: usize = 0;
         for turn in from..to {
             let hop = self.known.hop(turn);
-            visible = self.hop_claim(fact, reading, seer, visible, turn == from, hop, used)?;
+            let visible = self.hop_claim(fact, start, hop, used)?;
             used = used.saturating_add(hop.path);
-            seer = hop.to;
+            start = Start {
+                place,
+                seer: hop.to,
+                visible: Some(visible),
+            };
         }
-        Ok(visible)
+        Ok(start.visible.unwrap_or(NOWHERE))
     }
 
-    /// Adds the claim that a reading sees where a hop leads, from the reader itself, or from one that is seen. Of the premises of the fact
-    /// so many belong to hops before.
+    /// Adds the claim that a reading sees where a hop leads. Of the premises of the fact so many belong to hops before.
     fn hop_claim(
         &mut self,
         fact: usize,
-        reading: usize,
-        seer: usize,
-        visible: usize,
-        is_first: bool,
+        start: Start,
         hop: Hop,
         used: usize,
     ) -> Result<usize, NoMemory> {
-        let place = self.place(reading);
-        let link = match hop.way {
-            Way::Own(own) => {
-                let source = self.source(fact, own)?;
-                return if is_first {
-                    self.put(Step::Own { source, place })
-                } else {
-                    self.put(Step::Shows { visible, source })
-                };
+        let other = hop.to;
+        match hop.way {
+            Way::Own(own) => self.own_claim(fact, start, own),
+            Way::Turn => {
+                let before = self.turn_between(fact, other, start.seer)?;
+                self.link_claim(fact, start, Link::Turn { other, before })
             }
-            Way::Turn => Link::Turn {
-                other: hop.to,
-                before: self.turn_between(fact, hop.to, seer)?,
-            },
-            Way::Brought(through, own) => Link::Reads {
-                through,
-                before: self.turn_between(fact, through, seer)?,
-                source: self.source(fact, own)?,
-            },
+            Way::Brought(through, own) => self.brought_claim(fact, start, through, own),
             Way::Writer(key) => {
                 let end = used.saturating_add(hop.path);
-                Link::Writers {
-                    other: hop.to,
-                    key: self.key(key),
-                    before: self.chain(fact, used, end)?.unwrap_or(NOWHERE),
-                }
+                let before = self.chain(fact, used, end)?.unwrap_or(NOWHERE);
+                let key = self.key(key);
+                self.link_claim(fact, start, Link::Writers { other, key, before })
             }
-        };
-        if is_first {
-            let taken = self.taken(fact, seer);
-            self.put(Step::Linked {
-                reader: seer,
-                place,
-                taken,
-                link,
-            })
-        } else {
-            self.put(Step::ShowsLinked { visible, link })
         }
+    }
+
+    /// Adds the claim that a reading sees the source of a reading of the one at which a hop starts.
+    fn own_claim(&mut self, fact: usize, start: Start, own: usize) -> Result<usize, NoMemory> {
+        let source = self.source(fact, own)?;
+        match start.visible {
+            Some(visible) => self.put(Step::Shows { visible, source }),
+            None => self.put(Step::Own {
+                source,
+                place: start.place,
+            }),
+        }
+    }
+
+    /// Adds the claim that a reading sees the source of a reading of one who is before the one at which a hop starts, by turns.
+    fn brought_claim(
+        &mut self,
+        fact: usize,
+        start: Start,
+        through: usize,
+        own: usize,
+    ) -> Result<usize, NoMemory> {
+        let before = self.turn_between(fact, through, start.seer)?;
+        let source = self.source(fact, own)?;
+        let link = Link::Reads {
+            through,
+            before,
+            source,
+        };
+        self.link_claim(fact, start, link)
+    }
+
+    /// Adds the claim that a reading sees where a link leads from the one at which a hop starts.
+    fn link_claim(&mut self, fact: usize, start: Start, link: Link) -> Result<usize, NoMemory> {
+        if let Some(visible) = start.visible {
+            return self.put(Step::ShowsLinked { visible, link });
+        }
+        let taken = self.taken(fact, start.seer);
+        self.put(Step::Linked {
+            reader: start.seer,
+            place: start.place,
+            taken,
+            link,
+        })
     }
 
     /// Adds the claim that one transaction is before another by turns.
