@@ -3,6 +3,7 @@
 
 mod alone;
 mod anomaly;
+mod by_turns;
 mod cause;
 mod cycles;
 mod edges;
