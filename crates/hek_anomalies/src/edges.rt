@@ -1,9 +1,8 @@
 //! The edges of links.
-use crate::by_turns::turn_between;
 use crate::cause::{CycleEdge, EdgeKind, Evidence, Sighting};
 use crate::evident::Evident;
 use crate::lanes::Lane;
-use crate::links::{Link, NONE, Shown, transaction_of};
+use crate::links::{Link, NONE, Shown, transaction_of, turn_between};
 use hek_levels::Writer;
 use hek_levels_search::{Problem, Reading, add};
 use hek_rules::NoMemory;

@@ -1,7 +1,7 @@
 //! What answers show by themselves: the reads that have one source, and who takes place.
-use crate::by_turns::turn_between;
 use crate::cause::Answer;
 use crate::lanes::Lanes;
+use crate::links::turn_between;
 use hek_history::History;
 use hek_levels::{Need, Writer, misses, scans_of};
 use hek_levels_search::{Problem, Reading, add, at, put};

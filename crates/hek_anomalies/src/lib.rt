@@ -3,7 +3,6 @@
 
 mod alone;
 mod anomaly;
-mod by_turns;
 mod cause;
 mod cycles;
 mod edges;

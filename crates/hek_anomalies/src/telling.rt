@@ -6,7 +6,7 @@ use crate::evident::Evident;
 use crate::lanes::Lanes;
 use crate::steps::{absences_in, cause_of_steps};
 use hek_history::History;
-use hek_levels::{Asked, Log, Place, Scan, Writer, misses, read_at, scans_of, writes_of};
+use hek_levels::{Asked, Log, Place, Writer, misses, read_at, scans_of, writes_of};
 use hek_levels_refutation::Step;
 use hek_levels_search::{Absence, Problem, add, reduced};
 use hek_rules::NoMemory;
@@ -50,78 +50,38 @@ pub fn causes_at(alloc: Global, telling: Telling<'_>, all: bool) -> Result<Vec<C
     Ok(causes)
 }
 
-/// How many scans there are.
-fn count_scans(log: &Log) -> usize {
+/// Adds the keys that scans miss and that somebody names, if they are few.
+fn list_few(log: &Log, listed: &mut Vec<Absence>) -> Result<(), NoMemory> {
+    let before = listed.len();
     let mut scans: usize = 0;
     for t in 0..log.transactions.len() {
         scans = scans.saturating_add(scans_of(log, t).len());
     }
-    scans
-}
-
-/// Adds the keys that scans miss and that somebody names, if they are few.
-fn list_few(log: &Log, listed: &mut Vec<Absence>) -> Result<(), NoMemory> {
-    let before = listed.len();
-    if count_scans(log).saturating_mul(log.transactions.len()) > MOST_PAIRS {
+    if scans.saturating_mul(log.transactions.len()) > MOST_PAIRS {
         return Ok(());
     }
     for t in 0..log.transactions.len() {
-        if !list_by(log, t, listed)? {
-            listed.truncate(before);
-            return Ok(());
+        for (place, scan) in scans_of(log, t).iter().enumerate() {
+            for other in 0..log.transactions.len() {
+                for change in writes_of(log, other) {
+                    if misses(scan, change.key) {
+                        let absence = Absence {
+                            transaction: t,
+                            scan: place,
+                            key: change.key,
+                        };
+                        add(listed, absence)?;
+                    }
+                }
+                if listed.len() > MOST_ABSENCES {
+                    listed.truncate(before);
+                    return Ok(());
+                }
+            }
         }
     }
     listed.sort_unstable();
     listed.dedup();
-    Ok(())
-}
-
-/// Adds the keys that the scans of a transaction miss and that somebody names. Answers whether they are few.
-fn list_by(log: &Log, t: usize, listed: &mut Vec<Absence>) -> Result<bool, NoMemory> {
-    for (place, scan) in scans_of(log, t).iter().enumerate() {
-        if !list_in(log, t, place, scan, listed)? {
-            return Ok(false);
-        }
-    }
-    Ok(true)
-}
-
-/// Adds the keys that a scan misses and that somebody names. Answers whether they are few.
-fn list_in(
-    log: &Log,
-    t: usize,
-    place: usize,
-    scan: &Scan,
-    listed: &mut Vec<Absence>,
-) -> Result<bool, NoMemory> {
-    for other in 0..log.transactions.len() {
-        list_named(log, other, t, place, scan, listed)?;
-        if listed.len() > MOST_ABSENCES {
-            return Ok(false);
-        }
-    }
-    Ok(true)
-}
-
-/// Adds the keys that a scan misses and that one transaction names.
-fn list_named(
-    log: &Log,
-    other: usize,
-    t: usize,
-    place: usize,
-    scan: &Scan,
-    listed: &mut Vec<Absence>,
-) -> Result<(), NoMemory> {
-    for change in writes_of(log, other) {
-        if misses(scan, change.key) {
-            let absence = Absence {
-                transaction: t,
-                scan: place,
-                key: change.key,
-            };
-            add(listed, absence)?;
-        }
-    }
     Ok(())
 }
 
