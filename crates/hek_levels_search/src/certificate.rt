@@ -257,28 +257,42 @@ impl Problem<'_> {
         most: usize,
         left: &mut Vec<Absence>,
     ) -> Result<(), NoMemory> {
-        let mut count: usize = 0;
+        let mut room = most;
         let (from, to) = self.keys.places_of(scan.scope);
         if let Scope::Range(_, _) = scan.scope {
-            if from <= to {
-                for key in present.keys.range(from..to) {
-                    if count < most && self.note_missed(t, place, scan, *key, left)? {
-                        count = count.saturating_add(1);
-                    }
+            for key in present.keys.range(from..) {
+                if *key >= to || room == 0 {
+                    break;
+                }
+                if self.note_missed(t, place, scan, *key, left)? {
+                    room = room.saturating_sub(1);
                 }
             }
             return Ok(());
         }
         for there in from..to {
             let key = self.keys.key_at(scan.scope, there);
-            if count < most
-                && present.keys.contains(&key)
-                && self.note_missed(t, place, scan, key, left)?
-            {
-                count = count.saturating_add(1);
+            if room > 0 && self.note_present(present, t, place, scan, key, left)? {
+                room = room.saturating_sub(1);
             }
         }
         Ok(())
+    }
+
+    /// Notes a key, if it has a row and the scan misses it.
+    fn note_present(
+        &self,
+        present: &Present,
+        t: usize,
+        scan: usize,
+        one: &Scan,
+        key: usize,
+        left: &mut Vec<Absence>,
+    ) -> Result<bool, NoMemory> {
+        if present.keys.contains(&key) {
+            return self.note_missed(t, scan, one, key, left);
+        }
+        Ok(false)
     }
 
     /// Notes a key with a row, if the scan misses it.

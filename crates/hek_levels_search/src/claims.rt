@@ -1,24 +1,38 @@
 //! The steps of each fact, over the claims of those on which it rests. A premise that isn't there makes the certificate wrong.
-use crate::clock::turn_at;
 use crate::facts::{Rule, Says};
-use crate::lists::{add, at};
+use crate::lists::add;
 use crate::nodes::Moment;
 use crate::problem::Source;
-use crate::sight::{Hop, Way};
 use crate::steps::Writing;
 use hek_levels::{Place, Writer};
 use hek_levels_refutation::{Link, Step};
 use hek_rules::NoMemory;
 
 /// No claim.
-const NOWHERE: usize = usize::MAX;
+pub(crate) const NOWHERE: usize = usize::MAX;
 
 /// How a path comes to a node: by a fact, which may leave the clock that another entered.
 #[derive(Clone, Copy)]
-struct Arrival {
-    fact: usize,
+pub(crate) struct Arrival {
+    pub fact: usize,
+    pub entered: usize,
+}
+
+/// A path so far: the claim that its first node is before its last commit, how it comes to the begin at which it is, and where it
+/// entered the clock.
+#[derive(Clone, Copy)]
+struct Chain {
+    joined: Option<usize>,
+    came: Option<Arrival>,
     entered: usize,
 }
+
+/// No path.
+const NO_CHAIN: Chain = Chain {
+    joined: None,
+    came: None,
+    entered: NOWHERE,
+};
 
 impl Writing<'_, '_> {
     /// Adds a step whose claim is added to those that are shown. Answers the place of the claim.
@@ -30,7 +44,7 @@ impl Writing<'_, '_> {
     }
 
     /// The claim of a fact.
-    fn claim(&self, fact: usize) -> usize {
+    pub(crate) fn claim(&self, fact: usize) -> usize {
         match self.place_of(fact) {
             Some(place) => place,
             None => NOWHERE,
@@ -38,7 +52,7 @@ impl Writing<'_, '_> {
     }
 
     /// The claim among the premises of a fact that a transaction takes place.
-    fn taken(&self, fact: usize, t: usize) -> Option<usize> {
+    pub(crate) fn taken(&self, fact: usize, t: usize) -> Option<usize> {
         let taken = self.known.facts.taken_of(fact, t)?;
         self.place_of(taken)
     }
@@ -52,27 +66,27 @@ impl Writing<'_, '_> {
     }
 
     /// The transaction of a node; the opening has none.
-    fn transaction(&self, node: usize) -> usize {
+    pub(crate) fn transaction(&self, node: usize) -> usize {
         match self.known.nodes.transaction(node) {
             Some(t) => t,
             None => NOWHERE,
         }
     }
 
-    fn key(&self, key: usize) -> u64 {
+    pub(crate) fn key(&self, key: usize) -> u64 {
         self.known.problem.keys.name(key)
     }
 
-    fn reader(&self, reading: usize) -> usize {
+    pub(crate) fn reader(&self, reading: usize) -> usize {
         self.known.problem.reading(reading).reader
     }
 
-    fn place(&self, reading: usize) -> Place {
+    pub(crate) fn place(&self, reading: usize) -> Place {
         self.known.problem.reading(reading).place
     }
 
     /// The writer of a source.
-    fn writer_of(&self, source: Source) -> Writer {
+    pub(crate) fn writer_of(&self, source: Source) -> Writer {
         match self.known.problem.transaction_of(source) {
             Some(t) => Writer::Transaction(t),
             None => Writer::Opening,
@@ -80,7 +94,7 @@ impl Writing<'_, '_> {
     }
 
     /// The transaction whose begin a node is, if it isn't its commit too.
-    fn begins(&self, node: usize) -> Option<usize> {
+    pub(crate) fn begins(&self, node: usize) -> Option<usize> {
         match self.known.nodes.moment(node) {
             Some(Moment::Begin(t)) => Some(t),
             _ => None,
@@ -115,7 +129,9 @@ impl Writing<'_, '_> {
             Says::Taken(_) => {
                 let read = self.known.facts.premise(fact, 0);
                 let premise = self.claim(read);
-                let taken = self.taken(fact, self.transaction(self.known.facts.ends(read).1));
+                let second = self.known.facts.ends(read).1;
+                let reader = self.transaction(second);
+                let taken = self.taken(fact, reader);
                 Some(self.put(Step::In { premise, taken })?)
             }
             Says::Contradiction => None,
@@ -179,10 +195,11 @@ impl Writing<'_, '_> {
             first: x,
             second: t,
         })?;
+        let reader = self.reader(reading);
         let visible = self.put(Step::Whole {
             before: case,
             place: self.place(reading),
-            taken: self.taken(fact, self.reader(reading)),
+            taken: self.taken(fact, reader),
         })?;
         self.refute_newer(case, visible, source, later)
     }
@@ -299,13 +316,7 @@ impl Writing<'_, '_> {
         source: Source,
     ) -> Result<usize, NoMemory> {
         if let Rule::NotCovered(count) = rule {
-            let rest = self.known.facts.path_len(fact);
-            let before = match self.chain(fact, 0, count)? {
-                Some(before) => before,
-                None => NOWHERE,
-            };
-            let visible = self.visible_from(fact, count, rest, reading)?;
-            return self.put(Step::NotOlder { visible, before });
+            return self.build_not_covered(fact, count, reading);
         }
         let out = self.known.facts.premise(fact, 0);
         let begin = self.known.facts.ends(out).0;
@@ -337,6 +348,19 @@ impl Writing<'_, '_> {
         self.refute_visible(case, out, overwritten, rest, visible)
     }
 
+    /// Adds the steps that exclude a source since another is after it, by so many facts, and before the reader.
+    fn build_not_covered(
+        &mut self,
+        fact: usize,
+        count: usize,
+        reading: usize,
+    ) -> Result<usize, NoMemory> {
+        let rest = self.known.facts.path_len(fact);
+        let before = self.chain(fact, 0, count)?.unwrap_or(NOWHERE);
+        let visible = self.visible_from(fact, count, rest, reading)?;
+        self.put(Step::NotOlder { visible, before })
+    }
+
     /// The claim of the path on which a fact rests.
     fn path_claim(&mut self, fact: usize) -> Result<usize, NoMemory> {
         let count = self.known.facts.path_len(fact);
@@ -351,40 +375,49 @@ impl Writing<'_, '_> {
         from: usize,
         to: usize,
     ) -> Result<Option<usize>, NoMemory> {
-        let mut joined = None;
-        let mut came: Option<Arrival> = None;
-        let mut entered = NOWHERE;
+        let mut chain = NO_CHAIN;
         for turn in from..to {
             let premise = self.known.facts.premise(fact, turn);
-            let rule = self.known.facts.get(premise).rule;
-            match rule {
-                Rule::Enter => entered = premise,
-                Rule::Later => {}
-                _ => {
-                    let here = Arrival {
-                        fact: premise,
-                        entered,
-                    };
-                    let claim = match came {
-                        Some(arrival) => Some(self.cross(arrival, premise)?),
-                        None => None,
-                    };
-                    let second = self.known.facts.ends(premise).1;
-                    came = if self.begins(second).is_some() {
-                        Some(here)
-                    } else {
-                        None
-                    };
-                    if let Some(claim) = claim {
-                        joined = Some(self.join(joined, claim)?);
-                    } else if came.is_none() {
-                        let claim = self.arrive(here)?;
-                        joined = Some(self.join(joined, claim)?);
-                    }
-                }
-            }
+            chain = self.go_along(chain, premise)?;
         }
-        Ok(joined)
+        Ok(chain.joined)
+    }
+
+    /// Adds a fact to a chain.
+    fn go_along(&mut self, chain: Chain, premise: usize) -> Result<Chain, NoMemory> {
+        match self.known.facts.get(premise).rule {
+            Rule::Enter => Ok(Chain {
+                entered: premise,
+                ..chain
+            }),
+            Rule::Later => Ok(chain),
+            _ => self.go_over(chain, premise),
+        }
+    }
+
+    /// Adds a fact between two transactions to a chain, or one that leaves the clock.
+    fn go_over(&mut self, chain: Chain, premise: usize) -> Result<Chain, NoMemory> {
+        let here = Arrival {
+            fact: premise,
+            entered: chain.entered,
+        };
+        let second = self.known.facts.ends(premise).1;
+        let came = if self.begins(second).is_some() {
+            Some(here)
+        } else {
+            None
+        };
+        let claim = match chain.came {
+            Some(arrival) => self.cross(arrival, premise)?,
+            None if came.is_some() => return Ok(Chain { came, ..chain }),
+            None => self.arrive(here)?,
+        };
+        let joined = Some(self.join(chain.joined, claim)?);
+        Ok(Chain {
+            joined,
+            came,
+            ..chain
+        })
     }
 
     /// Adds a claim to that of the path before it.
@@ -404,9 +437,11 @@ impl Writing<'_, '_> {
     }
 
     /// Adds the claim that a transaction is before another by turns.
-    fn turn_claim(&mut self, arrival: Arrival) -> Result<usize, NoMemory> {
-        let x = self.transaction(self.known.facts.ends(arrival.entered).0);
-        let t = self.transaction(self.known.facts.ends(arrival.fact).1);
+    pub(crate) fn turn_claim(&mut self, arrival: Arrival) -> Result<usize, NoMemory> {
+        let first = self.known.facts.ends(arrival.entered).0;
+        let second = self.known.facts.ends(arrival.fact).1;
+        let x = self.transaction(first);
+        let t = self.transaction(second);
         self.put(Step::Turn {
             first: x,
             second: t,
@@ -420,8 +455,9 @@ impl Writing<'_, '_> {
         let Rule::After(reading) = self.known.facts.get(out).rule else {
             return self.arrive(arrival);
         };
+        let second = self.known.facts.ends(out).1;
         let x = self.seen_by(arrival);
-        let z = self.writer(self.known.facts.ends(out).1);
+        let z = self.writer(second);
         if self.source_named(out, reading) == Some(x) {
             return Ok(self.claim(out));
         }
@@ -447,302 +483,6 @@ impl Writing<'_, '_> {
             _ => arrival.fact,
         };
         self.writer(self.known.facts.ends(from).0)
-    }
-
-    /// Adds the claim that a reading sees whom a path comes from that arrives where its reader begins.
-    fn see(&mut self, arrival: Arrival, reading: usize) -> Result<usize, NoMemory> {
-        let place = self.place(reading);
-        let t = self.reader(reading);
-        match self.known.facts.get(arrival.fact).rule {
-            Rule::Read(own) => {
-                let source = self.source(arrival.fact, own)?;
-                self.put(Step::Own { source, place })
-            }
-            Rule::Winner { first, key, .. } => {
-                let link = Link::Writers {
-                    other: first,
-                    key: self.key(key),
-                    before: self.claim(arrival.fact),
-                };
-                let taken = self.taken(arrival.fact, t);
-                self.put(Step::Linked {
-                    reader: t,
-                    place,
-                    taken,
-                    link,
-                })
-            }
-            Rule::Leave(_) => {
-                let before = self.turn_claim(arrival)?;
-                let link = Link::Turn {
-                    other: self.transaction(self.known.facts.ends(arrival.entered).0),
-                    before,
-                };
-                let taken = self.taken(arrival.fact, t);
-                self.put(Step::Linked {
-                    reader: t,
-                    place,
-                    taken,
-                    link,
-                })
-            }
-            _ => Ok(NOWHERE),
-        }
-    }
-
-    /// Adds the claim that a reading sees the transaction from which the path leads on which a fact rests.
-    fn visible(&mut self, fact: usize, reading: usize) -> Result<usize, NoMemory> {
-        let count = self.known.facts.path_len(fact);
-        self.visible_from(fact, 0, count, reading)
-    }
-
-    /// Adds the claim that a reading sees the transaction from which a path leads to where its reader begins. The path is the premises
-    /// of a fact from a place up to another.
-    fn visible_from(
-        &mut self,
-        fact: usize,
-        from: usize,
-        to: usize,
-        reading: usize,
-    ) -> Result<usize, NoMemory> {
-        let t = self.reader(reading);
-        let last = self.known.facts.premise(fact, to.saturating_sub(1));
-        let end = self.known.facts.ends(last).1;
-        if self.begins(end).is_none() {
-            let before = self.chain(fact, from, to)?.unwrap_or(NOWHERE);
-            return self.put(Step::Whole {
-                before,
-                place: self.place(reading),
-                taken: self.taken(fact, t),
-            });
-        }
-        let start = self.arrival_start(fact, from, to);
-        let before = self.chain(fact, from, start)?;
-        let entered = self.known.facts.premise(fact, start);
-        let visible = self.see(
-            Arrival {
-                fact: last,
-                entered,
-            },
-            reading,
-        )?;
-        match before {
-            Some(before) => self.put(Step::ShowsBefore { visible, before }),
-            None => Ok(visible),
-        }
-    }
-
-    /// Where the last arrival of a path begins: at its last fact, or where it enters the clock that this fact leaves.
-    fn arrival_start(&self, fact: usize, from: usize, to: usize) -> usize {
-        let mut place = to.saturating_sub(1);
-        let last = self.known.facts.premise(fact, place);
-        if let Rule::Leave(_) = self.known.facts.get(last).rule {
-            for _ in from..to {
-                if let Rule::Enter = self
-                    .known
-                    .facts
-                    .get(self.known.facts.premise(fact, place))
-                    .rule
-                {
-                    break;
-                }
-                place = place.saturating_sub(1);
-            }
-        }
-        place
-    }
-
-    /// Adds the claim that a reading sees the last of some hops.
-    fn visible_by_hops(
-        &mut self,
-        fact: usize,
-        reading: usize,
-        from: usize,
-        to: usize,
-    ) -> Result<usize, NoMemory> {
-        let mut seer = self.reader(reading);
-        let mut visible = NOWHERE;
-        let mut used: usize = 0;
-        for turn in from..to {
-            let hop = self.known.hop(turn);
-            visible = self.hop_claim(fact, reading, seer, visible, turn == from, hop, used)?;
-            used = used.saturating_add(hop.path);
-            seer = hop.to;
-        }
-        Ok(visible)
-    }
-
-    /// Adds the claim that a reading sees where a hop leads, from the reader itself, or from one that is seen. Of the premises of the fact
-    /// so many belong to hops before.
-    fn hop_claim(
-        &mut self,
-        fact: usize,
-        reading: usize,
-        seer: usize,
-        visible: usize,
-        is_first: bool,
-        hop: Hop,
-        used: usize,
-    ) -> Result<usize, NoMemory> {
-        let place = self.place(reading);
-        let link = match hop.way {
-            Way::Own(own) => {
-                let source = self.source(fact, own)?;
-                return if is_first {
-                    self.put(Step::Own { source, place })
-                } else {
-                    self.put(Step::Shows { visible, source })
-                };
-            }
-            Way::Turn => Link::Turn {
-                other: hop.to,
-                before: self.turn_between(fact, hop.to, seer)?,
-            },
-            Way::Brought(through, own) => Link::Reads {
-                through,
-                before: self.turn_between(fact, through, seer)?,
-                source: self.source(fact, own)?,
-            },
-            Way::Writer(key) => {
-                let end = used.saturating_add(hop.path);
-                Link::Writers {
-                    other: hop.to,
-                    key: self.key(key),
-                    before: self.chain(fact, used, end)?.unwrap_or(NOWHERE),
-                }
-            }
-        };
-        if is_first {
-            let taken = self.taken(fact, seer);
-            self.put(Step::Linked {
-                reader: seer,
-                place,
-                taken,
-                link,
-            })
-        } else {
-            self.put(Step::ShowsLinked { visible, link })
-        }
-    }
-
-    /// Adds the claim that one transaction is before another by turns.
-    fn turn_between(&mut self, fact: usize, x: usize, t: usize) -> Result<usize, NoMemory> {
-        self.put(Step::Turn {
-            first: x,
-            second: t,
-            first_taken: self.taken(fact, x),
-            second_taken: self.taken(fact, t),
-        })
-    }
-
-    /// The claim of the source of a reading: of a fact among the premises, or of its only candidate.
-    fn source(&mut self, fact: usize, reading: usize) -> Result<usize, NoMemory> {
-        if let Some(settled) = self.known.facts.settled_in(fact, reading) {
-            return Ok(self.claim(settled));
-        }
-        if let Some(place) = self.narrowed(reading) {
-            return Ok(place);
-        }
-        let only = at(self.known.only.as_slice(), reading, None);
-        let place = self.narrow(fact, reading, only)?;
-        self.note_narrowed(reading, place)?;
-        Ok(place)
-    }
-
-    /// The writer that a fact has for the source of a reading.
-    fn source_named(&self, fact: usize, reading: usize) -> Option<Writer> {
-        if let Some(settled) = self.known.facts.settled_in(fact, reading) {
-            if let Says::Source { source, .. } = self.known.facts.get(settled).says {
-                return Some(self.writer_of(source));
-            }
-        }
-        let only = at(self.known.only.as_slice(), reading, None)?;
-        Some(self.writer_of(only))
-    }
-
-    /// The claim that excludes a source, by one of the premises of a fact.
-    fn exclusion(&self, fact: usize, source: Source) -> usize {
-        let premise = self.known.facts.exclusion(fact, source);
-        self.claim(premise)
-    }
-
-    /// Adds the steps that leave one candidate of a reading, or none, by the premises of a fact.
-    fn narrow(
-        &mut self,
-        fact: usize,
-        reading: usize,
-        kept: Option<Source>,
-    ) -> Result<usize, NoMemory> {
-        let mut from = self.put(Step::Start {
-            reader: self.reader(reading),
-            place: self.place(reading),
-            taken: self.taken(fact, self.reader(reading)),
-        })?;
-        let mut excluded = Vec::new(self.known.alloc);
-        self.find_excluded(reading, kept, &mut excluded)?;
-        let kept_number = match kept {
-            Some(source) => self.number_of(source),
-            None => usize::MAX,
-        };
-        for one in &excluded {
-            if one.0 < kept_number {
-                from = self.put(Step::Skip {
-                    from,
-                    number: one.0,
-                })?;
-                let not = self.exclusion(fact, one.1);
-                from = self.put(Step::Drop { from, not })?;
-            }
-        }
-        for one in excluded.iter().rev() {
-            if one.0 > kept_number {
-                from = self.put(Step::SkipBack {
-                    from,
-                    number: one.0.saturating_add(1),
-                })?;
-                let not = self.exclusion(fact, one.1);
-                from = self.put(Step::DropBack { from, not })?;
-            }
-        }
-        if kept.is_none() {
-            return Ok(from);
-        }
-        from = self.put(Step::Skip {
-            from,
-            number: kept_number,
-        })?;
-        self.put(Step::Only { from })
-    }
-
-    /// The number of a source: that of the opening is 0.
-    fn number_of(&self, source: Source) -> usize {
-        match self.known.problem.transaction_of(source) {
-            Some(t) => t.saturating_add(1),
-            None => 0,
-        }
-    }
-
-    /// Finds the candidates of a reading but the one that is kept, by their numbers.
-    fn find_excluded(
-        &self,
-        reading: usize,
-        kept: Option<Source>,
-        excluded: &mut Vec<(usize, Source)>,
-    ) -> Result<(), NoMemory> {
-        let one = self.known.problem.reading(reading);
-        let candidates = self.known.problem.candidates(one);
-        if candidates.opening && kept != Some(Source::Opening) {
-            add(excluded, (0, Source::Opening))?;
-        }
-        for row in candidates.from..candidates.to {
-            let source = Source::Row(row);
-            let is_own = self.known.problem.writer_of(row) == Some(one.reader);
-            if !is_own && kept != Some(source) {
-                add(excluded, (self.number_of(source), source))?;
-            }
-        }
-        excluded.sort_unstable_by_key(|one| one.0);
-        Ok(())
     }
 
     /// Adds the steps of a conflict, the last of which is a contradiction.

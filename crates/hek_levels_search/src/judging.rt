@@ -316,7 +316,7 @@ fn turn_points(
     points: Vec<Point>,
     most: usize,
 ) -> Result<Turned, NoMemory>
-    ensures { IfOk result (λ turned. IsTurned question.asked.now question.log.now turned) }
+    ensures { IfOk result (λ turned. IsTurned question.entry.asked.now question.entry.log.now turned) }
 {
     let missed = problem.missed(question.alloc, points.as_slice(), most)?;
     if !missed.is_empty() {
@@ -328,7 +328,7 @@ fn turn_points(
 
 /// An order with its sources as a verdict; or the keys that scans miss that have no source yet.
 fn turn_sources(question: Question<'_>, known: &Known, replay: &Replay) -> Result<Turned, NoMemory>
-    ensures { IfOk result (λ turned. IsTurned question.asked.now question.log.now turned) }
+    ensures { IfOk result (λ turned. IsTurned question.entry.asked.now question.entry.log.now turned) }
 {
     let Making { certificate, left } = known.certificate(&replay.sourcing)?;
     if !left.is_empty() {
@@ -345,7 +345,7 @@ fn guess_once(
     hints: &[Hint],
     most: usize,
 ) -> Result<Turned, NoMemory>
-    ensures { IfOk result (λ turned. IsTurned question.asked.now question.log.now turned) }
+    ensures { IfOk result (λ turned. IsTurned question.entry.asked.now question.entry.log.now turned) }
 {
     let problem = problem_of(question, listed, &[])?;
     let points = points_by_guess(question.alloc, &problem, hints)?;
@@ -362,7 +362,7 @@ fn by_guess(
     listed: &mut Listed,
     hints: &[Hint],
 ) -> Result<Verdict, NoMemory>
-    ensures { IfOk result (λ verdict. IsVerdict question.asked.now question.log.now verdict) }
+    ensures { IfOk result (λ verdict. IsVerdict question.entry.asked.now question.entry.log.now verdict) }
 {
     let mut most = AT_FIRST;
     for _ in 0..ROUNDS {
@@ -386,7 +386,7 @@ fn by_front(
     hints: &[Hint],
     assumed: &[Turn],
 ) -> Result<Verdict, NoMemory>
-    ensures { IfOk result (λ verdict. IsVerdict question.asked.now question.log.now verdict) }
+    ensures { IfOk result (λ verdict. IsVerdict question.entry.asked.now question.entry.log.now verdict) }
 {
     let problem = problem_of(question, listed, assumed)?;
     match points_from_front(question.alloc, &problem, hints)? {
@@ -403,7 +403,7 @@ fn seek(
     assumed: &[Turn],
     most: usize,
 ) -> Result<Turned, NoMemory>
-    ensures { IfOk result (λ turned. IsTurned question.asked.now question.log.now turned) }
+    ensures { IfOk result (λ turned. IsTurned question.entry.asked.now question.entry.log.now turned) }
 {
     let problem = problem_of(question, listed, assumed)?;
     let mut known = prepared(question.alloc, &problem, hints);
@@ -437,7 +437,7 @@ fn by_search(
     hints: &[Hint],
     assumed: &[Turn],
 ) -> Result<Verdict, NoMemory>
-    ensures { IfOk result (λ verdict. IsVerdict question.asked.now question.log.now verdict) }
+    ensures { IfOk result (λ verdict. IsVerdict question.entry.asked.now question.entry.log.now verdict) }
 {
     let mut most = AT_FIRST;
     for _ in 0..ROUNDS {
@@ -456,7 +456,7 @@ fn by_search(
 
 /// A verdict by searches that assume the turns of a guess.
 fn by_turns(question: Question<'_>, listed: &mut Listed) -> Result<Verdict, NoMemory>
-    ensures { IfOk result (λ verdict. IsVerdict question.asked.now question.log.now verdict) }
+    ensures { IfOk result (λ verdict. IsVerdict question.entry.asked.now question.entry.log.now verdict) }
 {
     for place in 0..question.guesses.len() {
         let hints = hints_of(question.guesses, place);
@@ -477,7 +477,7 @@ fn by_widths(
     listed: &mut Listed,
     hints: &[Hint],
 ) -> Result<Verdict, NoMemory>
-    ensures { IfOk result (λ verdict. IsVerdict question.asked.now question.log.now verdict) }
+    ensures { IfOk result (λ verdict. IsVerdict question.entry.asked.now question.entry.log.now verdict) }
 {
     for width in WIDTHS {
         let assumed = within(question.alloc, question.log, hints, width)?;
@@ -496,7 +496,7 @@ fn by_assumption(
     verdict: Verdict,
 ) -> Result<Verdict, NoMemory>
     requires { IsVerdict question.asked.now question.log.now verdict }
-    ensures { IfOk result (λ verdict. IsVerdict question.asked.now question.log.now verdict) }
+    ensures { IfOk result (λ verdict. IsVerdict question.entry.asked.now question.entry.log.now verdict) }
 {
     let found = by_turns(question, listed)?;
     if is_known(&found) {
@@ -513,7 +513,7 @@ fn by_assumption(
 
 /// The points of an order from the front as a verdict, by the first guess or with the turns of another.
 fn by_fronts(question: Question<'_>, listed: &[Absence]) -> Result<Verdict, NoMemory>
-    ensures { IfOk result (λ verdict. IsVerdict question.asked.now question.log.now verdict) }
+    ensures { IfOk result (λ verdict. IsVerdict question.entry.asked.now question.entry.log.now verdict) }
 {
     if !is_whole(question.asked, question.log) {
         return Ok(Verdict::Unknown(NOWHERE));
@@ -537,7 +537,7 @@ fn by_fronts(question: Question<'_>, listed: &[Absence]) -> Result<Verdict, NoMe
 
 /// The points by each guess as a verdict.
 fn by_guesses(question: Question<'_>, listed: &mut Listed) -> Result<Verdict, NoMemory>
-    ensures { IfOk result (λ verdict. IsVerdict question.asked.now question.log.now verdict) }
+    ensures { IfOk result (λ verdict. IsVerdict question.entry.asked.now question.entry.log.now verdict) }
 {
     for place in 0..question.guesses.len() {
         let found = by_guess(question, listed, hints_of(question.guesses, place))?;

@@ -88,7 +88,12 @@ impl Queues {
 
     /// Whether nobody is before a transaction by turns that still has to take place.
     pub(crate) fn is_next(&self, problem: &Problem, t: usize) -> bool {
-        problem.turns(t).iter().all(|turn| self.has_come(*turn))
+        for turn in problem.turns(t) {
+            if !self.has_come(*turn) {
+                return false;
+            }
+        }
+        true
     }
 
     /// A transaction waits in the first lane where its turn has not come.
@@ -146,11 +151,12 @@ impl Queues {
 
     /// The first who waits in a lane until a number.
     fn first_waiting(&self, lane: usize, last: u64) -> Option<(usize, u64, usize)> {
-        let from = (lane, 0, 0);
-        let to = (lane, last, usize::MAX);
-        for one in self.waiting.range(from..to) {
-            return Some(*one);
+        let least = (lane, 0, 0);
+        let first = *self.waiting.range(least..).next()?;
+        if first.0 == lane && first.1 <= last {
+            Some(first)
+        } else {
+            None
         }
-        None
     }
 }

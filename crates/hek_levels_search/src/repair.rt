@@ -4,7 +4,6 @@ use crate::known::{AFTER, BEFORE, Chance, DOUBTFUL, Known, NO_CHANCE, Settled};
 use crate::lists::{add, at};
 use crate::problem::Source;
 use crate::replay::{Replay, Violation};
-use crate::sight::{Ground, Hop, Way};
 use hek_rules::NoMemory;
 
 /// One moment before another: one of two ways to repair a violation, by a rule where a path forbids the other way, and by the fact
@@ -45,7 +44,7 @@ impl Known<'_> {
     }
 
     /// Whether a moment is before another in the order.
-    fn is_in_order(&self, first: usize, second: usize) -> bool {
+    pub(crate) fn is_in_order(&self, first: usize, second: usize) -> bool {
         self.graph.place_of(first) < self.graph.place_of(second)
     }
 
@@ -79,8 +78,7 @@ impl Known<'_> {
         let source = self.problem.transaction_of(settled.source);
         let its = self.nodes.commit_of(source);
         let others = self.nodes.commit_of(writer);
-        let reading = self.problem.reading(place);
-        let begin = self.nodes.begin(reading.reader);
+        let begin = self.nodes.begin(self.problem.reading(place).reader);
         if let Some(fact) = settled.fact {
             // a conflict kept from being added what follows from the source
             if !self.is_in_order(its, begin) || !self.is_present_writer(source) {
@@ -90,38 +88,59 @@ impl Known<'_> {
         if source == writer || self.is_in_order(others, its) {
             return Ok(());
         }
-        let after = Repair {
-            first: begin,
-            second: others,
-            rule: Rule::After(place),
-            source: settled.fact,
-            t: reading.reader,
-        };
-        let before = Repair {
-            first: others,
-            second: its,
-            rule: Rule::Precedes(place),
-            source: settled.fact,
-            t: reading.reader,
-        };
-        if self.has_path(others, begin)? {
+        self.repair_newer(place, settled, writer, violation)
+    }
+
+    /// The other writer is between the source and the reader in the order, where it can't be.
+    fn repair_newer(
+        &mut self,
+        place: usize,
+        settled: Settled,
+        writer: Option<usize>,
+        violation: Violation,
+    ) -> Result<(), Stop> {
+        let source = self.problem.transaction_of(settled.source);
+        let after = self.way_after(place, settled, writer);
+        let before = self.way_before(place, settled, writer);
+        let (its, others) = (before.second, before.first);
+        if self.has_path(others, after.first)? {
             return self.follow(before);
         }
         if self.has_path(its, others)? {
             return self.follow(after);
         }
-        if !self.problem.reads_before(reading.reader) {
-            return self.choose(
-                after,
-                before,
-                self.is_expected_first(source, writer),
-                violation,
-            );
+        if !self.problem.reads_before(after.t) {
+            let is_after = self.is_expected_first(source, writer);
+            return self.choose(after, before, is_after, violation);
         }
         if self.is_decided_after(source, writer, its, others, violation)? {
             return self.follow(after);
         }
         Ok(())
+    }
+
+    /// A way by which the other writer is after the reader.
+    fn way_after(&self, place: usize, settled: Settled, writer: Option<usize>) -> Repair {
+        let reader = self.problem.reading(place).reader;
+        Repair {
+            first: self.nodes.begin(reader),
+            second: self.nodes.commit_of(writer),
+            rule: Rule::After(place),
+            source: settled.fact,
+            t: reader,
+        }
+    }
+
+    /// A way by which the other writer is before the source.
+    fn way_before(&self, place: usize, settled: Settled, writer: Option<usize>) -> Repair {
+        let source = self.problem.transaction_of(settled.source);
+        Repair {
+            first: self.nodes.commit_of(writer),
+            second: self.nodes.commit_of(source),
+            rule: Rule::Precedes(place),
+            source: settled.fact,
+            t: self.problem.reading(place).reader,
+        }
     }
 
     /// One of two ways holds: the one that is expected is decided on, unless a path forbids it.
@@ -400,150 +419,5 @@ impl Known<'_> {
             return Ok(true);
         }
         Ok(false)
-    }
-
-    /// A reading sees a writer of its key that is after its source: by decisions on what the walk goes by, or else that writer is before
-    /// the source.
-    fn repair_seen(
-        &mut self,
-        u: usize,
-        x: usize,
-        violation: Violation,
-        replay: &mut Replay,
-    ) -> Result<(), Stop> {
-        let reader = self.problem.reading(u).reader;
-        if !self.is_present(reader) || !self.is_present(x) {
-            return Ok(());
-        }
-        let low = self.place_in_order(x);
-        let ground = Ground {
-            known: self,
-            sourcing: &replay.sourcing,
-            lanes: &replay.lanes,
-        };
-        replay.walk.walk(ground, u, low, x)?;
-        let mut hops = Vec::new(self.alloc);
-        if replay.walk.has_seen(x) {
-            replay.walk.hops_to(x, &mut hops)?;
-        }
-        if hops.is_empty() {
-            return Ok(());
-        }
-        if !self.decide_hops(reader, hops.as_slice(), replay, violation)? {
-            return Ok(());
-        }
-        if !self.decide_chosen(u, replay, violation)? {
-            return Ok(());
-        }
-        let Some(settled) = self.source(u) else {
-            return Ok(());
-        };
-        let source = self.problem.transaction_of(settled.source);
-        let its = self.nodes.commit_of(source);
-        let others = self.nodes.commit(x);
-        if source == Some(x) || self.is_in_order(others, its) {
-            return Ok(());
-        }
-        let from = self.hops.len();
-        self.cite_hops(reader, hops.as_slice())?;
-        self.facts.cite_option(settled.fact)?;
-        self.cite_taken(reader)?;
-        let rule = Rule::Seen {
-            reading: u,
-            from,
-            to: self.hops.len(),
-        };
-        self.force(others, its, rule, 0)
-    }
-
-    /// Decides that the source of a reading is the one that was chosen, if it isn't settled. Answers whether it is settled so.
-    fn decide_chosen(
-        &mut self,
-        u: usize,
-        replay: &Replay,
-        violation: Violation,
-    ) -> Result<bool, Stop> {
-        let chosen = replay.sourcing.source(u);
-        if let Some(settled) = self.source(u) {
-            return Ok(Some(settled.source) == chosen);
-        }
-        match chosen {
-            Some(source) if !self.is_excluded(u, source) => {
-                self.decide_source(u, source, violation)?;
-                Ok(true)
-            }
-            _ => Ok(false),
-        }
-    }
-
-    /// Decides what the hops of a walk go by, where it isn't known. Answers whether all is so then.
-    fn decide_hops(
-        &mut self,
-        reader: usize,
-        hops: &[Hop],
-        replay: &Replay,
-        violation: Violation,
-    ) -> Result<bool, Stop> {
-        let mut seer = reader;
-        for hop in hops {
-            let is_so = match hop.way {
-                Way::Own(q) | Way::Brought(_, q) => self.decide_chosen(q, replay, violation)?,
-                Way::Turn => true,
-                Way::Writer(_) => {
-                    let first = self.nodes.commit(hop.to);
-                    let second = self.nodes.commit(seer);
-                    self.has_path(first, second)? || !self.decide(first, second, violation)?
-                }
-            };
-            if !is_so {
-                return Ok(false);
-            }
-            seer = hop.to;
-        }
-        Ok(true)
-    }
-
-    /// Cites what hops go by for the next fact, and notes the hops: first the paths, and then the rest.
-    fn cite_hops(&mut self, reader: usize, hops: &[Hop]) -> Result<(), Stop> {
-        let mut seer = reader;
-        for hop in hops {
-            let mut path: usize = 0;
-            if let Way::Writer(_) = hop.way {
-                let first = self.nodes.commit(hop.to);
-                let second = self.nodes.commit(seer);
-                if self.has_path_far(first, second)? {
-                    path = self.graph.path.len();
-                    self.cite_path()?;
-                }
-            }
-            add(&mut self.hops, Hop { path, ..*hop })?;
-            seer = hop.to;
-        }
-        let mut seer = reader;
-        for hop in hops {
-            match hop.way {
-                Way::Own(q) => self.cite_settled(q)?,
-                Way::Turn => {
-                    self.cite_taken(seer)?;
-                    self.cite_taken(hop.to)?;
-                }
-                Way::Brought(through, q) => {
-                    self.cite_taken(seer)?;
-                    self.cite_taken(through)?;
-                    self.cite_settled(q)?;
-                }
-                Way::Writer(_) => self.cite_taken(seer)?,
-            }
-            seer = hop.to;
-        }
-        Ok(())
-    }
-
-    /// Cites the fact that settles the source of a reading, if one does.
-    fn cite_settled(&mut self, u: usize) -> Result<(), NoMemory> {
-        match self.source(u) {
-            Some(settled) => self.facts.cite_option(settled.fact),
-            None => Ok(()),
-        }
     }
 }

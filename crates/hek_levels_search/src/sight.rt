@@ -92,6 +92,15 @@ pub(crate) struct Ground<'a, 'b> {
     pub lanes: &'a Lanes,
 }
 
+/// Notes the turn in which a place was come to. Answers whether it wasn't noted before, and the list has that place.
+fn note_turn(list: &mut Vec<usize>, place: usize, turn: usize) -> bool {
+    if at(list.as_slice(), place, turn) == turn {
+        return false;
+    }
+    put(list, place, turn);
+    true
+}
+
 impl Walk {
     pub(crate) fn new(alloc: Global) -> Walk {
         Walk {
@@ -125,16 +134,11 @@ impl Walk {
     /// Notes a stop. Answers whether it is a new one.
     fn note(&mut self, stop: Stop) -> bool {
         let turn = self.turn;
-        let (list, place) = match stop.kind {
-            Kind::Seen => (&mut self.seen, stop.transaction),
-            Kind::Turned => (&mut self.turned, stop.turn),
-            Kind::Brings => (&mut self.brings, stop.turn),
-        };
-        if at(list.as_slice(), place, turn) == turn {
-            return false;
+        match stop.kind {
+            Kind::Seen => note_turn(&mut self.seen, stop.transaction, turn),
+            Kind::Turned => note_turn(&mut self.turned, stop.turn, turn),
+            Kind::Brings => note_turn(&mut self.brings, stop.turn, turn),
         }
-        put(list, place, turn);
-        true
     }
 
     /// Comes to a transaction.

@@ -222,11 +222,11 @@ impl Sourcing {
         u: usize,
     ) -> Result<Source, NoMemory> {
         let reading = known.problem.reading(u);
+        if !known.sees_any(reading.reader) {
+            return Ok(Source::Opening);
+        }
         let place = known.place_in_order(reading.reader);
         let mut end = self.count_before(known, reading.key, place);
-        if !known.sees_any(reading.reader) {
-            end = 0;
-        }
         let ground = Ground {
             known,
             sourcing: self,
@@ -238,24 +238,35 @@ impl Sourcing {
                 break;
             }
             let from = end.saturating_sub(many);
-            walk.walk(
-                ground,
-                u,
-                self.written(known, reading.key, from).place,
-                NONE,
-            )?;
-            for number in (from..end).rev() {
-                let writer = self.written(known, reading.key, number).writer;
-                if walk.has_seen(writer) {
-                    if let Some(row) = known.problem.row_of(writer, reading.key) {
-                        return Ok(Source::Row(row));
-                    }
-                }
+            let low = self.written(known, reading.key, from).place;
+            walk.walk(ground, u, low, NONE)?;
+            if let Some(source) = self.last_seen(known, walk, reading.key, from, end) {
+                return Ok(source);
             }
             end = from;
             many = many.saturating_mul(TIMES);
         }
         Ok(Source::Opening)
+    }
+
+    /// The last of the writers of a key from a number up to another that a walk has seen, as a source.
+    fn last_seen(
+        &self,
+        known: &Known,
+        walk: &Walk,
+        key: usize,
+        from: usize,
+        to: usize,
+    ) -> Option<Source> {
+        for number in (from..to).rev() {
+            let writer = self.written(known, key, number).writer;
+            if walk.has_seen(writer) {
+                if let Some(row) = known.problem.row_of(writer, key) {
+                    return Some(Source::Row(row));
+                }
+            }
+        }
+        None
     }
 
     /// The writer of a number as a source of a reading, if it may be that.
@@ -320,14 +331,7 @@ impl Sourcing {
         to: usize,
         failed: &mut Vec<Violation>,
     ) -> Result<(), NoMemory> {
-        let mut low = NONE;
-        for u in from..to {
-            let (first, last) = self.between(known, u);
-            if first < last {
-                let key = known.problem.reading(u).key;
-                low = low.min(self.written(known, key, first).place);
-            }
-        }
+        let low = self.lowest_between(known, from, to);
         if low == NONE {
             return Ok(());
         }
@@ -338,17 +342,37 @@ impl Sourcing {
         };
         walk.walk(ground, from, low, NONE)?;
         for u in from..to {
-            let (first, last) = self.between(known, u);
-            let key = known.problem.reading(u).key;
-            for number in (first..last).rev() {
-                let other = self.written(known, key, number).writer;
-                if walk.has_seen(other) {
-                    add(failed, Violation::Seen { reading: u, other })?;
-                    break;
-                }
+            if let Some(other) = self.newer_seen(known, walk, u) {
+                add(failed, Violation::Seen { reading: u, other })?;
             }
         }
         Ok(())
+    }
+
+    /// The lowest place in the order of a writer of the key of one of some readings between its source and its reader.
+    fn lowest_between(&self, known: &Known, from: usize, to: usize) -> usize {
+        let mut low = NONE;
+        for u in from..to {
+            let (first, last) = self.between(known, u);
+            if first < last {
+                let key = known.problem.reading(u).key;
+                low = low.min(self.written(known, key, first).place);
+            }
+        }
+        low
+    }
+
+    /// The last writer of the key of a reading between its source and its reader that a walk has seen.
+    fn newer_seen(&self, known: &Known, walk: &Walk, u: usize) -> Option<usize> {
+        let (first, last) = self.between(known, u);
+        let key = known.problem.reading(u).key;
+        for number in (first..last).rev() {
+            let other = self.written(known, key, number).writer;
+            if walk.has_seen(other) {
+                return Some(other);
+            }
+        }
+        None
     }
 }
 
