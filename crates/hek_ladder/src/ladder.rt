@@ -3,6 +3,7 @@
 use crate::asking::{Finding, ask, fails_too};
 use crate::promise::Promise;
 use crate::scene::Scene;
+use hek_levels_search::Shown;
 use hek_rules::NoMemory;
 use std::alloc::Global;
 
@@ -30,7 +31,7 @@ pub struct Ladder {
     /// The strongest levels that hold.
     held: Vec<Promise>,
     /// What shows that the first of them holds.
-    shown: Option<Finding>,
+    shown: Option<Shown>,
 }
 
 impl Ladder {
@@ -67,7 +68,7 @@ impl Ladder {
     }
 
     /// What shows that the strongest level holds that does.
-    pub fn shown(&self) -> Option<&Finding> {
+    pub fn shown(&self) -> Option<&Shown> {
         self.shown.as_ref()
     }
 
@@ -113,7 +114,7 @@ impl Ladder {
             Finding::Holds(shown) => {
                 self.held.push(promise)?;
                 if self.shown.is_none() {
-                    self.shown = Some(Finding::Holds(shown));
+                    self.shown = Some(shown);
                 }
                 Ok(Standing::Holds)
             }
