@@ -30,7 +30,8 @@ impl fmt::Display for Counted {
     }
 }
 
-/// The words that an answer begins with: of each level but those of the transactions its word too, unless that is all.
+/// The words that an answer begins with: how what is asked stands, and at which level. `right` and `wrong` say themselves that it is each
+/// transaction's own.
 fn put_front(answer: Answer<'_>, lines: &mut Vec<u8>) -> Result<(), NoMemory> {
     let word = answer.word;
     put(write!(lines, "{word}"))?;
