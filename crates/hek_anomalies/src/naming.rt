@@ -73,14 +73,6 @@ fn kinds_of(problem: &Problem, cycle: &[CycleEdge]) -> Kinds {
     kinds
 }
 
-/// The transaction of a writer.
-fn transaction_in(writer: Writer) -> Option<usize> {
-    match writer {
-        Writer::Opening => None,
-        Writer::Transaction(t) => Some(t),
-    }
-}
-
 /// The key of a cycle of two edges, if both have one.
 fn one_key(cycle: &[CycleEdge]) -> Option<u64> {
     match cycle {
@@ -214,9 +206,11 @@ fn name_of_reads(evident: &Evident, cycle: &[CycleEdge], kinds: Kinds) -> Anomal
         let is_absent = cycle.iter().any(|edge| is_of_absence(*edge));
         return name_within(is_scanned, is_absent);
     }
+    if kinds.missed > 0 {
+        return Anomaly::Phantom;
+    }
     let shape = (cycle.len(), kinds.overwritten, kinds.reads);
     match shape {
-        _ if kinds.missed > 0 => Anomaly::Phantom,
         (2, 2, _) => Anomaly::WriteSkew,
         (2, _, 1) => Anomaly::ReadSkew,
         (2, _, _) | (_, 1, _) => Anomaly::SingleAntiDependency,

@@ -4,6 +4,7 @@ use crate::order_lines::write_order;
 use crate::report::Report;
 use crate::verdict::{FAILS, HOLDS, NOT_KNOWN, worse};
 use hek_ladder::{Finding, Ladder, Promise, Rung, Standing, ask, causes_of};
+use hek_levels_search::add;
 use hek_report::HekFault;
 use std::io::Write;
 
@@ -33,7 +34,7 @@ impl<O: Write, W: Write> Report<'_, O, W> {
                     continue;
                 }
             }
-            waiting.push(rung)?;
+            add(&mut waiting, rung)?;
         }
         self.say_waiting(&ladder, waiting.as_slice())?;
         if let (Some(file), Some(shown)) = (self.order_out.as_mut(), ladder.shown()) {
